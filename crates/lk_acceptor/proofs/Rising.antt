@@ -5,7 +5,7 @@ use Rattle.std.proofs.lemmas.Bool.Decides.{nat_tests}
 use Rattle.lk_types.specs.Ballots.{is_below}
 use Rattle.lk_types.specs.declared.vote.Vote.{Vote}
 use Rattle.lk_types.specs.Votes.{are_votes_above}
-use Rattle.lk_wire.specs.Values.{are_votes_from}
+use Rattle.lk_messages.specs.Values.{are_votes_from}
 use Rattle.lk_agreement.proofs.Histories.{cons_cases, contains_more, filter_from, filter_passes_at}
 use Rattle.lk_entries.specs.VoteLists.{votes_with}
 use Rattle.lk_entries.proofs.VoteParts.{rising_parts}

@@ -1,5 +1,5 @@
+use lk_messages::NodeMessage;
 use lk_types::Entry;
-use lk_wire::NodeMessage;
 
 /// The response to a Prepare or an Accept.
 #[derive(Drop)]

@@ -3,8 +3,8 @@ use Rattle.std.proofs.Common.{◌≡◌, ℕ, zero, suc, ◌<◌, ◌≤◌, Lis
 use Rattle.std.proofs.lemmas.List.Elements.{Contains-push, Contains-push_cases, Contains-append_left}
 use Rattle.lk_types.specs.declared.command.Op.TheVariants.{Join}
 use Rattle.lk_types.specs.declared.command.Command.TheVariants.{Noop, Request}
-use Rattle.lk_wire.specs.Grammar.{IsNodeMessage, IsMessage, spelling}
-use Rattle.lk_wire.specs.Values.{PromiseValue}
+use Rattle.lk_messages.specs.Grammar.{IsNodeMessage, IsMessage, spelling}
+use Rattle.lk_messages.specs.Values.{PromiseValue}
 use Rattle.lk_members.specs.Rosters.{members, roster_of}
 use Rattle.lk_members.specs.Effects.{placed, effects}
 use Rattle.lk_agreement.specs.declared.party.Party.TheVariants as party

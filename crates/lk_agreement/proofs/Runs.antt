@@ -1,6 +1,6 @@
 -- Every world that can be reached has a sound history, to which each node fits.
 use Rattle.std.proofs.Common.{◌≡◌, ℕ, zero, suc, ◌≤◌, ◌⊎◌, ◌==◌, Bool, true, false, cond, List, [], ◌∷◌, ◌++◌, length, Some, Contains, refl, ap, sym, ◌∙◌, subst, inl, inr, arith, eqb-true}
-use Rattle.lk_wire.specs.Grammar.{Spells}
+use Rattle.lk_messages.specs.Grammar.{Spells}
 use Rattle.lk_members.specs.Rosters.{members}
 use Rattle.lk_agreement.specs.declared.party.Party.TheVariants as party
 use Rattle.lk_agreement.specs.Ballots.{BallotValue, IsBelow}

@@ -1,8 +1,8 @@
 -- What a node may send leaves the history sound, and every node fitting to it.
 use Rattle.std.proofs.Common.{◌≡◌, ℕ, ◌≤◌, ◌⊎◌, List, ◌++◌, Some, Contains, refl, ap, sym, ◌∙◌, subst, inl, inr, arith}
 use Rattle.std.proofs.lemmas.List.Elements.{Contains-append_cases}
-use Rattle.lk_wire.specs.Grammar.{Spells}
-use Rattle.lk_wire.specs.Values.{PromiseValue}
+use Rattle.lk_messages.specs.Grammar.{Spells}
+use Rattle.lk_messages.specs.Values.{PromiseValue}
 use Rattle.lk_agreement.specs.declared.party.Party.TheVariants as party
 use Rattle.lk_agreement.specs.Ballots.{BallotValue, IsBelow, IsAtMost}
 use Rattle.lk_agreement.specs.Datagrams.{Genesis, Vote, NodeMessage, Datagram, said_by, Prepare, Promise, Accept, Accepted, Decided, HasSent, WasSent}

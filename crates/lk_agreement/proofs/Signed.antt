@@ -2,9 +2,9 @@
 use Rattle.std.proofs.Common.{◌≡◌, ℕ, List, ◌++◌, ◌⊎◌, Contains, ap, inl, inr}
 use Rattle.std.proofs.lemmas.List.Elements.{Contains-append_cases}
 use Rattle.lk_types.specs.declared.command.Request.{Request}
-use Rattle.lk_wire.specs.Grammar.{Spells}
-use Rattle.lk_wire.specs.declared.message.Content.TheVariants as content
-use Rattle.lk_wire.proofs.Spellings.{one_message}
+use Rattle.lk_messages.specs.Grammar.{Spells}
+use Rattle.lk_messages.specs.declared.message.Content.TheVariants as content
+use Rattle.lk_messages.proofs.Spellings.{one_message}
 use Rattle.lk_agreement.specs.Datagrams.{Genesis, Datagram, NodeMessage, Message, said_by, HasSent}
 use Rattle.lk_agreement.specs.Soundness.{Sound}
 use Rattle.lk_agreement.specs.Worlds.{IsClientRequest}

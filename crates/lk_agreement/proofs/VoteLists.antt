@@ -2,7 +2,7 @@
 use Rattle.std.proofs.Common.{◌≡◌, ℕ, ◌<◌, ◌≤◌, ◌==◌, not, List, [], ◌∷◌, ◌++◌, Contains, filter, nat_lt, nat_le, ap, sym, subst, inl, inr, ne_eqb, lt-ltb, le-leb}
 use Rattle.std.proofs.lemmas.Bool.{cases_lt}
 use Rattle.std.proofs.lemmas.List.Elements.{Contains-push, Contains-push_cases, Contains-append_left}
-use Rattle.lk_wire.specs.Values.{PromiseValue}
+use Rattle.lk_messages.specs.Values.{PromiseValue}
 use Rattle.lk_agreement.specs.Datagrams.{Vote}
 use Rattle.lk_agreement.specs.Acceptors.{AcceptorState, TakesVote, TakesSnapshot}
 use Rattle.lk_agreement.specs.Nodes.{MayPromise}

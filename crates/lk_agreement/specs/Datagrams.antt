@@ -1,13 +1,13 @@
 -- Who has sent what. A history is the list of all datagrams that were ever sent, as bytes.
 pub use Rattle.lk_types.specs.declared.genesis.Genesis.{Genesis}
 pub use Rattle.lk_types.specs.declared.vote.Vote.{Vote}
-pub use Rattle.lk_wire.specs.declared.message.NodeMessage.{NodeMessage}
-pub use Rattle.lk_wire.specs.declared.message.NodeMessage.TheVariants.{Prepare, Promise, Accept, Accepted, Decided}
-pub use Rattle.lk_wire.specs.declared.message.Message.{Message}
+pub use Rattle.lk_messages.specs.declared.message.NodeMessage.{NodeMessage}
+pub use Rattle.lk_messages.specs.declared.message.NodeMessage.TheVariants.{Prepare, Promise, Accept, Accepted, Decided}
+pub use Rattle.lk_messages.specs.declared.message.Message.{Message}
 pub use Rattle.lk_agreement.specs.declared.party.Party.{Party}
 use Rattle.std.specs.Prelude.{◌≡◌, ℕ, List, Contains}
-use Rattle.lk_wire.specs.Grammar.{Spells}
-use Rattle.lk_wire.specs.declared.message.Content.TheVariants as content
+use Rattle.lk_messages.specs.Grammar.{Spells}
+use Rattle.lk_messages.specs.declared.message.Content.TheVariants as content
 use Rattle.lk_agreement.specs.declared.party.Party.TheVariants as party
 
 -- what was sent, by whom and to whom

@@ -1,8 +1,8 @@
 -- What a node holds, and what that permits it to send.
 use Rattle.std.specs.Prelude.{◌≡◌, ℕ, ◌<◌, ◌≤◌, List, [], length, Contains, Option, Some, None}
 use Rattle.lk_types.specs.Ballots.{zero_ballot}
-use Rattle.lk_wire.specs.Grammar.{Spells}
-use Rattle.lk_wire.specs.Values.{PromiseValue}
+use Rattle.lk_messages.specs.Grammar.{Spells}
+use Rattle.lk_messages.specs.Values.{PromiseValue}
 use Rattle.lk_agreement.specs.declared.party.Party.TheVariants as party
 use Rattle.lk_agreement.specs.Ballots.{BallotValue, IsAtMost}
 use Rattle.lk_agreement.specs.Datagrams.{Genesis, Vote, NodeMessage, Datagram, said_by, Prepare, Promise, Accept, Accepted, Decided, HasSent, WasSent}

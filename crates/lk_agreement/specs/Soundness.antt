@@ -1,7 +1,7 @@
 -- What holds of everything that was ever sent, and makes chosen lists agree.
 use Rattle.std.specs.Prelude.{◌≡◌, ℕ, ◌+◌, ◌≤◌, List, length, Contains}
-use Rattle.lk_wire.specs.Grammar.{Spells}
-use Rattle.lk_wire.specs.Values.{PromiseValue, DecidedValue}
+use Rattle.lk_messages.specs.Grammar.{Spells}
+use Rattle.lk_messages.specs.Values.{PromiseValue, DecidedValue}
 use Rattle.lk_members.specs.Rosters.{members}
 use Rattle.lk_members.specs.Majorities.{IsMajority}
 use Rattle.lk_agreement.specs.declared.party.Party.TheVariants as party

@@ -1,8 +1,8 @@
 -- Nodes and everything that was sent, whatever is delivered, lost, repeated or stopped.
 use Rattle.std.specs.Prelude.{◌≡◌, ℕ, ◌≤◌, ◌⊎◌, ◌==◌, if◌then◌else◌, List, [], ◌∷◌, ◌++◌, length, Some, Contains}
 use Rattle.lk_types.specs.declared.command.Request.{Request}
-use Rattle.lk_wire.specs.Grammar.{Spells}
-use Rattle.lk_wire.specs.declared.message.Content.TheVariants as content
+use Rattle.lk_messages.specs.Grammar.{Spells}
+use Rattle.lk_messages.specs.declared.message.Content.TheVariants as content
 use Rattle.lk_members.specs.Rosters.{members}
 use Rattle.lk_members.specs.Majorities.{IsMajority}
 use Rattle.lk_agreement.specs.declared.party.Party.TheVariants as party

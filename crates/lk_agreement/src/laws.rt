@@ -1,8 +1,8 @@
 //! Why chosen lists agree: laws about the definitions alone. A function without a body ensures each of them.
 ghost use Rattle.std.specs.Prelude.{◌≡◌, ◌<◌, ◌≤◌, ◌+◌, ◌==◌, nat_lt, nat_le, not, filter, ◌⊎◌, ℕ, suc, List, [], ◌∷◌, ◌++◌, length, take, drop, Some, None, Contains};
 ghost use Rattle.lk_types.specs.Limits.{max_count};
-ghost use Rattle.lk_wire.specs.Grammar.{Spells};
-ghost use Rattle.lk_wire.specs.Values.{PromiseValue};
+ghost use Rattle.lk_messages.specs.Grammar.{Spells};
+ghost use Rattle.lk_messages.specs.Values.{PromiseValue};
 ghost use Rattle.lk_members.specs.Rosters.{members};
 ghost use Rattle.lk_members.specs.Majorities.{IsMajority};
 ghost use Rattle.lk_types.specs.Ranges.{IsCount};

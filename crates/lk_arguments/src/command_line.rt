@@ -4,7 +4,7 @@ use crate::operation::read_operation;
 use lk_types::Op;
 use std::alloc::{AllocError, Global};
 
-/// Appends a word, separated by a space. Returns whether it is a single word, without a space in it.
+// Appends a word, separated by a space. Returns whether it is a single word, without a space in it.
 fn add_word(text: &mut Vec<u8>, is_first: bool, word: &str) -> Result<bool, AllocError> {
     if !is_first {
         text.extend_from_slice(b" ")?;

@@ -13,10 +13,10 @@ use arrayvec::ArrayVec;
 use lk_types::limits::{MAX_COUNT, MAX_NODE, MAX_PAYLOAD, MAX_PORT};
 use lk_types::{NodeNo, Op, Payload, Port};
 
-/// The most bytes of a name: with its length, a fence and a first byte it fits a body.
+// The most bytes of a name: with its length, a fence and a first byte it fits a body.
 const MAX_NAME_WORD: usize = 54;
 
-/// The body with this first byte, a name and at most eight bytes after it. `None` if the word is no name.
+// The body with this first byte, a name and at most eight bytes after it. `None` if the word is no name.
 fn body_of(kind: u8, name: &[u8], rest: &[u8]) -> Option<Payload>
     requires { length rest.now ≤ 8 }
     ensures some { IfSome result (λ b. IsNameWord name.now × (b ≡ body kind name.now rest.now)) }
@@ -33,7 +33,7 @@ fn body_of(kind: u8, name: &[u8], rest: &[u8]) -> Option<Payload>
     Payload::of(bytes.as_slice())
 }
 
-/// An operation on a name, as a body with this first byte.
+// An operation on a name, as a body with this first byte.
 fn of_name(kind: u8, words: &[u8]) -> Option<Op>
     ensures some { IfSome result (AsksOfName kind words.now) }
     ensures none { IsNone result → (o : OpValue) → AsksOfName kind words.now o → ⊥ }
@@ -44,7 +44,7 @@ fn of_name(kind: u8, words: &[u8]) -> Option<Op>
     }
 }
 
-/// An operation on a name and a fence, as a body with this first byte.
+// An operation on a name and a fence, as a body with this first byte.
 #[tactic(auto, unfolding(lk_fields::specs::Fields::eight))]
 fn of_fence(kind: u8, words: &[u8]) -> Option<Op>
     ensures some { IfSome result (AsksOfFence kind words.now) }
@@ -76,7 +76,7 @@ pub fn port_of(word: &[u8]) -> Option<Port>
     Port::of(number as u16)
 }
 
-/// A join of the node and the port.
+// A join of the node and the port.
 fn to_join(words: &[u8]) -> Option<Op>
     ensures some { IfSome result (AsksToJoin words.now) }
     ensures none { IsNone result → (o : OpValue) → AsksToJoin words.now o → ⊥ }
@@ -91,7 +91,7 @@ fn to_join(words: &[u8]) -> Option<Op>
     }
 }
 
-/// A leave of the node.
+// A leave of the node.
 fn to_leave(words: &[u8]) -> Option<Op>
     ensures some { IfSome result (AsksToLeave words.now) }
     ensures none { IsNone result → (o : OpValue) → AsksToLeave words.now o → ⊥ }
@@ -102,7 +102,7 @@ fn to_leave(words: &[u8]) -> Option<Op>
     }
 }
 
-/// The version to which the machine is raised.
+// The version to which the machine is raised.
 fn to_raise(words: &[u8]) -> Option<Op>
     ensures some { IfSome result (AsksToRaise words.now) }
     ensures none { IsNone result → (o : OpValue) → AsksToRaise words.now o → ⊥ }
@@ -113,7 +113,7 @@ fn to_raise(words: &[u8]) -> Option<Op>
     }
 }
 
-/// The body that hex digits spell.
+// The body that hex digits spell.
 fn in_hex(digits: &[u8]) -> Option<Op>
     ensures some { IfSome result (AsksInHex digits.now) }
     ensures none { IsNone result → (o : OpValue) → AsksInHex digits.now o → ⊥ }
@@ -127,7 +127,7 @@ fn in_hex(digits: &[u8]) -> Option<Op>
     }
 }
 
-/// What the words after a verb ask for.
+// What the words after a verb ask for.
 fn asked(verb: Verb, words: &[u8]) -> Option<Op>
     ensures some { IfSome result (Asks verb words.now) }
     ensures none { IsNone result → (o : OpValue) → Asks verb words.now o → ⊥ }

@@ -18,7 +18,7 @@ pub enum Verb {
     Raw,
 }
 
-/// All of them.
+// All of them.
 const ALL: [Verb; 10] = [
     Verb::Acquire,
     Verb::Release,
@@ -33,7 +33,7 @@ const ALL: [Verb; 10] = [
 ];
 
 impl Verb {
-    /// Its word.
+    // Its word.
     fn word(self) -> &'static [u8]
         ensures { result.now ≡ word_of self }
     {

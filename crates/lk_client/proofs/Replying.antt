@@ -1,10 +1,10 @@
 -- What a view of a reply sees.
 use Rattle.std.proofs.Common.{◌≡◌, ℕ, ap, sym, subst}
 use Rattle.lk_types.specs.declared.command.Request.{Request}
-use Rattle.lk_wire.specs.declared.message.NodeMessage.{NodeMessage}
-use Rattle.lk_wire.specs.declared.message.Content.{Content}
-use Rattle.lk_wire.specs.declared.message.Content.TheVariants as content
-use Rattle.lk_wire.specs.declared.message.Message.{Message}
+use Rattle.lk_messages.specs.declared.message.NodeMessage.{NodeMessage}
+use Rattle.lk_messages.specs.declared.message.Content.{Content}
+use Rattle.lk_messages.specs.declared.message.Content.TheVariants as content
+use Rattle.lk_messages.specs.declared.message.Message.{Message}
 use Rattle.lk_wire.specs.declared.viewing.message.NodeMessageRef.{NodeMessageRef}
 use Rattle.lk_wire.specs.declared.viewing.message.ContentRef.{ContentRef}
 use Rattle.lk_wire.specs.declared.viewing.message.ContentRef.TheVariants as seen

@@ -1,7 +1,7 @@
 //! A client that sends one request.
 
 ghost use Rattle.std.specs.Prelude.{◌≡◌, ◌≤◌, ◌⊎◌, ◌↔◌, true, Some, IfOk, IfErr, OnErr, IfSome, IsSomeAnd};
-ghost use Rattle.lk_wire.specs.Grammar.{Spells};
+ghost use Rattle.lk_messages.specs.Grammar.{Spells};
 ghost use Rattle.lk_transport.specs.Hearing.{next_of};
 ghost use Rattle.lk_client.specs.Questions.{asking, IsAsked, Hears, SendsOnce, Receives, Tries, Exchanges, IsTold};
 ghost use Rattle.lk_client.specs.Rules.{SendsOnly, Asks, Comes};
@@ -20,11 +20,11 @@ use std::io;
 use std::io::Write;
 use std::net::{IpAddr, SocketAddr};
 
-/// How many receives of 100 ms pass before the client gives up a port that it asks alone.
+// How many receives of 100 ms pass before the client gives up a port that it asks alone.
 const ALONE: u32 = 50;
-/// How many pass before it asks the next of several ports.
+// How many pass before it asks the next of several ports.
 const EACH: u32 = 5;
-/// How many Elsewhere replies it follows.
+// How many Elsewhere replies it follows.
 const FOLLOWED: u32 = 20;
 
 /// A request, and where to send it first.
@@ -36,7 +36,7 @@ pub struct Question {
     pub destination: Destination,
 }
 
-/// The bytes of a message. Fails if it is out of memory.
+// The bytes of a message. Fails if it is out of memory.
 fn written(alloc: Global, message: &Message) -> Result<BytesMut, ServiceFault>
     ensures spells { IfOk result (λ bytes. Spells message.now bytes.items) }
     ensures only { IfErr result (λ f. f ≡ ServiceFault.NoMemory) }
@@ -96,7 +96,7 @@ pub fn next_reply<S: DatagramSocket>(
     }
 }
 
-/// The bytes to send for the request: its frame, if there is a key. Fails if it is out of memory.
+// The bytes to send for the request: its frame, if there is a key. Fails if it is out of memory.
 fn asked(alloc: Global, question: &Question) -> Result<Vec<u8>, ServiceFault>
     ensures asks { IfOk result (λ bytes. IsAsked question.now bytes.items) }
     ensures only { IfErr result (λ f. f ≡ ServiceFault.NoMemory) }
@@ -111,7 +111,7 @@ fn asked(alloc: Global, question: &Question) -> Result<Vec<u8>, ServiceFault>
     Ok(framed.to_vec(alloc)?)
 }
 
-/// Sends bytes to a port of an address. What could not be sent is lost.
+// Sends bytes to a port of an address. What could not be sent is lost.
 fn send<S: DatagramSocket>(socket: &mut S, address: IpAddr, port: Port, bytes: &[u8])
     ensures { S.is_telling → SendsOnce (address, port) bytes.now (S.sent socket.old) (S.failures socket.old) (S.sent socket.new) (S.failures socket.new) }
 {
@@ -119,8 +119,8 @@ fn send<S: DatagramSocket>(socket: &mut S, address: IpAddr, port: Port, bytes: &
     let _ = socket.send_to(place, bytes);
 }
 
-/// The fate of the request, if that arrives next. It follows an Elsewhere, if it has followed fewer than 20, by
-/// sending the bytes to that member.
+// The fate of the request, if that arrives next. It follows an Elsewhere, if it has followed fewer than 20, by
+// sending the bytes to that member.
 fn take_next<S: DatagramSocket>(
     buffer: &mut ReceiveBuffer,
     socket: &mut S,
@@ -150,7 +150,7 @@ fn take_next<S: DatagramSocket>(
     }
 }
 
-/// Sends the request to a port, and returns the reply that these many receives bring, or `None`.
+// Sends the request to a port, and returns the reply that these many receives bring, or `None`.
 fn ask_port<S: DatagramSocket>(
     buffer: &mut ReceiveBuffer,
     socket: &mut S,
@@ -177,8 +177,8 @@ fn ask_port<S: DatagramSocket>(
     None
 }
 
-/// Sends the request to these ports of its address in turn, to the next if these many receives bring no reply.
-/// Returns the reply, or `None` if no port brings one. It follows the first 20 Elsewhere replies.
+// Sends the request to these ports of its address in turn, to the next if these many receives bring no reply.
+// Returns the reply, or `None` if no port brings one. It follows the first 20 Elsewhere replies.
 fn exchange_in_turn<S: DatagramSocket>(
     alloc: Global,
     socket: &mut S,
@@ -234,7 +234,7 @@ pub fn exchange<S: DatagramSocket>(
     }
 }
 
-/// Writes an answer's text or `passed LAST` as a line. Returns whether the reply is one of these.
+// Writes an answer's text or `passed LAST` as a line. Returns whether the reply is one of these.
 fn write_told<W: Write>(reply: &Reply, out: &mut W) -> io::Result<bool>
     ensures told { IfOk result (λ is_told. is_told ≡ true ↔ IsTold reply.now) }
 {
@@ -260,9 +260,9 @@ pub fn write_reply<W: Write>(reply: Option<Reply>, out: &mut W) -> io::Result<bo
     Ok(is_told)
 }
 
-/// Sends the request, and prints the reply. Returns whether it learned the fate of the request.
-///
-/// It fails if it is out of memory for the request, or if the output cannot be written.
+// Sends the request, and prints the reply. Returns whether it learned the fate of the request.
+//
+// It fails if it is out of memory for the request, or if the output cannot be written.
 fn ask_and_write<S: DatagramSocket, W: Write>(
     alloc: Global,
     socket: &mut S,

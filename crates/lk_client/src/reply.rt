@@ -1,7 +1,7 @@
 //! A node's reply to a client.
 
 ghost use Rattle.std.specs.Prelude.{◌≡◌, ℕ, IfSome, IsNone};
-ghost use Rattle.lk_wire.specs.Grammar.{Spells};
+ghost use Rattle.lk_messages.specs.Grammar.{Spells};
 ghost use Rattle.lk_wire.specs.Shown.{shown_node};
 ghost use Rattle.lk_client.specs.Replies.{reply_message, reply_of};
 ghost use Rattle.lk_client.specs.declared.reply.Reply.{Reply as ReplyValue};
@@ -19,7 +19,7 @@ pub enum Reply {
     Elsewhere(Member),
 }
 
-/// The reply that a node's message gives to a client's request of that number.
+// The reply that a node's message gives to a client's request of that number.
 fn reply_in(message: &NodeMessageRef<'_>, request: &Request) -> Option<Reply>
     ensures some { IfSome result (λ r. shown_node message.now ≡ reply_message request.now.client request.now.number r) }
     ensures none { IsNone result → (r : ReplyValue) → shown_node message.now ≡ reply_message request.now.client request.now.number r → ⊥ }

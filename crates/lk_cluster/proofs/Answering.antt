@@ -4,14 +4,14 @@ use Rattle.std.specs.declared.net.socket_addr.SocketAddr.{SocketAddr}
 use Rattle.lk_types.specs.declared.answer.Answer.{Answer}
 use Rattle.lk_types.specs.declared.genesis.Genesis.{Genesis}
 use Rattle.lk_seal.specs.Seals.{key_list, replied}
-use Rattle.lk_wire.specs.Grammar.{Spells}
-use Rattle.lk_wire.specs.Values.{PassedValue}
-use Rattle.lk_wire.specs.declared.message.Answered.{Answered}
-use Rattle.lk_wire.specs.declared.message.Content.{Content}
-use Rattle.lk_wire.specs.declared.message.Content.TheVariants as content
-use Rattle.lk_wire.specs.declared.message.Message.{Message}
-use Rattle.lk_wire.specs.declared.message.NodeMessage.TheVariants as message
-use Rattle.lk_wire.proofs.Spellings.{one_message}
+use Rattle.lk_messages.specs.Grammar.{Spells}
+use Rattle.lk_messages.specs.Values.{PassedValue}
+use Rattle.lk_messages.specs.declared.message.Answered.{Answered}
+use Rattle.lk_messages.specs.declared.message.Content.{Content}
+use Rattle.lk_messages.specs.declared.message.Content.TheVariants as content
+use Rattle.lk_messages.specs.declared.message.Message.{Message}
+use Rattle.lk_messages.specs.declared.message.NodeMessage.TheVariants as message
+use Rattle.lk_messages.proofs.Spellings.{one_message}
 use Rattle.lk_agreement.specs.Datagrams.{Datagram, HasSent}
 use Rattle.lk_agreement.proofs.Histories.{cons_cases, contains_more, filter_from}
 use Rattle.lk_step.specs.declared.note.Note.{Note}

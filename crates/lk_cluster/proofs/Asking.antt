@@ -8,10 +8,10 @@ use Rattle.lk_seal.specs.Seals.{key_list, framed_by}
 use Rattle.lk_seal.specs.Seals as seals
 use Rattle.lk_seal.specs.declared.frame.Scope.{Scope}
 use Rattle.lk_seal.proofs.FrameLaws.{drop-sealed}
-use Rattle.lk_wire.specs.Grammar.{Spells}
-use Rattle.lk_wire.specs.declared.message.Content.TheVariants as content
-use Rattle.lk_wire.specs.declared.message.Message.{Message}
-use Rattle.lk_wire.proofs.Spellings.{one_message}
+use Rattle.lk_messages.specs.Grammar.{Spells}
+use Rattle.lk_messages.specs.declared.message.Content.TheVariants as content
+use Rattle.lk_messages.specs.declared.message.Message.{Message}
+use Rattle.lk_messages.proofs.Spellings.{one_message}
 use Rattle.lk_agreement.proofs.Histories.{cons_cases}
 use Rattle.lk_step.specs.declared.note.Note.{Note}
 use Rattle.lk_step.specs.declared.note.Note.TheVariants as note

@@ -4,13 +4,13 @@ use Rattle.std.specs.Prelude.{map}
 use Rattle.std.specs.List.{AllByRecursion}
 use Rattle.std.proofs.lemmas.List.{map-append}
 use Rattle.std.proofs.lemmas.List.Elements.{Contains-append_left, Contains-append_right, Contains-append_cases}
-use Rattle.lk_disk.specs.Memory.{Memory, disk_of}
+use Rattle.lk_simulated_disk.specs.Memory.{Memory, disk_of}
 use Rattle.lk_locks.specs.Meaning.{table_meaning}
 use Rattle.lk_locks.specs.Packed.{IsTableText}
 use Rattle.lk_log.specs.Rooms.{StaysWithin}
-use Rattle.lk_log.specs.StoreValue.{disks, device_of}
+use Rattle.lk_log.specs.StoreValue.{disks}
 use Rattle.lk_log.proofs.Room.{never_longer}
-use Rattle.lk_wire.specs.declared.message.NodeMessage.TheVariants as kinds
+use Rattle.lk_messages.specs.declared.message.NodeMessage.TheVariants as kinds
 use Rattle.lk_agreement.specs.Snapshots.{IsSlice}
 use Rattle.lk_agreement.proofs.Histories.{beginning_slice, still_sent}
 use Rattle.lk_step.specs.Letters.{LetterValue, batch_of, datagram_of}
@@ -24,9 +24,9 @@ use Rattle.lk_node.specs.Leavings.{DisksFit}
 use Rattle.lk_replica.specs.Groups.{StepSaid, letters_of, GoesThrough}
 use Rattle.lk_replica.specs.Posts.{AreOf}
 use Rattle.lk_recovery.specs.Remembering.{Remembers}
-use Rattle.lk_replica.specs.ReplicaValue.{ReplicaValue}
+use Rattle.lk_replica.specs.ReplicaValue.{ReplicaValue, device_of}
 use Rattle.lk_recovery.specs.Rooms.{max_after}
-use Rattle.lk_server.specs.Sayings.{SaysByGroup, IsSilenced, SaysOf}
+use Rattle.lk_node_replica.specs.Sayings.{SaysByGroup, IsSilenced, SaysOf}
 use Rattle.lk_server.specs.Servers.{ServerValue}
 use Rattle.lk_sim.specs.Events.{Turns}
 use Rattle.lk_sim.specs.Networks.{MayCome, AreAsking, MayHear, TellsOf, GoesBy, GoesOn}

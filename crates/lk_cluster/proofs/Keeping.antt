@@ -5,27 +5,26 @@ use Rattle.std.specs.List.{AllByRecursion}
 use Rattle.std.proofs.lemmas.Bool.{cases_Bool}
 use Rattle.std.proofs.lemmas.List.Elements.{Contains-append_left, Contains-append_right, Contains-push_cases}
 use Rattle.std.specs.declared.net.socket_addr.SocketAddr.{SocketAddr}
-use Rattle.lk_disk.specs.Memory.{Memory, disk_of}
+use Rattle.lk_simulated_disk.specs.Memory.{Memory, disk_of}
 use Rattle.lk_disk.specs.declared.device.Side.{Side}
 use Rattle.lk_locks.specs.Meaning.{table_meaning}
-use Rattle.lk_log.specs.StoreValue.{device_of}
 use Rattle.lk_agreement.proofs.Histories.{heard_was_sent, cons_cases, contains_more}
 use Rattle.lk_step.specs.Letters.{LetterValue, batch_of, datagram_of}
 use Rattle.lk_step.specs.declared.note.Note.{Note}
 use Rattle.lk_node.specs.Histories.{Genesis, Datagram}
 use Rattle.lk_node.specs.Leavings.{DisksFit}
 use Rattle.lk_replica.specs.Posts.{CarriesAll}
-use Rattle.lk_replica.specs.ReplicaValue.{ReplicaValue}
+use Rattle.lk_replica.specs.ReplicaValue.{ReplicaValue, device_of}
 use Rattle.lk_transport.specs.Addresses.{AddressBook}
 use Rattle.lk_transport.specs.Posts.{Tray, Becomes}
-use Rattle.lk_server.specs.Paces.{ticks_after, MayFollow}
+use Rattle.lk_pace.specs.Paces.{ticks_after, MayFollow}
 use Rattle.lk_server.specs.Beside.{ActsBeside}
-use Rattle.lk_server.specs.Probes.{IsShown}
+use Rattle.lk_node_replica.specs.Showing.{IsShown}
 use Rattle.lk_probe.specs.declared.reported.Reported.{Reported}
 use Rattle.lk_transport.specs.declared.asked.Asked.{Asked}
 use Rattle.lk_server.specs.Servers.{ServerValue, HandsOn, Given, IsIdle, one_more, inputs, all_inputs, datagrams_in, IsFront, tray_at}
-use Rattle.lk_server.specs.declared.pace.Pace.{Pace}
-use Rattle.lk_server.specs.declared.pace.Pace.TheVariants.{Datagrams, Clock}
+use Rattle.lk_pace.specs.declared.pace.Pace.{Pace}
+use Rattle.lk_pace.specs.declared.pace.Pace.TheVariants.{Datagrams, Clock}
 use Rattle.lk_sim.specs.Events.{Turns, Adds}
 use Rattle.lk_sim.specs.Networks.{MayCome, Steps, Appears, Rests, Stops, nothing}
 use Rattle.lk_seats.specs.Rooms.{AreShort}

@@ -8,10 +8,10 @@ use Rattle.lk_fields.specs.Fields.{four, eight, request}
 use Rattle.lk_fields.specs.FieldReading.{read_four, read_eight, read_request}
 use Rattle.lk_fields.specs.Parser.{both, whole}
 use Rattle.lk_fields.proofs.Spellings.{Reads, both_reads, whole_again, four_reads, eight_reads, request_reads}
-use Rattle.lk_wire.specs.Grammar.{Spells, spelling}
-use Rattle.lk_wire.specs.declared.message.Content.TheVariants as content
-use Rattle.lk_wire.specs.declared.message.Message.{Message}
-use Rattle.lk_wire.proofs.Spellings.{one_message}
+use Rattle.lk_messages.specs.Grammar.{Spells, spelling}
+use Rattle.lk_messages.specs.declared.message.Content.TheVariants as content
+use Rattle.lk_messages.specs.declared.message.Message.{Message}
+use Rattle.lk_messages.proofs.Spellings.{one_message}
 use Rattle.lk_agreement.proofs.Histories.{contains_more}
 use Rattle.lk_step.specs.declared.note.Note.{Note}
 use Rattle.lk_node.specs.Histories.{Datagram, RequestValue}

@@ -1,7 +1,7 @@
 -- A node that serves continues its cluster.
 use Rattle.std.proofs.Common.{◌≡◌, ℕ, true, Option, None, List, [], ◌++◌, ap, sym, ◌∙◌, subst, subst₂, append-nil}
 use Rattle.lk_disk.specs.Disk.{Disk, kept_by}
-use Rattle.lk_disk.specs.Memory.{Memory, disk_of}
+use Rattle.lk_simulated_disk.specs.Memory.{Memory, disk_of}
 use Rattle.lk_disk.specs.declared.device.Side.{Side}
 use Rattle.lk_locks.specs.Meaning.{table_meaning}
 use Rattle.lk_locks.specs.Packed.{IsTableText}

@@ -3,9 +3,9 @@ ghost use Rattle.std.specs.Prelude.{◌≡◌, ◌≢◌, ℕ, true, false, Opti
 ghost use Rattle.std.specs.declared.net.socket_addr.SocketAddr.{SocketAddr};
 ghost use Rattle.lk_types.specs.declared.genesis.Genesis.{Genesis as GenesisValue};
 ghost use Rattle.lk_disk.specs.Disk.{Disk};
-ghost use Rattle.lk_disk.specs.Memory.{Memory, disk_of};
+ghost use Rattle.lk_simulated_disk.specs.Memory.{Memory, disk_of};
 ghost use Rattle.lk_disk.specs.declared.device.Side.{Side};
-ghost use Rattle.lk_wire.specs.declared.message.NodeMessage.{NodeMessage};
+ghost use Rattle.lk_messages.specs.declared.message.NodeMessage.{NodeMessage};
 ghost use Rattle.lk_locks.specs.Meaning.{table_meaning};
 ghost use Rattle.lk_locks.specs.Packed.{IsTableText};
 ghost use Rattle.lk_agreement.specs.Datagrams.{HasSent};
@@ -35,12 +35,12 @@ ghost use Rattle.lk_cluster.specs.Sealing.{IsSealed, OnlyNodesSeal, OnlyNodesSea
 
 use lk_disk::LogDisk;
 use lk_locks::LockTable;
+use lk_node_replica::NodeReplica;
 use lk_promise::laws::{
     nodes_converge, operations_take_effect_exactly_once, worlds_are_linearizable,
 };
 use lk_replica::Replica;
 use lk_server::laws::is_told_by_a_node;
-use lk_server::node_replica::NodeReplica;
 use lk_transport::socket::DatagramSocket;
 
 /// Whatever the servers of a cluster do, one after another in any order, and whatever arrives over a network that

@@ -12,13 +12,13 @@ ghost use Rattle.lk_server.specs.Servers.{HasReceived, TakesTurn, LastTurn};
 use lk_disk::LogDisk;
 use lk_entries::Header;
 use lk_locks::LockTable;
+use lk_pace::metronome::Metronome;
 use lk_recovery::ReviveFault;
 use lk_replica::Replica;
-use lk_server::metronome::Metronome;
+use lk_server::group_fault::GroupFault;
 use lk_server::server::{Server, node_turn};
 use lk_service::resources::Resources;
 use lk_service::running::revive;
-use lk_transport::fault::ServiceFault;
 use lk_transport::receive_buffer::ReceiveBuffer;
 use lk_transport::socket::DatagramSocket;
 use log::Log;
@@ -32,7 +32,7 @@ pub fn turn<D: LogDisk + Drop, S: DatagramSocket + Drop, C: Clock, L: Log>(
     buffer: &mut ReceiveBuffer,
     metronome: &mut Metronome<C>,
     log: &L,
-) -> Result<(), ServiceFault>
+) -> Result<(), GroupFault>
     ensures turn { D.is_honest → OnOk result ((frames : List (Address × List ℕ)) × HasReceived S.is_telling frames server.old server.new × TakesTurn (Says D.is_metered) S.is_telling frames server.old server.new × KeepsOf server.old.node server.old.addresses.seals frames buffer.old buffer.new) }
     ensures ends { D.is_honest → OnErr result ((frames : List (Address × List ℕ)) × HasReceived S.is_telling frames server.old server.new × LastTurn (Says D.is_metered) S.is_telling (all_taken_as (circle_of server.old.addresses) frames) server.old server.new) }
     ensures failed { server.new.failed ≡ server.new.replica.failed }

@@ -6,7 +6,7 @@ use Rattle.std.proofs.lemmas.List.{take-append-le, take-take}
 use Rattle.lk_disk.specs.Disk.{Disk, MayLeave, AppendsSome, contents, appended, flushed, cut_to}
 use Rattle.lk_disk.specs.Files.{File, whole, shortened, left_of, IsWhole}
 use Rattle.lk_disk.specs.Buffers.{front, known, IsReady, HasNoMore, LeavesNoMore}
-use Rattle.lk_disk.proofs.Keep.{cut_length}
+use Rattle.lk_disk.proofs.Devices.{cut_length}
 
 -- ---- of disks and files
 

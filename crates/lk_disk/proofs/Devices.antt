@@ -1,12 +1,21 @@
--- What lemmas of other crates rest on: what a read returns is one of the images that a stop may leave, and calls follow calls.
-use Rattle.std.proofs.Common.{◌≡◌, ℕ, ◌+◌, length, ◌++◌, ap, sym, subst, true, false, ◌⊎◌, inl, inr, arith}
+-- What lemmas of other crates rest on: what a read returns is one of the images that a stop may leave, a cut leaves as
+-- many bytes as it names, and calls follow calls.
+use Rattle.std.proofs.Common.{◌≡◌, ◌∙◌, ℕ, ◌+◌, ◌≤◌, List, [], length, take, ◌++◌, ap, sym, subst, true, false, ◌⊎◌, inl, inr, arith}
 use Rattle.std.proofs.Math.Seq.{take-length}
-use Rattle.lk_disk.specs.Disk.{Disk, MayLeave, contents}
+use Rattle.std.proofs.lemmas.List.{append-nil, length-take-le}
+use Rattle.lk_disk.specs.Disk.{Disk, MayLeave, contents, cut_to}
 use Rattle.lk_disk.specs.Meters.{Passes, start, call, read, Breaks, is_failing, called, starving, is_unread, asked}
 use Rattle.lk_disk.specs.declared.meter.Meter.{Meter}
 
 pub contents_may_be_left : (d : Disk) → MayLeave d (contents d)
 contents_may_be_left d = (length d.unsynced, ap (λ l. d.synced ++ l) (sym (take-length d.unsynced)))
+
+length-front : (k : ℕ) (l : List ℕ) → k ≤ length l → length (take k l ++ []) ≡ k
+length-front k l le = ap length (append-nil (take k l)) ∙ length-take-le k l le
+
+-- a cut leaves as many bytes as it names
+pub cut_length : (n : ℕ) (d : Disk) → n ≤ length (contents d) → n ≡ length (contents (cut_to n d))
+cut_length n d le = sym (length-front n (contents d) le)
 
 -- calls that passed, after calls that passed
 pub passes_on : {l m : Meter} (j : ℕ) → Passes l m j → {n : Meter} (k : ℕ) → Passes m n k → Passes l n (j + k)

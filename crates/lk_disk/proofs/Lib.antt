@@ -1,3 +1,2 @@
-mod Keep
 mod Buffering
 pub mod Devices

@@ -22,17 +22,6 @@ left_of (whole d) = d
 left_of (shortened n d) = loosened n d
 left_of (broken d) = d
 
--- its bytes, including those that it shows no longer
-abbrev pub bytes_of : File → Disk
-bytes_of (whole d) = d
-bytes_of (shortened n d) = d
-bytes_of (broken d) = d
-
--- a file of these bytes that shows all of them, or this many of the first
-abbrev pub file_showing : Option ℕ → Disk → File
-file_showing None d = whole d
-file_showing (Some n) d = shortened n d
-
 -- nothing is known of it
 abbrev pub unknown : File
 unknown = broken (record { synced = []; unsynced = [] })
@@ -45,11 +34,6 @@ IsWhole f = f ≡ whole (left_of f)
 abbrev pub HasLength : Option ℕ → Disk → Type 0
 HasLength None d = ⊤
 HasLength (Some n) d = n ≡ length (contents d)
-
--- what a contract sees of a file in memory: its state, and how many calls have failed
-pub record CountedFile : Type 0 where
-  pub file : File
-  pub failures : ℕ
 
 -- what a contract sees of a file that is used until a call of it fails
 pub record UsedFile : Type 0 where

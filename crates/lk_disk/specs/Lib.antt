@@ -1,5 +1,4 @@
 pub mod Disk
-pub mod Memory
 pub mod Meters
 pub mod Traps
 pub mod Files

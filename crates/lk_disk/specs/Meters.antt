@@ -1,4 +1,4 @@
--- What makes a device in memory fail, and what each call does to that.
+-- What makes a metered device fail, and what each call does to that.
 use Rattle.std.specs.Prelude.{◌≡◌, ℕ, ◌+◌, ◌-◌, ◌==◌, ◌||◌, ◌⊎◌, is_some, Bool, true, false, Option, Some, None, Result, Ok, Err, if◌then◌else◌}
 use Rattle.lk_disk.specs.Disk.{one_more}
 use Rattle.lk_disk.specs.Traps.{is_due, fails_next, stops_next, trap_after, armed_for}

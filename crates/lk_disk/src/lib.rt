@@ -1,14 +1,11 @@
-//! A device of two disks: what each call does to them, and what a failed call and a stop may leave; such a device in
-//! memory, which can be made to fail, and one of two files.
+//! A device of two disks: what each call does to them, and what a failed call and a stop may leave; and such a device
+//! of two files.
 #![tactic(auto)]
 
 mod append_file;
 mod buffered_file;
 mod device;
 mod file_disk;
-mod file_in_memory;
-mod memory;
-mod memory_file;
 mod meter;
 mod system_file;
 mod trap;
@@ -18,7 +15,6 @@ pub use append_file::{AppendFile, FileFault};
 pub use buffered_file::BufferedFile;
 pub use device::{DeviceFault, LogDisk, Side};
 pub use file_disk::FileDisk;
-pub use file_in_memory::FileInMemory;
-pub use memory::MemoryDisk;
+pub use meter::Meter;
 pub use system_file::{CannotOpen, SystemDisk, SystemFile};
 pub use trap::{Trap, Trapped};

@@ -103,7 +103,7 @@ impl<F: OpenFile + Read + Write + Seek> AppendFile for SystemFile<F> {
 #[error("cannot open")]
 pub struct CannotOpen;
 
-/// Opens one file of a folder.
+// Opens one file of a folder.
 fn open_one<R: Files>(
     rt: &R,
     alloc: Global,
@@ -130,7 +130,7 @@ fn open_one<R: Files>(
     }
 }
 
-/// Makes the names of files that were created in a folder outlast a stop of the machine.
+// Makes the names of files that were created in a folder outlast a stop of the machine.
 fn sync_folder<F: OpenFile>(folder: &F) -> Result<(), CannotOpen> {
     folder.sync_all().map_err(|_| CannotOpen)
 }

@@ -1,6 +1,5 @@
 ghost use Rattle.std.specs.Prelude.{◌≡◌};
 ghost use Rattle.lk_disk.specs.Meters.{trapped};
-ghost use Rattle.lk_disk.specs.Traps.{is_due, stops_next, trap_after};
 ghost use Rattle.lk_disk.specs.declared.device.Side.{Side};
 
 use crate::device::LogDisk;
@@ -17,40 +16,6 @@ pub enum Trap {
     /// append is carried out all the same, a sync is not, and a cut leaves up to this many bytes of the file. Code
     /// that sends after the calls of a step goes on counting at its sends.
     Arm(u64, usize),
-}
-
-impl Trap {
-    /// A changing call passes. Returns whether the trap goes off at it.
-    pub(crate) fn pass(&mut self) -> bool
-        ensures due { result ≡ is_due self.old }
-        ensures behind { self.new ≡ trap_after self.old }
-    {
-        match *self {
-            Trap::Off => false,
-            Trap::Fail(count) => {
-                *self = if count <= 1 {
-                    Trap::Off
-                } else {
-                    Trap::Fail(count - 1)
-                };
-                count == 1
-            }
-            Trap::Arm(count, bytes) => {
-                *self = Trap::Arm(count.saturating_sub(1), bytes);
-                count == 1
-            }
-        }
-    }
-
-    /// For how many bytes the device stops at the next changing call, if it does.
-    pub(crate) fn stops_next(self) -> Option<usize>
-        ensures { result ≡ stops_next self }
-    {
-        match self {
-            Trap::Arm(1, bytes) => Some(bytes),
-            _ => None,
-        }
-    }
 }
 
 /// A device that can be made to fail.

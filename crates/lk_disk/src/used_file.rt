@@ -6,8 +6,8 @@ ghost use Rattle.lk_disk.specs.Files.{left_of, HasLength, IsWhole, IsCaused, IsC
 use crate::append_file::{AppendFile, FileFault};
 use std::marker::Model;
 
-/// A file that rejects all calls after a failed append, sync or cut, since its content is then unknown. It asks the
-/// file once for its length, and then keeps count.
+// A file that rejects all calls after a failed append, sync or cut, since its content is then unknown. It asks the
+// file once for its length, and then keeps count.
 #[derive(Drop)]
 pub(crate) struct UsedFile<F: AppendFile + Drop> {
     file: F,

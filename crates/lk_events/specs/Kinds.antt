@@ -1,11 +1,11 @@
 -- The kinds of events.
 use Rattle.std.specs.Prelude.{ℕ, Bool, true, false}
 use Rattle.lk_events.specs.declared.event.Event.{Event}
-use Rattle.lk_events.specs.declared.event.Event.TheVariants.{Begun, Found, Leads, Ended, Follows, Leaderless, Joined, Left, Wrote, Installed, Unsent, Behind, CaughtUp, OtherGenesis}
+use Rattle.lk_events.specs.declared.event.Event.TheVariants.{Begun, Found, Leads, Ended, Follows, Leaderless, Joined, Left, Wrote, Installed, Unsent, Behind, CaughtUp, OtherGenesis, OtherCluster}
 
 -- so many kinds of events there are
 abbrev pub kinds : ℕ
-kinds = 14
+kinds = 15
 
 -- the kind of an event, below that number
 abbrev pub kind_of : Event → ℕ
@@ -23,10 +23,12 @@ kind_of (Unsent node) = 10
 kind_of (Behind node) = 11
 kind_of (CaughtUp executed) = 12
 kind_of (OtherGenesis node) = 13
+kind_of (OtherCluster count) = 14
 
 -- somebody has to look at it
 abbrev pub is_warning : Event → Bool
 is_warning (Leaderless seconds) = true
 is_warning (Unsent node) = true
 is_warning (OtherGenesis node) = true
+is_warning (OtherCluster count) = true
 is_warning _ = false

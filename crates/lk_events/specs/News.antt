@@ -5,7 +5,7 @@ use Rattle.lk_types.specs.declared.member.Member.{Member}
 use Rattle.lk_types.specs.BallotValue.{BallotValue}
 use Rattle.lk_events.specs.Views.{why_of}
 use Rattle.lk_events.specs.declared.event.Event.{Event}
-use Rattle.lk_events.specs.declared.event.Event.TheVariants.{Begun, Found, Leads, Ended, Follows, Leaderless, Joined, Left, Wrote, Installed, Unsent, Behind, CaughtUp, OtherGenesis}
+use Rattle.lk_events.specs.declared.event.Event.TheVariants.{Begun, Found, Leads, Ended, Follows, Leaderless, Joined, Left, Wrote, Installed, Unsent, Behind, CaughtUp, OtherGenesis, OtherCluster}
 use Rattle.lk_events.specs.declared.event.Why.{Why}
 use Rattle.lk_events.specs.declared.story.Story.{Story}
 use Rattle.lk_events.specs.declared.view.View.{View}
@@ -33,6 +33,7 @@ IsNews story view (Wrote position) = (position ≡ view.snapshot) × (story.snap
 IsNews story view (Installed position node) = view.installed ≡ Some (position, node)
 IsNews story view (Unsent node) = view.unsent ≡ Some node
 IsNews story view (OtherGenesis node) = view.stranger ≡ Some node
+IsNews story view (OtherCluster count) = view.foreign ≡ Some count
 IsNews story view Begun = ⊥
 IsNews story view (Found executed) = ⊥
 IsNews story view (Leaderless seconds) = ⊥
@@ -43,6 +44,11 @@ IsNews story view (CaughtUp executed) = ⊥
 abbrev pub told_with : View → Story → Story
 told_with view story = record { leads = view.leads; follows = newer view.follows story.follows; members = view.members; snapshot = view.snapshot }
 
+-- what is told once it is told that nobody leads, if it is: it is news again whom the node follows
+abbrev pub forgetting : Option Event → Story → Story
+forgetting None story = story
+forgetting (Some event) story = record story { follows = None }
+
 -- what is told of a node of which nothing but that was seen
 abbrev pub story_of : View → Story
 story_of view = record { leads = view.leads; follows = view.follows; members = view.members; snapshot = view.snapshot }
@@ -50,7 +56,8 @@ story_of view = record { leads = view.leads; follows = view.follows; members = v
 -- ---- news by what it is about
 
 -- who leads: that it leads no more, that it leads, and whom it follows; who is a member: who joined, and who left; and
--- its work: a snapshot that it wrote, one that it installed, what it could not send, and whom it heard of another genesis
+-- its work: a snapshot that it wrote, one that it installed, what it could not send, whom it heard of another genesis,
+-- and what it heard of another cluster
 pub data Topic : Type 0 where
   ending : Topic
   leading : Topic
@@ -61,6 +68,7 @@ pub data Topic : Type 0 where
   installing : Topic
   failing : Topic
   meeting : Topic
+  straying : Topic
 
 abbrev pub lead_topics : List Topic
 lead_topics = ending ∷ leading ∷ following ∷ []
@@ -69,7 +77,7 @@ abbrev pub member_topics : List Topic
 member_topics = joining ∷ leaving ∷ []
 
 abbrev pub work_topics : List Topic
-work_topics = writing ∷ installing ∷ failing ∷ meeting ∷ []
+work_topics = writing ∷ installing ∷ failing ∷ meeting ∷ straying ∷ []
 
 abbrev pub topics : List Topic
 topics = lead_topics ++ (member_topics ++ work_topics)
@@ -85,6 +93,7 @@ IsNewsOf writing story view event = (position : ℕ) × (event ≡ Wrote positio
 IsNewsOf installing story view event = (position : ℕ) × (node : ℕ) × (event ≡ Installed position node) × IsNews story view (Installed position node)
 IsNewsOf failing story view event = (node : ℕ) × (event ≡ Unsent node) × IsNews story view (Unsent node)
 IsNewsOf meeting story view event = (node : ℕ) × (event ≡ OtherGenesis node) × IsNews story view (OtherGenesis node)
+IsNewsOf straying story view event = (count : ℕ) × (event ≡ OtherCluster count) × IsNews story view (OtherCluster count)
 
 -- this is news about that, or there is none
 abbrev pub Gives : Topic → Story → View → Option Event → Type 0

@@ -1,7 +1,7 @@
 -- What waits to be told of a node, kind by kind.
 use Rattle.std.specs.Prelude.{◌≡◌, ℕ, List, [], ◌∷◌, Option, Some, None, IsSomeAnd, slice_get, slice_set}
 use Rattle.lk_events.specs.Kinds.{kind_of}
-use Rattle.lk_events.specs.News.{Topic, topics, Gives, told_with}
+use Rattle.lk_events.specs.News.{Topic, topics, Gives, forgetting, told_with}
 use Rattle.lk_events.specs.Quiets.{TurnsQuiet, TurnsLag}
 use Rattle.lk_events.specs.Slots.{having_put, having_told, IsLineOf}
 use Rattle.lk_events.specs.declared.event.Event.{Event}
@@ -45,13 +45,13 @@ pub record TurnsTimes (now : ℕ) (view : View) (old new : Watch) : Type 0 where
   pub mid : List Slot
   pub first : PutsSome now leaderless old.slots.all mid
   pub second : PutsSome now behind mid new.slots.all
-  pub story : new.story ≡ old.story
+  pub story : new.story ≡ forgetting leaderless old.story
 
 pub record Turns (now : ℕ) (view : View) (old new : Watch) : Type 0 where
   pub timed : Watch
   pub times : TurnsTimes now view old timed
-  pub news : PutsNews now old.story view topics timed.slots.all new.slots.all
-  pub becomes : new ≡ record { story = told_with view old.story; quiet = timed.quiet; lag = timed.lag; slots = new.slots }
+  pub news : PutsNews now timed.story view topics timed.slots.all new.slots.all
+  pub becomes : new ≡ record { story = told_with view timed.story; quiet = timed.quiet; lag = timed.lag; slots = new.slots }
 
 -- whoever watches a node does so on after such a turn, and may have told some of what waits
 abbrev pub WatchesOn : View → Option Watch → Option Watch → Type 0

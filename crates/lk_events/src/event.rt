@@ -7,7 +7,7 @@ use lk_types::{Executed, Members, NodeNo, RealBallot};
 use std::fmt;
 
 /// How many kinds of events there are.
-pub const KINDS: usize = 14;
+pub const KINDS: usize = 15;
 
 /// Why a node leads no more.
 #[derive(Clone, Copy, Debug)]
@@ -51,6 +51,8 @@ pub enum Event {
     CaughtUp(Executed),
     /// This node was started with another genesis.
     OtherGenesis(NodeNo),
+    /// So many datagrams of another cluster have come.
+    OtherCluster(u64),
 }
 
 impl Event {
@@ -74,6 +76,7 @@ impl Event {
             Event::Behind(_) => 11,
             Event::CaughtUp(_) => 12,
             Event::OtherGenesis(_) => 13,
+            Event::OtherCluster(_) => 14,
         }
     }
 
@@ -83,7 +86,10 @@ impl Event {
     {
         matches!(
             self,
-            Event::Leaderless(_) | Event::Unsent(_) | Event::OtherGenesis(_)
+            Event::Leaderless(_)
+                | Event::Unsent(_)
+                | Event::OtherGenesis(_)
+                | Event::OtherCluster(_)
         )
     }
 }
@@ -98,7 +104,7 @@ impl fmt::Display for Why {
     }
 }
 
-/// Writes the members.
+// Writes the members.
 fn write_members<W: fmt::Write>(members: &Members, f: &mut fmt::Formatter<W>) -> fmt::Result {
     f.write_str(", members")?;
     for member in members.as_slice() {
@@ -107,7 +113,7 @@ fn write_members<W: fmt::Write>(members: &Members, f: &mut fmt::Formatter<W>) ->
     Ok(())
 }
 
-/// Writes who joined or left, and the members.
+// Writes who joined or left, and the members.
 fn write_change<W: fmt::Write>(
     node: NodeNo,
     change: &str,
@@ -118,7 +124,7 @@ fn write_change<W: fmt::Write>(
     write_members(members, f)
 }
 
-/// Writes who leads.
+// Writes who leads.
 fn write_lead<W: fmt::Write>(
     ballot: RealBallot,
     why: Option<Why>,
@@ -132,7 +138,7 @@ fn write_lead<W: fmt::Write>(
     }
 }
 
-/// Writes which snapshot was installed.
+// Writes which snapshot was installed.
 fn write_installed<W: fmt::Write>(
     position: Executed,
     node: NodeNo,
@@ -166,6 +172,7 @@ impl fmt::Display for Event {
             Event::Behind(node) => write!(f, "is behind, asks node {}", node.get()),
             Event::CaughtUp(executed) => write!(f, "has caught up, {} positions", executed.get()),
             Event::OtherGenesis(node) => write!(f, "hears node {} of another genesis", node.get()),
+            Event::OtherCluster(count) => write!(f, "heard {count} datagrams of another cluster"),
         }
     }
 }

@@ -73,7 +73,7 @@ impl<C: Clock + Drop, L: Log + Drop> Events<C, L> {
         }
     }
 
-    /// The milliseconds since 1970, 0 where the clock fails.
+    // The milliseconds since 1970, 0 where the clock fails.
     fn now(&self) -> u64 {
         let Ok(now) = SystemTime::now(&self.clock) else {
             return 0;
@@ -84,7 +84,7 @@ impl<C: Clock + Drop, L: Log + Drop> Events<C, L> {
         }
     }
 
-    /// Logs a line, with its time.
+    // Logs a line, with its time.
     fn tell(&self, line: &Line) {
         let node = self.node.get();
         let time = i64::try_from(line.time).unwrap_or(0);
@@ -98,7 +98,7 @@ impl<C: Clock + Drop, L: Log + Drop> Events<C, L> {
         }
     }
 
-    /// Logs what waits, where it may be told.
+    // Logs what waits, where it may be told.
     fn tell_due(&self, watch: &mut Watch, now: u64)
         ensures { watch.new ≡ record watch.old { slots = watch.new.slots } }
     {

@@ -8,10 +8,10 @@ ghost use Rattle.lk_events.specs.declared.event.Event.TheVariants.{Leaderless, B
 use crate::event::Event;
 use lk_types::{Executed, NodeNo};
 
-/// The milliseconds of a second.
+// The milliseconds of a second.
 const SECOND: u64 = 1000;
 
-/// The seconds without a leader that are told first: an election takes less.
+// The seconds without a leader that are told first: an election takes less.
 const FIRST: u64 = 2;
 
 /// How long a node has had no leader.
@@ -39,7 +39,7 @@ impl Quiet {
         told: 0,
     };
 
-    /// It has none now. After two seconds that is news, and again each time that they have doubled.
+    // It has none now. After two seconds that is news, and again each time that they have doubled.
     fn last(&mut self, now: u64) -> Option<Event>
         ensures some { IfSome result (IsQuietNews self.old now) }
         ensures none { IsNone result → (e : EventValue) → IsQuietNews self.old now e → ⊥ }
@@ -84,7 +84,7 @@ impl Lag {
         told: false,
     };
 
-    /// It has asked that node. Where it has done so for a second it is behind.
+    // It has asked that node. Where it has done so for a second it is behind.
     fn ask(&mut self, now: u64, node: NodeNo) -> Option<Event>
         ensures some { IfSome result (λ e. (e ≡ Behind node) × IsBehind self.old now) }
         ensures none { IsNone result → IsBehind self.old now → ⊥ }
@@ -104,7 +104,7 @@ impl Lag {
         Some(Event::Behind(node))
     }
 
-    /// It has asked nobody. Where it has done so for a second it is not behind any more.
+    // It has asked nobody. Where it has done so for a second it is not behind any more.
     fn rest(&mut self, now: u64, executed: Executed) -> Option<Event>
         ensures some { IfSome result (λ e. (e ≡ CaughtUp executed) × HasRested self.old now) }
         ensures none { IsNone result → HasRested self.old now → ⊥ }

@@ -5,7 +5,7 @@ ghost use Rattle.lk_events.specs.Slots.{having_put, having_told, is_due, IsLineO
 
 use crate::event::Event;
 
-/// The milliseconds between two lines of one kind.
+// The milliseconds between two lines of one kind.
 const APART: u64 = 1000;
 
 /// An event that is told, when it happened, and how many others of its kind happened since the last one that was.
@@ -45,7 +45,7 @@ impl Slot {
         self.newest = Some((now, event));
     }
 
-    /// Whether a line may be told: none was, a second has passed since, or the clock was set back.
+    // Whether a line may be told: none was, a second has passed since, or the clock was set back.
     fn is_due(&self, now: u64) -> bool
         ensures { result ≡ is_due self.now.told now }
     {

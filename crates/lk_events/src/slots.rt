@@ -36,6 +36,7 @@ impl Slots {
                 Slot::EMPTY,
                 Slot::EMPTY,
                 Slot::EMPTY,
+                Slot::EMPTY,
             ],
         }
     }

@@ -1,7 +1,7 @@
 //! What was told of a node, and what is news by that.
 
 ghost use Rattle.std.specs.Prelude.{◌≡◌, true, false, IfSome, IsNone};
-ghost use Rattle.lk_events.specs.News.{Gives, ending, leading, following, joining, leaving, writing, installing, failing, meeting, lead_topics, member_topics, work_topics, topics, story_of, told_with, has_all, is_one_of};
+ghost use Rattle.lk_events.specs.News.{Gives, ending, leading, following, joining, leaving, writing, installing, failing, meeting, straying, lead_topics, member_topics, work_topics, topics, story_of, forgetting, told_with, has_all, is_one_of};
 ghost use Rattle.lk_events.specs.Watches.{PutsNews};
 
 use crate::event::Event;
@@ -22,14 +22,14 @@ pub struct Story {
     pub snapshot: Executed,
 }
 
-/// Whether the node is one of these members.
+// Whether the node is one of these members.
 fn is_one_of(node: NodeNo, members: &[Member]) -> bool
     ensures { result ≡ is_one_of node members.now }
 {
     members.iter().any(|member| member.node == node)
 }
 
-/// The first of these members that is none of the others.
+// The first of these members that is none of the others.
 fn missing(members: &Members, others: &Members) -> Option<NodeNo>
     ensures some { IfSome result (λ node. (is_one_of node members.now ≡ true) × (is_one_of node others.now ≡ false)) }
     ensures none { IsNone result → has_all others.now members.now ≡ true }
@@ -145,6 +145,14 @@ impl Story {
         Some(Event::OtherGenesis(node))
     }
 
+    /// The datagrams of another cluster that it heard.
+    pub fn foreign(&self, view: &View) -> Option<Event>
+        ensures { Gives straying self.now view.now result }
+    {
+        let count = view.foreign?;
+        Some(Event::OtherCluster(count))
+    }
+
     // What is news of who leads.
     fn put_leads(&self, now: u64, view: &View, slots: &mut Slots)
         ensures { PutsNews now self.now view.now lead_topics slots.old.all slots.new.all }
@@ -170,6 +178,7 @@ impl Story {
         slots.put_some(now, self.installed(view));
         slots.put_some(now, self.unsent(view));
         slots.put_some(now, self.stranger(view));
+        slots.put_some(now, self.foreign(view));
     }
 
     // What is news.
@@ -179,6 +188,15 @@ impl Story {
         self.put_leads(now, view, slots);
         self.put_members(now, view, slots);
         self.put_work(now, view, slots);
+    }
+
+    /// Where it is told that nobody leads, it is news again whom the node follows, also if that is the same node.
+    pub fn forget(&mut self, leaderless: &Option<Event>)
+        ensures { self.new ≡ forgetting leaderless.now self.old }
+    {
+        if leaderless.is_some() {
+            self.follows = None;
+        }
     }
 
     // This is told now.

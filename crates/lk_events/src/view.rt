@@ -31,6 +31,8 @@ pub struct View {
     pub unsent: Option<NodeNo>,
     /// The node of another genesis that it heard in the turn, if that is to be told.
     pub stranger: Option<NodeNo>,
+    /// How many datagrams of another cluster have come, if that is to be told.
+    pub foreign: Option<u64>,
 }
 
 impl View {

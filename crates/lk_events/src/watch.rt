@@ -53,6 +53,7 @@ impl Watch {
         ensures { TurnsTimes now view.now self.old self.new }
     {
         let leaderless = self.quiet.turn(now, view.has_leader());
+        self.story.forget(&leaderless);
         self.slots.put_some(now, leaderless);
         let lag = self.lag.turn(now, view.wanted, view.executed);
         self.slots.put_some(now, lag);

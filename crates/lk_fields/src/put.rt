@@ -138,7 +138,7 @@ pub fn put_member(out: &mut BytesMut, value: Member) -> Result<(), AllocError>
     put_u16(out, value.port.get())
 }
 
-/// Appends how many members there are, and then each.
+// Appends how many members there are, and then each.
 fn put_list(out: &mut BytesMut, list: &[Member]) -> Result<(), AllocError>
     requires { length list.now ≤ max_members }
     ensures ok { OnOk result (out.new.items ≡ out.old.items ++ members list.now) }
@@ -162,7 +162,7 @@ pub fn put_members(out: &mut BytesMut, list: &[Member]) -> Result<(), AllocError
     put_list(out, list)
 }
 
-/// Appends the length of a payload in one byte, and its bytes.
+// Appends the length of a payload in one byte, and its bytes.
 fn put_payload(out: &mut BytesMut, value: &Payload) -> Result<(), AllocError>
     ensures ok { OnOk result (out.new.items ≡ out.old.items ++ payload value.now) }
     ensures room { UsesRoom result out.old.spare out.new.spare payload_room }
@@ -172,7 +172,7 @@ fn put_payload(out: &mut BytesMut, value: &Payload) -> Result<(), AllocError>
     out.put_slice(bytes)
 }
 
-/// Appends an op after its tag.
+// Appends an op after its tag.
 fn put_op(out: &mut BytesMut, value: &Op) -> Result<(), AllocError>
     ensures ok { OnOk result (out.new.items ≡ out.old.items ++ op value.now) }
     ensures room { UsesRoom result out.old.spare out.new.spare op_room }
@@ -238,7 +238,7 @@ pub fn put_vote(out: &mut BytesMut, value: &Vote) -> Result<(), AllocError>
     put_command(out, &value.command)
 }
 
-/// The tag of an answer.
+// The tag of an answer.
 fn tag_of(value: &Answer) -> u8
     ensures { result ≡ answer_tag value.now }
 {
@@ -268,7 +268,7 @@ fn tag_of(value: &Answer) -> u8
     }
 }
 
-/// Appends the fields of an answer.
+// Appends the fields of an answer.
 fn put_answer_fields(out: &mut BytesMut, value: &Answer) -> Result<(), AllocError>
     ensures ok { OnOk result (out.new.items ≡ out.old.items ++ answer_fields value.now) }
     ensures room { UsesRoom result out.old.spare out.new.spare held_room }

@@ -168,7 +168,7 @@ pub fn read_member(bytes: &[u8]) -> Option<(Member, &[u8])>
     Some((Member { node, port }, rest))
 }
 
-/// This many members, one after the other.
+// This many members, one after the other.
 fn many_members(count: u8, bytes: &[u8]) -> Option<(ArrayVec<Member, MAX_MEMBERS>, &[u8])>
     requires { count ≤ max_members }
     ensures read { Finds (λ x. (x.0.items, x.1.now)) result (many read_member count bytes.now) }
@@ -352,7 +352,7 @@ pub fn read_payload(bytes: &[u8]) -> Option<(Payload, &[u8])>
     Some((Payload::of(text)?, rest))
 }
 
-/// The answer of a tag without fields.
+// The answer of a tag without fields.
 #[tactic(auto, unfolding(crate::specs::FieldReading::bare_answer))]
 fn bare_answer<'a>(tag: u8, rest: &'a [u8]) -> Option<(Answer, &'a [u8])>
     ensures { Finds (λ x. (x.0, x.1.now)) result (bare_answer tag rest.now) }
@@ -379,7 +379,7 @@ fn bare_answer<'a>(tag: u8, rest: &'a [u8]) -> Option<(Answer, &'a [u8])>
     Some((answer, rest))
 }
 
-/// A holder and its fence.
+// A holder and its fence.
 fn read_held(bytes: &[u8]) -> Option<(ClientNo, Fence, &[u8])>
     ensures { Finds (λ x. ((x.0, x.1), x.2.now)) result (read_held bytes.now) }
 {
@@ -391,7 +391,7 @@ fn read_held(bytes: &[u8]) -> Option<(ClientNo, Fence, &[u8])>
     None
 }
 
-/// How many clients share a name, and its fence.
+// How many clients share a name, and its fence.
 #[tactic(auto, unfolding(crate::specs::FieldReading::read_sharer_count))]
 fn read_sharing(bytes: &[u8]) -> Option<(SharerCount, Fence, &[u8])>
     ensures { Finds (λ x. ((x.0, x.1), x.2.now)) result (read_sharing bytes.now) }

@@ -17,7 +17,7 @@ pub struct FolderLock {
     _file: File,
 }
 
-/// How a node's files are opened.
+// How a node's files are opened.
 fn to_write() -> OpenOptions {
     let mut how = OpenOptions::new();
     how.read(true).append(true).create(true);

@@ -13,10 +13,10 @@ use std::alloc::Global;
 use std::io;
 use std::io::Write;
 
-/// The files of a folder.
+// The files of a folder.
 const FILES: [(Side, &str); 2] = [(Side::A, "a"), (Side::B, "b")];
 
-/// The bytes of a file, if it can be read.
+// The bytes of a file, if it can be read.
 fn bytes_of<D: LogDisk>(alloc: Global, device: &mut D, side: Side) -> Option<Vec<u8>>
     ensures unchanged { D.is_honest → (s : SideValue) → D.disk device.new s ≡ D.disk device.old s }
     ensures bytes { D.is_honest → IfSome result (λ bytes. bytes.items ≡ contents (D.disk device.old side)) }
@@ -27,7 +27,7 @@ fn bytes_of<D: LogDisk>(alloc: Global, device: &mut D, side: Side) -> Option<Vec
     Some(bytes)
 }
 
-/// Where the whole entries of a file end. `None` if memory runs out before.
+// Where the whole entries of a file end. `None` if memory runs out before.
 fn end_of(alloc: Global, bytes: &[u8]) -> Option<usize>
     ensures { IfSome result (EndsAt bytes.now) }
 {
@@ -41,7 +41,7 @@ fn end_of(alloc: Global, bytes: &[u8]) -> Option<usize>
     }
 }
 
-/// Where the whole entries of a file end, and the file's size. `None` if it cannot be read.
+// Where the whole entries of a file end, and the file's size. `None` if it cannot be read.
 fn extent_of<D: LogDisk>(alloc: Global, device: &mut D, side: Side) -> Option<(usize, usize)>
     ensures unchanged { D.is_honest → (s : SideValue) → D.disk device.new s ≡ D.disk device.old s }
     ensures end { D.is_honest → IfSome result (λ e. EndsAt (contents (D.disk device.old side)) e.0) }
@@ -52,7 +52,7 @@ fn extent_of<D: LogDisk>(alloc: Global, device: &mut D, side: Side) -> Option<(u
     Some((end, bytes.len()))
 }
 
-/// Writes at which byte of a file no entry reads, if there is one. Returns whether all of it reads as entries.
+// Writes at which byte of a file no entry reads, if there is one. Returns whether all of it reads as entries.
 fn tell_end<D: LogDisk, E: Write>(
     alloc: Global,
     device: &mut D,
@@ -78,7 +78,7 @@ fn tell_end<D: LogDisk, E: Write>(
     false
 }
 
-/// Writes where a store is damaged.
+// Writes where a store is damaged.
 fn tell_damage<D: LogDisk, E: Write>(alloc: Global, device: &mut D, folder: &str, err: &mut E)
     ensures { D.is_honest → (s : SideValue) → D.disk device.new s ≡ D.disk device.old s }
 {
@@ -95,7 +95,7 @@ fn tell_damage<D: LogDisk, E: Write>(alloc: Global, device: &mut D, folder: &str
     );
 }
 
-/// Writes a genesis as it stands on a command line.
+// Writes a genesis as it stands on a command line.
 fn write_genesis<E: Write>(header: &Header, err: &mut E) -> io::Result<()> {
     let genesis = header.genesis();
     write!(err, "{},{}", genesis.cluster, genesis.alpha)?;
@@ -105,21 +105,21 @@ fn write_genesis<E: Write>(header: &Header, err: &mut E) -> io::Result<()> {
     writeln!(err)
 }
 
-/// Tells whose store a file is.
+// Tells whose store a file is.
 fn tell_header<E: Write>(header: &Header, folder: &str, name: &str, err: &mut E) {
     let node = header.node().get();
     let _ = write!(err, "{folder}/{name}: the store of node {node} of genesis ");
     let _ = write_genesis(header, err);
 }
 
-/// Writes whose store a file is, if it begins with a Base.
+// Writes whose store a file is, if it begins with a Base.
 fn tell_base<E: Write>(alloc: Global, bytes: &[u8], folder: &str, name: &str, err: &mut E) {
     if let Ok((Stored::Base(base), _)) = first_entry(alloc, bytes) {
         tell_header(&base.header, folder, name, err);
     }
 }
 
-/// Writes whose store stands in a folder.
+// Writes whose store stands in a folder.
 fn tell_owner<D: LogDisk, E: Write>(alloc: Global, device: &mut D, folder: &str, err: &mut E)
     ensures { D.is_honest → (s : SideValue) → D.disk device.new s ≡ D.disk device.old s }
 {

@@ -17,22 +17,22 @@ use std::fs::Files;
 use std::io;
 use std::io::Write;
 
-/// Writes a line of a name and a number.
+// Writes a line of a name and a number.
 fn write_number<W: Write>(name: &str, number: u64, out: &mut W) -> io::Result<()>
     ensures { OnOk result (Appends (W.contents out.old) (W.contents out.new) (number_line name.now number)) }
 {
     writeln!(out, "{name} {number}")
 }
 
-/// Writes the line of the promised ballot: its round and its node.
+// Writes the line of the promised ballot: its round and its node.
 fn write_promised<W: Write>(promised: Ballot, out: &mut W) -> io::Result<()>
     ensures { OnOk result (Appends (W.contents out.old) (W.contents out.new) (promised_line promised)) }
 {
     writeln!(out, "promised {} {}", promised.round(), promised.node())
 }
 
-/// Writes one line each for the generation of the live file, the promised ballot (`0 0` if there is none), the
-/// snapshot's position, the counts of votes and decided commands above it, and the format of the file.
+// Writes one line each for the generation of the live file, the promised ballot (`0 0` if there is none), the
+// snapshot's position, the counts of votes and decided commands above it, and the format of the file.
 fn write_live<W: Write>(live: &LiveFile, out: &mut W) -> io::Result<()>
     ensures { OnOk result (Appends (W.contents out.old) (W.contents out.new) (live_text live.now.generation live.now.format live.now.standing)) }
 {
@@ -45,7 +45,7 @@ fn write_live<W: Write>(live: &LiveFile, out: &mut W) -> io::Result<()>
     Ok(())
 }
 
-/// Writes what was found, or `no store`. Returns whether there is a store.
+// Writes what was found, or `no store`. Returns whether there is a store.
 fn write_found<W: Write>(found: Option<LiveFile>, out: &mut W) -> io::Result<bool>
     ensures text { IfOk result (λ _. Appends (W.contents out.old) (W.contents out.new) (found_text found)) }
     ensures value { IfOk result (λ is_store. is_store ≡ is_some found) }
@@ -84,7 +84,7 @@ pub fn dump_device<D: LogDisk, W: Write>(
     Ok(is_store)
 }
 
-/// The same for the files of a folder, none of which is created.
+// The same for the files of a folder, none of which is created.
 fn dump_folder<R: Files, W: Write, E: Write>(
     rt: &R,
     alloc: Global,

@@ -45,7 +45,7 @@ pub fn inspect_device<D: LogDisk>(
     }
 }
 
-/// What the store of a folder amounts to; it creates no file. If a file fails, it writes why.
+// What the store of a folder amounts to; it creates no file. If a file fails, it writes why.
 fn inspection_in<R: Files, E: Write>(
     rt: &R,
     alloc: Global,
@@ -59,7 +59,7 @@ fn inspection_in<R: Files, E: Write>(
     }
 }
 
-/// Writes what the store of a folder amounts to. Returns whether there is one.
+// Writes what the store of a folder amounts to. Returns whether there is one.
 fn inspect_folder<R: Files, W: Write, E: Write>(
     rt: &R,
     alloc: Global,

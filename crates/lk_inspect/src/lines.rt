@@ -12,7 +12,7 @@ use lk_types::{ClientNo, Executed, Members};
 use std::io;
 use std::io::Write;
 
-/// Writes each member as ` NODE:PORT`, and ends the line.
+// Writes each member as ` NODE:PORT`, and ends the line.
 fn write_set<W: Write>(set: &Members, out: &mut W) -> io::Result<()>
     ensures { OnOk result (Appends (W.contents out.old) (W.contents out.new) (set_line set.now)) }
 {
@@ -24,8 +24,8 @@ fn write_set<W: Write>(set: &Members, out: &mut W) -> io::Result<()>
     Ok(())
 }
 
-/// Writes a line `members NODE:PORT ..` for the next position, and a line `members from P NODE:PORT ..` for each later
-/// position of the window whose members differ from those before it.
+// Writes a line `members NODE:PORT ..` for the next position, and a line `members from P NODE:PORT ..` for each later
+// position of the window whose members differ from those before it.
 fn write_window<W: Write>(executed: Executed, window: &Window, out: &mut W) -> io::Result<()> {
     let mut position = executed.get();
     let mut stands: Option<&Members> = None;
@@ -42,7 +42,7 @@ fn write_window<W: Write>(executed: Executed, window: &Window, out: &mut W) -> i
     Ok(())
 }
 
-/// Writes a line `held NAME CLIENT FENCE`.
+// Writes a line `held NAME CLIENT FENCE`.
 fn write_holder<W: Write>(name: &Name, client: ClientNo, slot: &Slot, out: &mut W) -> io::Result<()>
     ensures { OnOk result (Appends (W.contents out.old) (W.contents out.new) (holder_line name.now client slot.now.fence)) }
 {
@@ -52,7 +52,7 @@ fn write_holder<W: Write>(name: &Name, client: ClientNo, slot: &Slot, out: &mut 
     Ok(())
 }
 
-/// Writes a line for each client that holds the name, rising.
+// Writes a line for each client that holds the name, rising.
 fn write_slot<W: Write>(name: &Name, slot: &Slot, out: &mut W) -> io::Result<()> {
     match &slot.holders {
         Holders::Nobody => {}
@@ -66,7 +66,7 @@ fn write_slot<W: Write>(name: &Name, slot: &Slot, out: &mut W) -> io::Result<()>
     Ok(())
 }
 
-/// Writes a line of a count and its maximum.
+// Writes a line of a count and its maximum.
 fn write_count<W: Write>(name: &str, count: usize, most: usize, out: &mut W) -> io::Result<()>
     ensures { OnOk result (Appends (W.contents out.old) (W.contents out.new) (count_line name.now count most)) }
 {

@@ -19,7 +19,7 @@ use lk_transport::fault::ServiceFault;
 use lk_types::{Answer, Command, NoMemory, Position};
 use std::alloc::Global;
 
-/// The state that the snapshot packs, at its position.
+// The state that the snapshot packs, at its position.
 fn unpacked(alloc: Global, standing: &Standing) -> Result<Whole<LockTable>, ServiceFault>
     ensures one { (w : WholeValue) → Packs IsTableText w standing.now.snapshot → IfOk result (λ v. v ≡ w) }
     ensures stands { IfOk result (λ w. w.roster.executed ≡ standing.now.position) }
@@ -33,7 +33,7 @@ fn unpacked(alloc: Global, standing: &Standing) -> Result<Whole<LockTable>, Serv
     Ok(whole)
 }
 
-/// Executes a command. A failed call changes nothing.
+// Executes a command. A failed call changes nothing.
 fn run_one(whole: &mut Whole<LockTable>, command: &Command) -> Result<Option<Answer>, NoMemory>
     requires { whole.old.roster.executed < max_count }
     ensures { OnOk result (whole.new ≡ ran table_meaning command.now whole.old) }
@@ -42,7 +42,7 @@ fn run_one(whole: &mut Whole<LockTable>, command: &Command) -> Result<Option<Ans
     Ok(run.answer)
 }
 
-/// Executes the decided commands from the next position on, up to the first gap.
+// Executes the decided commands from the next position on, up to the first gap.
 fn run_on(whole: &mut Whole<LockTable>, pairs: &[(Position, Command)]) -> Result<(), NoMemory>
     ensures { OnOk result (whole.new ≡ all_ran table_meaning (run_from whole.old.roster.executed pairs.now) whole.old) }
 {

@@ -1,9 +1,10 @@
 -- Whose acceptances are counted, and when a majority has accepted.
-use Rattle.std.specs.Prelude.{◌≡◌, ℕ, ◌==◌, if◌then◌else◌, Some, List, [], ◌∷◌, ◌++◌, map, filter}
+use Rattle.std.specs.Prelude.{◌≡◌, ℕ, not, ◌==◌, if◌then◌else◌, Some, List, [], ◌∷◌, ◌++◌, map, filter}
 use Rattle.std.specs.List.{list_any}
 use Rattle.lk_types.specs.declared.member.Member.{Member}
 use Rattle.lk_members.specs.Effects.{Command}
 use Rattle.lk_members.specs.Majorities.{IsMajority}
+use Rattle.lk_members.specs.Nodes.{nodes_of}
 use Rattle.lk_members.specs.Windows.{RosterValue}
 use Rattle.lk_leader.specs.Terms.{BallotValue, ProposalValue, TermValue, LeaderValue, proposal_at}
 use Rattle.lk_leader.specs.Proposing.{AreMembersAt}
@@ -11,6 +12,10 @@ use Rattle.lk_leader.specs.Proposing.{AreMembersAt}
 -- the members of the set that are among the nodes
 abbrev pub members_among : List Member → List ℕ → List ℕ
 members_among set nodes = map (λ m. m.node) (filter (λ m. list_any (λ n. n == m.node) nodes) set)
+
+-- the members of the set that have not been heard to accept, in rising order
+abbrev pub unheard : List Member → List ℕ → List ℕ
+unheard set accepted = filter (λ k. not (list_any (λ n. n == k) accepted)) (nodes_of set)
 
 -- a majority of the members has accepted it since it was proposed
 abbrev pub HasMajority : List Member → ProposalValue → Type 0

@@ -5,7 +5,7 @@ pub use Rattle.lk_agreement.specs.Soundness.{Report}
 use Rattle.std.specs.List.{list_any}
 use Rattle.lk_members.specs.Ports.{is_named}
 use Rattle.lk_members.specs.Windows.{RosterValue}
-use Rattle.std.specs.Prelude.{◌≡◌, ℕ, Bool, true, false, ◌==◌, ◌+◌, ◌&&◌, nat_lt, nat_le, Option, Some, None, List, [], ◌∷◌, ◌++◌, filter, find}
+use Rattle.std.specs.Prelude.{◌≡◌, ℕ, Bool, true, false, not, ◌==◌, ◌+◌, ◌&&◌, nat_lt, nat_le, Option, Some, None, List, [], ◌∷◌, ◌++◌, filter, find}
 
 -- a command that was proposed at a position, and the members of the position that have been heard to accept it
 pub record ProposalValue : Type 0 where
@@ -53,6 +53,19 @@ with_term t l = record { term = Some t; waiting = l.waiting }
 -- one of the promises is the node's
 abbrev pub is_promiser : ℕ → List Report → Bool
 is_promiser node reports = list_any (λ r. r.node == node) reports
+
+abbrev pub has_term : Option TermValue → Bool
+has_term None = false
+has_term (Some t) = true
+
+-- the term, if any, has a promise of the node
+abbrev pub keeps_promise : Option TermValue → ℕ → Bool
+keeps_promise None k = false
+keeps_promise (Some t) k = is_promiser k t.reports
+
+-- the nodes whose promise the term does not have
+abbrev pub silent_among : Option TermValue → List ℕ → List ℕ
+silent_among term nodes = filter (λ k. not (keeps_promise term k)) nodes
 
 -- a promise of the node is kept in the term: it is of the term's ballot, of a node of the window, and its first
 pub record IsFirstOf (l : LeaderValue) (roster : RosterValue) (node : ℕ) (b : BallotValue) (t : TermValue) : Type 0 where

@@ -1,9 +1,9 @@
-ghost use Rattle.std.specs.Prelude.{◌≡◌, ◌↔◌, ℕ, Option, Some, None, List, [], IsTrue, true, false, OnOk, OnErr, Ok, length, IsSome, IfSome, MatchOption};
+ghost use Rattle.std.specs.Prelude.{◌≡◌, ◌↔◌, ℕ, not, Option, Some, None, List, [], IsTrue, true, false, OnOk, OnErr, Ok, length, IfSome, MatchOption};
 ghost use Rattle.std.specs.Option.{option_copied, option_map};
 ghost use Rattle.lk_types.specs.Ballots.{IsBelow};
 ghost use Rattle.lk_types.specs.declared.member.Member.{Member as MemberValue};
 ghost use Rattle.lk_leader.specs.Waits.{asked, waiting_of, number_up_to, left_by};
-ghost use Rattle.lk_leader.specs.Terms.{LeaderValue, TermValue, ProposalValue, Command as CommandValue, idle, begun, with_term, with_report, with_proposals, is_promiser, IsFirstOf};
+ghost use Rattle.lk_leader.specs.Terms.{LeaderValue, TermValue, ProposalValue, Command as CommandValue, idle, begun, with_term, with_report, with_proposals, is_promiser, IsFirstOf, has_term, keeps_promise, silent_among};
 ghost use Rattle.lk_leader.specs.Proposing.{Leads, LeaderProposes, proposed};
 ghost use Rattle.lk_leader.specs.Acceptances.{IsVoteFor, heard_at, GainsMajority, IsOpen};
 
@@ -11,19 +11,12 @@ use crate::report::Report;
 use crate::term::Term;
 use crate::waiting::Waiting;
 use lk_members::Roster;
+use lk_messages::Votes;
 use lk_types::{
     Ballot, ClientNo, Command, NoMemory, NodeNo, Op, Position, RealBallot, RequestNumber,
 };
-use lk_wire::Votes;
 use std::alloc::Global;
 use std::marker::Model;
-
-/// A command that a majority of the members of its position has accepted.
-#[derive(Drop)]
-pub struct Chosen {
-    pub position: Position,
-    pub command: Command,
-}
 
 /// A command that is proposed and not decided yet, and the members that were heard to accept it.
 #[derive(Drop)]
@@ -102,7 +95,7 @@ impl Leader {
         Ok(())
     }
 
-    /// Whether a promise of the node is to be kept.
+    // Whether a promise of the node is to be kept.
     fn is_first(&self, node: NodeNo, ballot: RealBallot, roster: &Roster) -> bool
         ensures { IsTrue result ↔ ((t : TermValue) × IsFirstOf self.now roster.now node ballot t) }
     {
@@ -131,7 +124,8 @@ impl Leader {
     }
 
     /// Records that a node accepted a command. It counts if the term has proposed that command at that position, in
-    /// this ballot, and the position is in the window. Returns what a majority has accepted now and had not before.
+    /// this ballot, and the position is in the window. Returns whether a majority has accepted it now, and had not
+    /// before.
     pub fn accepted(
         &mut self,
         node: NodeNo,
@@ -139,25 +133,22 @@ impl Leader {
         position: Position,
         command: &Command,
         roster: &Roster,
-    ) -> Option<Chosen>
+    ) -> bool
         ensures heard { (t : TermValue) (set : List MemberValue) (p : ProposalValue) → self.old.term ≡ Some t → IsVoteFor t roster.now ballot position command.now set p
-            → (self.new ≡ with_term (with_proposals (heard_at set node position t.proposals) t) self.old) × (IsSome result ↔ GainsMajority set node p) }
+            → (self.new ≡ with_term (with_proposals (heard_at set node position t.proposals) t) self.old) × (IsTrue result ↔ GainsMajority set node p) }
         ensures other { ((t : TermValue) (set : List MemberValue) (p : ProposalValue) → self.old.term ≡ Some t → IsVoteFor t roster.now ballot position command.now set p → ⊥)
-            → (self.new ≡ self.old) × (result ≡ None) }
-        ensures chosen { IfSome result (λ c. c ≡ record { position = position; command = command.now }) }
+            → (self.new ≡ self.old) × (result ≡ false) }
     {
-        let set = roster.members_at(position)?;
-        let term = self.term.as_mut()?;
+        let Some(set) = roster.members_at(position) else {
+            return false;
+        };
+        let Some(term) = &mut self.term else {
+            return false;
+        };
         if term.ballot() != ballot {
-            return None;
+            return false;
         }
-        if !term.hear(node, position, command, set) {
-            return None;
-        }
-        Some(Chosen {
-            position,
-            command: command.copy(),
-        })
+        term.hear(node, position, command, set)
     }
 
     /// Records a ballot. If it is above the term's, the term ends and what waits is forgotten.
@@ -170,7 +161,7 @@ impl Leader {
         }
     }
 
-    /// Whether there is a term, of a smaller ballot.
+    // Whether there is a term, of a smaller ballot.
     fn is_below(&self, ballot: Ballot) -> bool
         ensures { IsTrue result ↔ ((t : TermValue) × (self.now.term ≡ Some t) × IsBelow t.ballot ballot) }
     {
@@ -212,6 +203,13 @@ impl Leader {
         Some(term.ballot())
     }
 
+    /// Whether there is a term.
+    pub fn has_term(&self) -> bool
+        ensures { result ≡ has_term self.now.term }
+    {
+        self.term.is_some()
+    }
+
     /// Whether it has a term, which a majority of the members of the next position has promised.
     pub fn is_elected(&self, roster: &Roster) -> bool
         ensures { IsTrue result ↔ Leads self.now roster.now }
@@ -222,14 +220,30 @@ impl Leader {
         }
     }
 
-    /// Whether the term has a promise of the node.
-    pub fn has_promised(&self, node: NodeNo) -> bool
+    // Whether the term has a promise of the node.
+    fn has_promised(&self, node: NodeNo) -> bool
         ensures { IsTrue result ↔ ((t : TermValue) × (self.now.term ≡ Some t) × (is_promiser node t.reports ≡ true)) }
     {
         match &self.term {
             Some(term) => term.has_promised(node),
             None => false,
         }
+    }
+
+    // Whether the term has no promise of the node.
+    fn is_silent(&self, node: NodeNo) -> bool
+        ensures { result ≡ not (keeps_promise self.now.term node) }
+    {
+        !self.has_promised(node)
+    }
+
+    /// Those of the nodes whose promise the term does not have, in the same order.
+    pub fn silent_among(&self, nodes: Vec<NodeNo>) -> Vec<NodeNo>
+        ensures { result.items ≡ silent_among self.now.term nodes.items }
+    {
+        let mut silent = nodes;
+        silent.retain(|node| self.is_silent(*node));
+        silent
     }
 
     /// What is proposed at the position and not decided, if the position is in the window.

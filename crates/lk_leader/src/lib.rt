@@ -1,5 +1,6 @@
 //! The leader's part of a node: which command its ballot proposes at which position, when a position is decided, and
-//! which requests wait. It has no access to a disk, a socket or bytes, and only `ask` and `promise` take memory.
+//! which requests wait. It has no access to a disk, a socket or bytes, and only `ask`, `promise` and `unheard` take
+//! memory.
 #![tactic(auto)]
 
 pub mod laws;
@@ -10,4 +11,5 @@ mod term;
 mod told;
 mod waiting;
 
-pub use leader::{Chosen, Leader, Open};
+pub use leader::{Leader, Open};
+pub use proposal::unheard;

@@ -1,15 +1,15 @@
-ghost use Rattle.std.specs.Prelude.{◌≡◌, false, ◌≤◌, ◌==◌, ◌+◌, ◌<◌, ◌&&◌, nat_lt, nat_le, length, ◌↔◌, [], IsTrue};
-ghost use Rattle.std.specs.List.{list_any};
+ghost use Rattle.std.specs.Prelude.{◌≡◌, false, ◌≤◌, ◌==◌, ◌+◌, ◌<◌, ◌&&◌, nat_lt, nat_le, length, ◌↔◌, [], IsTrue, IfOk};
 ghost use Rattle.lk_members.specs.Effects.{Request as RequestValue};
 ghost use Rattle.lk_leader.specs.Values.{IsUnderWay};
-ghost use Rattle.lk_leader.specs.Acceptances.{members_among, HasMajority, heard, GainsMajority};
+ghost use Rattle.lk_leader.specs.Acceptances.{members_among, unheard, HasMajority, heard, GainsMajority};
 
 use arrayvec::ArrayVec;
-use lk_members::{Roster, is_majority};
-use lk_types::{Command, Executed, Members, NodeNo, Position, Request};
+use lk_members::{Roster, is_among, is_majority, nodes_of};
+use lk_types::{Command, Executed, Members, NoMemory, NodeNo, Position, Request};
+use std::alloc::Global;
 use std::marker::Model;
 
-/// A command that was proposed at a position, and the members that have been heard to accept it.
+// A command that was proposed at a position, and the members that have been heard to accept it.
 #[derive(Drop)]
 pub(crate) struct Proposal {
     pub(crate) position: Position,
@@ -35,7 +35,7 @@ impl Default for Proposal {
 }
 
 impl Proposal {
-    /// The command was proposed there, and nobody has accepted it.
+    // The command was proposed there, and nobody has accepted it.
     pub(crate) fn new(position: Position, command: Command) -> Proposal
         ensures { result ≡ record { position = position; command = command; accepted = [] } }
     {
@@ -46,7 +46,7 @@ impl Proposal {
         }
     }
 
-    /// Whether it is at a position of the roster's window.
+    // Whether it is at a position of the roster's window.
     pub(crate) fn is_within(&self, roster: &Roster) -> bool
         ensures { result ≡ (nat_lt roster.now.executed self.now.position && nat_le self.now.position (roster.now.executed + length roster.now.sets)) }
     {
@@ -54,7 +54,7 @@ impl Proposal {
         executed < position && position <= executed + roster.alpha() as u64
     }
 
-    /// Whether it is for this request, at a position that is not executed.
+    // Whether it is for this request, at a position that is not executed.
     pub(crate) fn is_for(&self, request: &Request, executed: Executed) -> bool
         ensures { IsTrue result ↔ ((executed < self.now.position) × (self.now.command ≡ RequestValue request.now)) }
     {
@@ -64,14 +64,14 @@ impl Proposal {
         }
     }
 
-    /// Whether a majority of the set has accepted it.
+    // Whether a majority of the set has accepted it.
     pub(crate) fn has_majority(&self, set: &Members) -> bool
         ensures { IsTrue result ↔ HasMajority set.now self.now }
     {
         is_majority(set, members_of(set, self.accepted.as_slice()).as_slice())
     }
 
-    /// Records that the node accepted it. Returns whether a majority of the set has now, and had not before.
+    // Records that the node accepted it. Returns whether a majority of the set has now, and had not before.
     fn accept(&mut self, node: NodeNo, set: &Members) -> bool
         ensures heard { self.new ≡ heard set.now node self.old }
         ensures gains { IsTrue result ↔ GainsMajority set.now node self.old }
@@ -83,8 +83,8 @@ impl Proposal {
         !had_majority && self.has_majority(set)
     }
 
-    /// Records that the node accepted this command; another command changes nothing. Returns whether a majority of the
-    /// set has accepted now, and had not before.
+    // Records that the node accepted this command; another command changes nothing. Returns whether a majority of the
+    // set has accepted now, and had not before.
     pub(crate) fn hear(&mut self, node: NodeNo, command: &Command, set: &Members) -> bool
         ensures same { self.old.command ≡ command.now → (self.new ≡ heard set.now node self.old) × (IsTrue result ↔ GainsMajority set.now node self.old) }
         ensures position { self.new.position ≡ self.old.position }
@@ -97,14 +97,16 @@ impl Proposal {
     }
 }
 
-/// Whether the node is among them.
-fn is_among(nodes: &[NodeNo], node: NodeNo) -> bool
-    ensures { result ≡ list_any (λ n. n == node) nodes.now }
+/// The members of the set that have not been heard to accept, in rising order.
+pub fn unheard(alloc: Global, set: &Members, accepted: &[NodeNo]) -> Result<Vec<NodeNo>, NoMemory>
+    ensures { IfOk result (λ ns. ns.items ≡ unheard set.now accepted.now) }
 {
-    nodes.iter().any(|n| *n == node)
+    let mut nodes = nodes_of(alloc, set)?;
+    nodes.retain(|node| !is_among(accepted, *node));
+    Ok(nodes)
 }
 
-/// The members of the set that are among the nodes.
+// The members of the set that are among the nodes.
 fn members_of(set: &Members, nodes: &[NodeNo]) -> ArrayVec<NodeNo, 7>
     ensures { result.items ≡ members_among set.now nodes.now }
 {

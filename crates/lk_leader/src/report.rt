@@ -4,12 +4,12 @@ ghost use Rattle.lk_members.specs.Rosters.{is_member};
 ghost use Rattle.lk_leader.specs.Values.{Told as ToldValue, IsBest, told_by};
 
 use crate::told::{Told, better};
+use lk_messages::Votes;
 use lk_types::{Members, NoMemory, NodeNo, Position, Vote};
-use lk_wire::Votes;
 use std::alloc::Global;
 use std::marker::Model;
 
-/// A promise: who gave it, and the votes that it reports, from `first` on.
+// A promise: who gave it, and the votes that it reports, from `first` on.
 #[derive(Drop)]
 pub(crate) struct Report {
     pub(crate) node: NodeNo,
@@ -26,7 +26,7 @@ impl Model for Report {
 }
 
 impl Report {
-    /// The promise, with its votes copied.
+    // The promise, with its votes copied.
     pub(crate) fn of(
         alloc: Global,
         node: NodeNo,
@@ -39,7 +39,7 @@ impl Report {
         Ok(Report { node, first, votes })
     }
 
-    /// The best so far, or what it reports of the position if that counts for more.
+    // The best so far, or what it reports of the position if that counts for more.
     pub(crate) fn tell(&self, position: Position, best: Option<Told>) -> Option<Told>
         ensures { (ts : List ToldValue) → IsBest ts best → IsBest (ts ++ told_by position self.now) result }
     {
@@ -52,21 +52,21 @@ impl Report {
         best
     }
 
-    /// Whether it reports a vote at the position or after it.
+    // Whether it reports a vote at the position or after it.
     pub(crate) fn reaches(&self, position: Position) -> bool
         ensures { result ≡ list_any (λ x. nat_le position x.position) self.now.votes }
     {
         self.votes.iter().any(|vote| position <= vote.position)
     }
 
-    /// Whether the node gave it, from the position or one before it on.
+    // Whether the node gave it, from the position or one before it on.
     pub(crate) fn is_from(&self, node: NodeNo, position: Position) -> bool
         ensures { result ≡ (self.now.node == node && nat_le self.now.first position) }
     {
         self.node == node && self.first <= position
     }
 
-    /// Whether it speaks for a position with these members: a member gave it, from the position or one before it on.
+    // Whether it speaks for a position with these members: a member gave it, from the position or one before it on.
     pub(crate) fn speaks_for(&self, position: Position, set: &Members) -> bool
         ensures { result ≡ (is_member self.now.node set.now && nat_le self.now.first position) }
     {

@@ -17,7 +17,7 @@ use lk_types::{Command, Members, NoMemory, NodeNo, Position, RealBallot};
 use std::alloc::Global;
 use std::marker::Model;
 
-/// A ballot in progress: the first promise of each node, and what was proposed at the positions of the window.
+// A ballot in progress: the first promise of each node, and what was proposed at the positions of the window.
 #[derive(Drop)]
 pub(crate) struct Term {
     ballot: RealBallot,
@@ -38,7 +38,7 @@ impl Model for Term {
 }
 
 impl Term {
-    /// The ballot begins: nothing is promised or proposed in it. Takes no memory.
+    // The ballot begins: nothing is promised or proposed in it. Takes no memory.
     pub(crate) fn begin(alloc: Global, ballot: RealBallot) -> Term
         ensures { result ≡ begun ballot }
     {
@@ -49,21 +49,21 @@ impl Term {
         }
     }
 
-    /// Its ballot.
+    // Its ballot.
     pub(crate) fn ballot(&self) -> RealBallot
         ensures { result ≡ self.now.ballot }
     {
         self.ballot
     }
 
-    /// Whether it has a promise of the node.
+    // Whether it has a promise of the node.
     pub(crate) fn has_promised(&self, node: NodeNo) -> bool
         ensures { result ≡ is_promiser node self.now.reports }
     {
         self.reports.iter().any(|report| report.node == node)
     }
 
-    /// Keeps one more promise.
+    // Keeps one more promise.
     pub(crate) fn keep(&mut self, report: Report) -> Result<(), NoMemory>
         ensures ok { OnOk result (self.new ≡ with_report report self.old) }
         ensures err { OnErr result (self.new ≡ self.old) }
@@ -72,7 +72,7 @@ impl Term {
         Ok(())
     }
 
-    /// The proposal at the position.
+    // The proposal at the position.
     pub(crate) fn proposal_at(&self, position: Position) -> Option<&Proposal>
         ensures { option_copied result ≡ proposal_at position self.now.proposals }
     {
@@ -82,7 +82,7 @@ impl Term {
             .find(|proposal| proposal.position == position)
     }
 
-    /// The first position of the window at which nothing is proposed.
+    // The first position of the window at which nothing is proposed.
     fn next_position(&self, roster: &Roster) -> Option<Position>
         ensures { MatchOption result ((i : ℕ) → IsNext roster.now self.now.proposals i → ⊥) (λ i. IsNext roster.now self.now.proposals i) }
     {
@@ -96,14 +96,14 @@ impl Term {
         None
     }
 
-    /// Whether a majority of the set promised from the position or one before it on.
+    // Whether a majority of the set promised from the position or one before it on.
     fn is_promised(&self, position: Position, set: &Members) -> bool
         ensures { IsTrue result ↔ IsMajority (those_who_promised set.now position self.now.reports) set.now }
     {
         is_majority(set, promisers(&self.reports, position, set).as_slice())
     }
 
-    /// Whether a majority of the members of the position has promised from there or before it on.
+    // Whether a majority of the members of the position has promised from there or before it on.
     fn is_promised_at(&self, position: Position, roster: &Roster) -> bool
         ensures { IsTrue result ↔ IsPromisedAt self.now roster.now position }
     {
@@ -113,7 +113,7 @@ impl Term {
         }
     }
 
-    /// Whether a majority of the members of the next position has promised from there on.
+    // Whether a majority of the members of the next position has promised from there on.
     pub(crate) fn is_elected(&self, roster: &Roster) -> bool
         ensures { IsTrue result ↔ IsElected self.now roster.now }
     {
@@ -123,7 +123,7 @@ impl Term {
         }
     }
 
-    /// The highest vote that a member's promise reports for the position.
+    // The highest vote that a member's promise reports for the position.
     fn highest(&self, position: Position, set: &Members) -> Option<Told>
         ensures { IsBest (told_at position (reports_at set.now position self.now.reports)) result }
     {
@@ -136,21 +136,21 @@ impl Term {
         best
     }
 
-    /// Whether some promise reports a vote at the position or after it.
+    // Whether some promise reports a vote at the position or after it.
     fn is_reached(&self, position: Position) -> bool
         ensures { result ≡ is_reached self.now.reports position }
     {
         self.reports.iter().any(|report| report.reaches(position))
     }
 
-    /// Whether the position has to be filled.
+    // Whether the position has to be filled.
     fn is_gap(&self, position: Position, roster: &Roster) -> bool
         ensures { result ≡ (is_reached self.now.reports position || is_changing_at roster.now position) }
     {
         self.is_reached(position) || is_changing(position, roster)
     }
 
-    /// What the term proposes at a position of this set.
+    // What the term proposes at a position of this set.
     fn value(
         &self,
         position: Position,
@@ -169,7 +169,7 @@ impl Term {
         self.is_gap(position, roster).then_some(Command::Noop)
     }
 
-    /// What it proposes next, and where.
+    // What it proposes next, and where.
     pub(crate) fn next(&self, waiting: &Waiting, roster: &Roster) -> Option<(Position, Command)>
         ensures { MatchOption result ((i : ℕ) (v : CommandValue) → Proposes self.now waiting.now roster.now i v → ⊥) (λ p. Proposes self.now waiting.now roster.now p.0 p.1) }
     {
@@ -182,7 +182,7 @@ impl Term {
         Some((position, command))
     }
 
-    /// Keeps what is proposed, and forgets what was proposed outside the window.
+    // Keeps what is proposed, and forgets what was proposed outside the window.
     pub(crate) fn propose(&mut self, position: Position, command: Command, roster: &Roster)
         requires { IsNext roster.now self.old.proposals position }
         ensures { self.new ≡ proposed roster.now position command self.old }
@@ -192,7 +192,7 @@ impl Term {
         self.proposals.push(Proposal::new(position, command));
     }
 
-    /// The index of the proposal at the position.
+    // The index of the proposal at the position.
     fn place_of(&self, position: Position) -> Option<usize>
         ensures { result ≡ position_of (λ p. p.position == position) self.now.proposals }
     {
@@ -202,8 +202,8 @@ impl Term {
             .position(|proposal| proposal.position == position)
     }
 
-    /// Records that the node accepted the command at the position; nothing changes if another is proposed there, or
-    /// none. Returns whether a majority has accepted now, and had not before.
+    // Records that the node accepted the command at the position; nothing changes if another is proposed there, or
+    // none. Returns whether a majority has accepted now, and had not before.
     pub(crate) fn hear(
         &mut self,
         node: NodeNo,
@@ -224,7 +224,7 @@ impl Term {
     }
 }
 
-/// The members of the set that promised from the position or one before it on.
+// The members of the set that promised from the position or one before it on.
 fn promisers(reports: &[Report], position: Position, set: &Members) -> ArrayVec<NodeNo, 7>
     ensures { result.items ≡ those_who_promised set.now position reports.now }
 {
@@ -238,14 +238,14 @@ fn promisers(reports: &[Report], position: Position, set: &Members) -> ArrayVec<
     among
 }
 
-/// Whether the node promised from the position or one before it on.
+// Whether the node promised from the position or one before it on.
 fn is_promiser_of(reports: &[Report], node: NodeNo, position: Position) -> bool
     ensures { result ≡ list_any (λ r. r.node == node && nat_le r.first position) reports.now }
 {
     reports.iter().any(|report| report.is_from(node, position))
 }
 
-/// Whether the last change is not in effect before the position.
+// Whether the last change is not in effect before the position.
 fn is_changing(position: Position, roster: &Roster) -> bool
     ensures { result ≡ is_changing_at roster.now position }
 {

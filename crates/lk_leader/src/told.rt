@@ -3,7 +3,7 @@ ghost use Rattle.lk_leader.specs.Values.{IsNotAbove, IsBest};
 
 use lk_types::{NodeNo, Vote};
 
-/// A vote, and the node whose promise reports it.
+// A vote, and the node whose promise reports it.
 #[derive(Drop)]
 pub(crate) struct Told {
     pub(crate) node: NodeNo,
@@ -11,7 +11,7 @@ pub(crate) struct Told {
 }
 
 impl Told {
-    /// Whether the other counts for more: its ballot is greater, or the same and reported by a smaller node.
+    // Whether the other counts for more: its ballot is greater, or the same and reported by a smaller node.
     fn is_below(&self, node: NodeNo, vote: &Vote) -> bool
         ensures below { IsTrue result → IsNotAbove self.now (record { node = node; vote = vote.now }) }
         ensures above { result ≡ false → IsNotAbove (record { node = node; vote = vote.now }) self.now }

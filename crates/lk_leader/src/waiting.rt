@@ -8,7 +8,7 @@ use lk_types::{ClientNo, Executed, NoMemory, Op, Request, RequestNumber};
 use std::alloc::Global;
 use std::marker::Model;
 
-/// What a client asks for under a number.
+// What a client asks for under a number.
 #[derive(Drop)]
 pub(crate) struct Asked {
     number: RequestNumber,
@@ -16,7 +16,7 @@ pub(crate) struct Asked {
 }
 
 impl Asked {
-    /// The request, as this client's.
+    // The request, as this client's.
     fn request_of(&self, client: ClientNo) -> Request
         ensures { result ≡ record { client = client; number = self.now.number; op = self.now.op } }
     {
@@ -28,7 +28,7 @@ impl Asked {
     }
 }
 
-/// The requests that wait to be proposed, in order of arrival, one a client.
+// The requests that wait to be proposed, in order of arrival, one a client.
 #[derive(Drop)]
 pub(crate) struct Waiting {
     requests: IndexMap<ClientNo, Asked>,
@@ -44,7 +44,7 @@ impl Model for Waiting {
 }
 
 impl Waiting {
-    /// Nothing waits. Takes no memory.
+    // Nothing waits. Takes no memory.
     pub(crate) fn new(alloc: Global) -> Waiting
         ensures { result ≡ [] }
     {
@@ -53,7 +53,7 @@ impl Waiting {
         }
     }
 
-    /// A request waits: a greater number replaces its client's waiting one, any other is dropped.
+    // A request waits: a greater number replaces its client's waiting one, any other is dropped.
     pub(crate) fn ask(
         &mut self,
         client: ClientNo,
@@ -74,7 +74,7 @@ impl Waiting {
         Ok(())
     }
 
-    /// Removes the client's waiting request if its number is at most this one, and returns its number.
+    // Removes the client's waiting request if its number is at most this one, and returns its number.
     pub(crate) fn ran(&mut self, client: ClientNo, number: RequestNumber) -> Option<RequestNumber>
         ensures told { result ≡ number_up_to number (waiting_of client self.old) }
         ensures left { self.new ≡ left_by client number self.old }
@@ -87,7 +87,7 @@ impl Waiting {
         Some(waits)
     }
 
-    /// The request at this index, in order of arrival.
+    // The request at this index, in order of arrival.
     fn request_at(&self, index: usize) -> Request
         requires { index < length self.now }
         ensures { slice_get self.now index ≡ Some result }
@@ -96,14 +96,14 @@ impl Waiting {
         asked.request_of(*client)
     }
 
-    /// How many requests wait.
+    // How many requests wait.
     pub(crate) fn len(&self) -> usize
         ensures { result ≡ length self.now }
     {
         self.requests.len()
     }
 
-    /// The first request that is not proposed at a position that is not executed.
+    // The first request that is not proposed at a position that is not executed.
     pub(crate) fn first_new(&self, proposals: &[Proposal], executed: Executed) -> Option<Request>
         ensures { MatchOption result (NoneIsNew executed proposals.now self.now) (λ q. IsFirstNew executed proposals.now self.now q) }
     {
@@ -116,7 +116,7 @@ impl Waiting {
         None
     }
 
-    /// Nothing waits any more.
+    // Nothing waits any more.
     pub(crate) fn clear(&mut self)
         ensures { self.new ≡ [] }
     {

@@ -3,7 +3,7 @@ use Rattle.std.proofs.Common.{◌≡◌, ℕ, ◌+◌, ◌-◌, ◌≤◌, true,
 use Rattle.std.proofs.lemmas.Bool.{and_from, le-leb}
 use Rattle.std.proofs.lemmas.List.{length-take, length-drop}
 use Rattle.lk_types.specs.declared.answer.Answer.{Answer}
-use Rattle.lk_wire.specs.Values.{are_commands_from}
+use Rattle.lk_messages.specs.Values.{are_commands_from}
 use Rattle.lk_members.specs.Effects.{RequestValue}
 use Rattle.lk_members.specs.Rosters.{PlainRoster, next_roster}
 use Rattle.lk_members.specs.Windows.{RosterValue, moved, newest_roster, changed_by}

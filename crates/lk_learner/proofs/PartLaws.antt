@@ -2,7 +2,7 @@
 use Rattle.std.proofs.Common.{◌≡◌, ◌+◌, ◌*◌, ℕ, zero, suc, Bool, true, false, cond, eqb, ltb, eqb-true, ◌&&◌, List, [], ◌∷◌, ◌++◌, length, take, drop, Option, Some, None, refl, sym, ap, subst, subst₂}
 use Rattle.std.specs.Prelude.{slice_get}
 use Rattle.std.proofs.lemmas.Bool.{and_parts}
-use Rattle.lk_wire.specs.Values.{PartValue}
+use Rattle.lk_messages.specs.Values.{PartValue}
 use Rattle.lk_agreement.specs.Chosen.{Command}
 use Rattle.lk_agreement.specs.Datagrams.{Genesis, Datagram}
 use Rattle.lk_agreement.specs.Snapshots.{IsSlice}

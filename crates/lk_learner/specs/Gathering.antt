@@ -1,7 +1,7 @@
 -- Snapshots of other nodes, gathered part by part.
 use Rattle.std.specs.Prelude.{◌≤◌, ℕ, Bool, true, false, ◌==◌, ◌&&◌, if◌then◌else◌, nat_lt, List, [], ◌++◌, length, Option, Some, None}
 use Rattle.lk_types.specs.Limits.{max_base}
-use Rattle.lk_wire.specs.Values.{PartValue}
+use Rattle.lk_messages.specs.Values.{PartValue}
 use Rattle.lk_learner.specs.Learners.{GatheredValue}
 
 -- the invariant: at most one text is gathered, and no more of it than there is

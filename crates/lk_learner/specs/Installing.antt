@@ -1,6 +1,6 @@
 -- What a learner does with a snapshot of another node: it gathers it, and installs it.
 use Rattle.std.specs.Prelude.{◌≡◌, ◌⊎◌, ◌<◌, ℕ, Bool, true, false, nat_lt, filter, List, [], length, Option, Some, None}
-use Rattle.lk_wire.specs.Values.{PartValue}
+use Rattle.lk_messages.specs.Values.{PartValue}
 use Rattle.lk_state.specs.Packed.{packed}
 use Rattle.lk_learner.specs.Learners.{WholeValue, Pair, LearnerValue, GatheredValue, executed, alpha}
 use Rattle.lk_learner.specs.Gathering.{heard}

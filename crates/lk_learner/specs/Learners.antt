@@ -4,7 +4,7 @@ pub use Rattle.lk_learner.specs.Pairs.{Command, Pair}
 use Rattle.std.specs.Prelude.{◌≡◌, ℕ, ◌+◌, ◌-◌, ◌*◌, ◌<◌, ◌≤◌, Option, Some, None, List, [], ◌∷◌, ◌++◌, length, take, drop, Contains}
 use Rattle.lk_types.specs.Limits.{max_commands, max_base}
 use Rattle.lk_types.specs.Ranges.{IsAlpha}
-use Rattle.lk_wire.specs.Values.{DecidedValue, WantValue}
+use Rattle.lk_messages.specs.Values.{DecidedValue, WantValue}
 use Rattle.lk_state.specs.Meanings.{Meaning}
 use Rattle.lk_state.specs.Packed.{packed}
 use Rattle.lk_state.specs.Runs.{ran}

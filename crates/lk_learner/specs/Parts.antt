@@ -1,7 +1,7 @@
 -- How a snapshot is served, part by part.
 use Rattle.std.specs.Prelude.{◌≡◌, ◌⊎◌, ◌<◌, ◌≤◌, ◌+◌, ◌*◌, ℕ, nat_lt, if◌then◌else◌, List, length, take, drop, Some, slice_get}
 use Rattle.lk_types.specs.Limits.{max_part}
-use Rattle.lk_wire.specs.Values.{PartValue}
+use Rattle.lk_messages.specs.Values.{PartValue}
 
 -- the most parts in reply to one request for a snapshot
 abbrev pub max_parts : ℕ

@@ -4,9 +4,9 @@ ghost use Rattle.lk_state.specs.States.{WholeValue};
 ghost use Rattle.lk_learner.specs.Unpacking.{Unpacks};
 ghost use Rattle.lk_learner.specs.Gathering.{first_bytes, begun_by, goes_on, joined};
 
+use lk_messages::PartRef;
 use lk_state::{Machine, UnpackFault, Whole};
 use lk_types::{NoMemory, Position};
-use lk_wire::PartRef;
 use std::alloc::Global;
 use std::marker::Model;
 
@@ -29,7 +29,7 @@ impl Model for Gathered {
     ghost invariant = { λ g. IsGathered (record { position = g.position; total = g.total; bytes = g.bytes.items }) };
 }
 
-/// The bytes of the part, if it is the first one.
+// The bytes of the part, if it is the first one.
 fn first_bytes(alloc: Global, part: &PartRef<'_>) -> Result<Vec<u8>, NoMemory>
     ensures value { IfOk result (λ bytes. bytes.items ≡ first_bytes part.now) }
     ensures memory { OnErr result (part.now.offset ≡ 0) }
@@ -41,7 +41,7 @@ fn first_bytes(alloc: Global, part: &PartRef<'_>) -> Result<Vec<u8>, NoMemory>
 }
 
 impl Gathered {
-    /// What is gathered with this part as its start: nothing yet, if the part is not the first one.
+    // What is gathered with this part as its start: nothing yet, if the part is not the first one.
     pub(crate) fn begun_by(alloc: Global, part: &PartRef<'_>) -> Result<Gathered, NoMemory>
         ensures value { IfOk result (λ g. g ≡ begun_by part.now) }
         ensures memory { OnErr result (part.now.offset ≡ 0) }
@@ -84,7 +84,7 @@ impl Gathered {
         self.length() == self.total
     }
 
-    /// Whether the part is one of the same snapshot that continues these bytes.
+    // Whether the part is one of the same snapshot that continues these bytes.
     fn goes_on(&self, part: &PartRef<'_>) -> bool
         ensures { result ≡ goes_on self.now part.now }
     {
@@ -93,7 +93,7 @@ impl Gathered {
             && part.offset() == self.length()
     }
 
-    /// Appends the part if it continues these bytes. It needs memory for its bytes; a failed call changes nothing.
+    // Appends the part if it continues these bytes. It needs memory for its bytes; a failed call changes nothing.
     pub(crate) fn join(&mut self, part: &PartRef<'_>) -> Result<(), NoMemory>
         ensures ok { OnOk result (self.new ≡ joined self.old part.now) }
         ensures err { OnErr result (self.new ≡ self.old) }

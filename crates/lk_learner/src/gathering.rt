@@ -2,8 +2,8 @@ ghost use Rattle.std.specs.Prelude.{◌≡◌, IsTrue, OnOk, OnErr};
 ghost use Rattle.lk_learner.specs.Gathering.{begins, goes_on_any, joined_any, heard, is_taken};
 
 use crate::gathered::Gathered;
+use lk_messages::PartRef;
 use lk_types::{Executed, NoMemory};
-use lk_wire::PartRef;
 use std::alloc::Global;
 
 // Whether the part is of a snapshot above that which is gathered, if any is.

@@ -5,7 +5,7 @@ ghost use Rattle.lk_agreement.specs.Datagrams.{Genesis, Datagram, Decided};
 ghost use Rattle.lk_agreement.specs.Chosen.{command_at, Chosen, ChosenAt};
 ghost use Rattle.lk_agreement.specs.Soundness.{Sound};
 ghost use Rattle.lk_agreement.specs.Snapshots.{IsSlice};
-ghost use Rattle.lk_wire.specs.Values.{PartValue};
+ghost use Rattle.lk_messages.specs.Values.{PartValue};
 ghost use Rattle.lk_agreement.specs.Nodes.{View, Stems, MaySend};
 ghost use Rattle.lk_agreement.specs.Changes.{with_done, Changes};
 ghost use Rattle.lk_state.specs.Meanings.{Meaning};

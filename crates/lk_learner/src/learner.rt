@@ -5,10 +5,10 @@ use crate::gathered::Gathered;
 use crate::pair::{Pair, is_kept, place_of};
 use arrayvec::ArrayVec;
 use bytes::BytesMut;
+use lk_messages::{Decided, Want};
 use lk_state::{Machine, Ran, Whole};
 use lk_types::limits::{MAX_COMMANDS, MAX_VOTES};
 use lk_types::{Command, Executed, NoMemory, Position};
-use lk_wire::{Decided, Want};
 use std::alloc::Global;
 use std::marker::Model;
 
@@ -87,7 +87,7 @@ impl<M: Machine> Learner<M> {
         let _ = self.pairs.as_slice();
     }
 
-    /// Whether the position is one of the next, up to twice alpha.
+    // Whether the position is one of the next, up to twice alpha.
     fn is_near(&self, position: Position) -> bool
         ensures { IsTrue result ↔ ((executed self.now < position) × (position ≤ executed self.now + 2 * alpha self.now)) }
     {
@@ -121,7 +121,7 @@ impl<M: Machine> Learner<M> {
         true
     }
 
-    /// Whether the command of the next position is kept.
+    // Whether the command of the next position is kept.
     fn is_next_kept(&self) -> bool
         ensures next { IsTrue result ↔ ((v : Command) × IsNext self.now v) }
         ensures room { IsTrue result → executed self.now < max_count }
@@ -187,7 +187,7 @@ impl<M: Machine> Learner<M> {
         Want::of(first, self.gathered_bytes())
     }
 
-    /// How many bytes of a snapshot are gathered, at most 49,152.
+    // How many bytes of a snapshot are gathered, at most 49,152.
     fn gathered_bytes(&self) -> u32
         ensures value { result ≡ gathered_bytes self.now.gathered }
         ensures room { result ≤ max_base }
@@ -198,7 +198,7 @@ impl<M: Machine> Learner<M> {
         }
     }
 
-    /// The index of the position among the commands since the snapshot, or where it would be inserted.
+    // The index of the position among the commands since the snapshot, or where it would be inserted.
     fn place(&self, position: Position) -> Option<usize>
         ensures { MatchOption result (position ≤ self.now.snapshot_position) (λ k. (self.now.snapshot_position < position) × (k ≡ position - (self.now.snapshot_position + 1))) }
     {
@@ -215,7 +215,7 @@ impl<M: Machine> Learner<M> {
         self.served.get(self.place(position)?)
     }
 
-    /// The executed commands from the position on, up to 16, if the snapshot has not replaced them.
+    // The executed commands from the position on, up to 16, if the snapshot has not replaced them.
     fn commands_from(&self, first: Position) -> Option<&[Command]>
         ensures { MatchOption result (IsServed self.now first → ⊥) (λ vs. IsServed self.now first × (vs.now ≡ (news_from first self.now).commands)) }
     {
@@ -244,7 +244,7 @@ impl<M: Machine> Learner<M> {
     }
 }
 
-/// The same commands.
+// The same commands.
 fn copied(alloc: Global, commands: &[Command]) -> Result<Vec<Command>, NoMemory>
     ensures { IfOk result (λ vs. vs.items ≡ commands.now) }
 {

@@ -33,7 +33,7 @@ impl Default for Pair {
 }
 
 impl Pair {
-    /// The command at the position.
+    // The command at the position.
     pub(crate) fn new(position: Position, command: Command) -> Pair
         ensures { result ≡ (position, command) }
     {

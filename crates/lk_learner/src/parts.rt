@@ -2,9 +2,9 @@ ghost use Rattle.std.specs.Prelude.{◌≡◌, ◌<◌, ◌≤◌, ◌+◌, leng
 ghost use Rattle.lk_types.specs.Limits.{max_base, max_part};
 ghost use Rattle.lk_learner.specs.Parts.{start_of, part_of, AreParts};
 
+use lk_messages::Part;
 use lk_types::limits::MAX_PART;
 use lk_types::{NoMemory, Position};
-use lk_wire::Part;
 use std::alloc::Global;
 
 // The most parts in reply to one request for a snapshot.

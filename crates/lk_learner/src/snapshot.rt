@@ -12,10 +12,10 @@ use crate::learner::Learner;
 use crate::pair::Pair;
 use crate::parts::parts_from;
 use arrayvec::ArrayVec;
+use lk_messages::{Part, PartRef};
 use lk_state::{Machine, Whole};
 use lk_types::limits::MAX_VOTES;
 use lk_types::{Executed, NoMemory, Position};
-use lk_wire::{Part, PartRef};
 
 // Forgets the pairs up to a position.
 fn forget_to(pairs: &mut ArrayVec<Pair, MAX_VOTES>, position: Executed)

@@ -1,5 +1,5 @@
 pub mod HexSpelling
-mod WordLemmas
-mod TurnLemmas
-mod GenesisLemmas
-pub mod LineLemmas
+mod WordLaws
+mod TurnLaws
+mod GenesisLaws
+pub mod LineLaws

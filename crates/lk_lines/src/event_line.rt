@@ -10,14 +10,14 @@ use lk_sim::{Event, Turn};
 use lk_types::{NoMemory, NodeNo, Op, Request};
 use std::alloc::{AllocError, Global};
 
-/// A number after a space.
+// A number after a space.
 fn numbered(alloc: Global, n: u64) -> Result<String, AllocError>
     ensures { IfOk result (λ text. string_bytes text ≡ 32 ∷ decimal n) }
 {
     format!(in alloc; " {n}")
 }
 
-/// Adds a text.
+// Adds a text.
 fn add(text: &mut Vec<u8>, more: &str) -> Result<(), NoMemory>
     ensures { OnOk result (text.new.items ≡ text.old.items ++ more.now) }
 {
@@ -25,7 +25,7 @@ fn add(text: &mut Vec<u8>, more: &str) -> Result<(), NoMemory>
     Ok(())
 }
 
-/// Adds numbers, each after a space.
+// Adds numbers, each after a space.
 fn add_numbers(alloc: Global, text: &mut Vec<u8>, numbers: &[u64]) -> Result<(), NoMemory>
     ensures { OnOk result (text.new.items ≡ text.old.items ++ then_numbers numbers.now) }
 {
@@ -36,7 +36,7 @@ fn add_numbers(alloc: Global, text: &mut Vec<u8>, numbers: &[u64]) -> Result<(),
     Ok(())
 }
 
-/// Adds a verb and numbers.
+// Adds a verb and numbers.
 fn add_words(alloc: Global, text: &mut Vec<u8>, verb: &str, numbers: &[u64]) -> Result<(), NoMemory>
     ensures { OnOk result (text.new.items ≡ text.old.items ++ verb.now ++ then_numbers numbers.now) }
 {
@@ -44,7 +44,7 @@ fn add_words(alloc: Global, text: &mut Vec<u8>, verb: &str, numbers: &[u64]) -> 
     add_numbers(alloc, text, numbers)
 }
 
-/// Adds bytes in hex after a space.
+// Adds bytes in hex after a space.
 fn add_hex(alloc: Global, text: &mut Vec<u8>, bytes: &[u8]) -> Result<(), NoMemory>
     ensures { OnOk result (text.new.items ≡ text.old.items ++ 32 ∷ encode_lower bytes.now) }
 {
@@ -53,7 +53,7 @@ fn add_hex(alloc: Global, text: &mut Vec<u8>, bytes: &[u8]) -> Result<(), NoMemo
     add(text, digits.as_str())
 }
 
-/// Adds an operation.
+// Adds an operation.
 fn add_op(alloc: Global, text: &mut Vec<u8>, op: &Op) -> Result<(), NoMemory>
     ensures { OnOk result (text.new.items ≡ text.old.items ++ op_words op.now) }
 {
@@ -71,7 +71,7 @@ fn add_op(alloc: Global, text: &mut Vec<u8>, op: &Op) -> Result<(), NoMemory>
     }
 }
 
-/// Adds what a client asks a node.
+// Adds what a client asks a node.
 fn add_client(
     alloc: Global,
     text: &mut Vec<u8>,
@@ -86,7 +86,7 @@ fn add_client(
     add_op(alloc, text, &request.op)
 }
 
-/// Adds the parts of a group.
+// Adds the parts of a group.
 fn add_turns(alloc: Global, text: &mut Vec<u8>, turns: &[Turn]) -> Result<(), NoMemory>
     ensures { OnOk result (text.new.items ≡ text.old.items ++ then_turns turns.now) }
 {
@@ -99,14 +99,14 @@ fn add_turns(alloc: Global, text: &mut Vec<u8>, turns: &[Turn]) -> Result<(), No
     Ok(())
 }
 
-/// Adds a verb, the number of a node, and numbers.
+// Adds a verb, the number of a node, and numbers.
 fn add_verb(alloc: Global, text: &mut Vec<u8>, verb: &str, node: NodeNo) -> Result<(), NoMemory>
     ensures { OnOk result (text.new.items ≡ text.old.items ++ verb.now ++ then_numbers (node ∷ [])) }
 {
     add_words(alloc, text, verb, &[u64::from(node.get())])
 }
 
-/// Adds the line of an event, without its end.
+// Adds the line of an event, without its end.
 fn add_event(alloc: Global, text: &mut Vec<u8>, event: &Event) -> Result<(), NoMemory>
     ensures { OnOk result (text.new.items ≡ text.old.items ++ line_of event.now) }
 {

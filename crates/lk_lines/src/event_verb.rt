@@ -19,7 +19,7 @@ pub enum EventVerb {
     Arm,
 }
 
-/// All of them.
+// All of them.
 const ALL: [EventVerb; 11] = [
     EventVerb::Start,
     EventVerb::Restart,
@@ -35,7 +35,7 @@ const ALL: [EventVerb; 11] = [
 ];
 
 impl EventVerb {
-    /// Its word.
+    // Its word.
     fn word(self) -> &'static [u8]
         ensures { result.now ≡ word_of self }
     {

@@ -14,7 +14,7 @@ use lk_types::limits::MAX_ALPHA;
 
 const LAST_ALPHA: u64 = MAX_ALPHA as u64;
 
-/// The cluster's number and its alpha, and the words of its members.
+// The cluster's number and its alpha, and the words of its members.
 fn numbers_of(words: &[u8]) -> Option<(u64, u64, &[u8])>
     ensures some { IfSome result (λ p. (more : List ℕ) × Leads 0 18446744073709551615 p.0 more words.now × Leads 1 16 p.1 p.2.now more) }
     ensures none { IsNone result → (cluster alpha : ℕ) (ms : List MemberValue) → SpellsGenesis words.now cluster alpha ms → ⊥ }
@@ -24,7 +24,7 @@ fn numbers_of(words: &[u8]) -> Option<(u64, u64, &[u8])>
     Some((cluster, alpha, words))
 }
 
-/// The genesis that words tell, or `None` where they tell none or one that is refused.
+// The genesis that words tell, or `None` where they tell none or one that is refused.
 fn genesis_of(words: &[u8]) -> Option<Genesis>
     ensures some { IfSome result (λ g. SpellsGenesis words.now g.cluster g.alpha g.members × (genesis_fault g.alpha g.members ≡ None)) }
     ensures none { IsNone result → (cluster alpha : ℕ) (ms : List MemberValue) → SpellsGenesis words.now cluster alpha ms → genesis_fault alpha ms ≡ None → ⊥ }
@@ -37,7 +37,7 @@ fn genesis_of(words: &[u8]) -> Option<Genesis>
     }
 }
 
-/// Whether the word begins world mode.
+// Whether the word begins world mode.
 fn is_genesis(word: &[u8]) -> bool
     ensures is { result ≡ true → word.now ≡ codes "genesis" }
     ensures other { result ≡ false → word.now ≡ codes "genesis" → ⊥ }

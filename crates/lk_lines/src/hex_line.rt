@@ -5,7 +5,7 @@ ghost use Rattle.lk_lines.specs.HexLines.{SpellsByte, SpellsBytes};
 
 use crate::fault::LineFault;
 
-/// The byte of two hex digits in either case, or `None` where they are none.
+// The byte of two hex digits in either case, or `None` where they are none.
 fn pair(high: u8, low: u8) -> Option<u8>
     ensures value { IfSome result (SpellsByte high low) }
     ensures none { IsNone result → (byte : ℕ) → SpellsByte high low byte → ⊥ }
@@ -15,7 +15,7 @@ fn pair(high: u8, low: u8) -> Option<u8>
     Some((upper * 16 + lower) as u8)
 }
 
-/// The byte that the first two digits spell, and what stands after them.
+// The byte that the first two digits spell, and what stands after them.
 fn first_byte(text: &[u8]) -> Option<(u8, &[u8])>
     ensures some { IfSome result (λ x. (high : ℕ) × (low : ℕ) × (text.now ≡ high ∷ low ∷ x.1.now) × SpellsByte high low x.0) }
     ensures none { IsNone result → (bytes : List ℕ) → SpellsBytes text.now bytes → ⊥ }
@@ -26,7 +26,7 @@ fn first_byte(text: &[u8]) -> Option<(u8, &[u8])>
     Some((byte, rest))
 }
 
-/// What stands after the spaces at the front.
+// What stands after the spaces at the front.
 fn behind_spaces(text: &[u8]) -> &[u8]
     ensures spaces { (n : ℕ) × (text.now ≡ replicate n 32 ++ result.now) }
     ensures next { slice_index result.now 0 ≢ 32 }

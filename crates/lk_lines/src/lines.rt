@@ -9,7 +9,7 @@ ghost use Rattle.lk_lines.specs.declared.fault.ScriptFault.TheVariants as fault;
 use crate::fault::ScriptFault;
 use std::io::{BufRead, Error, ErrorKind};
 
-/// Takes the line feed off the end.
+// Takes the line feed off the end.
 fn drop_line_feed(line: &mut Vec<u8>)
     ensures { (text : List ℕ) → line.old.items ≡ take_through 10 text → line.new.items ≡ first_line text }
 {
@@ -21,7 +21,7 @@ fn drop_line_feed(line: &mut Vec<u8>)
     }
 }
 
-/// Why a read failed.
+// Why a read failed.
 fn read_fault(error: &Error) -> ScriptFault
     ensures memory { error_kind error.now ≡ ErrorKind.OutOfMemory → result ≡ ScriptFault.ScriptMemory }
     ensures read { error_kind error.now ≢ ErrorKind.OutOfMemory → result ≡ ScriptFault.Read }

@@ -10,7 +10,7 @@ use lk_sim::Turn;
 use lk_types::limits::MAX_COUNT;
 use std::alloc::Global;
 
-/// The part that a word names: `t`, or the number of a datagram.
+// The part that a word names: `t`, or the number of a datagram.
 fn turn_of(word: &[u8]) -> Option<Turn>
     ensures some { IfSome result (λ t. IsTurnWord t word.now) }
     ensures none { IsNone result → (t : TurnValue) → IsTurnWord t word.now → ⊥ }

@@ -24,10 +24,10 @@ const LAST_NODE: u64 = MAX_NODE as u64;
 
 const LAST_CLIENT: u64 = MAX_CLIENT as u64;
 
-/// The most ticks of one line.
+// The most ticks of one line.
 const MAX_TIMES: u64 = 10_000;
 
-/// The node that the word names.
+// The node that the word names.
 fn node_of(word: &[u8]) -> Option<NodeNo>
     ensures some { IfSome result (λ n. IsNodeWord n word.now) }
     ensures none { IsNone result → (n : ℕ) → IsNodeWord n word.now → ⊥ }
@@ -56,7 +56,7 @@ fn to_restart(words: &[u8]) -> Option<Order>
     Some(Order::Once(Event::Restart(node)))
 }
 
-/// The number of the node, and how many times it ticks.
+// The number of the node, and how many times it ticks.
 fn ticks(words: &[u8]) -> Option<(u64, u64)>
     ensures some { IfSome result (λ p. (1 ≤ p.0) × (p.0 ≤ max_node) × (p.1 ≤ 10000) × AsksForTicks words.now (order.Ticks p.0 p.1)) }
     ensures none { IsNone result → (o : OrderValue) → AsksForTicks words.now o → ⊥ }
@@ -96,7 +96,7 @@ fn to_deliver(words: &[u8]) -> Option<Order>
     Some(Order::Once(Event::Deliver(k as usize)))
 }
 
-/// The request that a client asks.
+// The request that a client asks.
 fn request(words: &[u8]) -> Option<Request>
     ensures some { IfSome result (SpellsRequest words.now) }
     ensures none { IsNone result → (r : RequestValue) → SpellsRequest words.now r → ⊥ }
@@ -155,7 +155,7 @@ fn to_arm(words: &[u8]) -> Option<Order>
     Some(Order::Once(Event::Arm(node, count, bytes as usize)))
 }
 
-/// The bytes that an even number of hex digits, two or more, spell.
+// The bytes that an even number of hex digits, two or more, spell.
 fn in_hex(alloc: Global, digits: &[u8]) -> Result<Vec<u8>, LineFault>
     ensures ok { IfOk result (λ b. (decode_of digits.now ≡ Ok b.items) × (b.items ≢ [])) }
     ensures not_understood { IsErrOf result LineFault.NotUnderstood → (bytes : List ℕ) → decode_of digits.now ≡ Ok bytes → bytes ≢ [] → ⊥ }
@@ -192,7 +192,7 @@ fn to_group(alloc: Global, words: &[u8]) -> Result<Order, LineFault>
     Ok(Order::Once(Event::Group(node, turns)))
 }
 
-/// An order, or the fault that there is none.
+// An order, or the fault that there is none.
 fn understood(order: Option<Order>) -> Result<Order, LineFault>
     ensures ok { IfOk result (λ o. order ≡ Some o) }
     ensures not_understood { IsErrOf result LineFault.NotUnderstood → IsNone order }
@@ -200,7 +200,7 @@ fn understood(order: Option<Order>) -> Result<Order, LineFault>
     order.ok_or(LineFault::NotUnderstood)
 }
 
-/// What the words after a verb ask for.
+// What the words after a verb ask for.
 fn asked(alloc: Global, verb: EventVerb, words: &[u8]) -> Result<Order, LineFault>
     ensures ok { IfOk result (Asks verb words.now) }
     ensures not_understood { IsErrOf result LineFault.NotUnderstood → (o : OrderValue) → Asks verb words.now o → ⊥ }

@@ -39,7 +39,7 @@ pub fn read_name(bytes: &[u8]) -> Option<(Name, &[u8])>
     Some((Name::of(name)?, rest))
 }
 
-/// What follows the first byte of a body.
+// What follows the first byte of a body.
 #[tactic(auto, unfolding(crate::specs::Bodies::fields_of, crate::specs::Bodies::read_name_and_fence))]
 fn read_fields(kind: u8, bytes: &[u8]) -> Option<(Body, &[u8])>
     ensures { Finds (λ x. (x.0, x.1.now)) result (fields_of kind bytes.now) }
@@ -73,7 +73,7 @@ fn read_fields(kind: u8, bytes: &[u8]) -> Option<(Body, &[u8])>
     }
 }
 
-/// The body of which these are all the bytes.
+// The body of which these are all the bytes.
 #[tactic(auto, unfolding(crate::specs::Bodies::body_of))]
 fn read_whole(bytes: &[u8]) -> Option<Body>
     ensures { result ≡ body_of bytes.now }
@@ -85,7 +85,7 @@ fn read_whole(bytes: &[u8]) -> Option<Body>
     }
 }
 
-/// The bytes of a first byte, a name and at most eight bytes after it.
+// The bytes of a first byte, a name and at most eight bytes after it.
 fn spelled(kind: u8, name: &Name, rest: &[u8]) -> Payload
     requires { length rest.now ≤ 8 }
     ensures { result ≡ kind ∷ (lock_name name.now ++ rest.now) }
@@ -139,7 +139,7 @@ impl Body {
         }
     }
 
-    /// Whether a table of the first version, or of the second, knows it.
+    // Whether a table of the first version, or of the second, knows it.
     pub(crate) fn is_known(&self, raised: bool) -> bool
         ensures { result ≡ is_known raised self.now }
     {

@@ -22,7 +22,7 @@ use lk_types::ClientNo;
 use lk_types::limits::MAX_SHARERS;
 use std::alloc::AllocError;
 
-/// A client, or nobody for the number 0.
+// A client, or nobody for the number 0.
 #[tactic(auto, unfolding(crate::specs::Packed::read_holder))]
 fn read_holder(bytes: &[u8]) -> Option<(Holders, &[u8])>
     ensures read { Finds (λ x. (x.0, x.1.now)) result (read_holder bytes.now) }
@@ -79,7 +79,7 @@ fn read_sharers(bytes: &[u8]) -> Option<(Sharers, &[u8])>
     Some((clients, rest))
 }
 
-/// Who holds a name, after a byte for the mode.
+// Who holds a name, after a byte for the mode.
 #[tactic(auto, unfolding(crate::specs::Packed::holders_of))]
 fn read_mode(bytes: &[u8]) -> Option<(Holders, &[u8])>
     ensures read { Finds (λ x. (x.0, x.1.now)) result (tagged holders_of bytes.now) }
@@ -155,7 +155,7 @@ fn put_name(out: &mut BytesMut, name: &Name) -> Result<(), AllocError>
     Ok(())
 }
 
-/// The holder in two bytes, 0 for nobody.
+// The holder in two bytes, 0 for nobody.
 #[tactic(auto, using(lk_fields::proofs::Spellings::keeps_same))]
 fn put_holder(out: &mut BytesMut, value: &Holders) -> Result<(), AllocError>
     ensures ok { OnOk result (out.new.items ≡ out.old.items ++ two (holder_number value.now)) }
@@ -182,7 +182,7 @@ fn put_sharers(out: &mut BytesMut, value: &Sharers) -> Result<(), AllocError>
     Ok(())
 }
 
-/// The mode, and then who holds the name in it.
+// The mode, and then who holds the name in it.
 #[tactic(auto, using(lk_fields::proofs::Spellings::keeps_same, lk_fields::proofs::Spellings::keeps_behind))]
 fn put_mode(out: &mut BytesMut, value: &Holders) -> Result<(), AllocError>
     ensures ok { OnOk result (out.new.items ≡ out.old.items ++ holders true value.now) }

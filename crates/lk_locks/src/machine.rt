@@ -15,7 +15,7 @@ use lk_types::limits::MAX_NAMES;
 use lk_types::{Answer, ClientNo, NoMemory};
 use std::alloc::Global;
 
-/// The table of this many names with their slots, from the start of the bytes. The names have to rise.
+// The table of this many names with their slots, from the start of the bytes. The names have to rise.
 fn read_entries(
     alloc: Global,
     raised: bool,
@@ -39,7 +39,7 @@ fn read_entries(
     Ok((table, rest))
 }
 
-/// The names of which these are all the bytes.
+// The names of which these are all the bytes.
 #[tactic(auto, using(crate::proofs::TableLaws::read_is), unfolding(crate::specs::Packed::read_entries, crate::specs::Packed::read_size))]
 fn read_names(alloc: Global, raised: bool, bytes: &[u8]) -> Result<LockTable, UnpackFault>
     ensures ok { IfOk result (λ t. whole (read_entries raised) bytes.now ≡ Some (map.entries t.names)) }
@@ -59,7 +59,7 @@ fn read_names(alloc: Global, raised: bool, bytes: &[u8]) -> Result<LockTable, Un
     Ok(table)
 }
 
-/// The table of which these are all the bytes.
+// The table of which these are all the bytes.
 #[tactic(auto, unfolding(crate::specs::Packed::read_table))]
 fn read_table(alloc: Global, bytes: &[u8]) -> Result<LockTable, UnpackFault>
     ensures ok { IfOk result (λ t. whole read_table bytes.now ≡ Some (parts_of t)) }

@@ -68,7 +68,7 @@ impl Name {
         Name { bytes }
     }
 
-    /// It is a name. The function does nothing.
+    // It is a name. The function does nothing.
     pub(crate) fn facts(&self)
         ensures { IsName self.now }
     {

@@ -25,14 +25,14 @@ fn changed(answer: Answer, fence: Fence, holders: Holders) -> Row
     Row { answer, change }
 }
 
-/// The next fence of a name that nobody holds, or why there is none.
+// The next fence of a name that nobody holds, or why there is none.
 fn fence_after(fence: Fence) -> Result<Fence, Answer>
     ensures { result ≡ fence_after fence }
 {
     Fence::of(fence.get() + 1).ok_or(Answer::Spent)
 }
 
-/// The fence of a new name, given how many there are.
+// The fence of a new name, given how many there are.
 fn first_fence(names: usize) -> Result<Fence, Answer>
     ensures { result ≡ first_fence names }
 {
@@ -59,7 +59,7 @@ fn acquire(client: ClientNo, slot: Option<Slot>, names: usize) -> Row
     }
 }
 
-/// The result when a client shares a name that others share.
+// The result when a client shares a name that others share.
 fn join(client: ClientNo, fence: Fence, clients: Sharers) -> Row
     ensures { result ≡ joined client fence clients }
 {
@@ -73,7 +73,7 @@ fn join(client: ClientNo, fence: Fence, clients: Sharers) -> Row
     changed(Answer::Shared(fence), fence, holders)
 }
 
-/// The result when a client shares a name that nobody holds.
+// The result when a client shares a name that nobody holds.
 fn begin(client: ClientNo, fence: Result<Fence, Answer>) -> Row
     ensures { result ≡ given Shared (Together (client ∷ [])) fence }
 {

@@ -28,7 +28,7 @@ impl Model for Sharers {
     ghost inverse = { λ cs. record { clients = record { items = cs } } };
 }
 
-/// Each client is in its range. The function does nothing.
+// Each client is in its range. The function does nothing.
 fn facts_of(clients: &[ClientNo])
     ensures { AllByRecursion IsClient clients.now }
 {
@@ -37,7 +37,7 @@ fn facts_of(clients: &[ClientNo])
     }
 }
 
-/// Whether the clients rise strictly.
+// Whether the clients rise strictly.
 fn are_rising(clients: &[ClientNo]) -> bool
     ensures { result ≡ are_clients_above 0 clients.now }
 {
@@ -52,7 +52,7 @@ fn are_rising(clients: &[ClientNo]) -> bool
     true
 }
 
-/// How many smaller clients come first.
+// How many smaller clients come first.
 fn place_of(clients: &[ClientNo], client: ClientNo) -> usize
     requires { IsTrue (are_clients_above 0 clients.now) }
     ensures place { result ≡ prefix_len (λ c. nat_lt c client) clients.now }

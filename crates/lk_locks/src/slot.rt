@@ -23,7 +23,7 @@ pub struct Slot {
     pub holders: Holders,
 }
 
-/// Who still shares the name after the client has left.
+// Who still shares the name after the client has left.
 fn held_without(clients: &Sharers, client: ClientNo) -> Holders
     ensures { result ≡ held_by (without client clients.now) }
 {
@@ -34,7 +34,7 @@ fn held_without(clients: &Sharers, client: ClientNo) -> Holders
 }
 
 impl Holders {
-    /// Each part is in its range. The function does nothing.
+    // Each part is in its range. The function does nothing.
     pub(crate) fn facts(&self)
         ensures { IsHolders self.now }
     {
@@ -93,7 +93,7 @@ impl Holders {
 }
 
 impl Slot {
-    /// Each part is in its range. The function does nothing.
+    // Each part is in its range. The function does nothing.
     pub(crate) fn facts(&self)
         ensures { IsSlot self.now }
     {

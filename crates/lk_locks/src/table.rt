@@ -25,7 +25,7 @@ use std::alloc::{AllocError, Global};
 use std::collections::BTreeMap;
 use std::marker::Model;
 
-/// The first bytes of a packed table that was raised: no table has this many names.
+// The first bytes of a packed table that was raised: no table has this many names.
 pub(crate) const RAISED_MARK: u16 = 0xff02;
 
 /// Up to max_names names, each with its last fence and its holders. A name never leaves. A raised table knows shared
@@ -89,7 +89,7 @@ impl LockTable {
         }
     }
 
-    /// Gives a name that slot. For a known name it takes no memory.
+    // Gives a name that slot. For a known name it takes no memory.
     fn set(&mut self, name: Name, slot: Slot) -> Result<(), NoMemory>
         requires kept { is_kept self.old.raised slot.holders ≡ true }
         requires room { map.get self.old.names name ≡ None → map.len self.old.names < max_names }
@@ -103,7 +103,7 @@ impl LockTable {
         Ok(())
     }
 
-    /// Whether all known names are below this one.
+    // Whether all known names are below this one.
     fn is_below(&self, name: &Name) -> bool
         ensures { (s : Slot) → result ≡ rise (map.entries self.now.names ++ (name.now, s) ∷ []) }
     {
@@ -113,7 +113,7 @@ impl LockTable {
         }
     }
 
-    /// Adds a name above all known ones, if there is room.
+    // Adds a name above all known ones, if there is room.
     pub(crate) fn push(&mut self, name: Name, slot: Slot) -> Result<(), UnpackFault>
         requires room { map.len self.old.names < max_names }
         requires kept { is_kept self.old.raised slot.holders ≡ true }
@@ -128,7 +128,7 @@ impl LockTable {
         Ok(())
     }
 
-    /// Appends how many names there are, and then each with its slot. Out of memory it may leave a prefix of that.
+    // Appends how many names there are, and then each with its slot. Out of memory it may leave a prefix of that.
     #[tactic(auto, using(lk_fields::proofs::Spellings::keeps_same, lk_fields::proofs::Spellings::keeps_behind))]
     fn put_names(&self, out: &mut BytesMut) -> Result<(), AllocError>
         ensures ok { OnOk result (out.new.items ≡ out.old.items ++ entries self.now.raised (map.entries self.now.names)) }
@@ -141,7 +141,7 @@ impl LockTable {
         Ok(())
     }
 
-    /// Appends the packed text. Out of memory it may leave a prefix of it.
+    // Appends the packed text. Out of memory it may leave a prefix of it.
     #[tactic(auto, using(lk_fields::proofs::Spellings::keeps_same, lk_fields::proofs::Spellings::keeps_behind))]
     pub(crate) fn put(&self, out: &mut BytesMut) -> Result<(), AllocError>
         ensures ok { OnOk result (out.new.items ≡ out.old.items ++ table_text self.now) }
@@ -168,7 +168,7 @@ impl LockTable {
         Ok(held)
     }
 
-    /// Executes a body that the table knows, and returns the answer.
+    // Executes a body that the table knows, and returns the answer.
     fn serve(&mut self, client: ClientNo, body: Body) -> Result<Answer, NoMemory>
         requires { is_known self.old.raised body ≡ true }
         ensures answer { IfOk result (λ a. a ≡ (row_in client body self.old.names).answer) }

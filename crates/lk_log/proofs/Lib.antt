@@ -1,6 +1,7 @@
 mod ImageLaws
 mod Steps
 mod Metering
+mod OpenMetering
 mod Settle
 mod BeginLaws
 mod RebaseLaws

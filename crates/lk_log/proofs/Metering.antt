@@ -1,22 +1,21 @@
 -- Which calls of a device are made.
-use Rattle.std.proofs.Common.{◌≡◌, ℕ, ◌+◌, ◌<◌, ◌≤◌, Bool, true, false, Result, Ok, Err, IsErrAnd, MatchResult, List, [], ◌∷◌, ◌++◌, length, refl, sym, ap, ◌∙◌, subst, inr, arith}
+use Rattle.std.proofs.Common.{◌≡◌, ℕ, ◌+◌, ◌<◌, ◌≤◌, Bool, true, false, Result, Ok, Err, IsErrAnd, List, [], ◌∷◌, ◌++◌, length, refl, sym, ap, ◌∙◌, subst, inr, arith}
 use Rattle.std.proofs.lemmas.Bool.Decides.{nat_tests}
 use Rattle.lk_disk.specs.Disk.{Disk}
 use Rattle.lk_disk.specs.Meters.{Passes, start, Breaks, Calls, is_failing, called}
 use Rattle.lk_disk.specs.declared.device.Side.{Side}
 use Rattle.lk_disk.specs.declared.meter.Meter.{Meter}
-use Rattle.lk_disk.proofs.Devices.{passes_on, breaks_on, call_passes, call_breaks}
+use Rattle.lk_disk.proofs.Devices.{passes_on, call_passes, call_breaks}
 use Rattle.lk_entries.specs.Entries.{spelling, spelling_of_all, plain}
 use Rattle.lk_entries.proofs.Spelling.{spelled_long}
 use Rattle.lk_entries.specs.declared.stored.Stored.{Stored}
 use Rattle.lk_entries.specs.declared.stored.Stored.TheVariants.{Plain}
 use Rattle.lk_log.specs.Causes.{ComesBy, IsRefusedBy, IsMetered, calls_for, put_calls}
-use Rattle.lk_log.specs.Images.{Image, seen}
+use Rattle.lk_log.specs.Images.{seen}
 use Rattle.lk_log.specs.Stores.{cut_calls, OpensBy, FoundLive}
 use Rattle.lk_log.proofs.ImageLaws.{found_is_live}
 use Rattle.lk_types.specs.declared.entry.Entry.{Entry}
 use Rattle.lk_log.specs.declared.fault.StoreFault.{StoreFault}
-use Rattle.lk_log.specs.declared.fault.StoreFault.TheVariants.{Device, NoMemory, Damaged, WrongStore, Failed}
 
 -- no call was made
 pub none_made : (m : Meter) (k : ℕ) → k ≡ 0 → Passes m m k
@@ -40,14 +39,6 @@ broken m n k (Err e) Why is b = b
 pub refused : {T : Type 0} (m n : Meter) (k : ℕ) (r : Result T StoreFault) (f : StoreFault) → IsErrAnd r (λ e. e ≡ f) → IsRefusedBy m n f → IsMetered m n k r
 refused m n k (Ok x) f is by = absurd is
 refused m n k (Err e) f is by = subst (IsRefusedBy m n) (sym is) by
-
--- a refusal after calls that passed
-pub refused_on : {l m : Meter} (j : ℕ) → Passes l m j → (n : Meter) (f : StoreFault) → IsRefusedBy m n f → IsRefusedBy l n f
-refused_on j before n Device b = breaks_on j before b
-refused_on j before n NoMemory p = (j + p.0, passes_on j before p.0 p.1)
-refused_on j before n Damaged p = (j + p.0, passes_on j before p.0 p.1)
-refused_on j before n WrongStore p = (j + p.0, passes_on j before p.0 p.1)
-refused_on j before n Failed p = (j + p.0, passes_on j before p.0 p.1)
 
 -- ---- how many
 
@@ -91,9 +82,3 @@ put_synced l m n es bytes sync spelled asked p q =
 pub found_opens : (disks : Side → Disk) (live : Side) (es : List Stored) (end size : ℕ) → FoundLive disks live es end size → OpensBy (seen disks) (cut_calls end size + 1)
 found_opens disks live es end size f =
     inr (live, es, found_is_live disks live es end size f, f.file, ap (λ (k : ℕ). cut_calls k size + 1) f.ends ∙ ap (λ (k : ℕ). cut_calls (length (spelling_of_all es)) k + 1) f.sized)
-
--- a store was opened after reading
-pub opens_metered : {T : Type 0} (l m n : Meter) (before : Image) (k : ℕ) (r : Result T StoreFault) → Passes l m 0 → OpensBy before k → IsMetered m n k r
-    → MatchResult r (λ _. (j : ℕ) × OpensBy before j × Passes l n j) (λ e. IsRefusedBy l n e)
-opens_metered l m n before k (Ok x) p by q = let e : 0 + k ≡ k = omega arith in (k, by, subst (λ (j : ℕ). Passes l n j) e (passes_on 0 p k q))
-opens_metered l m n before k (Err e) p by q = refused_on 0 p n e q

@@ -1,4 +1,4 @@
--- Why a call of a store failed, and what the device's counts say of it.
+-- Why a call of an open store failed, and what the device's counts say of it.
 use Rattle.std.specs.Prelude.{◌≡◌, ℕ, ◌+◌, ◌<◌, ◌≤◌, ◌⊎◌, Bool, true, false, List, [], ◌∷◌, Result, Ok, Err, IfErr, IsErrOf, if◌then◌else◌}
 use Rattle.lk_types.specs.Limits.{max_count}
 use Rattle.lk_disk.specs.Disk.{one_more}
@@ -6,22 +6,18 @@ use Rattle.lk_disk.specs.Meters.{Passes, Breaks}
 use Rattle.lk_disk.specs.declared.meter.Meter.{Meter}
 use Rattle.lk_log.specs.StoreValue.{StoreValue}
 use Rattle.lk_log.specs.declared.fault.StoreFault.{StoreFault}
-use Rattle.lk_log.specs.declared.fault.StoreFault.TheVariants.{Device, NoMemory, Damaged, WrongStore, Failed}
+use Rattle.lk_log.specs.declared.fault.StoreFault.TheVariants.{Device, NoMemory, Failed}
 
 -- the number of each error
 abbrev pub number_of : StoreFault → ℕ
 number_of Device = 7
 number_of NoMemory = 8
-number_of Damaged = 9
-number_of WrongStore = 10
 number_of Failed = 11
 
 -- the count of the device's failures after such an error: 7 exactly if a call of the device has failed
 abbrev pub failures_after : StoreFault → ℕ → ℕ
 failures_after Device n = one_more n
 failures_after NoMemory n = n
-failures_after Damaged n = n
-failures_after WrongStore n = n
 failures_after Failed n = n
 
 -- the same of a call
@@ -81,8 +77,6 @@ ComesBy m n k (Err _) = Breaks m n
 abbrev pub IsRefusedBy : Meter → Meter → StoreFault → Type 0
 IsRefusedBy m n Device = Breaks m n
 IsRefusedBy m n NoMemory = (k : ℕ) × Passes m n k
-IsRefusedBy m n Damaged = (k : ℕ) × Passes m n k
-IsRefusedBy m n WrongStore = (k : ℕ) × Passes m n k
 IsRefusedBy m n Failed = (k : ℕ) × Passes m n k
 
 -- this many changing calls passed, or it failed with this

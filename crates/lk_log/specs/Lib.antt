@@ -1,5 +1,6 @@
 pub mod StoreValue
 pub mod Causes
+pub mod OpenCauses
 pub mod Images
 pub mod Stores
 pub mod EveryImage

@@ -1,7 +1,6 @@
 -- What a contract sees of a store.
 use Rattle.std.specs.Prelude.{ℕ, Bool}
 use Rattle.lk_disk.specs.Disk.{Disk}
-use Rattle.lk_disk.specs.Memory.{Memory}
 use Rattle.lk_disk.specs.declared.meter.Meter.{Meter}
 use Rattle.lk_disk.specs.declared.device.Side.{Side}
 use Rattle.lk_disk.specs.declared.device.Side.TheVariants.{A, B}
@@ -30,7 +29,3 @@ pick B here there B = here
 -- the disks of its device
 abbrev pub disks : StoreValue → Side → Disk
 disks s = pick s.live s.live_disk s.other_disk
-
--- its device, if that is one in memory
-abbrev pub device_of : StoreValue → Memory
-device_of s = record { a = disks s A; b = disks s B; meter = s.meter; failures = s.failures }

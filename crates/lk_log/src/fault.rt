@@ -1,37 +1,33 @@
 ghost use Rattle.std.specs.Prelude.{◌≡◌};
 ghost use Rattle.lk_log.specs.Causes.{number_of};
+ghost use Rattle.lk_log.specs.OpenCauses.{number_of as open_number};
 ghost use Rattle.lk_log.specs.declared.fault.StoreFault.TheVariants.{Device as device_fault, NoMemory as memory_fault};
+ghost use Rattle.lk_log.specs.declared.fault.OpenFault.TheVariants as opening;
 
 use lk_disk::DeviceFault;
 use lk_types::NoMemory;
-use std::alloc::{AllocError, AllocFailed};
+use std::alloc::AllocError;
 use thiserror::Error;
 
-/// Why a call of a store failed.
+/// Why a call of an open store failed.
 #[derive(Clone, Copy, Debug, Error)]
 pub enum StoreFault {
     #[error("the device failed")]
     Device,
     #[error("no memory")]
     NoMemory,
-    #[error("the store is damaged")]
-    Damaged,
-    #[error("the store is another node's or another cluster's")]
-    WrongStore,
     #[error("the store has failed before")]
     Failed,
 }
 
 impl StoreFault {
-    /// The number of this error, 7 to 11.
+    /// The number of this error: 7, 8 or 11.
     pub fn number(self) -> u8
         ensures { result ≡ number_of self }
     {
         match self {
             StoreFault::Device => 7,
             StoreFault::NoMemory => 8,
-            StoreFault::Damaged => 9,
-            StoreFault::WrongStore => 10,
             StoreFault::Failed => 11,
         }
     }
@@ -61,25 +57,68 @@ impl From<AllocError> for StoreFault {
     }
 }
 
-impl<T: Drop> From<AllocFailed<T>> for StoreFault {
-    ghost from_gives = { λ _ e. e ≡ memory_fault };
+/// Why no store was opened, or looked at.
+#[derive(Clone, Copy, Debug, Error)]
+pub enum OpenFault {
+    #[error("the device failed")]
+    Device,
+    #[error("no memory")]
+    NoMemory,
+    #[error("the store is damaged")]
+    Damaged,
+    #[error("the store is another node's or another cluster's")]
+    WrongStore,
+}
 
-    fn from(_: AllocFailed<T>) -> StoreFault {
-        StoreFault::NoMemory
+impl OpenFault {
+    /// The number of this error, 7 to 10.
+    pub fn number(self) -> u8
+        ensures { result ≡ open_number self }
+    {
+        match self {
+            OpenFault::Device => 7,
+            OpenFault::NoMemory => 8,
+            OpenFault::Damaged => 9,
+            OpenFault::WrongStore => 10,
+        }
+    }
+}
+
+impl From<DeviceFault> for OpenFault {
+    ghost from_gives = { λ _ e. e ≡ opening.Device };
+
+    fn from(_: DeviceFault) -> OpenFault {
+        OpenFault::Device
+    }
+}
+
+impl From<NoMemory> for OpenFault {
+    ghost from_gives = { λ _ e. e ≡ opening.NoMemory };
+
+    fn from(_: NoMemory) -> OpenFault {
+        OpenFault::NoMemory
+    }
+}
+
+impl From<AllocError> for OpenFault {
+    ghost from_gives = { λ _ e. e ≡ opening.NoMemory };
+
+    fn from(_: AllocError) -> OpenFault {
+        OpenFault::NoMemory
     }
 }
 
 /// Why no store was opened, and the device.
 #[derive(Drop)]
 pub struct ReopenFault<D> {
-    pub fault: StoreFault,
+    pub fault: OpenFault,
     pub device: D,
 }
 
 impl<D> ReopenFault<D> {
     /// The number of this error, 7 to 10.
     pub fn number(&self) -> u8
-        ensures { result ≡ number_of self.now.fault }
+        ensures { result ≡ open_number self.now.fault }
     {
         self.fault.number()
     }

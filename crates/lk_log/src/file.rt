@@ -1,18 +1,18 @@
 // Reading a file of a device.
-ghost use Rattle.std.specs.Prelude.{◌≡◌, ◌++◌, ◌||◌, not, length, false, IfOk, IfErr};
+ghost use Rattle.std.specs.Prelude.{◌≡◌, ◌++◌, ◌||◌, not, length, false, IfOk};
 ghost use Rattle.std.specs.List.{AllByRecursion};
 ghost use Rattle.lk_disk.specs.Disk.{contents};
 ghost use Rattle.lk_entries.specs.Entries.{spelling_of_all, IsStored};
 ghost use Rattle.lk_entries.specs.Files.{is_torn, IsFile};
 ghost use Rattle.lk_entries.specs.Formats.{is_mixed};
 ghost use Rattle.lk_entries.specs.Bases.{generation, is_misplaced, has_base};
-ghost use Rattle.lk_log.specs.Causes.{IsCaused, IsMetered};
-ghost use Rattle.lk_log.specs.declared.fault.StoreFault.TheVariants.{NoMemory as memory_fault};
+ghost use Rattle.lk_log.specs.OpenCauses.{IsCaused, IsMetered};
 
-use crate::fault::StoreFault;
+use crate::fault::OpenFault;
 use lk_disk::{LogDisk, Side};
 use lk_entries::{Stored, Unread, first_entry, is_mixed};
 use lk_fields::read_u32;
+use lk_types::NoMemory;
 use lk_types::limits::MAX_TORN;
 use std::alloc::Global;
 
@@ -49,11 +49,10 @@ fn is_damaged(entries: &[Stored], rest: &[u8]) -> bool
 }
 
 // The file of these bytes.
-fn file_of(alloc: Global, bytes: &[u8]) -> Result<File, StoreFault>
+fn file_of(alloc: Global, bytes: &[u8]) -> Result<File, NoMemory>
     ensures file { IfOk result (λ f. IsFile bytes.now f.entries.items f.is_damaged) }
     ensures end { IfOk result (λ f. f.end ≡ length (spelling_of_all f.entries.items)) }
     ensures size { IfOk result (λ f. f.size ≡ length bytes.now) }
-    ensures only { IfErr result (λ e. e ≡ memory_fault) }
 {
     let mut entries = Vec::new(alloc);
     let mut rest = bytes;
@@ -64,7 +63,7 @@ fn file_of(alloc: Global, bytes: &[u8]) -> Result<File, StoreFault>
                 rest = more;
             }
             Err(Unread::NoEntry) => break,
-            Err(Unread::NoMemory) => return Err(StoreFault::NoMemory),
+            Err(Unread::NoMemory) => return Err(NoMemory),
         }
     }
     let is_damaged = is_damaged(&entries, rest);
@@ -77,7 +76,7 @@ fn file_of(alloc: Global, bytes: &[u8]) -> Result<File, StoreFault>
 }
 
 // The bytes of a file.
-fn read_bytes<D: LogDisk>(alloc: Global, device: &mut D, side: Side) -> Result<Vec<u8>, StoreFault>
+fn read_bytes<D: LogDisk>(alloc: Global, device: &mut D, side: Side) -> Result<Vec<u8>, OpenFault>
     ensures unchanged { D.is_honest → (s : _) → D.disk device.new s ≡ D.disk device.old s }
     ensures value { D.is_honest → IfOk result (λ v. v.items ≡ contents (D.disk device.old side)) }
     ensures cause { IsCaused (D.failures device.old) (D.failures device.new) result }
@@ -90,7 +89,7 @@ fn read_bytes<D: LogDisk>(alloc: Global, device: &mut D, side: Side) -> Result<V
 }
 
 /// A file of the device.
-pub fn read_file<D: LogDisk>(alloc: Global, device: &mut D, side: Side) -> Result<File, StoreFault>
+pub fn read_file<D: LogDisk>(alloc: Global, device: &mut D, side: Side) -> Result<File, OpenFault>
     ensures unchanged { D.is_honest → (s : _) → D.disk device.new s ≡ D.disk device.old s }
     ensures file { D.is_honest → IfOk result (λ f. IsFile (contents (D.disk device.old side)) f.entries.items f.is_damaged) }
     ensures fit { IfOk result (λ f. AllByRecursion IsStored f.entries.items) }
@@ -100,7 +99,8 @@ pub fn read_file<D: LogDisk>(alloc: Global, device: &mut D, side: Side) -> Resul
     ensures metered { D.is_metered → D.is_honest → IsMetered (D.meter device.old) (D.meter device.new) 0 result }
 {
     let bytes = read_bytes(alloc, device, side)?;
-    file_of(alloc, &bytes)
+    let file = file_of(alloc, &bytes)?;
+    Ok(file)
 }
 
 /// That of the Base at the start, 0 if there is none.

@@ -1,13 +1,11 @@
 // Gathering what entries stand for.
-ghost use Rattle.std.specs.Prelude.{◌≡◌, ◌≤◌, map, length, OnOk, OnErr, IfOk, IfErr};
+ghost use Rattle.std.specs.Prelude.{◌≡◌, ◌≤◌, map, length, OnOk, OnErr, IfOk};
 ghost use Rattle.lk_entries.specs.Standings.{greater, greatest_of, ballot_of, pairs_below, with_pair, with_plain, of_base, ArePairsRising, Rises, StandsFor};
 ghost use Rattle.lk_log.specs.Stores.{MayStand};
 ghost use Rattle.lk_types.specs.declared.entry.Entry.TheVariants.{Vote as vote_entry, Decided as decided_entry};
-ghost use Rattle.lk_log.specs.declared.fault.StoreFault.TheVariants.{NoMemory as memory_fault};
 
-use crate::fault::StoreFault;
 use lk_entries::{Base, Standing, Stored, keep_vote};
-use lk_types::{Ballot, Command, Entry, Executed, Position, Vote};
+use lk_types::{Ballot, Command, Entry, Executed, NoMemory, Position, Vote};
 use std::alloc::{AllocFailed, Global};
 
 fn greater(a: Ballot, b: Ballot) -> Ballot
@@ -87,11 +85,10 @@ fn of_base(base: Base) -> Standing
 
 // Adds an entry after those for which the standing stands. Of two votes at a position it keeps the one of greater
 // ballot, the earlier if they are equal, and it keeps the first decided command of a position.
-fn add(standing: &mut Standing, entry: Entry) -> Result<(), StoreFault>
+fn add(standing: &mut Standing, entry: Entry) -> Result<(), NoMemory>
     requires { Rises standing.old }
     ensures ok { OnOk result (standing.new ≡ with_plain entry standing.old) }
     ensures err { OnErr result (standing.new ≡ standing.old) }
-    ensures only { IfErr result (λ e. e ≡ memory_fault) }
 {
     match entry {
         Entry::Promise(ballot) => {
@@ -103,11 +100,10 @@ fn add(standing: &mut Standing, entry: Entry) -> Result<(), StoreFault>
     }
 }
 
-fn add_vote(standing: &mut Standing, vote: Vote) -> Result<(), StoreFault>
+fn add_vote(standing: &mut Standing, vote: Vote) -> Result<(), NoMemory>
     requires { Rises standing.old }
     ensures ok { OnOk result (standing.new ≡ with_plain (vote_entry vote) standing.old) }
     ensures err { OnErr result (standing.new ≡ standing.old) }
-    ensures only { IfErr result (λ e. e ≡ memory_fault) }
 {
     let ballot = vote.ballot.get();
     if vote.position.get() > standing.position.get() {
@@ -117,11 +113,10 @@ fn add_vote(standing: &mut Standing, vote: Vote) -> Result<(), StoreFault>
     Ok(())
 }
 
-fn add_pair(standing: &mut Standing, pair: (Position, Command)) -> Result<(), StoreFault>
+fn add_pair(standing: &mut Standing, pair: (Position, Command)) -> Result<(), NoMemory>
     requires { Rises standing.old }
     ensures ok { OnOk result (standing.new ≡ with_plain (decided_entry pair.0 pair.1) standing.old) }
     ensures err { OnErr result (standing.new ≡ standing.old) }
-    ensures only { IfErr result (λ e. e ≡ memory_fault) }
 {
     if pair.0.get() > standing.position.get() {
         keep_pair(&mut standing.pairs, pair)?;
@@ -131,10 +126,9 @@ fn add_pair(standing: &mut Standing, pair: (Position, Command)) -> Result<(), St
 
 /// What entries with a Base at the start stand for. Each is put into its place by binary search, so the time grows
 /// with the number of entries, and with what has to move if they do not come in order.
-pub fn gather(alloc: Global, entries: Vec<Stored>) -> Result<Standing, StoreFault>
+pub fn gather(alloc: Global, entries: Vec<Stored>) -> Result<Standing, NoMemory>
     requires { MayStand entries.items }
-    ensures stands { IfOk result (StandsFor entries.items) }
-    ensures only { IfErr result (λ e. e ≡ memory_fault) }
+    ensures { IfOk result (StandsFor entries.items) }
 {
     let mut standing = nothing(alloc);
     for entry in entries {

@@ -21,6 +21,6 @@ mod reopening;
 mod store;
 mod verdict;
 
-pub use fault::{ReopenFault, StoreFault};
+pub use fault::{OpenFault, ReopenFault, StoreFault};
 pub use reopening::{LiveFile, look, reopen};
 pub use store::Store;

@@ -1,16 +1,17 @@
 // Opening a store that a stop may have left.
-ghost use Rattle.std.specs.Prelude.{◌≡◌, ◌+◌, List, [], ◌∷◌, false, length, IfOk, IfErr, IfSome, OnOk, IsErrOf, Ok};
+ghost use Rattle.std.specs.Prelude.{◌≡◌, ◌+◌, List, [], ◌∷◌, false, length, IfOk, IfSome, OnOk, IsErrOf, Ok};
 ghost use Rattle.lk_disk.specs.Disk.{contents, other, flushed, HasCause};
 ghost use Rattle.lk_entries.specs.Entries.{spelling_of_all};
 ghost use Rattle.lk_entries.specs.Files.{IsFile};
 ghost use Rattle.lk_entries.specs.Bases.{is_misplaced, generation};
 ghost use Rattle.lk_entries.specs.declared.stored.Stored.{Stored};
-ghost use Rattle.lk_log.specs.Causes.{IsCaused, FailuresRise, ComesBy, IsMetered};
+ghost use Rattle.lk_log.specs.Causes.{ComesBy};
+ghost use Rattle.lk_log.specs.OpenCauses.{FailuresRise, IsMetered};
 ghost use Rattle.lk_log.specs.Rooms.{StaysWithin};
 ghost use Rattle.lk_log.specs.Images.{unless_damaged, verdict, IsEmpty, IsDamaged, Narrows, seen};
 ghost use Rattle.lk_log.specs.Stores.{cut_calls, FileNarrows, HoldsOn, IsOlder, FoundLive, MayStand};
 
-use crate::fault::StoreFault;
+use crate::fault::OpenFault;
 use crate::file::{File, generation_of, is_misplaced, read_file};
 use crate::verdict::Verdict;
 use lk_disk::{DeviceFault, LogDisk, Side};
@@ -47,21 +48,20 @@ fn verdict(a: &File, b: &File) -> Verdict
 }
 
 /// The live file, or `None` if there is no Base.
-pub fn find<D: LogDisk>(alloc: Global, device: &mut D) -> Result<Option<(Side, File)>, StoreFault>
+pub fn find<D: LogDisk>(alloc: Global, device: &mut D) -> Result<Option<(Side, File)>, OpenFault>
     ensures unchanged { D.is_honest → (s : Side) → D.disk device.new s ≡ D.disk device.old s }
-    ensures damaged { D.is_honest → IsErrOf result StoreFault.Damaged → IsDamaged (seen (D.disk device.old)) }
+    ensures damaged { D.is_honest → IsErrOf result OpenFault.Damaged → IsDamaged (seen (D.disk device.old)) }
     ensures empty { D.is_honest → result ≡ Ok None → IsEmpty (seen (D.disk device.old)) }
     ensures live { D.is_honest → IfOk result (λ found. IfSome found (λ f. FoundLive (D.disk device.old) f.0 f.1.entries.items f.1.end f.1.size)) }
     ensures stands { IfOk result (λ found. IfSome found (λ f. MayStand f.1.entries.items)) }
-    ensures wrong { IsErrOf result StoreFault.WrongStore → ⊥ }
-    ensures failed { IsErrOf result StoreFault.Failed → ⊥ }
+    ensures wrong { IsErrOf result OpenFault.WrongStore → ⊥ }
     ensures cause { FailuresRise (D.failures device.old) (D.failures device.new) result }
     ensures metered { D.is_metered → D.is_honest → IsMetered (D.meter device.old) (D.meter device.new) 0 result }
 {
     let a = read_file(alloc, device, Side::A)?;
     let b = read_file(alloc, device, Side::B)?;
     match verdict(&a, &b) {
-        Verdict::Damaged => Err(StoreFault::Damaged),
+        Verdict::Damaged => Err(OpenFault::Damaged),
         Verdict::Empty => Ok(None),
         Verdict::Live(Side::A) => Ok(Some((Side::A, a))),
         Verdict::Live(Side::B) => Ok(Some((Side::B, b))),
@@ -98,15 +98,15 @@ pub fn settle<D: LogDisk>(
     live: Side,
     end: usize,
     size: usize,
-) -> Result<(), StoreFault>
+) -> Result<(), DeviceFault>
     ensures holds { D.is_honest → (es : List Stored) → FoundLive (D.disk device.old) live es end size
         → OnOk result (HoldsOn (D.disk device.new live) (D.disk device.new (other live)) es []) }
     ensures narrows { D.is_honest → (es : List Stored) → FoundLive (D.disk device.old) live es end size
         → Narrows (D.disk device.old) (D.disk device.new) }
     ensures room { D.is_honest → StaysWithin 0 (D.disk device.old) (D.disk device.new) }
-    ensures cause { IsCaused (D.failures device.old) (D.failures device.new) result }
+    ensures cause { HasCause (D.failures device.old) (D.failures device.new) result }
     ensures metered { D.is_metered → D.is_honest → (es : List Stored) → FoundLive (D.disk device.old) live es end size
-        → IsMetered (D.meter device.old) (D.meter device.new) (cut_calls end size + 1) result }
+        → ComesBy (D.meter device.old) (D.meter device.new) (cut_calls end size + 1) result }
 {
     cut_off(device, live, end, size)?;
     device.sync(live)?;

@@ -1,19 +1,18 @@
 // Switching from the live file to the other one.
-ghost use Rattle.std.specs.Prelude.{◌≡◌, ◌<◌, ◌≤◌, List, [], ◌∷◌, length, OnOk, IfErr};
+ghost use Rattle.std.specs.Prelude.{◌≡◌, ◌<◌, ◌≤◌, List, [], ◌∷◌, length, OnOk};
 ghost use Rattle.lk_types.specs.Limits.{max_base};
-ghost use Rattle.lk_disk.specs.Disk.{contents, other};
+ghost use Rattle.lk_disk.specs.Disk.{contents, other, HasCause};
 ghost use Rattle.lk_entries.specs.Entries.{IsStored, spelling};
 ghost use Rattle.lk_entries.specs.Bases.{generation};
 ghost use Rattle.lk_entries.specs.Values.{BaseValue};
 ghost use Rattle.lk_entries.specs.declared.stored.Stored.{Stored};
 ghost use Rattle.lk_entries.specs.declared.stored.Stored.TheVariants.{Base as base_entry};
-ghost use Rattle.lk_log.specs.Causes.{IsCaused, IsMetered, rebase_calls};
+ghost use Rattle.lk_log.specs.Causes.{ComesBy, rebase_calls};
 ghost use Rattle.lk_log.specs.Rooms.{StaysWithin};
 ghost use Rattle.lk_log.specs.Stores.{HoldsOn, KeepsOrIs};
 
-use crate::fault::StoreFault;
 use crate::reopening::write_over;
-use lk_disk::{LogDisk, Side};
+use lk_disk::{DeviceFault, LogDisk, Side};
 
 /// The other side.
 pub fn other(side: Side) -> Side
@@ -26,7 +25,7 @@ pub fn other(side: Side) -> Side
 }
 
 /// Replaces the other file with these bytes of a Base, syncs it, and truncates the live file to nothing.
-pub fn go_over<D: LogDisk>(device: &mut D, live: Side, bytes: &[u8]) -> Result<(), StoreFault>
+pub fn go_over<D: LogDisk>(device: &mut D, live: Side, bytes: &[u8]) -> Result<(), DeviceFault>
     ensures holds { D.is_honest → (b : BaseValue) → b.format ≡ 2 → IsStored (base_entry b) → bytes.now ≡ spelling (base_entry b)
         → OnOk result (HoldsOn (D.disk device.new (other live)) (D.disk device.new live) (base_entry b ∷ []) []) }
     ensures left { D.is_honest → OnOk result (D.disk device.new live ≡ record { synced = []; unsynced = [] }) }
@@ -34,9 +33,8 @@ pub fn go_over<D: LogDisk>(device: &mut D, live: Side, bytes: &[u8]) -> Result<(
         → generation ks < b.generation → b.format ≡ 2 → IsStored (base_entry b) → bytes.now ≡ spelling (base_entry b) → KeepsOrIs (D.disk device.new) ks ls b }
     ensures room { D.is_honest → length bytes.now ≤ max_base → StaysWithin max_base (D.disk device.old) (D.disk device.new) }
     ensures short { D.is_honest → length bytes.now ≤ max_base → OnOk result (length (contents (D.disk device.new (other live))) ≤ max_base) }
-    ensures only { IfErr result (λ e. e ≡ StoreFault.Device) }
-    ensures cause { IsCaused (D.failures device.old) (D.failures device.new) result }
-    ensures metered { D.is_metered → D.is_honest → IsMetered (D.meter device.old) (D.meter device.new) rebase_calls result }
+    ensures cause { HasCause (D.failures device.old) (D.failures device.new) result }
+    ensures metered { D.is_metered → D.is_honest → ComesBy (D.meter device.old) (D.meter device.new) rebase_calls result }
 {
     let side = other(live);
     write_over(device, side, bytes)?;

@@ -1,6 +1,6 @@
 // Opening a store, and looking at one.
 ghost use Rattle.std.specs.Prelude.{◌≡◌, ◌≤◌, ◌<◌, ◌+◌, ◌-◌, ◌^◌, ◌↔◌, List, ℕ, [], false, length, IsTrue, IfOk, IfErr, IfSome, OnOk, IsErrOf, MatchResult, Ok};
-ghost use Rattle.lk_disk.specs.Disk.{other};
+ghost use Rattle.lk_disk.specs.Disk.{other, HasCause};
 ghost use Rattle.lk_disk.specs.Meters.{Passes};
 ghost use Rattle.lk_disk.specs.declared.device.Side.{Side};
 ghost use Rattle.lk_disk.specs.declared.device.Side.TheVariants.{A, B};
@@ -8,19 +8,21 @@ ghost use Rattle.lk_types.specs.Limits.{max_base};
 ghost use Rattle.lk_entries.specs.Headers.{IsHeader};
 ghost use Rattle.lk_entries.specs.Bases.{generation};
 ghost use Rattle.lk_entries.specs.Standings.{HasHeader};
+ghost use Rattle.lk_entries.specs.Values.{HeaderValue};
 ghost use Rattle.lk_entries.specs.declared.stored.Stored.{Stored};
-ghost use Rattle.lk_log.specs.Causes.{IsCaused, FailuresRise, failures_after, IsMetered, IsRefusedBy};
+ghost use Rattle.lk_log.specs.Causes.{ComesBy};
+ghost use Rattle.lk_log.specs.OpenCauses.{IsCaused, FailuresRise, failures_after, IsMetered, IsRefusedBy};
 ghost use Rattle.lk_log.specs.Images.{IsEmpty, IsDamaged, seen};
 ghost use Rattle.lk_log.specs.Rooms.{StaysWithin};
 ghost use Rattle.lk_log.specs.StoreValue.{disks};
 ghost use Rattle.lk_log.specs.Stores.{first_base, cut_calls, OpensBy, FoundLive, IsWrittenOver, OpensOn, Opens, IsOpened, StaysDamaged, StaysWrong, Shows, NarrowsOrBegins, MayStand, StandsForSome};
 
-use crate::fault::{ReopenFault, StoreFault};
+use crate::fault::{OpenFault, ReopenFault};
 use crate::file::{File, generation_of};
 use crate::gathering::gather;
 use crate::opening::{find, settle};
 use crate::store::Store;
-use lk_disk::{LogDisk, Side};
+use lk_disk::{DeviceFault, LogDisk, Side};
 use lk_entries::{Base, Header, Standing, Stored, format_of, spelled_base};
 use lk_types::{Ballot, Executed};
 use std::alloc::{AllocError, Global};
@@ -34,18 +36,17 @@ struct Opened {
     standing: Standing,
 }
 
-/// Replaces a file with these bytes, and syncs it.
+// Replaces a file with these bytes, and syncs it.
 pub(crate) fn write_over<D: LogDisk>(
     device: &mut D,
     side: Side,
     bytes: &[u8],
-) -> Result<(), StoreFault>
+) -> Result<(), DeviceFault>
     ensures ok { D.is_honest → OnOk result (D.disk device.new side ≡ record { synced = bytes.now; unsynced = [] }) }
     ensures any { D.is_honest → IsWrittenOver (D.disk device.old side) bytes.now (D.disk device.new side) }
     ensures beside { D.is_honest → D.disk device.new (other side) ≡ D.disk device.old (other side) }
-    ensures only { IfErr result (λ e. e ≡ StoreFault.Device) }
-    ensures cause { IsCaused (D.failures device.old) (D.failures device.new) result }
-    ensures metered { D.is_metered → D.is_honest → IsMetered (D.meter device.old) (D.meter device.new) 3 result }
+    ensures cause { HasCause (D.failures device.old) (D.failures device.new) result }
+    ensures metered { D.is_metered → D.is_honest → ComesBy (D.meter device.old) (D.meter device.new) 3 result }
 {
     device.cut(side, 0)?;
     device.append(side, bytes)?;
@@ -81,7 +82,7 @@ fn begin<D: LogDisk>(
     device: &mut D,
     header: &Header,
     zero: &[u8],
-) -> Result<Opened, StoreFault>
+) -> Result<Opened, OpenFault>
     requires some { 1 ≤ length zero.now }
     requires room { length zero.now ≤ 49054 }
     ensures opens { D.is_honest → IsEmpty (seen (D.disk device.old))
@@ -124,22 +125,17 @@ fn has_header(entries: &[Stored], header: &Header) -> bool
 fn open<D: LogDisk>(
     alloc: Global,
     device: &mut D,
-    header: &Header,
     live: Side,
     file: File,
-) -> Result<Opened, StoreFault>
+) -> Result<Opened, OpenFault>
     requires { MayStand file.entries.items }
-    ensures opens { D.is_honest → FoundLive (D.disk device.old) live file.entries.items file.end file.size → (zero : List ℕ)
-        → IfOk result (λ o. OpensOn (seen (D.disk device.old)) header.now zero (D.disk device.new o.live) (D.disk device.new (other o.live)) o.generation o.format o.standing) }
-    ensures stays { D.is_honest → FoundLive (D.disk device.old) live file.entries.items file.end file.size → (zero : List ℕ)
-        → NarrowsOrBegins (D.disk device.old) (D.disk device.new) header.now zero }
+    ensures opens { D.is_honest → FoundLive (D.disk device.old) live file.entries.items file.end file.size → (whose : HeaderValue) (zero : List ℕ) → HasHeader file.entries.items whose
+        → IfOk result (λ o. OpensOn (seen (D.disk device.old)) whose zero (D.disk device.new o.live) (D.disk device.new (other o.live)) o.generation o.format o.standing) }
+    ensures stays { D.is_honest → FoundLive (D.disk device.old) live file.entries.items file.end file.size → (whose : HeaderValue) (zero : List ℕ)
+        → NarrowsOrBegins (D.disk device.old) (D.disk device.new) whose zero }
     ensures room { D.is_honest → StaysWithin 0 (D.disk device.old) (D.disk device.new) }
     ensures stands { IfOk result (λ o. StandsForSome o.standing) }
-    ensures wrong { IsErrOf result StoreFault.WrongStore → HasHeader file.entries.items header.now → ⊥ }
-    ensures wrong_stays { D.is_honest → IsErrOf result StoreFault.WrongStore → (s : Side) → D.disk device.new s ≡ D.disk device.old s }
-    ensures damaged { IsErrOf result StoreFault.Damaged → ⊥ }
-    ensures failed { IsErrOf result StoreFault.Failed → ⊥ }
-    ensures cause { FailuresRise (D.failures device.old) (D.failures device.new) result }
+    ensures cause { IsCaused (D.failures device.old) (D.failures device.new) result }
     ensures metered { D.is_metered → D.is_honest → FoundLive (D.disk device.old) live file.entries.items file.end file.size
         → IsMetered (D.meter device.old) (D.meter device.new) (cut_calls file.end file.size + 1) result }
 {
@@ -149,9 +145,6 @@ fn open<D: LogDisk>(
         size,
         ..
     } = file;
-    if !has_header(&entries, header) {
-        return Err(StoreFault::WrongStore);
-    }
     settle(device, live, end, size)?;
     let generation = generation_of(&entries);
     let format = format_of(&entries);
@@ -170,7 +163,7 @@ fn recover<D: LogDisk>(
     device: &mut D,
     header: &Header,
     zero: &[u8],
-) -> Result<Opened, StoreFault>
+) -> Result<Opened, OpenFault>
     requires some { 1 ≤ length zero.now }
     requires room { length zero.now ≤ 49054 }
     ensures opens { D.is_honest
@@ -179,16 +172,20 @@ fn recover<D: LogDisk>(
     ensures room { D.is_honest → StaysWithin max_base (D.disk device.old) (D.disk device.new) }
     ensures begun { D.is_honest → IsEmpty (seen (D.disk device.old)) → IfOk result (λ o. o.live ≡ A) }
     ensures stands { IfOk result (λ o. StandsForSome o.standing) }
-    ensures damaged { D.is_honest → IsErrOf result StoreFault.Damaged → StaysDamaged (D.disk device.old) (D.disk device.new) }
-    ensures wrong { D.is_honest → IsErrOf result StoreFault.WrongStore → StaysWrong (D.disk device.old) (D.disk device.new) header.now }
-    ensures failed { IsErrOf result StoreFault.Failed → ⊥ }
+    ensures damaged { D.is_honest → IsErrOf result OpenFault.Damaged → StaysDamaged (D.disk device.old) (D.disk device.new) }
+    ensures wrong { D.is_honest → IsErrOf result OpenFault.WrongStore → StaysWrong (D.disk device.old) (D.disk device.new) header.now }
     ensures cause { FailuresRise (D.failures device.old) (D.failures device.new) result }
     ensures metered { D.is_metered → D.is_honest → MatchResult result
         (λ _. (k : ℕ) × OpensBy (seen (D.disk device.old)) k × Passes (D.meter device.old) (D.meter device.new) k)
         (λ e. IsRefusedBy (D.meter device.old) (D.meter device.new) e) }
 {
     match find(alloc, device)? {
-        Some((live, file)) => open(alloc, device, header, live, file),
+        Some((live, file)) => {
+            if !has_header(&file.entries, header) {
+                return Err(OpenFault::WrongStore);
+            }
+            open(alloc, device, live, file)
+        }
         None => begin(alloc, device, header, zero),
     }
 }
@@ -218,9 +215,8 @@ pub fn reopen<D: LogDisk + Drop>(
     // A new store begins in A.
     ensures begun { D.is_honest → IsEmpty (seen (D.disk device)) → IfOk result (λ r. r.0.live ≡ A) }
     // A damaged store and another's are unchanged.
-    ensures damaged { D.is_honest → IfErr result (λ e. e.fault ≡ StoreFault.Damaged → StaysDamaged (D.disk device) (D.disk e.device)) }
-    ensures wrong { D.is_honest → IfErr result (λ e. e.fault ≡ StoreFault.WrongStore → StaysWrong (D.disk device) (D.disk e.device) header.now) }
-    ensures failed { IfErr result (λ e. e.fault ≡ StoreFault.Failed → ⊥) }
+    ensures damaged { D.is_honest → IfErr result (λ e. e.fault ≡ OpenFault.Damaged → StaysDamaged (D.disk device) (D.disk e.device)) }
+    ensures wrong { D.is_honest → IfErr result (λ e. e.fault ≡ OpenFault.WrongStore → StaysWrong (D.disk device) (D.disk e.device) header.now) }
     ensures cause { MatchResult result (λ r. r.0.failures ≡ D.failures device) (λ e. D.failures e.device ≡ failures_after e.fault (D.failures device)) }
     // For a metered device it says which of its calls were made.
     ensures metered { D.is_metered → D.is_honest → MatchResult result
@@ -263,13 +259,12 @@ pub struct LiveFile {
 /// The generation, the format and the standing of the live file, or `None` if there is no Base. Changes nothing.
 ///
 /// It fails with `Device` (7), `NoMemory` (8) and `Damaged` (9).
-pub fn look<D: LogDisk>(alloc: Global, device: &mut D) -> Result<Option<LiveFile>, StoreFault>
+pub fn look<D: LogDisk>(alloc: Global, device: &mut D) -> Result<Option<LiveFile>, OpenFault>
     ensures unchanged { D.is_honest → (s : Side) → D.disk device.new s ≡ D.disk device.old s }
     ensures some { D.is_honest → IfOk result (λ r. IfSome r (λ x. Shows (seen (D.disk device.old)) x.generation x.format x.standing)) }
     ensures none { D.is_honest → result ≡ Ok None → IsEmpty (seen (D.disk device.old)) }
-    ensures damaged { D.is_honest → IsErrOf result StoreFault.Damaged → IsDamaged (seen (D.disk device.old)) }
-    ensures wrong { IsErrOf result StoreFault.WrongStore → ⊥ }
-    ensures failed { IsErrOf result StoreFault.Failed → ⊥ }
+    ensures damaged { D.is_honest → IsErrOf result OpenFault.Damaged → IsDamaged (seen (D.disk device.old)) }
+    ensures wrong { IsErrOf result OpenFault.WrongStore → ⊥ }
     ensures cause { FailuresRise (D.failures device.old) (D.failures device.new) result }
     // For a metered device: no changing call.
     ensures metered { D.is_metered → D.is_honest → IsMetered (D.meter device.old) (D.meter device.new) 0 result }

@@ -15,8 +15,8 @@ use std::time::Clock;
 use std::{env, io};
 use words::{run_words, tell_start};
 
-/// The words of the command line as texts. The usage text begins with the first, the program's name, and not with its
-/// path.
+// The words of the command line as texts. The usage text begins with the first, the program's name, and not with its
+// path.
 fn texts_of<'a>(alloc: Global, words: &'a [String]) -> io::Result<Vec<&'a str>> {
     let mut texts = Vec::new(alloc);
     texts.push("locks")?;
@@ -26,7 +26,7 @@ fn texts_of<'a>(alloc: Global, words: &'a [String]) -> io::Result<Vec<&'a str>> 
     Ok(texts)
 }
 
-/// Runs a command line on the program's streams.
+// Runs a command line on the program's streams.
 fn run_texts<'a, R: Input + Print + Eprint + Files<File = File> + Net + Clock, E: Write>(
     rt: &R,
     alloc: Global,
@@ -38,7 +38,7 @@ fn run_texts<'a, R: Input + Print + Eprint + Files<File = File> + Net + Clock, E
     Ok(run_words(rt, alloc, texts, &mut reader, &mut out, err))
 }
 
-/// Runs the program's command line on its streams. It fails if it is out of memory or a word is not valid text.
+// Runs the program's command line on its streams. It fails if it is out of memory or a word is not valid text.
 fn run<
     R: Env + Input + Print + Eprint + Files<File = File> + Net + Clock + Alloc<A = Global>,
     E: Write,
@@ -49,7 +49,7 @@ fn run<
     run_texts(rt, alloc, &texts, err)
 }
 
-/// Exits with the status of the command line.
+// Exits with the status of the command line.
 fn main(rt: HostRuntime) -> ExitCode {
     let mut err = rt.stderr();
     let status = match run(&rt, &mut err) {

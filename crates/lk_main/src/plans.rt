@@ -8,15 +8,15 @@ use lk_options::asking::{question_of, turns_of};
 use lk_options::misread::{Misread, misread_argument};
 use lk_options::operation::misread_operation;
 use lk_options::values::{address_in, client_in, genesis_in, node_in, number_in, port_in, word};
+use lk_pace::pace::Pace;
 use lk_schedules::fuzzing::MAX_EVENTS;
 use lk_schedules::plan::Plan;
-use lk_server::pace::Pace;
 use lk_service::network::NetworkOptions;
 use lk_service::resources::NodePlan;
 use lk_types::{ClientNo, Op, Port};
 use std::alloc::{AllocError, Global};
 
-/// The options of a command line about other machines.
+// The options of a command line about other machines.
 fn options_in<'a>(
     matches: &ArgMatches<'a>,
     name: &'a str,
@@ -35,7 +35,7 @@ pub fn ask_options<'a>(matches: &ArgMatches<'a>) -> Result<NetworkOptions<'a>, M
     options_in(matches, "address", None)
 }
 
-/// What the ticks of a node go by: where the nodes have a key it is the clock, and nothing else may be asked for.
+// What the ticks of a node go by: where the nodes have a key it is the clock, and nothing else may be asked for.
 fn pace_in<'a>(matches: &ArgMatches<'a>) -> Result<Pace, Misread<'a>> {
     let has_key = matches.get_str("key").is_some();
     match matches.get_str("ticks") {
@@ -84,7 +84,7 @@ pub struct AskPlan<'a> {
     pub options: NetworkOptions<'a>,
 }
 
-/// What `locks ask` is to do, given its operation and the ports that it asks in turn.
+// What `locks ask` is to do, given its operation and the ports that it asks in turn.
 fn ask_plan_of<'a>(
     matches: &ArgMatches<'a>,
     op: Op,

@@ -14,7 +14,7 @@ pub enum Subcommand {
     Status,
 }
 
-/// All of them, by their names.
+// All of them, by their names.
 const NAMED: [(&str, Subcommand); 9] = [
     ("sim", Subcommand::Sim),
     ("fuzz", Subcommand::Fuzz),

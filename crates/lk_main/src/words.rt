@@ -7,7 +7,6 @@ use crate::subcommand::Subcommand;
 use clap::error::ErrorKind;
 use clap::{ArgMatches, Error};
 use lk_client::question::ask;
-use lk_disk::MemoryDisk;
 use lk_events::line::{Events, Observer, Unobserved};
 use lk_folder::causes::open_socket_at;
 use lk_inspect::dump::dump;
@@ -27,6 +26,7 @@ use lk_service::demo::demo;
 use lk_service::network::{NetworkOptions, destination_of};
 use lk_service::resources::{NodePlan, open_resources};
 use lk_service::running::run_node;
+use lk_simulated_disk::MemoryDisk;
 use lk_status::status::status;
 use lk_transport::fault::ServiceFault;
 use lk_world_state::node_state::run_to_state;
@@ -39,10 +39,10 @@ use std::io::{BufRead, Write};
 use std::net::{IpAddr, Ipv4Addr, Ipv6Addr, Net, SocketAddr};
 use std::time::Clock;
 
-/// The nodes of world mode.
+// The nodes of world mode.
 type Nodes = Replica<LockTable, MemoryDisk>;
 
-/// Tells which word of a subcommand is not understood, and what is wrong with it. The status is 2.
+// Tells which word of a subcommand is not understood, and what is wrong with it. The status is 2.
 fn refuse_words<E: Write>(misread: &Misread<'_>, err: &mut E) -> u8
     ensures { result ≤ 2 }
 {
@@ -51,7 +51,7 @@ fn refuse_words<E: Write>(misread: &Misread<'_>, err: &mut E) -> u8
     2
 }
 
-/// Which lines a node logs, if any.
+// Which lines a node logs, if any.
 fn level_of(matches: &ArgMatches<'_>) -> Option<Level> {
     if matches.get_flag("verbose") {
         return Some(Level::Debug);
@@ -59,12 +59,12 @@ fn level_of(matches: &ArgMatches<'_>) -> Option<Level> {
     matches.get_flag("log").then_some(Level::Info)
 }
 
-/// The named folder.
+// The named folder.
 fn folder_in<'a>(matches: &ArgMatches<'a>) -> &'a str {
     matches.get_str("dir").unwrap_or("")
 }
 
-/// Runs a node on the files of its folder and a socket of the system.
+// Runs a node on the files of its folder and a socket of the system.
 fn run_plan<R: Files<File = File> + Net + Clock, L: Log, O: Observer, E: Write>(
     rt: &R,
     alloc: Global,
@@ -83,7 +83,7 @@ fn run_plan<R: Files<File = File> + Net + Clock, L: Log, O: Observer, E: Write>(
     }
 }
 
-/// The same, and tells its events where that is asked for.
+// The same, and tells its events where that is asked for.
 fn run_observed<R: Files<File = File> + Net + Eprint + Clock, L: Log, E: Write>(
     rt: &R,
     alloc: Global,
@@ -102,7 +102,7 @@ fn run_observed<R: Files<File = File> + Net + Eprint + Clock, L: Log, E: Write>(
     run_plan(rt, alloc, plan, log, &mut events, err)
 }
 
-/// Runs a node.
+// Runs a node.
 fn run_node_words<R: Files<File = File> + Net + Eprint + Clock, E: Write>(
     rt: &R,
     alloc: Global,
@@ -125,7 +125,7 @@ fn run_node_words<R: Files<File = File> + Net + Eprint + Clock, E: Write>(
     }
 }
 
-/// The address of a client's socket: any of its machine, in the address family of the node that it asks.
+// The address of a client's socket: any of its machine, in the address family of the node that it asks.
 fn own_address(options: &NetworkOptions<'_>) -> IpAddr {
     match options.bind {
         None => IpAddr::V4(Ipv4Addr::LOCALHOST),
@@ -134,7 +134,7 @@ fn own_address(options: &NetworkOptions<'_>) -> IpAddr {
     }
 }
 
-/// Asks as planned.
+// Asks as planned.
 fn run_ask<R: Files<File = File> + Net, W: Write, E: Write>(
     rt: &R,
     alloc: Global,
@@ -159,7 +159,7 @@ fn run_ask<R: Files<File = File> + Net, W: Write, E: Write>(
     }
 }
 
-/// Sends one request to a node.
+// Sends one request to a node.
 fn ask_words<R: Files<File = File> + Net, W: Write, E: Write>(
     rt: &R,
     alloc: Global,
@@ -178,7 +178,7 @@ fn ask_words<R: Files<File = File> + Net, W: Write, E: Write>(
     run_ask(rt, alloc, plan, out, err)
 }
 
-/// Asks nodes how the cluster stands.
+// Asks nodes how the cluster stands.
 fn status_words<R: Files<File = File> + Net, W: Write, E: Write>(
     rt: &R,
     alloc: Global,
@@ -213,7 +213,7 @@ fn status_words<R: Files<File = File> + Net, W: Write, E: Write>(
     }
 }
 
-/// Prints the key of a client.
+// Prints the key of a client.
 fn client_key_words<R: Files<File = File>, W: Write, E: Write>(
     rt: &R,
     alloc: Global,
@@ -229,7 +229,7 @@ fn client_key_words<R: Files<File = File>, W: Write, E: Write>(
     }
 }
 
-/// Runs a script.
+// Runs a script.
 fn sim_words<R: BufRead, W: Write, E: Write>(
     alloc: Global,
     matches: &ArgMatches<'_>,
@@ -245,7 +245,7 @@ fn sim_words<R: BufRead, W: Write, E: Write>(
     run_to_end::<Nodes, R, W, E>(alloc, reader, out, err)
 }
 
-/// Runs a random schedule.
+// Runs a random schedule.
 fn fuzz_words<W: Write, E: Write>(
     alloc: Global,
     matches: &ArgMatches<'_>,
@@ -264,7 +264,7 @@ fn fuzz_words<W: Write, E: Write>(
     run_fuzz::<Nodes, W, E>(alloc, plan, out, err)
 }
 
-/// Runs a subcommand, given its words.
+// Runs a subcommand, given its words.
 fn run_subcommand<H: Files<File = File> + Net + Eprint + Clock, R: BufRead, W: Write, E: Write>(
     rt: &H,
     alloc: Global,
@@ -289,7 +289,7 @@ fn run_subcommand<H: Files<File = File> + Net + Eprint + Clock, R: BufRead, W: W
     }
 }
 
-/// Runs the named subcommand.
+// Runs the named subcommand.
 fn run_matches<H: Files<File = File> + Net + Eprint + Clock, R: BufRead, W: Write, E: Write>(
     rt: &H,
     alloc: Global,
@@ -309,13 +309,13 @@ fn run_matches<H: Files<File = File> + Net + Eprint + Clock, R: BufRead, W: Writ
     }
 }
 
-/// Writes the requested help.
+// Writes the requested help.
 fn write_help<W: Write>(help: &Error, out: &mut W) -> Result<(), ScriptFault> {
     write!(out, "{help}").map_err(|_| ScriptFault::Write)
 }
 
-/// Reports why the command line was rejected: help goes to standard output with status 0, out of memory has status 1,
-/// anything else status 2.
+// Reports why the command line was rejected: help goes to standard output with status 0, out of memory has status 1,
+// anything else status 2.
 fn refuse<W: Write, E: Write>(error: &Error, out: &mut W, err: &mut E) -> u8
     ensures { result ≤ 2 }
 {

@@ -7,7 +7,7 @@ use crate::nodes::is_among;
 use crate::set::is_member;
 use lk_types::{Member, Members, NodeNo};
 
-/// How many of the members are among the nodes.
+// How many of the members are among the nodes.
 fn count_among(members: &[Member], nodes: &[NodeNo]) -> usize
     ensures count { result ≡ count_by (λ m. list_any (λ n. n == m.node) nodes.now) members.now }
     ensures bound { result ≤ length members.now }
@@ -15,7 +15,7 @@ fn count_among(members: &[Member], nodes: &[NodeNo]) -> usize
     members.iter().filter(|m| is_among(nodes, m.node)).count()
 }
 
-/// Whether each of the nodes is a member of the set.
+// Whether each of the nodes is a member of the set.
 fn lie_within(set: &Members, nodes: &[NodeNo]) -> bool
     ensures { result ≡ list_all (λ n. is_one n set.now) nodes.now }
 {

@@ -194,7 +194,7 @@ impl Roster {
         self.advance(set, greatest, changed);
     }
 
-    /// Advances by one position, with this set, this greatest number and this last change.
+    // Advances by one position, with this set, this greatest number and this last change.
     fn advance(&mut self, set: Members, greatest: NodeNo, changed: Executed)
         requires room { self.old.executed < max_count }
         requires bound { IsTrue (list_all (λ m. nat_le m.node greatest) set) }
@@ -210,7 +210,7 @@ impl Roster {
         self.changed = changed;
     }
 
-    /// The position that is executed next.
+    // The position that is executed next.
     fn next(&self) -> Executed
         requires { self.now.executed < max_count }
         ensures { result ≡ self.now.executed + 1 }
@@ -218,7 +218,7 @@ impl Roster {
         Executed::of(self.executed.get() + 1).unwrap()
     }
 
-    /// Advances by one position with a join.
+    // Advances by one position with a join.
     fn join(&mut self, node: NodeNo, port: Port) -> Answer
         requires { self.old.executed < max_count }
         ensures answer { result ≡ join_answer (newest_roster self.old) node }
@@ -238,7 +238,7 @@ impl Roster {
         Answer::Joined
     }
 
-    /// Advances by one position with a leave.
+    // Advances by one position with a leave.
     fn leave(&mut self, node: NodeNo) -> Answer
         requires { self.old.executed < max_count }
         ensures answer { result ≡ leave_answer (newest_roster self.old) node }
@@ -276,7 +276,7 @@ impl Roster {
     }
 }
 
-/// The genesis' set for each of the first alpha positions.
+// The genesis' set for each of the first alpha positions.
 fn first_window(genesis: &Genesis) -> Window
     ensures { result ≡ sets_from genesis.now [] 1 genesis.now.alpha }
 {
@@ -287,7 +287,7 @@ fn first_window(genesis: &Genesis) -> Window
     window
 }
 
-/// The greatest number of the members, which is the last's.
+// The greatest number of the members, which is the last's.
 fn greatest_of(set: &Members) -> NodeNo
     ensures { result ≡ greatest_node set.now }
 {

@@ -54,7 +54,7 @@ pub fn lesser(a: Option<NodeNo>, b: Option<NodeNo>) -> Option<NodeNo>
     b
 }
 
-/// The node, if it is above this number.
+// The node, if it is above this number.
 fn if_above(low: u32, node: NodeNo) -> Option<NodeNo>
     ensures { IsNextAbove (λ k. node == k) low result }
 {

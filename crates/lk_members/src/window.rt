@@ -42,7 +42,7 @@ impl Place {
         &self.set
     }
 
-    /// Whether every node of the set is at most this number.
+    // Whether every node of the set is at most this number.
     fn is_at_most(&self, greatest: NodeNo) -> bool
         ensures { result ≡ list_all (λ m. nat_le m.node greatest) self.now }
     {
@@ -52,7 +52,7 @@ impl Place {
             .all(|member| member.node.get() <= greatest.get())
     }
 
-    /// Whether the node is one of the set.
+    // Whether the node is one of the set.
     fn names(&self, node: NodeNo) -> bool
         ensures { result ≡ is_one node self.now }
     {

@@ -3,12 +3,12 @@ use Rattle.std.proofs.lemmas.Bool.Decides.{nat_tests}
 use Rattle.std.proofs.Common.{true, ◌≡◌, ℕ, ◌+◌, ◌≤◌, List, [], ◌∷◌, length, Option, Some, None, refl, ap, ◌∙◌, subst, inl, inr, arith, length-append}
 use Rattle.lk_types.specs.declared.entry.Entry.{Entry}
 use Rattle.lk_types.specs.declared.vote.Vote.{Vote}
-use Rattle.lk_wire.specs.Grammar.{IsContent, IsNodeMessage}
-use Rattle.lk_wire.specs.Values.{DecidedValue, PartValue, are_commands_from}
-use Rattle.lk_wire.specs.declared.message.Content.{Content}
-use Rattle.lk_wire.specs.declared.message.Content.TheVariants as content
-use Rattle.lk_wire.specs.declared.message.NodeMessage.{NodeMessage}
-use Rattle.lk_wire.specs.declared.message.NodeMessage.TheVariants as kinds
+use Rattle.lk_messages.specs.Grammar.{IsContent, IsNodeMessage}
+use Rattle.lk_messages.specs.Values.{DecidedValue, PartValue, are_commands_from}
+use Rattle.lk_messages.specs.declared.message.Content.{Content}
+use Rattle.lk_messages.specs.declared.message.Content.TheVariants as content
+use Rattle.lk_messages.specs.declared.message.NodeMessage.{NodeMessage}
+use Rattle.lk_messages.specs.declared.message.NodeMessage.TheVariants as kinds
 use Rattle.lk_state.specs.Meanings.{Meaning}
 use Rattle.lk_state.specs.declared.session.Session.{Session}
 use Rattle.lk_entries.specs.Values.{HeaderValue}

@@ -2,19 +2,19 @@ mod Lists
 mod Serving
 mod ManyLetters
 mod Changing
-mod TermRules
+mod TermLaws
 mod Proposals
-mod AcceptorRules
-mod LevelRules
-mod AskingRules
-mod ReplyRules
-mod LearnerRules
-mod ExecutionRules
+mod AcceptorLaws
+mod LevelLaws
+mod AskingLaws
+mod ReplyLaws
+mod LearnerLaws
+mod ExecutionLaws
 mod Decisions
-mod DecidingRules
-mod BallotRules
-mod NearRules
-mod InstallRules
+mod DecidingLaws
+mod BallotLaws
+mod NearLaws
+mod InstallLaws
 mod TakingUp
 mod Reminders
 mod Settling
@@ -22,5 +22,5 @@ mod NoneOpen
 mod Waking
 mod FewEntries
 mod ReachLaws
-mod ToldRules
+mod ToldLaws
 pub mod Nodes

@@ -1,11 +1,10 @@
--- Letters to several nodes, and a walk along nodes.
-use Rattle.std.proofs.Common.{◌≡◌, ℕ, Bool, true, List, [], ◌∷◌, ◌++◌, Some, None, map, refl, sym, ◌∙◌, ap, subst}
+-- Letters to several nodes.
+use Rattle.std.proofs.Common.{◌≡◌, ℕ, true, List, [], ◌∷◌, ◌++◌, map, refl, sym, ap, subst}
 use Rattle.lk_types.specs.declared.entry.Entry.{Entry}
-use Rattle.lk_wire.specs.Grammar.{IsMessage}
-use Rattle.lk_wire.specs.declared.message.NodeMessage.{NodeMessage}
+use Rattle.lk_messages.specs.Grammar.{IsMessage}
+use Rattle.lk_messages.specs.declared.message.NodeMessage.{NodeMessage}
 use Rattle.lk_agreement.specs.Acceptors.{Covers}
 use Rattle.lk_agreement.specs.Nodes.{MaySend}
-use Rattle.lk_members.specs.Ports.{IsNextAbove, AreAllAbove}
 use Rattle.lk_state.specs.Meanings.{Meaning}
 use Rattle.lk_step.specs.Letters.{LetterValue}
 use Rattle.lk_step.specs.Outboxes.{OutboxValue, with_letter}
@@ -39,24 +38,3 @@ says_all m Heard node out (k ∷ nodes) message fits covers light may =
     (then_goes_on m Heard node node node out (with_letter (letter_to node message k) out) (telling node nodes message (with_letter (letter_to node message k) out))
     (says m Heard node out (to_node node k) message fits covers light (may out))
     (says_all m Heard node (with_letter (letter_to node message k) out) nodes message fits covers light may))
-
--- ---- a walk along nodes
-
-numbers_behind : (xs ys zs : List ℕ) → (xs ++ ys) ++ zs ≡ xs ++ (ys ++ zs)
-numbers_behind [] ys zs = refl
-numbers_behind (x ∷ xs) ys zs = ap (λ (ls : List ℕ). x ∷ ls) (numbers_behind xs ys zs)
-
--- what is walked from here on completes what was walked so far
-abbrev pub Completes : (ℕ → Bool) → ℕ → List ℕ → Type 0
-Completes is low front = (rest : List ℕ) → AreAllAbove is low rest → AreAllAbove is 0 (front ++ rest)
-
-pub walked_more : (is : ℕ → Bool) (low n : ℕ) (front more : List ℕ) → IsNextAbove is low (Some n) → Completes is low front → more ≡ front ++ n ∷ [] → Completes is n more
-walked_more is low n front more next so_far e = λ rest all.
-    subst (AreAllAbove is 0) (sym (numbers_behind front (n ∷ []) rest) ∙ ap (λ (ns : List ℕ). ns ++ rest) (sym e)) (so_far (n ∷ rest) (next, all))
-
-nothing_behind : (xs : List ℕ) → xs ++ [] ≡ xs
-nothing_behind [] = refl
-nothing_behind (x ∷ xs) = ap (λ (ls : List ℕ). x ∷ ls) (nothing_behind xs)
-
-pub walked_all : (is : ℕ → Bool) (low : ℕ) (front : List ℕ) → IsNextAbove is low None → Completes is low front → AreAllAbove is 0 front
-walked_all is low front none so_far = subst (AreAllAbove is 0) (nothing_behind front) (so_far [] none)

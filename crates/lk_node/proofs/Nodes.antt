@@ -3,4 +3,4 @@ pub use Rattle.lk_node.proofs.Lists.{cons_cases, contains_more, take_contains, m
 pub use Rattle.lk_node.proofs.Serving.{letter_spelled, mapped_append}
 pub use Rattle.lk_node.proofs.FewEntries.{few_entries}
 pub use Rattle.lk_node.proofs.ReachLaws.{tells_more, all_near_more, with_all_behind, near_behind, told_behind, told_synced, window_is}
-pub use Rattle.lk_node.proofs.ToldRules.{step_told}
+pub use Rattle.lk_node.proofs.ToldLaws.{step_told}

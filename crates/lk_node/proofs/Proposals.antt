@@ -13,8 +13,8 @@ use Rattle.lk_types.specs.declared.command.Command.TheVariants.{Noop, Request}
 use Rattle.lk_types.specs.declared.entry.Entry.{Entry}
 use Rattle.lk_types.specs.declared.member.Member.{Member}
 use Rattle.lk_types.specs.declared.vote.Vote.{Vote}
-use Rattle.lk_wire.specs.Grammar.{IsMessage}
-use Rattle.lk_wire.specs.declared.message.NodeMessage.TheVariants as kinds
+use Rattle.lk_messages.specs.Grammar.{IsMessage}
+use Rattle.lk_messages.specs.declared.message.NodeMessage.TheVariants as kinds
 use Rattle.lk_state.specs.Meanings.{Meaning}
 use Rattle.lk_state.specs.States.{WholeValue, whole_after, SumsUp}
 use Rattle.lk_members.specs.Windows.{RosterValue, RosterSumsUp}
@@ -43,7 +43,7 @@ use Rattle.lk_node.proofs.Changing.{change_goes_on}
 use Rattle.lk_node.proofs.Lists.{only}
 use Rattle.lk_node.proofs.ManyLetters.{says_all}
 use Rattle.lk_node.proofs.Serving.{then_goes_on}
-use Rattle.lk_node.proofs.TermRules.{term_followed, some_value}
+use Rattle.lk_node.proofs.TermLaws.{term_followed, some_value}
 
 -- ---- there is an end of it
 

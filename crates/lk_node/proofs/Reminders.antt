@@ -4,20 +4,20 @@ use Rattle.std.specs.Prelude.{slice_get}
 use Rattle.lk_types.specs.BallotValue.{BallotValue}
 use Rattle.lk_types.specs.Ballots.{IsAtMost}
 use Rattle.lk_types.specs.declared.member.Member.{Member}
-use Rattle.lk_wire.specs.declared.message.NodeMessage.TheVariants as kinds
+use Rattle.lk_messages.specs.declared.message.NodeMessage.TheVariants as kinds
 use Rattle.lk_state.specs.Meanings.{Meaning}
 use Rattle.lk_agreement.specs.Acceptors.{AcceptorState}
 use Rattle.std.proofs.lemmas.Option.{slice_get_within}
 use Rattle.lk_members.specs.Effects.{Command}
 use Rattle.lk_members.specs.Windows.{RosterValue}
-use Rattle.lk_leader.specs.Acceptances.{IsOpen}
+use Rattle.lk_leader.specs.Acceptances.{IsOpen, unheard}
 use Rattle.lk_leader.specs.Terms.{ProposalValue, TermValue, LeaderValue, proposal_at}
 use Rattle.lk_learner.specs.Learners.{executed}
 use Rattle.lk_step.specs.Outboxes.{OutboxValue}
 use Rattle.lk_node.specs.Histories.{History}
 use Rattle.lk_node.specs.NodeValue.{NodeValue}
 use Rattle.lk_node.specs.Promised.{HasPromised}
-use Rattle.lk_node.specs.Reminding.{IsTermOf, TellsThese, AsksAgain, unheard, vote_for, OffersAgain, TellsLead}
+use Rattle.lk_node.specs.Reminding.{IsTermOf, TellsThese, AsksAgain, vote_for, OffersAgain, TellsLead}
 use Rattle.lk_node.specs.Serving.{GoesOn}
 use Rattle.lk_node.proofs.Lists.{contains_more}
 use Rattle.lk_node.proofs.ManyLetters.{says_all}

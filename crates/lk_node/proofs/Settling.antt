@@ -4,11 +4,11 @@ use Rattle.lk_types.specs.BallotValue.{BallotValue}
 use Rattle.lk_types.specs.declared.command.Request.{Request as RequestValue}
 use Rattle.lk_types.specs.declared.member.Member.{Member}
 use Rattle.lk_types.specs.declared.vote.Vote.{Vote}
-use Rattle.lk_wire.specs.Values.{PromiseValue, PartValue}
-use Rattle.lk_wire.specs.declared.message.Content.{Content}
-use Rattle.lk_wire.specs.declared.message.Content.TheVariants as content
-use Rattle.lk_wire.specs.declared.message.NodeMessage.{NodeMessage}
-use Rattle.lk_wire.specs.declared.message.NodeMessage.TheVariants as kinds
+use Rattle.lk_messages.specs.Values.{PromiseValue, PartValue}
+use Rattle.lk_messages.specs.declared.message.Content.{Content}
+use Rattle.lk_messages.specs.declared.message.Content.TheVariants as content
+use Rattle.lk_messages.specs.declared.message.NodeMessage.{NodeMessage}
+use Rattle.lk_messages.specs.declared.message.NodeMessage.TheVariants as kinds
 use Rattle.lk_state.specs.Meanings.{Meaning}
 use Rattle.lk_state.specs.Runs.{seen_as}
 use Rattle.lk_state.specs.Sessions.{session_of}
@@ -162,4 +162,4 @@ tick_settles old new out (inr waits) = due_settles (ticked old) new out waits.1
 pub step_settles : (m : Meaning) (IsText : List ℕ → Type 0) (old : NodeValue) (i : Input) (new : NodeValue) (out : OutboxValue) → Steps m IsText old i new out → NothingToRun old → NothingToRun new
 step_settles m IsText old input.Tick new out k none = tick_settles old new out k none
 step_settles m IsText old (input.Datagram bytes) new out k none =
-    stays k.mid new (proposed_learner k.proposes.0 k.mid new k.first out k.proposes.1) (bytes_settle m IsText bytes.now old k.mid k.first k.takes none)
+    stays k.mid new (proposed_learner k.proposes.0 k.mid new k.first out k.proposes.1) (bytes_settle m IsText bytes old k.mid k.first k.takes none)

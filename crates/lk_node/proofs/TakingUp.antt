@@ -12,7 +12,7 @@ use Rattle.lk_node.specs.Histories.{History}
 use Rattle.lk_node.specs.Installing.{SettlesFirst, none_settled, one_settled, SettlesAll}
 use Rattle.lk_node.specs.NodeValue.{NodeValue}
 use Rattle.lk_node.specs.Serving.{GoesOn}
-use Rattle.lk_node.proofs.ExecutionRules.{settles_goes_on, named_goes_on}
+use Rattle.lk_node.proofs.ExecutionLaws.{settles_goes_on, named_goes_on}
 use Rattle.lk_node.proofs.Serving.{rests_here, then_goes_on}
 
 -- in front of all that is sent, the store may be rebased

@@ -4,11 +4,11 @@ use Rattle.lk_types.specs.BallotValue.{BallotValue}
 use Rattle.lk_types.specs.declared.command.Request.{Request as RequestValue}
 use Rattle.lk_types.specs.declared.member.Member.{Member}
 use Rattle.lk_types.specs.declared.vote.Vote.{Vote}
-use Rattle.lk_wire.specs.Values.{PromiseValue, PartValue}
-use Rattle.lk_wire.specs.declared.message.Content.{Content}
-use Rattle.lk_wire.specs.declared.message.Content.TheVariants as content
-use Rattle.lk_wire.specs.declared.message.NodeMessage.{NodeMessage}
-use Rattle.lk_wire.specs.declared.message.NodeMessage.TheVariants as kinds
+use Rattle.lk_messages.specs.Values.{PromiseValue, PartValue}
+use Rattle.lk_messages.specs.declared.message.Content.{Content}
+use Rattle.lk_messages.specs.declared.message.Content.TheVariants as content
+use Rattle.lk_messages.specs.declared.message.NodeMessage.{NodeMessage}
+use Rattle.lk_messages.specs.declared.message.NodeMessage.TheVariants as kinds
 use Rattle.lk_state.specs.Meanings.{Meaning}
 use Rattle.lk_state.specs.Runs.{run_answer, seen_as}
 use Rattle.lk_state.specs.Sessions.{session_of}
@@ -20,6 +20,7 @@ use Rattle.lk_acceptor.specs.declared.response.Response.{Response}
 use Rattle.lk_leader.specs.Terms.{TermValue}
 use Rattle.lk_learner.specs.Learners.{Command, Pair}
 use Rattle.lk_step.specs.Grants.{is_granted}
+use Rattle.lk_step.specs.KeptReplies.{session_by}
 use Rattle.lk_step.specs.Outboxes.{OutboxValue}
 use Rattle.lk_step.specs.declared.input.Input.{Input}
 use Rattle.lk_step.specs.declared.input.Input.TheVariants as input
@@ -28,7 +29,7 @@ use Rattle.lk_node.specs.Asking.{leader_in, PointsTo, TakesNew, TakesAs}
 use Rattle.lk_node.specs.CatchingUp.{HearsLead}
 use Rattle.lk_node.specs.Deciding.{IsOnlyHeard, HearsAccepted}
 use Rattle.lk_node.specs.DecidedPairs.{TakesPairs, none_yet, one_more}
-use Rattle.lk_node.specs.Executing.{SettlesAny, session_by, is_outside, while_named, Executes, Runs, stays, goes_on}
+use Rattle.lk_node.specs.Executing.{SettlesAny, is_outside, while_named, Executes, Runs, stays, goes_on}
 use Rattle.lk_node.specs.Installing.{SettlesFirst, none_settled, one_settled, HearsPart}
 use Rattle.lk_node.specs.Leading.{HearsPromise, having_proposed, ProposesAll}
 use Rattle.lk_node.specs.Learning.{Learns}
@@ -181,4 +182,4 @@ tick_wakes old new out (inr waits) = due_wakes (ticked old) new out waits.1
 pub step_wakes : (m : Meaning) (IsText : List ℕ → Type 0) (old : NodeValue) (i : Input) (new : NodeValue) (out : OutboxValue) → Steps m IsText old i new out → new.halted ≡ old.halted
 step_wakes m IsText old input.Tick new out k = tick_wakes old new out k
 step_wakes m IsText old (input.Datagram bytes) new out k =
-    proposed_wakes k.proposes.0 k.mid new k.first out k.proposes.1 ∙ bytes_wake m IsText bytes.now old k.mid k.first k.takes
+    proposed_wakes k.proposes.0 k.mid new k.first out k.proposes.1 ∙ bytes_wake m IsText bytes old k.mid k.first k.takes

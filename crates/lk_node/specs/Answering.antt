@@ -1,7 +1,7 @@
 -- How a node replies as an acceptor.
 use Rattle.std.specs.Prelude.{◌≡◌, ℕ, if◌then◌else◌}
-use Rattle.lk_wire.specs.Grammar.{spelling, IsMessage}
-use Rattle.lk_wire.specs.declared.message.NodeMessage.{NodeMessage}
+use Rattle.lk_messages.specs.Grammar.{spelling, IsMessage}
+use Rattle.lk_messages.specs.declared.message.NodeMessage.{NodeMessage}
 use Rattle.lk_acceptor.specs.AcceptorValue.{AcceptorValue}
 use Rattle.lk_acceptor.specs.declared.response.Response.{Response}
 use Rattle.lk_step.specs.Grants.{is_granted}

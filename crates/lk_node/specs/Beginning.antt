@@ -1,15 +1,16 @@
 -- When a node begins a ballot, and the result.
-use Rattle.std.specs.Prelude.{◌≡◌, ◌⊎◌, ℕ, ◌+◌, nat_lt, if◌then◌else◌, List}
+use Rattle.std.specs.Prelude.{◌≡◌, ◌⊎◌, ℕ, ◌+◌, List}
 use Rattle.lk_types.specs.BallotValue.{BallotValue}
 use Rattle.lk_types.specs.Limits.{max_count}
 use Rattle.lk_types.specs.declared.entry.Entry.TheVariants.{Promise}
-use Rattle.lk_wire.specs.Grammar.{IsMessage}
-use Rattle.lk_wire.specs.declared.message.NodeMessage.TheVariants as kinds
+use Rattle.lk_messages.specs.Grammar.{IsMessage}
+use Rattle.lk_messages.specs.declared.message.NodeMessage.TheVariants as kinds
 use Rattle.lk_agreement.specs.Changes.{with_promise}
 use Rattle.lk_acceptor.specs.States.{with_state}
 use Rattle.lk_leader.specs.Terms.{begun, with_term}
 use Rattle.lk_learner.specs.Learners.{executed}
 use Rattle.lk_step.specs.Outboxes.{OutboxValue, nothing, with_entry}
+use Rattle.lk_step.specs.Rounds.{greater_round, ballot_above}
 use Rattle.lk_step.specs.Saying.{saying}
 use Rattle.lk_node.specs.NodeValue.{NodeValue}
 use Rattle.lk_node.specs.Telling.{AreWindowNodes, telling}
@@ -18,11 +19,11 @@ use Rattle.lk_node.specs.Telling.{AreWindowNodes, telling}
 
 -- the greatest round of the promised ballot and of those recorded
 abbrev pub greatest_round : NodeValue → ℕ
-greatest_round node = if nat_lt node.acceptor.state.promised.round node.rounds then node.rounds else node.acceptor.state.promised.round
+greatest_round node = greater_round node.acceptor.state.promised node.rounds
 
 -- the next ballot of the node: its round is above all these
 abbrev pub next_ballot : NodeValue → BallotValue
-next_ballot node = record { round = greatest_round node + 1; node = node.header.node }
+next_ballot node = ballot_above node.acceptor.state.promised node.rounds node.header.node
 
 -- the node after it has begun the ballot: its acceptor has promised it, and its leader has a term of it
 abbrev pub beginning : BallotValue → NodeValue → NodeValue

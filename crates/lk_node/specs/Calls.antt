@@ -1,7 +1,7 @@
 -- What a replica promises of a call, for every history that its node fits.
 use Rattle.std.specs.Prelude.{◌≡◌, ℕ, List, take, Contains, Option, Some, None}
-use Rattle.lk_wire.specs.Grammar.{Spells}
-use Rattle.lk_wire.specs.declared.message.NodeMessage.{NodeMessage}
+use Rattle.lk_messages.specs.Grammar.{Spells}
+use Rattle.lk_messages.specs.declared.message.NodeMessage.{NodeMessage}
 use Rattle.lk_disk.specs.Disk.{Disk}
 use Rattle.lk_disk.specs.declared.device.Side.{Side}
 use Rattle.lk_state.specs.Meanings.{Meaning}
@@ -19,12 +19,12 @@ use Rattle.lk_node.specs.Leavings.{DisksFit}
 -- the bytes of an input, none at a tick
 abbrev pub heard_by : Input → Option (List ℕ)
 heard_by Tick = None
-heard_by (Heard bytes) = Some bytes.now
+heard_by (Heard bytes) = Some bytes
 
 -- a permitted input
 abbrev pub InputFits : History → Input → Type 0
 InputFits h Tick = Unit {0}
-InputFits h (Heard bytes) = IsHeard h bytes.now
+InputFits h (Heard bytes) = IsHeard h bytes
 
 -- the datagram is the node's, and spells a message that it may send in its present state, and that a chosen list bears
 -- out

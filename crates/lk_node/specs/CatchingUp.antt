@@ -3,10 +3,10 @@ use Rattle.std.specs.Prelude.{◌≡◌, ◌⊎◌, ℕ, ◌+◌, ◌<◌, ◌�
 use Rattle.lk_types.specs.BallotValue.{BallotValue}
 use Rattle.lk_types.specs.Ballots.{is_below}
 use Rattle.lk_types.specs.Limits.{max_count}
-use Rattle.lk_wire.specs.Grammar.{IsMessage}
-use Rattle.lk_wire.specs.Values.{WantValue, PartValue}
-use Rattle.lk_wire.specs.declared.message.Nack.{Nack}
-use Rattle.lk_wire.specs.declared.message.NodeMessage.TheVariants as kinds
+use Rattle.lk_messages.specs.Grammar.{IsMessage}
+use Rattle.lk_messages.specs.Values.{WantValue, PartValue}
+use Rattle.lk_messages.specs.declared.message.Nack.{Nack}
+use Rattle.lk_messages.specs.declared.message.NodeMessage.TheVariants as kinds
 use Rattle.lk_learner.specs.Learners.{executed, IsServed, news_from, wanted}
 use Rattle.lk_learner.specs.Parts.{start_of, AreParts}
 use Rattle.lk_step.specs.Outboxes.{OutboxValue, nothing, with_letters}

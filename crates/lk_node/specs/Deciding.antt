@@ -2,7 +2,7 @@
 use Rattle.std.specs.Prelude.{◌≡◌, ◌⊎◌, ℕ, Option, Some, None, List, map}
 use Rattle.lk_types.specs.declared.member.Member.{Member}
 use Rattle.lk_types.specs.declared.vote.Vote.{Vote}
-use Rattle.lk_wire.specs.Grammar.{IsMessage}
+use Rattle.lk_messages.specs.Grammar.{IsMessage}
 use Rattle.lk_state.specs.Meanings.{Meaning}
 use Rattle.lk_leader.specs.Acceptances.{IsVoteFor, heard_at, GainsMajority}
 use Rattle.lk_leader.specs.Terms.{TermValue, ProposalValue, with_term, with_proposals}

@@ -1,18 +1,17 @@
 -- What a node executes, and which clients it answers as a result.
 use Rattle.std.specs.Prelude.{◌≡◌, ℕ, Bool, true, false, not, ◌&&◌, ◌+◌, if◌then◌else◌, Option, Some, None}
-use Rattle.lk_types.specs.declared.answer.Answer.{Answer}
-use Rattle.lk_wire.specs.Grammar.{spelling, IsMessage}
-use Rattle.lk_members.specs.Effects.{Command, Noop, Request}
+use Rattle.lk_messages.specs.Grammar.{spelling, IsMessage}
+use Rattle.lk_members.specs.Effects.{Command}
 use Rattle.lk_members.specs.Ports.{is_named}
 use Rattle.lk_entries.specs.Values.{HeaderValue}
 use Rattle.lk_state.specs.Meanings.{Meaning}
 use Rattle.lk_state.specs.Runs.{run_answer}
 use Rattle.lk_state.specs.declared.session.Session.{Session}
 use Rattle.lk_state.specs.declared.whole.Ran.{Ran}
-use Rattle.lk_leader.specs.Terms.{TermValue}
+use Rattle.lk_leader.specs.Terms.{has_term}
 use Rattle.lk_leader.specs.Waits.{waiting_of, number_up_to, left_by}
 use Rattle.lk_learner.specs.Learners.{executed, IsNext, advanced}
-use Rattle.lk_step.specs.KeptReplies.{told}
+use Rattle.lk_step.specs.KeptReplies.{told, session_by}
 use Rattle.lk_step.specs.Outboxes.{OutboxValue, with_letter, with_note}
 use Rattle.lk_step.specs.Saying.{saying}
 use Rattle.lk_step.specs.declared.note.Note.TheVariants as note
@@ -50,12 +49,6 @@ SettlesAny (Some s) old before new after = Settles s old before new after
 
 -- ---- one execution
 
--- the session that a command with this answer leaves, if it took effect
-abbrev pub session_by : Command → Option Answer → Option Session
-session_by Noop answer = None
-session_by (Request r) None = None
-session_by (Request r) (Some answer) = Some (record { client = r.client; number = r.number; answer = answer })
-
 -- nothing is left to execute: the command of the next position is not kept
 abbrev pub NothingToRun : NodeValue → Type 0
 NothingToRun node = (v : Command) → IsNext node.learner v → ⊥
@@ -65,10 +58,6 @@ abbrev pub RunsNext : Meaning → NodeValue → NodeValue → Option (Command ×
 RunsNext m old new None = NothingToRun old × (new ≡ old)
 RunsNext m old new (Some (v, ran)) =
     IsNext old.learner v × (new ≡ with_learner old (advanced m v old.learner)) × (ran ≡ record { position = executed old.learner + 1; answer = run_answer m v old.learner.whole })
-
-abbrev pub has_term : Option TermValue → Bool
-has_term None = false
-has_term (Some t) = true
 
 -- there is a term, and no set of the window names the node
 abbrev pub is_outside : NodeValue → Bool

@@ -5,10 +5,10 @@ pub use Rattle.lk_types.specs.declared.command.Command.{Command}
 pub use Rattle.lk_types.specs.declared.command.Command.TheVariants.{Noop, Request}
 pub use Rattle.lk_agreement.specs.Datagrams.{Datagram}
 use Rattle.std.specs.Prelude.{ℕ, List, ◌++◌, Contains}
-use Rattle.lk_wire.specs.Grammar.{Spells}
-use Rattle.lk_wire.specs.Values.{PartValue}
-use Rattle.lk_wire.specs.declared.message.Content.TheVariants as content
-use Rattle.lk_wire.specs.declared.message.NodeMessage.TheVariants.{Part}
+use Rattle.lk_messages.specs.Grammar.{Spells}
+use Rattle.lk_messages.specs.Values.{PartValue}
+use Rattle.lk_messages.specs.declared.message.Content.TheVariants as content
+use Rattle.lk_messages.specs.declared.message.NodeMessage.TheVariants.{Part}
 use Rattle.lk_agreement.specs.Datagrams.{NodeMessage, Vote, Accept, said_by, HasSent, WasSent}
 use Rattle.lk_agreement.specs.Snapshots.{IsSlice}
 use Rattle.lk_agreement.specs.Soundness.{Sound}

@@ -1,6 +1,6 @@
 -- How a node handles a part of another node's snapshot.
 use Rattle.std.specs.Prelude.{◌≡◌, ◌⊎◌, ℕ, ◌+◌, Bool, true, false, Some, List, length, slice_get}
-use Rattle.lk_wire.specs.Values.{PartValue}
+use Rattle.lk_messages.specs.Values.{PartValue}
 use Rattle.lk_state.specs.Meanings.{Meaning}
 use Rattle.lk_state.specs.declared.session.Session.{Session}
 use Rattle.lk_learner.specs.Installing.{hearing, Installs}

@@ -1,8 +1,8 @@
 -- What a node does as a leader.
 use Rattle.std.specs.Prelude.{◌≡◌, ◌⊎◌, ℕ, Bool, true, false, List, [], ◌∷◌, Some}
 use Rattle.lk_types.specs.declared.vote.Vote.{Vote}
-use Rattle.lk_wire.specs.Values.{PromiseValue}
-use Rattle.lk_wire.specs.declared.message.NodeMessage.TheVariants as kinds
+use Rattle.lk_messages.specs.Values.{PromiseValue}
+use Rattle.lk_messages.specs.declared.message.NodeMessage.TheVariants as kinds
 use Rattle.lk_leader.specs.Proposing.{Proposes, LeaderProposes, proposed}
 use Rattle.lk_leader.specs.Terms.{Command, Report, TermValue, LeaderValue, with_term, with_report, IsFirstOf}
 use Rattle.lk_members.specs.Nodes.{nodes_of}

@@ -1,17 +1,14 @@
 -- What a node with a term repeats as time passes.
-use Rattle.std.specs.Prelude.{◌≡◌, ◌⊎◌, ℕ, ◌+◌, ◌≤◌, Bool, false, not, ◌==◌, Option, Some, None, List, filter}
-use Rattle.std.specs.List.{list_any}
+use Rattle.std.specs.Prelude.{◌≡◌, ◌⊎◌, ℕ, ◌+◌, ◌≤◌, Some, None, List}
 use Rattle.lk_types.specs.BallotValue.{BallotValue}
 use Rattle.lk_types.specs.Limits.{max_count}
-use Rattle.lk_types.specs.declared.member.Member.{Member}
 use Rattle.lk_types.specs.declared.vote.Vote.{Vote}
-use Rattle.lk_wire.specs.Grammar.{IsMessage}
-use Rattle.lk_wire.specs.declared.message.NodeMessage.{NodeMessage}
-use Rattle.lk_wire.specs.declared.message.NodeMessage.TheVariants as kinds
-use Rattle.lk_leader.specs.Acceptances.{IsOpen}
-use Rattle.lk_leader.specs.Terms.{ProposalValue, TermValue, LeaderValue, is_promiser}
+use Rattle.lk_messages.specs.Grammar.{IsMessage}
+use Rattle.lk_messages.specs.declared.message.NodeMessage.{NodeMessage}
+use Rattle.lk_messages.specs.declared.message.NodeMessage.TheVariants as kinds
+use Rattle.lk_leader.specs.Acceptances.{IsOpen, unheard}
+use Rattle.lk_leader.specs.Terms.{ProposalValue, TermValue, LeaderValue, silent_among}
 use Rattle.lk_learner.specs.Learners.{executed, alpha}
-use Rattle.lk_members.specs.Nodes.{nodes_of}
 use Rattle.lk_step.specs.Outboxes.{OutboxValue, nothing}
 use Rattle.lk_step.specs.Saying.{saying}
 use Rattle.lk_node.specs.NodeValue.{NodeValue}
@@ -29,14 +26,9 @@ TellsThese node nodes message before out = IsMessage (saying node.header message
 
 -- ---- the promises
 
--- the term, if any, has a promise of the node
-abbrev pub keeps_promise : Option TermValue → ℕ → Bool
-keeps_promise None k = false
-keeps_promise (Some t) k = is_promiser k t.reports
-
 -- the nodes of the window whose promise the term does not have, in rising order
 abbrev pub AreSilent : NodeValue → List ℕ → Type 0
-AreSilent node ns = (all : List ℕ) × AreWindowNodes node all × (ns ≡ filter (λ k. not (keeps_promise node.leader.term k)) all)
+AreSilent node ns = (all : List ℕ) × AreWindowNodes node all × (ns ≡ silent_among node.leader.term all)
 
 -- they are asked again from the next position on, if there is one
 abbrev pub AsksAgain : NodeValue → BallotValue → OutboxValue → OutboxValue → Type 0
@@ -48,10 +40,6 @@ AsksAgain node b before out =
 
 abbrev pub vote_for : BallotValue → ℕ → ProposalValue → Vote
 vote_for b i p = record { position = i; ballot = b; command = p.command }
-
--- the members of the set that have not been heard to accept, in rising order
-abbrev pub unheard : List Member → List ℕ → List ℕ
-unheard set accepted = filter (λ k. not (list_any (λ n. n == k) accepted)) (nodes_of set)
 
 -- what is open at the position is repeated to the members of the position that have not been heard to accept it
 abbrev pub OffersAgain : NodeValue → BallotValue → ℕ → OutboxValue → OutboxValue → Type 0

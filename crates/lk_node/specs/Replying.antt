@@ -1,7 +1,7 @@
 -- The result of a message that gets one message in reply, or none.
 use Rattle.std.specs.Prelude.{◌≡◌}
-use Rattle.lk_wire.specs.Grammar.{spelling, IsMessage}
-use Rattle.lk_wire.specs.declared.message.NodeMessage.{NodeMessage}
+use Rattle.lk_messages.specs.Grammar.{spelling, IsMessage}
+use Rattle.lk_messages.specs.declared.message.NodeMessage.{NodeMessage}
 use Rattle.lk_step.specs.Outboxes.{OutboxValue, nothing, with_letter}
 use Rattle.lk_step.specs.Saying.{saying}
 use Rattle.lk_step.specs.declared.to.To.{To}

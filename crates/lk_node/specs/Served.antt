@@ -4,9 +4,9 @@ use Rattle.lk_step.specs.declared.note.Note.TheVariants as note
 pub use Rattle.lk_node.specs.Histories.{text}
 use Rattle.std.specs.Prelude.{◌≡◌, ◌+◌, ◌≤◌, ◌<◌, List, length, take, drop, Some, Contains}
 use Rattle.lk_types.specs.declared.answer.Answer.{Answer}
-use Rattle.lk_wire.specs.Values.{PartValue}
-use Rattle.lk_wire.specs.declared.message.NodeMessage.{NodeMessage}
-use Rattle.lk_wire.specs.declared.message.NodeMessage.TheVariants as kinds
+use Rattle.lk_messages.specs.Values.{PartValue}
+use Rattle.lk_messages.specs.declared.message.NodeMessage.{NodeMessage}
+use Rattle.lk_messages.specs.declared.message.NodeMessage.TheVariants as kinds
 use Rattle.lk_members.specs.Rosters.{members}
 use Rattle.lk_state.specs.Meanings.{Meaning}
 use Rattle.lk_state.specs.States.{reply}

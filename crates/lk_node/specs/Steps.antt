@@ -1,11 +1,11 @@
 -- What a node does with a tick or a datagram.
 use Rattle.std.specs.Prelude.{◌≡◌, ℕ, ◌⊎◌, List, length, Contains}
-use Rattle.lk_wire.specs.Grammar.{Spells}
-use Rattle.lk_wire.specs.declared.message.Content.{Content}
-use Rattle.lk_wire.specs.declared.message.Content.TheVariants as content
-use Rattle.lk_wire.specs.declared.message.Message.{Message}
-use Rattle.lk_wire.specs.declared.message.NodeMessage.{NodeMessage}
-use Rattle.lk_wire.specs.declared.message.NodeMessage.TheVariants as kinds
+use Rattle.lk_messages.specs.Grammar.{Spells}
+use Rattle.lk_messages.specs.declared.message.Content.{Content}
+use Rattle.lk_messages.specs.declared.message.Content.TheVariants as content
+use Rattle.lk_messages.specs.declared.message.Message.{Message}
+use Rattle.lk_messages.specs.declared.message.NodeMessage.{NodeMessage}
+use Rattle.lk_messages.specs.declared.message.NodeMessage.TheVariants as kinds
 use Rattle.lk_acceptor.specs.Answers.{AnswersPrepare, AnswersAccept}
 use Rattle.lk_agreement.specs.Datagrams.{HasSent}
 use Rattle.lk_state.specs.Meanings.{Meaning}
@@ -71,4 +71,4 @@ pub record TakesDatagram (m : Meaning) (IsText : List ℕ → Type 0) (old : Nod
 -- what a step is
 abbrev pub Steps : Meaning → (List ℕ → Type 0) → NodeValue → Input → NodeValue → OutboxValue → Type 0
 Steps m IsText old input.Tick new out = Ticks old new out
-Steps m IsText old (input.Datagram bytes) new out = TakesDatagram m IsText old bytes.now new out
+Steps m IsText old (input.Datagram bytes) new out = TakesDatagram m IsText old bytes new out

@@ -1,21 +1,21 @@
 -- Messages of a node to other nodes, and to several of them.
-use Rattle.std.specs.Prelude.{◌≡◌, ℕ, not, ◌==◌, List, map, filter}
-use Rattle.lk_wire.specs.Grammar.{spelling}
-use Rattle.lk_wire.specs.declared.message.NodeMessage.{NodeMessage}
-use Rattle.lk_members.specs.Ports.{is_named, AreAllAbove}
+use Rattle.std.specs.Prelude.{ℕ, List, map}
+use Rattle.lk_messages.specs.Grammar.{spelling}
+use Rattle.lk_messages.specs.declared.message.NodeMessage.{NodeMessage}
 use Rattle.lk_step.specs.Letters.{LetterValue}
 use Rattle.lk_step.specs.Outboxes.{OutboxValue, with_letters}
+use Rattle.lk_step.specs.Recipients as recipients
 use Rattle.lk_step.specs.Saying.{saying}
 use Rattle.lk_node.specs.NodeValue.{NodeValue}
 use Rattle.lk_node.specs.Saying.{to_node}
 
 -- the nodes that some set of the window names, in rising order
 abbrev pub AreWindowNodes : NodeValue → List ℕ → Type 0
-AreWindowNodes node ns = AreAllAbove (λ k. is_named k node.learner.whole.roster.sets) 0 ns
+AreWindowNodes node ns = recipients.AreWindowNodes node.learner.whole.roster.sets ns
 
 -- those without the node itself
 abbrev pub AreOthers : NodeValue → List ℕ → Type 0
-AreOthers node ns = (all : List ℕ) × AreWindowNodes node all × (ns ≡ filter (λ k. not (k == node.header.node)) all)
+AreOthers node ns = recipients.AreOthers node.learner.whole.roster.sets node.header.node ns
 
 -- the node sends this to that node
 abbrev pub letter_to : NodeValue → NodeMessage → ℕ → LetterValue

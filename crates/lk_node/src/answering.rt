@@ -1,7 +1,7 @@
 // How a node replies as an acceptor.
 ghost use Rattle.std.specs.Prelude.{◌≡◌, IfOk, OnOk};
-ghost use Rattle.lk_wire.specs.Grammar.{IsMessage};
-ghost use Rattle.lk_wire.specs.declared.message.NodeMessage.TheVariants as kinds;
+ghost use Rattle.lk_messages.specs.Grammar.{IsMessage};
+ghost use Rattle.lk_messages.specs.declared.message.NodeMessage.TheVariants as kinds;
 ghost use Rattle.lk_acceptor.specs.Answers.{AnswersPrepare, AnswersAccept};
 ghost use Rattle.lk_agreement.specs.Datagrams.{HasSent};
 ghost use Rattle.lk_step.specs.Outboxes.{nothing};
@@ -60,8 +60,8 @@ impl<M: Machine> Node<M> {
         Ok(out)
     }
 
-    /// Handles a Prepare.
-    #[tactic(auto, using(crate::proofs::AcceptorRules::prepare_goes_on))]
+    // Handles a Prepare.
+    #[tactic(auto, using(crate::proofs::AcceptorLaws::prepare_goes_on))]
     pub(crate) fn prepare(
         &mut self,
         from: NodeNo,
@@ -75,7 +75,7 @@ impl<M: Machine> Node<M> {
         Ok(out)
     }
 
-    /// Handles an Accept, and records its ballot's round.
+    // Handles an Accept, and records its ballot's round.
     pub(crate) fn accept(&mut self, from: NodeNo, vote: Vote) -> Result<Outbox, NoMemory>
         ensures exact { IfOk result (λ o. Responds (with_round vote.ballot self.old) from (AnswersAccept self.old.acceptor self.old.learner.whole.roster.executed vote) self.new o) }
         ensures goes_on { IfOk result (λ o. GoesOn M.meaning (λ h. HasSent h.genesis h.sent from (kinds.Accept vote)) self.old self.new nothing o) }

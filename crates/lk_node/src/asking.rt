@@ -62,7 +62,7 @@ impl<M: Machine> Node<M> {
         Ok(out)
     }
 
-    /// A client's request.
+    // A client's request.
     pub(crate) fn hear_request(&mut self, request: &Request) -> Result<Outbox, NoMemory>
         ensures exact { IfOk result (λ o. HearsRequest self.old request.now self.new o) }
         ensures goes_on { IfOk result (λ o. GoesOn M.meaning (λ h. Contains h.asked request.now) self.old self.new nothing o) }

@@ -1,8 +1,8 @@
 // How a node helps one that has executed less, and asks one that has executed more.
 ghost use Rattle.std.specs.Prelude.{◌≡◌, ◌<◌, ◌≤◌, Contains, IfOk, OnOk};
-ghost use Rattle.lk_wire.specs.Grammar.{IsMessage};
-ghost use Rattle.lk_wire.specs.Values.{PartValue};
-ghost use Rattle.lk_wire.specs.declared.message.NodeMessage.TheVariants as kinds;
+ghost use Rattle.lk_messages.specs.Grammar.{IsMessage};
+ghost use Rattle.lk_messages.specs.Values.{PartValue};
+ghost use Rattle.lk_messages.specs.declared.message.NodeMessage.TheVariants as kinds;
 ghost use Rattle.lk_step.specs.Outboxes.{nothing};
 ghost use Rattle.lk_step.specs.Saying.{saying};
 ghost use Rattle.lk_node.specs.CatchingUp.{sending_parts, FeedsParts, Feeds, HearsWant, AsksOn, Levels, HearsNack, following, AsksWhereMore, refusal, HearsLead};
@@ -75,7 +75,7 @@ impl<M: Machine> Node<M> {
         }
     }
 
-    /// Handles a Want for commands, or for a snapshot.
+    // Handles a Want for commands, or for a snapshot.
     pub(crate) fn hear_want(&mut self, from: NodeNo, want: &Want) -> Result<Outbox, NoMemory>
         ensures exact { IfOk result (λ o. HearsWant self.old from want.now self.new o) }
         ensures goes_on { IfOk result (λ o. GoesOn M.meaning (λ h. Unit {0}) self.old self.new nothing o) }
@@ -84,7 +84,7 @@ impl<M: Machine> Node<M> {
         Ok(out)
     }
 
-    /// Handles the rejection of a ballot: records both ballots.
+    // Handles the rejection of a ballot: records both ballots.
     pub(crate) fn hear_nack(&mut self, from: NodeNo, nack: &Nack) -> Result<Outbox, NoMemory>
         ensures exact { IfOk result (λ o. HearsNack self.old from nack.now self.new o) }
         ensures goes_on { IfOk result (λ o. GoesOn M.meaning (λ h. Unit {0}) self.old self.new nothing o) }
@@ -147,7 +147,7 @@ impl<M: Machine> Node<M> {
         Ok(out)
     }
 
-    /// Handles a leader's notice: its node leads in this ballot, and has executed this many positions.
+    // Handles a leader's notice: its node leads in this ballot, and has executed this many positions.
     pub(crate) fn hear_lead(
         &mut self,
         from: NodeNo,

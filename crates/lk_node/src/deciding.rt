@@ -1,6 +1,6 @@
 // How a node decides a position: by the votes that it hears.
 ghost use Rattle.std.specs.Prelude.{IfOk, OnOk};
-ghost use Rattle.lk_wire.specs.declared.message.NodeMessage.TheVariants as kinds;
+ghost use Rattle.lk_messages.specs.declared.message.NodeMessage.TheVariants as kinds;
 ghost use Rattle.lk_agreement.specs.Chosen.{ChosenAt};
 ghost use Rattle.lk_agreement.specs.Datagrams.{HasSent};
 ghost use Rattle.lk_leader.specs.Proposing.{AreMembersAt};
@@ -10,7 +10,7 @@ ghost use Rattle.lk_node.specs.Serving.{GoesOn};
 
 use crate::node::Node;
 use lk_state::Machine;
-use lk_step::{Letter, Note, Outbox, news_of};
+use lk_step::{Letter, Note, Outbox, letters_to, news_of};
 use lk_types::{Command, Members, NoMemory, NodeNo, Position, Vote};
 
 impl<M: Machine> Node<M> {
@@ -25,7 +25,7 @@ impl<M: Machine> Node<M> {
         let chosen = self
             .leader
             .accepted(from, vote.ballot, vote.position, &vote.command, roster);
-        if chosen.is_none() {
+        if !chosen {
             return None;
         }
         Some(members.copy())
@@ -37,15 +37,7 @@ impl<M: Machine> Node<M> {
     {
         let others = self.others()?;
         let news = news_of(self.alloc, position, command)?;
-        let mut out = Outbox::new(self.alloc);
-        self.tell_all(&others, news, &mut out)?;
-        let Outbox {
-            rebase: _,
-            entries: _,
-            sync: _,
-            notes: _,
-            letters,
-        } = out;
+        let letters = letters_to(self.alloc, &self.header, self.roster(), &others, news)?;
         Ok(letters)
     }
 
@@ -68,7 +60,7 @@ impl<M: Machine> Node<M> {
         Ok(())
     }
 
-    /// Handles an Accepted.
+    // Handles an Accepted.
     pub(crate) fn hear_accepted(&mut self, from: NodeNo, vote: &Vote) -> Result<Outbox, NoMemory>
         ensures exact { IfOk result (λ o. HearsAccepted M.meaning from vote.now self.old self.new o) }
         ensures goes_on { IfOk result (λ o. GoesOn M.meaning (λ h. HasSent h.genesis h.sent from (kinds.Accepted vote.now)) self.old self.new nothing o) }

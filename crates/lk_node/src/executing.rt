@@ -1,15 +1,15 @@
 // What a node executes, and which clients it answers as a result.
 ghost use Rattle.std.specs.Prelude.{◌≡◌, IfOk, OnOk};
-ghost use Rattle.lk_node.specs.Executing.{Settles, SettlesAny, session_by, RunsNext, has_term, is_outside, while_named, ExecutesOne, RunsAll};
+ghost use Rattle.lk_node.specs.Executing.{Settles, SettlesAny, RunsNext, is_outside, while_named, ExecutesOne, RunsAll};
 ghost use Rattle.lk_node.specs.Serving.{GoesOn};
 
 use crate::node::Node;
 use lk_state::{Machine, Ran, Session};
-use lk_step::{Note, Outbox, To, told};
-use lk_types::{Answer, Command, NoMemory};
+use lk_step::{Note, Outbox, To, session_of, told};
+use lk_types::{Command, NoMemory};
 
 impl<M: Machine> Node<M> {
-    /// The session has become its client's last: answers the waiting request up to it, which waits no longer.
+    // The session has become its client's last: answers the waiting request up to it, which waits no longer.
     pub(crate) fn settle(&mut self, session: Session, out: &mut Outbox) -> Result<(), NoMemory>
         ensures { OnOk result (Settles session self.old out.old self.new out.new) }
     {
@@ -31,21 +31,14 @@ impl<M: Machine> Node<M> {
         Ok(())
     }
 
-    // Whether there is a term.
-    fn has_term(&self) -> bool
-        ensures { result ≡ has_term self.now.leader.term }
-    {
-        self.leader.ballot().is_some()
-    }
-
     // Whether there is a term, and no set of the window names the node.
     fn is_outside(&self) -> bool
         ensures { result ≡ is_outside self.now }
     {
-        self.has_term() && !self.roster().is_in_window(self.header.node())
+        self.leader.has_term() && !self.roster().is_in_window(self.header.node())
     }
 
-    /// Ends the term if no set of the window names the node.
+    // Ends the term if no set of the window names the node.
     pub(crate) fn leave_outside(&mut self)
         ensures { self.new ≡ while_named self.old }
     {
@@ -84,7 +77,7 @@ impl<M: Machine> Node<M> {
         Ok(true)
     }
 
-    /// Executes positions in order, as long as the command of the next one is kept.
+    // Executes positions in order, as long as the command of the next one is kept.
     pub(crate) fn execute(&mut self, out: &mut Outbox) -> Result<(), NoMemory>
         ensures exact { OnOk result (RunsAll M.meaning self.old out.old self.new out.new) }
         ensures goes_on { OnOk result (GoesOn M.meaning (λ h. Unit {0}) self.old self.new out.old out.new) }
@@ -94,15 +87,5 @@ impl<M: Machine> Node<M> {
                 return Ok(());
             }
         }
-    }
-}
-
-// The session that a command with this answer leaves, if it took effect.
-fn session_of(command: &Command, answer: Option<Answer>) -> Option<Session>
-    ensures { result ≡ session_by command.now answer }
-{
-    match command {
-        Command::Request(request) => Some(Session::of(request, answer?)),
-        Command::Noop => None,
     }
 }

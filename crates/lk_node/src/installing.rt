@@ -1,6 +1,6 @@
 // How a node handles a part of another node's snapshot.
 ghost use Rattle.std.specs.Prelude.{◌≡◌, ℕ, IfOk, OnOk};
-ghost use Rattle.lk_wire.specs.declared.message.NodeMessage.TheVariants as kinds;
+ghost use Rattle.lk_messages.specs.declared.message.NodeMessage.TheVariants as kinds;
 ghost use Rattle.lk_agreement.specs.Datagrams.{HasSent};
 ghost use Rattle.lk_step.specs.Outboxes.{nothing};
 ghost use Rattle.lk_node.specs.Installing.{Gathers, SettlesAll, TakesUp, HearsPart};
@@ -48,7 +48,7 @@ impl<M: Machine> Node<M> {
         Ok(out)
     }
 
-    /// Handles a part of another node's snapshot.
+    // Handles a part of another node's snapshot.
     pub(crate) fn hear_part(&mut self, part: &PartRef<'_>) -> Result<Outbox, NoMemory>
         ensures exact { IfOk result (λ o. HearsPart M.meaning M.IsText self.old part.now self.new o) }
         ensures goes_on { (from : ℕ) → IfOk result (λ o. GoesOn M.meaning (λ h. HasSent h.genesis h.sent from (kinds.Part part.now)) self.old self.new nothing o) }

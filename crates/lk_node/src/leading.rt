@@ -1,8 +1,8 @@
 // How a leader handles what it hears, and what it proposes.
 ghost use Rattle.std.specs.Prelude.{◌≡◌, ◌⊎◌, List, IfOk, OnOk, MatchOption};
 ghost use Rattle.lk_types.specs.declared.member.Member.{Member as MemberValue};
-ghost use Rattle.lk_wire.specs.Grammar.{IsMessage};
-ghost use Rattle.lk_wire.specs.declared.message.NodeMessage.TheVariants as kinds;
+ghost use Rattle.lk_messages.specs.Grammar.{IsMessage};
+ghost use Rattle.lk_messages.specs.declared.message.NodeMessage.TheVariants as kinds;
 ghost use Rattle.lk_agreement.specs.Datagrams.{HasSent};
 ghost use Rattle.lk_leader.specs.Proposing.{AreMembersAt};
 ghost use Rattle.lk_members.specs.Nodes.{nodes_of};
@@ -32,8 +32,8 @@ impl<M: Machine> Node<M> {
         Ok(())
     }
 
-    /// Handles a Promise.
-    #[tactic(auto, using(crate::proofs::TermRules::promise_goes_on))]
+    // Handles a Promise.
+    #[tactic(auto, using(crate::proofs::TermLaws::promise_goes_on))]
     pub(crate) fn hear_promise(
         &mut self,
         from: NodeNo,
@@ -48,7 +48,7 @@ impl<M: Machine> Node<M> {
 }
 
 impl<M: Machine> Node<M> {
-    /// The term's ballot is promised. The function does nothing.
+    // The term's ballot is promised. The function does nothing.
     pub(crate) fn facts(&self)
         ensures { HasPromised self.now.acceptor self.now.leader }
     {
@@ -99,7 +99,7 @@ impl<M: Machine> Node<M> {
         Ok(true)
     }
 
-    /// Proposes everything that is open, at rising positions, and tells each to the members of its position.
+    // Proposes everything that is open, at rising positions, and tells each to the members of its position.
     pub(crate) fn propose(&mut self, out: &mut Outbox) -> Result<(), NoMemory>
         ensures exact { OnOk result (ProposesOpen self.old self.new out.old out.new) }
         ensures done { OnOk result (NothingOpen self.new) }

@@ -1,6 +1,6 @@
 // What a node learns of the list.
 ghost use Rattle.std.specs.Prelude.{◌≡◌, ℕ, None, [], length, IfOk, IfSome, OnOk};
-ghost use Rattle.lk_wire.specs.declared.message.NodeMessage.TheVariants as kinds;
+ghost use Rattle.lk_messages.specs.declared.message.NodeMessage.TheVariants as kinds;
 ghost use Rattle.lk_agreement.specs.Chosen.{ChosenAt};
 ghost use Rattle.lk_agreement.specs.Datagrams.{HasSent};
 ghost use Rattle.lk_step.specs.Outboxes.{nothing};
@@ -16,7 +16,7 @@ use lk_types::{Command, Entry, NoMemory, Position};
 use lk_wire::{Commands, DecidedRef};
 
 impl<M: Machine> Node<M> {
-    /// A command is decided at the position. Keeps it and writes it, if it is wanted.
+    // A command is decided at the position. Keeps it and writes it, if it is wanted.
     pub(crate) fn learn(
         &mut self,
         position: Position,
@@ -32,7 +32,7 @@ impl<M: Machine> Node<M> {
         Ok(())
     }
 
-    /// Learns a command that is chosen at the position, and then executes everything it can.
+    // Learns a command that is chosen at the position, and then executes everything it can.
     pub(crate) fn take_pair(
         &mut self,
         position: Position,
@@ -69,7 +69,7 @@ impl<M: Machine> Node<M> {
         Ok(Some(others))
     }
 
-    /// Handles Decided: takes its commands in order.
+    // Handles Decided: takes its commands in order.
     pub(crate) fn hear_decided(&mut self, decided: &DecidedRef<'_>) -> Result<Outbox, NoMemory>
         ensures exact { IfOk result (λ o. TakesPairs M.meaning decided.now.first decided.now.commands self.old nothing (length decided.now.commands) self.new o) }
         ensures goes_on { (from : ℕ) → IfOk result (λ o. GoesOn M.meaning (λ h. HasSent h.genesis h.sent from (kinds.Decided decided.now)) self.old self.new nothing o) }

@@ -22,4 +22,4 @@ mod telling;
 mod ticking;
 mod yielding;
 
-pub use node::{Halted, Node};
+pub use node::Node;

@@ -1,6 +1,6 @@
 // The node: what it is, and how it handles any input. It has no access to a disk, socket or clock.
 ghost use Rattle.std.specs.Prelude.{◌≡◌, ◌∷◌, [], None, true, false, OnOk, OnErr, IsErr};
-ghost use Rattle.lk_wire.specs.Grammar.{spelling, IsMessage};
+ghost use Rattle.lk_messages.specs.Grammar.{spelling, IsMessage};
 ghost use Rattle.lk_leader.specs.Terms.{idle};
 ghost use Rattle.lk_step.specs.Outboxes.{nothing, with_letter};
 ghost use Rattle.lk_step.specs.Saying.{saying};
@@ -18,12 +18,6 @@ use lk_types::{NoMemory, NodeNo};
 use lk_wire::NodeMessage;
 use std::alloc::Global;
 use std::marker::Model;
-use thiserror::Error;
-
-/// The node ran out of memory, in this step or an earlier one: error 14 of the replica.
-#[derive(Clone, Copy, Debug, Error)]
-#[error("the node has halted")]
-pub struct Halted;
 
 /// A node in memory: its header, its acceptor, its learner and its leader, and what little it remembers of time.
 #[derive(Drop)]
@@ -91,7 +85,7 @@ impl<M: Machine> Node<M> {
         self.learner.whole().roster()
     }
 
-    /// Sends a message to a node or a client.
+    // Sends a message to a node or a client.
     pub(crate) fn say(&self, to: To, message: NodeMessage, out: &mut Outbox) -> Result<(), NoMemory>
         ensures said { OnOk result (out.new ≡ with_letter (record { to = to; bytes = spelling (saying self.now.header message) }) out.old) }
         ensures fits { OnOk result (IsMessage (saying self.now.header message)) }
@@ -101,7 +95,7 @@ impl<M: Machine> Node<M> {
         Ok(())
     }
 
-    /// Sends a message to a node, at its port in the window.
+    // Sends a message to a node, at its port in the window.
     pub(crate) fn tell(
         &self,
         node: NodeNo,

@@ -1,48 +1,26 @@
 // What a node with a term repeats as time passes.
-ghost use Rattle.std.specs.Prelude.{◌≡◌, ◌+◌, not, IfOk, OnOk};
+ghost use Rattle.std.specs.Prelude.{◌≡◌, ◌+◌, IfOk, OnOk};
 ghost use Rattle.lk_step.specs.Outboxes.{nothing};
 ghost use Rattle.lk_node.specs.Leading.{NothingOpen};
-ghost use Rattle.lk_node.specs.Reminding.{IsTermOf, keeps_promise, AreSilent, AsksAgain, unheard, OffersAgain, OffersAll, TellsLead, Reminds};
+ghost use Rattle.lk_node.specs.Reminding.{IsTermOf, AsksAgain, OffersAgain, OffersAll, TellsLead, Reminds};
 ghost use Rattle.lk_node.specs.Serving.{GoesOn};
 
 use crate::node::Node;
-use lk_members::{is_among, nodes_of};
+use lk_leader::unheard;
 use lk_state::Machine;
 use lk_step::Outbox;
-use lk_types::{Members, NoMemory, NodeNo, Position, RealBallot, Vote};
+use lk_types::{NoMemory, Position, RealBallot, Vote};
 use lk_wire::NodeMessage;
 
 impl<M: Machine> Node<M> {
-    // Whether the term has no promise of the node.
-    fn is_silent(&self, node: NodeNo) -> bool
-        ensures { result ≡ not (keeps_promise self.now.leader.term node) }
-    {
-        !self.leader.has_promised(node)
-    }
-
-    // The nodes of the window whose promise the term does not have.
-    fn silent_nodes(&self) -> Result<Vec<NodeNo>, NoMemory>
-        ensures { IfOk result (λ ns. AreSilent self.now ns.items) }
-    {
-        let all = self.window_nodes()?;
-        let mut silent = Vec::new(self.alloc);
-        let nodes = all.as_slice();
-        'nodes: for node in nodes {
-            if self.is_silent(*node) {
-                silent.push(*node)?;
-            }
-        }
-        Ok(silent)
-    }
-
-    // Asks them again for their promise.
+    // Asks the nodes of the window again for the promises that the term does not have.
     fn ask_silent(&self, ballot: RealBallot, out: &mut Outbox) -> Result<(), NoMemory>
         ensures { OnOk result (AsksAgain self.now ballot out.old out.new) }
     {
         let Some(first) = Position::of(self.learner.whole().executed().get() + 1) else {
             return Ok(());
         };
-        let nodes = self.silent_nodes()?;
+        let nodes = self.leader.silent_among(self.window_nodes()?);
         self.tell_all(&nodes, NodeMessage::Prepare(ballot, first), out)?;
         Ok(())
     }
@@ -56,15 +34,6 @@ impl<M: Machine> Node<M> {
         self.facts();
         self.ask_silent(ballot, out)?;
         Ok(())
-    }
-
-    // The members of the set that have not been heard to accept, in rising order.
-    fn unheard(&self, set: &Members, accepted: &[NodeNo]) -> Result<Vec<NodeNo>, NoMemory>
-        ensures { IfOk result (λ ns. ns.items ≡ unheard set.now accepted.now) }
-    {
-        let mut nodes = nodes_of(self.alloc, set)?;
-        nodes.retain(|node| !is_among(accepted, *node));
-        Ok(nodes)
     }
 
     // Repeats what is open at the position to its members that have not been heard to accept it.
@@ -82,7 +51,7 @@ impl<M: Machine> Node<M> {
         let Some(set) = self.roster().members_at(position) else {
             return Ok(());
         };
-        let nodes = self.unheard(set, open.accepted)?;
+        let nodes = unheard(self.alloc, set, open.accepted)?;
         let command = open.command.copy();
         let vote = Vote {
             position,
@@ -124,7 +93,7 @@ impl<M: Machine> Node<M> {
         Ok(())
     }
 
-    /// Tells the other nodes of the window who leads.
+    // Tells the other nodes of the window who leads.
     pub(crate) fn tell_lead(&self, ballot: RealBallot, out: &mut Outbox) -> Result<(), NoMemory>
         ensures exact { OnOk result (TellsLead self.now ballot out.old out.new) }
         ensures goes_on { OnOk result (GoesOn M.meaning (λ h. Unit {0}) self.now self.now out.old out.new) }
@@ -135,7 +104,7 @@ impl<M: Machine> Node<M> {
         Ok(())
     }
 
-    /// A tick in a term of this ballot.
+    // A tick in a term of this ballot.
     pub(crate) fn remind(&mut self, ballot: RealBallot) -> Result<Outbox, NoMemory>
         requires { IsTermOf ballot self.old.leader }
         ensures exact { IfOk result (λ o. Reminds ballot self.old self.new o) }

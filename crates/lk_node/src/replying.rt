@@ -10,7 +10,7 @@ use lk_types::{NoMemory, NodeNo};
 use lk_wire::NodeMessage;
 
 impl<M: Machine> Node<M> {
-    /// One message to a node or a client, and nothing else.
+    // One message to a node or a client, and nothing else.
     pub(crate) fn say_alone(&self, to: To, message: NodeMessage) -> Result<Outbox, NoMemory>
         ensures { IfOk result (λ o. SaysAlone self.now to message o) }
     {
@@ -19,7 +19,7 @@ impl<M: Machine> Node<M> {
         Ok(out)
     }
 
-    /// One message to a node at its port in the window, and nothing else.
+    // One message to a node at its port in the window, and nothing else.
     pub(crate) fn tell_alone(&self, node: NodeNo, message: NodeMessage) -> Result<Outbox, NoMemory>
         ensures { IfOk result (λ o. SaysAlone self.now (to_node self.now node) message o) }
     {

@@ -10,11 +10,11 @@ ghost use Rattle.lk_node.specs.Leading.{NothingOpen};
 ghost use Rattle.lk_node.specs.Serving.{GoesOn};
 ghost use Rattle.lk_node.specs.Steps.{Hears, HearsNode, TakesBytes, TakesDatagram, Steps, WasHeard};
 
-use crate::node::{Halted, Node};
+use crate::node::Node;
 use lk_state::Machine;
-use lk_step::{Input, Outbox};
+use lk_step::{Halted, Input, Outbox};
 use lk_types::{NoMemory, NodeNo};
-use lk_wire::{ContentRef, NodeMessageRef, view};
+use lk_wire::{ContentRef, Datagram, NodeMessageRef};
 
 impl<M: Machine> Node<M> {
     #[tactic(auto, using(crate::proofs::Serving::rests_here))]
@@ -51,11 +51,11 @@ impl<M: Machine> Node<M> {
 
     #[tactic(auto, using(crate::proofs::Serving::rests_here, crate::proofs::Serving::bytes_go_on))]
     // Handles any bytes.
-    fn take_bytes(&mut self, bytes: &[u8]) -> Result<Outbox, NoMemory>
-        ensures exact { IfOk result (λ o. TakesBytes M.meaning M.IsText self.old bytes.now self.new o) }
-        ensures goes_on { IfOk result (λ o. GoesOn M.meaning (λ h. IsHeard h bytes.now) self.old self.new nothing o) }
+    fn take_bytes(&mut self, datagram: &Datagram<'_>) -> Result<Outbox, NoMemory>
+        ensures exact { IfOk result (λ o. TakesBytes M.meaning M.IsText self.old datagram.now self.new o) }
+        ensures goes_on { IfOk result (λ o. GoesOn M.meaning (λ h. IsHeard h datagram.now) self.old self.new nothing o) }
     {
-        let Ok(message) = view(bytes) else {
+        let Ok(message) = datagram.message() else {
             return Ok(Outbox::new(self.alloc));
         };
         if message.cluster != self.header.genesis().cluster {
@@ -66,12 +66,12 @@ impl<M: Machine> Node<M> {
     }
 
     // Handles any bytes, and then proposes what it can.
-    fn take_datagram(&mut self, bytes: &[u8]) -> Result<Outbox, NoMemory>
-        ensures exact { IfOk result (λ o. TakesDatagram M.meaning M.IsText self.old bytes.now self.new o) }
+    fn take_datagram(&mut self, datagram: &Datagram<'_>) -> Result<Outbox, NoMemory>
+        ensures exact { IfOk result (λ o. TakesDatagram M.meaning M.IsText self.old datagram.now self.new o) }
         ensures done { OnOk result (NothingOpen self.new) }
-        ensures goes_on { IfOk result (λ o. GoesOn M.meaning (λ h. IsHeard h bytes.now) self.old self.new nothing o) }
+        ensures goes_on { IfOk result (λ o. GoesOn M.meaning (λ h. IsHeard h datagram.now) self.old self.new nothing o) }
     {
-        let mut out = self.take_bytes(bytes)?;
+        let mut out = self.take_bytes(datagram)?;
         self.propose(&mut out)?;
         Ok(out)
     }
@@ -83,7 +83,7 @@ impl<M: Machine> Node<M> {
     {
         match input {
             Input::Tick => self.tick(),
-            Input::Datagram(bytes) => self.take_datagram(bytes),
+            Input::Datagram(datagram) => self.take_datagram(&datagram),
         }
     }
 

@@ -1,34 +1,23 @@
 // What a node does as time passes.
 ghost use Rattle.std.specs.Prelude.{◌≡◌, IfOk};
 ghost use Rattle.lk_step.specs.Outboxes.{nothing};
+ghost use Rattle.lk_step.specs.Ticks.{is_enough};
 ghost use Rattle.lk_node.specs.Reminding.{Ticks};
 ghost use Rattle.lk_node.specs.Serving.{GoesOn};
-ghost use Rattle.lk_node.specs.Waiting.{place_of, is_enough, ticked, BeginsWhereDue};
+ghost use Rattle.lk_node.specs.Waiting.{place_of, ticked, BeginsWhereDue};
 
 use crate::node::Node;
 use lk_state::Machine;
-use lk_step::{Outbox, TICKS_A_PLACE};
+use lk_step::{Outbox, place_of};
 use lk_types::NoMemory;
 
 impl<M: Machine> Node<M> {
-    // The node's place from 0 among the members of the next position, or none if it is no member.
-    fn place(&self) -> Option<usize>
-        ensures { result ≡ place_of self.now }
-    {
-        let own = self.header.node();
-        let members = self.roster().window().get(0)?.as_slice();
-        members.iter().position(|member| member.node == own)
-    }
-
     // Whether the node has waited long enough for a leader.
     fn is_due(&self) -> bool
         ensures { result ≡ is_enough self.now.ticks (place_of self.now) }
     {
-        let ticks = self.ticks.get();
-        match self.place() {
-            Some(place) => ticks >= TICKS_A_PLACE && place < usize::from(ticks / TICKS_A_PLACE),
-            None => false,
-        }
+        self.ticks
+            .is_enough(place_of(self.roster(), self.header.node()))
     }
 
     #[tactic(auto, using(crate::proofs::Serving::rests_here))]
@@ -40,14 +29,15 @@ impl<M: Machine> Node<M> {
         if !self.is_due() {
             return Ok(Outbox::new(self.alloc));
         }
-        let Some(ballot) = self.next_ballot() else {
+        let (promised, own) = (self.acceptor.promised(), self.header.node());
+        let Some(ballot) = self.rounds.next_ballot(promised, own) else {
             return Ok(Outbox::new(self.alloc));
         };
         let out = self.begin(ballot)?;
         Ok(out)
     }
 
-    #[tactic(auto, using(crate::proofs::BallotRules::ticked_goes_on))]
+    #[tactic(auto, using(crate::proofs::BallotLaws::ticked_goes_on))]
     // Counts a tick without a term.
     fn wait(&mut self) -> Result<Outbox, NoMemory>
         ensures exact { IfOk result (λ o. BeginsWhereDue (ticked self.old) self.new o) }
@@ -58,7 +48,7 @@ impl<M: Machine> Node<M> {
         Ok(out)
     }
 
-    /// Some time has passed.
+    // Some time has passed.
     pub(crate) fn tick(&mut self) -> Result<Outbox, NoMemory>
         ensures exact { IfOk result (λ o. Ticks self.old self.new o) }
         ensures goes_on { IfOk result (λ o. GoesOn M.meaning (λ h. Unit {0}) self.old self.new nothing o) }

@@ -7,7 +7,7 @@ use lk_state::Machine;
 use lk_types::Ballot;
 
 impl<M: Machine> Node<M> {
-    /// Ends the term, forgets what waits, and counts ticks from the start.
+    // Ends the term, forgets what waits, and counts ticks from the start.
     pub(crate) fn leave_term(&mut self)
         ensures { self.new ≡ without_term self.old }
     {
@@ -15,7 +15,7 @@ impl<M: Machine> Node<M> {
         self.ticks.reset();
     }
 
-    /// Records a ballot. If it is above the term's, the term ends.
+    // Records a ballot. If it is above the term's, the term ends.
     pub(crate) fn yield_to(&mut self, ballot: Ballot)
         ensures { self.new ≡ yielded ballot self.old }
     {
@@ -27,14 +27,14 @@ impl<M: Machine> Node<M> {
         }
     }
 
-    /// Records the ballot of a proposal.
+    // Records the ballot of a proposal.
     pub(crate) fn see_round(&mut self, ballot: Ballot)
         ensures { self.new ≡ with_round ballot self.old }
     {
         self.rounds.see(ballot.round());
     }
 
-    /// Records the ballot of a rejection or of a leader's notice.
+    // Records the ballot of a rejection or of a leader's notice.
     pub(crate) fn see(&mut self, ballot: Ballot)
         ensures { self.new ≡ seeing ballot self.old }
     {

@@ -22,10 +22,10 @@ pub fn question_of<'a>(matches: &ArgMatches<'a>, op: Op) -> Result<Question, Mis
     })
 }
 
-/// How often each port is asked, where there are several.
+// How often each port is asked, where there are several.
 const ROUNDS: u32 = 3;
 
-/// Adds the ports of these words to those that are asked in turn.
+// Adds the ports of these words to those that are asked in turn.
 fn add_ports<'a>(
     words: &[&'a str],
     turns: &mut Vec<Port>,

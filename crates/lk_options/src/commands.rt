@@ -3,35 +3,35 @@
 use clap::{Arg, ArgAction, Command};
 use std::alloc::{AllocError, Global};
 
-/// The version of the package, and the format of the stores that it writes.
+// The version of the package, and the format of the stores that it writes.
 const VERSION: &str = "0.1.0, stores of format 2";
 
-/// How an argument is given.
+// How an argument is given.
 #[derive(Clone, Copy)]
 enum Kind {
-    /// A required word after `--NAME`.
+    // A required word after `--NAME`.
     Word,
-    /// An optional word after `--NAME`.
+    // An optional word after `--NAME`.
     Given,
-    /// A word after `--NAME`, which has to be given, once or more.
+    // A word after `--NAME`, which has to be given, once or more.
     Several,
-    /// An optional `--NAME` alone.
+    // An optional `--NAME` alone.
     Flag,
-    /// One or more required words without `--NAME`.
+    // One or more required words without `--NAME`.
     Words,
-    /// Words after `--NAME`, one or more, which have to be given.
+    // Words after `--NAME`, one or more, which have to be given.
     Many,
-    /// Two words after `--NAME`, which may be given.
+    // Two words after `--NAME`, which may be given.
     Pair,
 }
 
-/// An argument: how it is given, its name, and its help.
+// An argument: how it is given, its name, and its help.
 type Row<'a> = (Kind, &'a str, &'a str);
 
-/// A subcommand: its name, what it does, and its arguments.
+// A subcommand: its name, what it does, and its arguments.
 type Usage<'a> = (&'a str, &'a str, &'a [Row<'a>]);
 
-/// The subcommands.
+// The subcommands.
 #[rattlefmt::skip]
 const SUBCOMMANDS: &[Usage] = &[
     ("sim", "runs a script from standard input", &[
@@ -92,7 +92,7 @@ const SUBCOMMANDS: &[Usage] = &[
     ]),
 ];
 
-/// A word after `--NAME`.
+// A word after `--NAME`.
 fn word<'a>(alloc: Global, name: &'a str) -> Arg<'a> {
     Arg::new(alloc, name)
         .long(name)
@@ -100,7 +100,7 @@ fn word<'a>(alloc: Global, name: &'a str) -> Arg<'a> {
         .action(ArgAction::Set)
 }
 
-/// An argument.
+// An argument.
 fn argument<'a>(alloc: Global, kind: Kind, name: &'a str, help: &'a str) -> Arg<'a> {
     let argument = match kind {
         Kind::Word => word(alloc, name),
@@ -114,7 +114,7 @@ fn argument<'a>(alloc: Global, kind: Kind, name: &'a str, help: &'a str) -> Arg<
     argument.help(help)
 }
 
-/// A subcommand.
+// A subcommand.
 fn subcommand<'a>(
     alloc: Global,
     name: &'a str,
@@ -128,7 +128,7 @@ fn subcommand<'a>(
     Ok(command)
 }
 
-/// The program without its subcommands.
+// The program without its subcommands.
 fn alone<'a>(alloc: Global) -> Command<'a> {
     Command::new(alloc, "locks")
         .about("a replicated service of named locks with fencing numbers")
@@ -136,7 +136,7 @@ fn alone<'a>(alloc: Global) -> Command<'a> {
         .subcommand_required(true)
 }
 
-/// The program with these subcommands.
+// The program with these subcommands.
 fn with_all<'a>(alloc: Global, rows: &'a [Usage<'a>]) -> Result<Command<'a>, AllocError> {
     let mut program = alone(alloc);
     for (name, about, arguments) in rows {

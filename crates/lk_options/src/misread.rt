@@ -32,7 +32,7 @@ impl<'a> fmt::Display for Misread<'a> {
     }
 }
 
-/// What the word of an argument has to be.
+// What the word of an argument has to be.
 #[rattlefmt::skip]
 const WANTED: [(&str, &str); 13] = [
     ("number", "a node is 1 to 2147483648"),
@@ -50,7 +50,7 @@ const WANTED: [(&str, &str); 13] = [
     ("until", "it is ready SECONDS, 1 to 86400"),
 ];
 
-/// What the word of that argument has to be.
+// What the word of that argument has to be.
 fn wanted_of(argument: &str) -> &'static str {
     for (name, text) in WANTED {
         if name == argument {
@@ -74,7 +74,7 @@ pub fn misread_argument<'a>(matches: &ArgMatches<'a>, argument: &'a str) -> Misr
     misread_word(argument, matches.get_str(argument).unwrap_or(""))
 }
 
-/// What is wrong with the members of a genesis.
+// What is wrong with the members of a genesis.
 fn wanted_members(words: &[u8]) -> &'static str {
     match read_members(words, b',') {
         Some(_) => "the members have to rise by node",
@@ -88,7 +88,7 @@ fn wanted_members(words: &[u8]) -> &'static str {
     }
 }
 
-/// What is wrong with what stands behind the number of the cluster.
+// What is wrong with what stands behind the number of the cluster.
 fn wanted_behind(words: &[u8]) -> &'static str {
     let Some((alpha, members)) = split_at(words, b',') else {
         return "it is CLUSTER,ALPHA,NODE:PORT,..";
@@ -99,7 +99,7 @@ fn wanted_behind(words: &[u8]) -> &'static str {
     }
 }
 
-/// What is wrong with a genesis.
+// What is wrong with a genesis.
 fn wanted_genesis(text: &[u8]) -> &'static str {
     match split_at(text, b',') {
         None => "it is CLUSTER,ALPHA,NODE:PORT,..",

@@ -4,7 +4,7 @@ use crate::misread::Misread;
 use lk_locks::Name;
 use std::io::Write;
 
-/// The operations, by their first word, and whether the second is a name.
+// The operations, by their first word, and whether the second is a name.
 #[rattlefmt::skip]
 const FORMS: [(&str, &str, bool); 10] = [
     ("acquire", "it is acquire NAME", true),
@@ -19,10 +19,10 @@ const FORMS: [(&str, &str, bool); 10] = [
     ("raw", "it is raw HEX, of 1 to 64 bytes", false),
 ];
 
-/// What a name is.
+// What a name is.
 const NAME: &str = "a name has 1 to 32 bytes, of a-z 0-9 - . /";
 
-/// What an operation with that first word has to be.
+// What an operation with that first word has to be.
 fn form_of(first: &str) -> &'static str {
     for (word, form, _) in FORMS {
         if word == first {
@@ -41,7 +41,7 @@ pub fn misread_operation<'a>(first: &'a str) -> Misread<'a> {
     }
 }
 
-/// Whether the word of an operation is followed by a name.
+// Whether the word of an operation is followed by a name.
 fn takes_name(first: &str) -> bool {
     FORMS
         .iter()

@@ -5,24 +5,24 @@ use crate::values::{client_in, number_in};
 use clap::ArgMatches;
 use lk_arguments::number::read_number;
 use lk_client::destination::Destination;
+use lk_health::target::{Inquiry, Target, targets_of};
 use lk_status::status::{Form, Plan};
-use lk_status::target::{Inquiry, Target, targets_of};
 use lk_transport::fault::ServiceFault;
 use lk_types::ClientNo;
 use std::alloc::Global;
 
-/// The milliseconds of a receive, and the most that are waited in all.
+// The milliseconds of a receive, and the most that are waited in all.
 const A_RECEIVE: u64 = 100;
 
 const MOST_WAIT: u64 = 60_000;
 
-/// The receives that may bring nothing where no wait is given.
+// The receives that may bring nothing where no wait is given.
 const PATIENCE: u32 = 5;
 
-/// The most seconds until nodes are ready.
+// The most seconds until nodes are ready.
 const MOST_SECONDS: u64 = 86_400;
 
-/// How many receives may bring nothing.
+// How many receives may bring nothing.
 fn patience_in<'a>(matches: &ArgMatches<'a>) -> Result<u32, Misread<'a>> {
     if matches.get_str("wait").is_none() {
         return Ok(PATIENCE);
@@ -31,7 +31,7 @@ fn patience_in<'a>(matches: &ArgMatches<'a>) -> Result<u32, Misread<'a>> {
     Ok(u32::try_from(wait.div_ceil(A_RECEIVE).max(1)).unwrap_or(PATIENCE))
 }
 
-/// The seconds in the words after `--until`: `ready SECONDS`.
+// The seconds in the words after `--until`: `ready SECONDS`.
 fn seconds_of(words: &[&str]) -> Option<u32> {
     match words {
         ["ready", seconds] => {
@@ -42,7 +42,7 @@ fn seconds_of(words: &[&str]) -> Option<u32> {
     }
 }
 
-/// The seconds until all are ready, 0 where that is not waited for.
+// The seconds until all are ready, 0 where that is not waited for.
 fn seconds_in<'a>(matches: &ArgMatches<'a>) -> Result<u32, Misread<'a>> {
     let Some(words) = matches.get_strs("until") else {
         return Ok(0);
@@ -53,7 +53,7 @@ fn seconds_in<'a>(matches: &ArgMatches<'a>) -> Result<u32, Misread<'a>> {
     }
 }
 
-/// How the reports are printed.
+// How the reports are printed.
 fn form_in<'a>(matches: &ArgMatches<'a>) -> Result<Form, Misread<'a>> {
     match (matches.get_flag("json"), matches.get_flag("prometheus")) {
         (false, false) => Ok(Form::Lines),
@@ -63,7 +63,7 @@ fn form_in<'a>(matches: &ArgMatches<'a>) -> Result<Form, Misread<'a>> {
     }
 }
 
-/// The client whose key is given, which has to be named then.
+// The client whose key is given, which has to be named then.
 fn asker_in<'a>(matches: &ArgMatches<'a>) -> Result<Option<ClientNo>, Misread<'a>> {
     match (matches.get_str("client"), matches.get_str("client-key")) {
         (None, None) => Ok(None),
@@ -72,7 +72,7 @@ fn asker_in<'a>(matches: &ArgMatches<'a>) -> Result<Option<ClientNo>, Misread<'a
     }
 }
 
-/// What `locks status` is to ask of these places.
+// What `locks status` is to ask of these places.
 fn plan_of<'a>(matches: &ArgMatches<'a>, targets: Vec<Target>) -> Result<Plan, Misread<'a>> {
     let cluster = number_in(matches, "cluster", u64::MAX)?;
     let (patience, seconds) = (patience_in(matches)?, seconds_in(matches)?);

@@ -6,8 +6,8 @@ use Rattle.lk_types.specs.Ranges.{IsClient}
 use Rattle.lk_seal.specs.Clients.{client_in}
 use Rattle.lk_seal.specs.Seals.{only_request}
 use Rattle.lk_fields.specs.Fields.{two, four, eight}
-use Rattle.lk_wire.specs.declared.message.Message.{Message}
-use Rattle.lk_wire.specs.Grammar.{Spells}
+use Rattle.lk_messages.specs.declared.message.Message.{Message}
+use Rattle.lk_messages.specs.Grammar.{Spells}
 use Rattle.lk_fields.specs.Parser.{Finds}
 use Rattle.lk_fields.proofs.Spellings.{IsBytes, some_is, Reads}
 use Rattle.lk_probe.specs.Grammar.{or_zero, front, probe, report, padded, IsProbe, IsReport, SpellsProbe, SpellsReport}
@@ -32,7 +32,7 @@ probe_found bytes p h e = filled_takes (fronted 9 read_probe_fields) (λ (p : Pr
 
 pub probe_again : (p : Probe) (bytes : List ℕ) → SpellsProbe p bytes → probe_of bytes ≡ Some p
 unfolding probe_of
-probe_again p bytes s = ap probe_of s.1 ∙ filled_again (fronted 9 read_probe_fields) (λ (p : Probe). front 9 (probe p)) IsProbe probe_reads p s.0 (omega (arith, length-probe p))
+probe_again p bytes s = ap probe_of s.1 ∙ filled_again (fronted 9 read_probe_fields) (λ (p : Probe). front 9 (probe p)) IsProbe probe_reads p s.0 (omega (arith, length-probe p s.0))
 
 pub report_found : (bytes : List ℕ) (r : Report) → IsBytes bytes → report_of bytes ≡ Some r → SpellsReport r bytes
 unfolding report_of
@@ -51,7 +51,7 @@ pub one_report : (r s : Report) (bytes : List ℕ) → SpellsReport r bytes → 
 one_report r s bytes a b = some_is r s (sym (report_again r bytes a) ∙ report_again s bytes b)
 
 pub probe_length_is : (p : Probe) (bytes : List ℕ) → SpellsProbe p bytes → length bytes ≡ 174
-probe_length_is p bytes s = ap length s.1 ∙ length-padded (front 9 (probe p)) (omega (arith, length-probe p))
+probe_length_is p bytes s = ap length s.1 ∙ length-padded (front 9 (probe p)) (omega (arith, length-probe p s.0))
 
 pub report_length_is : (r : Report) (bytes : List ℕ) → SpellsReport r bytes → length bytes ≡ 174
 report_length_is r bytes s = ap length s.1 ∙ length-padded (front 10 (report r)) (length-report r s.0)

@@ -1,12 +1,14 @@
 -- How long a probe and a report are before zeros stand behind.
-use Rattle.std.proofs.Common.{◌≡◌, ◌*◌, ◌≤◌, List, [], ◌∷◌, length, refl, arith}
+use Rattle.std.proofs.Common.{◌≡◌, ◌*◌, ◌≤◌, List, [], ◌∷◌, Option, Some, None, length, refl, arith}
+use Rattle.std.specs.Prelude.{IfSome}
 use Rattle.std.specs.List.{flat_map}
 use Rattle.std.proofs.lemmas.List.{length-append}
 use Rattle.std.proofs.lemmas.List.Concat.{flat_map-cons}
 use Rattle.lk_types.specs.declared.member.Member.{Member}
 use Rattle.lk_fields.specs.Fields.{member}
 use Rattle.lk_fields.proofs.Spellings.{length-two, length-four, length-eight}
-use Rattle.lk_probe.specs.Grammar.{identity, status, front, probe, report, IsStatus, IsReport}
+use Rattle.lk_probe.specs.Grammar.{identity, status, front, genesis_in, probe, report, IsOrigin, IsProbe, IsStatus, IsReport}
+use Rattle.lk_probe.specs.declared.neighbours.Origin.{Origin}
 use Rattle.lk_probe.specs.declared.status.Identity.{Identity}
 use Rattle.lk_probe.specs.declared.status.Status.{Status}
 use Rattle.lk_probe.specs.declared.probe.Probe.{Probe}
@@ -19,8 +21,12 @@ length-members (m ∷ ms) = rw (flat_map-cons member m ms) (simp (length-append,
 length-identity : (i : Identity) → length i.genesis ≡ 32 → length (identity i) ≡ 37
 length-identity i e = simp length-append (omega (arith, e))
 
-pub length-probe : (p : Probe) → length (front 9 (probe p)) ≡ 26
-length-probe p = simp (length-append, length-two, length-four, length-eight)
+length-genesis : (o : Option Origin) → IfSome o IsOrigin → length (genesis_in o) ≡ 32
+length-genesis None f = refl
+length-genesis (Some o) f = f.1
+
+pub length-probe : (p : Probe) → IsProbe p → length (front 9 (probe p)) ≡ 58
+length-probe p f = simp (length-append, length-two, length-four, length-eight) (omega (arith, length-genesis p.origin f.1))
 
 length-status : (s : Status) → IsStatus s → length (status s) ≤ 148
 length-status s f = simp (length-append, length-two, length-four, length-eight) (omega (arith, f.0.0, f.4.1, length-members s.members))

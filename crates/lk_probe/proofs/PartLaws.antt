@@ -1,5 +1,5 @@
 -- Each part of a probe and of a report reads what its spelling is.
-use Rattle.std.proofs.Common.{◌≡◌, ℕ, suc, ◌^◌, ◌<◌, ◌≤◌, Bool, true, false, ltb, leb, eqb, List, ◌++◌, length, take, drop, Option, Some, None, refl, sym, subst, arith, inl, inr}
+use Rattle.std.proofs.Common.{◌≡◌, ℕ, suc, ◌^◌, ◌<◌, ◌≤◌, Bool, true, false, ltb, leb, eqb, List, ◌++◌, length, take, drop, replicate, Option, Some, None, refl, ap, sym, subst, ◌∙◌, arith, inl, inr}
 use Rattle.std.specs.Prelude.{IfSome}
 use Rattle.std.specs.List.{AllByRecursion}
 use Rattle.std.proofs.lemmas.Bool.{ltb-false, le-ltb}
@@ -11,11 +11,13 @@ use Rattle.lk_types.specs.Ballots.{IsMark}
 use Rattle.lk_types.specs.Rosters.{IsMember, AreMembers}
 use Rattle.lk_types.specs.declared.member.Member.{Member}
 use Rattle.lk_fields.specs.Fields.{one, two, four, eight, ballot, members}
-use Rattle.lk_fields.specs.Parser.{read_byte, tested}
+use Rattle.lk_fields.specs.Parser.{read_byte, both, tested}
 use Rattle.lk_fields.specs.FieldReading.{read_two, read_four, read_eight, read_node, read_total, read_mark, read_members}
-use Rattle.lk_fields.proofs.Spellings.{IsBytes, IsBytes-drop, chosen, some_is, Took, Reads, fitting, both_reads, made_reads, byte_reads, two_reads, four_reads, eight_reads, limited_reads, node_reads, total_reads, mark_reads, members_reads}
-use Rattle.lk_probe.specs.Grammar.{or_zero, flag, version, identity, leadership, progress, traffic, status, probe, report, IsByte, IsVersion, IsIdentity, IsLeadership, IsProgress, IsTraffic, IsStatus, IsProbe, IsReport}
-use Rattle.lk_probe.specs.Reading.{or_none, optional, read_maybe_node, read_maybe_client, read_flag, read_digest, read_version, read_identity, read_leadership, read_progress, read_traffic, read_status, read_probe_fields, read_report_fields}
+use Rattle.lk_fields.proofs.Spellings.{IsBytes, IsBytes-drop, chosen, some_is, Took, Reads, fitting, both_reads, made_reads, byte_reads, two_reads, four_reads, eight_reads, limited_reads, tested_reads, node_reads, total_reads, mark_reads, members_reads}
+use Rattle.lk_seal.specs.Seals.{no_genesis}
+use Rattle.lk_probe.specs.Grammar.{or_zero, node_in, genesis_in, flag, version, identity, leadership, progress, traffic, status, probe, report, IsByte, IsVersion, IsIdentity, IsLeadership, IsProgress, IsTraffic, IsStatus, IsProbe, IsReport}
+use Rattle.lk_probe.specs.Reading.{or_none, is_with_node, origin_of, optional, read_maybe_node, read_maybe_client, read_flag, read_digest, read_version, read_identity, read_leadership, read_progress, read_traffic, read_status, read_probe_fields, read_report_fields}
+use Rattle.lk_probe.specs.declared.neighbours.Origin.{Origin}
 use Rattle.lk_probe.specs.declared.status.Version.{Version}
 use Rattle.lk_probe.specs.declared.status.Identity.{Identity}
 use Rattle.lk_probe.specs.declared.status.Leadership.{Leadership}
@@ -24,7 +26,7 @@ use Rattle.lk_probe.specs.declared.status.Traffic.{Traffic}
 use Rattle.lk_probe.specs.declared.status.Status.{Status}
 use Rattle.lk_probe.specs.declared.probe.Probe.{Probe}
 use Rattle.lk_probe.specs.declared.probe.Report.{Report}
-use Rattle.lk_probe.proofs.Codec.{remade_reads}
+use Rattle.lk_probe.proofs.Codec.{remade_reads, zeros, are_zeros-replicate}
 
 -- ---- numbers that may not be there
 
@@ -147,13 +149,50 @@ status_reads = fitting read_status status (λ (s : Status). IsIdentity s.identit
 
 -- ---- the fields of both
 
+-- the parts of a probe, as they follow one another
+abbrev Asking : Type 0
+Asking = ℕ × (Option ℕ × (Option ℕ × (ℕ × List ℕ)))
+
+abbrev IsAsking : Asking → Type 0
+IsAsking x = (x.0 < 2 ^ 64) × (IfSome x.1.0 IsNode × (IfSome x.1.1.0 IsClient × ((x.1.1.1.0 < 2 ^ 64) × (length x.1.1.1.1 ≡ 32))))
+
+abbrev spelled : Asking → List ℕ
+spelled x = eight x.0 ++ (four (or_zero x.1.0) ++ (two (or_zero x.1.1.0) ++ (eight x.1.1.1.0 ++ x.1.1.1.1)))
+
+abbrev probe_by : Asking → Probe
+probe_by x = record { cluster = x.0; origin = origin_of x.1.0 x.1.1.1.1; client = x.1.1.0; token = x.1.1.1.0 }
+
+abbrev fields_of : Probe → Asking
+fields_of p = (p.cluster, (node_in p.origin, (p.client, (p.token, genesis_in p.origin))))
+
+-- a probe has its parts
+has_fields : (cluster : ℕ) (node client : Option ℕ) (token : ℕ) (genesis : List ℕ) → IsAsking (cluster, (node, (client, (token, genesis)))) × (is_with_node node genesis ≡ true)
+    → (fields_of (probe_by (cluster, (node, (client, (token, genesis))))) ≡ (cluster, (node, (client, (token, genesis))))) × IsProbe (probe_by (cluster, (node, (client, (token, genesis)))))
+has_fields cluster None client token genesis f =
+    let none : no_genesis ≡ genesis = sym (zeros genesis f.1 ∙ ap (λ (n : ℕ). replicate n 0) f.0.1.1.1.1) in
+    (ap (λ (g : List ℕ). let x : Asking = (cluster, (None, (client, (token, g)))) in x) none, (f.0.0, tt, f.0.1.1.0, f.0.1.1.1.0))
+has_fields cluster (Some n) client token genesis f = (refl, (f.0.0, (f.0.1.0, f.0.1.1.1.1), f.0.1.1.0, f.0.1.1.1.0))
+
+-- its parts make it
+of_fields : (cluster : ℕ) (origin : Option Origin) (client : Option ℕ) (token : ℕ) → IsProbe (record { cluster = cluster; origin = origin; client = client; token = token })
+    → (origin_of (node_in origin) (genesis_in origin) ≡ origin) × (IsAsking (cluster, (node_in origin, (client, (token, genesis_in origin)))) × (is_with_node (node_in origin) (genesis_in origin) ≡ true))
+of_fields cluster None client token f = (refl, ((f.0, (tt, (f.2, (f.3, refl)))), are_zeros-replicate 32))
+of_fields cluster (Some o) client token f = (refl, ((f.0, (f.1.0, (f.2, (f.3, f.1.1)))), refl))
+
+fields_again : (p : Probe) → IsProbe p → (probe_by (fields_of p) ≡ p) × (IsAsking (fields_of p) × (is_with_node (node_in p.origin) (genesis_in p.origin) ≡ true))
+fields_again p f =
+    let is = of_fields p.cluster p.origin p.client p.token f in
+    (ap (λ (o : Option Origin). let x : Probe = record { cluster = p.cluster; origin = o; client = p.client; token = p.token } in x) is.0, is.1)
+
 pub probe_fields_reads : Reads read_probe_fields probe IsProbe
 unfolding read_probe_fields
-probe_fields_reads = fitting read_probe_fields probe (λ (p : Probe). (p.cluster < 2 ^ 64) × (IfSome p.node IsNode × (IfSome p.client IsClient × (p.token < 2 ^ 64)))) IsProbe (λ p f. (f.0, f.1.0, f.1.1.0, f.1.1.1)) (λ p f. (f.0, (f.1, (f.2, f.3))))
-    (made_reads (λ (p : ℕ × (Option ℕ × (Option ℕ × ℕ))). let x : Probe = record { cluster = p.0; node = p.1.0; client = p.1.1.0; token = p.1.1.1 } in x) (λ (p : Probe). (p.cluster, (p.node, (p.client, p.token)))) (λ x. refl) (λ y. refl) _ _ _
+probe_fields_reads = remade_reads probe_by fields_of (tested (λ (x : Asking). is_with_node x.1.0 x.1.1.1.1) (both read_eight (both read_maybe_node (both read_maybe_client (both read_eight read_digest))))) spelled (λ (x : Asking). IsAsking x × (is_with_node x.1.0 x.1.1.1.1 ≡ true)) IsProbe
+    (λ x f. has_fields x.0 x.1.0 x.1.1.0 x.1.1.1.0 x.1.1.1.1 f) fields_again
+    (tested_reads (λ (x : Asking). is_with_node x.1.0 x.1.1.1.1) _ spelled IsAsking
     (both_reads read_eight eight (λ n. n < 2 ^ 64) _ _ _ eight_reads
     (both_reads read_maybe_node (λ (o : Option ℕ). four (or_zero o)) (λ (o : Option ℕ). IfSome o IsNode) _ _ _ maybe_node_reads
-    (both_reads read_maybe_client (λ (o : Option ℕ). two (or_zero o)) (λ (o : Option ℕ). IfSome o IsClient) read_eight eight (λ n. n < 2 ^ 64) maybe_client_reads eight_reads))))
+    (both_reads read_maybe_client (λ (o : Option ℕ). two (or_zero o)) (λ (o : Option ℕ). IfSome o IsClient) _ _ _ maybe_client_reads
+    (both_reads read_eight eight (λ n. n < 2 ^ 64) read_digest (λ (d : List ℕ). d) (λ (d : List ℕ). length d ≡ 32) eight_reads digest_reads)))))
 
 pub report_fields_reads : Reads read_report_fields report IsReport
 unfolding read_report_fields

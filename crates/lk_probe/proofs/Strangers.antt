@@ -3,9 +3,9 @@ use Rattle.std.proofs.Common.{◌≡◌, ◌<◌, ℕ, zero, suc, Bool, ◌||◌
 use Rattle.std.specs.Prelude.{slice_get, slice_index_or, slice_set}
 use Rattle.std.specs.List.{list_any}
 use Rattle.std.specs.declared.net.socket_addr.SocketAddr.{SocketAddr}
-use Rattle.lk_probe.specs.Neighbours.{Entries, is_at, is_stranger, is_stranger_at, if_other, having_asked, having_doubted, having_met}
+use Rattle.lk_probe.specs.Neighbours.{Entries, is_at, is_stranger, is_stranger_at, if_other, having_asked, having_met}
 use Rattle.lk_probe.specs.declared.neighbours.Knowledge.{Knowledge}
-use Rattle.lk_probe.specs.declared.neighbours.Knowledge.TheVariants.{Unknown, Asked, AskedTwice, Same, Other, Doubted, AskedAgain}
+use Rattle.lk_probe.specs.declared.neighbours.Knowledge.TheVariants.{Unknown, Asked, AskedTwice, Same, Other}
 use Rattle.lk_probe.specs.declared.neighbours.Neighbour.{Neighbour}
 
 -- an element takes the place of one of which the same holds
@@ -39,22 +39,7 @@ still_other (Asked ticks) now so = refl
 still_other AskedTwice now so = refl
 still_other Same now so = refl
 still_other (Other origin) now so = refl
-still_other (Doubted origin) now so = refl
-still_other (AskedAgain origin) now so = refl
 
 -- a node is asked
 pub asked_strangers : (es : Entries) (at : ℕ) (n : Neighbour) (now : ℕ) → slice_get es at ≡ Some (Some n) → is_stranger (slice_set es at (Some (record n { knowledge = having_asked now n.knowledge }))) ≡ is_stranger es
 asked_strangers es at n now is = same_strangers es at (Some n) (Some (record n { knowledge = having_asked now n.knowledge })) is (λ p. still_other n.knowledge now (is_at n.place p))
-
-doubted_other : (k : Knowledge) (so : Bool) → if_other (having_doubted k) so ≡ if_other k so
-doubted_other Unknown so = refl
-doubted_other (Asked ticks) so = refl
-doubted_other AskedTwice so = refl
-doubted_other Same so = refl
-doubted_other (Other origin) so = refl
-doubted_other (Doubted origin) so = refl
-doubted_other (AskedAgain origin) so = refl
-
--- a node is doubted
-pub doubted_strangers : (es : Entries) (at : ℕ) (n : Neighbour) → slice_get es at ≡ Some (Some n) → is_stranger (slice_set es at (Some (record n { knowledge = having_doubted n.knowledge }))) ≡ is_stranger es
-doubted_strangers es at n is = same_strangers es at (Some n) (Some (record n { knowledge = having_doubted n.knowledge })) is (λ p. doubted_other n.knowledge (is_at n.place p))

@@ -5,6 +5,8 @@ use Rattle.lk_types.specs.Ranges.{IsNode, IsClient, IsTotal}
 use Rattle.lk_types.specs.Ballots.{IsMark}
 use Rattle.lk_types.specs.Rosters.{IsMember, AreMembers}
 use Rattle.lk_fields.specs.Fields.{one, two, four, eight, ballot, members}
+use Rattle.lk_seal.specs.Seals.{no_genesis}
+use Rattle.lk_probe.specs.declared.neighbours.Origin.{Origin}
 use Rattle.lk_probe.specs.declared.status.Version.{Version}
 use Rattle.lk_probe.specs.declared.status.Identity.{Identity}
 use Rattle.lk_probe.specs.declared.status.Leadership.{Leadership}
@@ -50,9 +52,19 @@ status s = identity s.identity ++ (leadership s.leadership ++ (progress s.progre
 abbrev pub front : ℕ → List ℕ → List ℕ
 front k fields = 76 ∷ 80 ∷ 1 ∷ k ∷ fields
 
--- the cluster, the node that asks, the client and the token
+-- the node that asks, if one does
+abbrev pub node_in : Option Origin → Option ℕ
+node_in None = None
+node_in (Some o) = Some o.node
+
+-- the digest of its genesis, or zeros
+abbrev pub genesis_in : Option Origin → List ℕ
+genesis_in None = no_genesis
+genesis_in (Some o) = o.genesis
+
+-- the cluster, the node that asks, the client, the token, and the digest of the genesis of the node
 abbrev pub probe : Probe → List ℕ
-probe p = eight p.cluster ++ (four (or_zero p.node) ++ (two (or_zero p.client) ++ eight p.token))
+probe p = eight p.cluster ++ (four (or_zero (node_in p.origin)) ++ (two (or_zero p.client) ++ (eight p.token ++ genesis_in p.origin)))
 
 -- the cluster, the node that answers, the client and the token of the probe, and what the node tells of itself
 abbrev pub report : Report → List ℕ
@@ -91,8 +103,11 @@ IsTraffic t = (t.waiting < 2 ^ 16) × (t.unread < 2 ^ 64) × (t.unsent < 2 ^ 64)
 abbrev pub IsStatus : Status → Type 0
 IsStatus s = IsIdentity s.identity × IsLeadership s.leadership × IsProgress s.progress × IsTraffic s.traffic × AreMembers s.members × AllByRecursion IsMember s.members
 
+abbrev pub IsOrigin : Origin → Type 0
+IsOrigin o = IsNode o.node × (length o.genesis ≡ 32)
+
 abbrev pub IsProbe : Probe → Type 0
-IsProbe p = (p.cluster < 2 ^ 64) × IfSome p.node IsNode × IfSome p.client IsClient × (p.token < 2 ^ 64)
+IsProbe p = (p.cluster < 2 ^ 64) × IfSome p.origin IsOrigin × IfSome p.client IsClient × (p.token < 2 ^ 64)
 
 abbrev pub IsReport : Report → Type 0
 IsReport r = (r.cluster < 2 ^ 64) × IsNode r.node × IfSome r.client IsClient × (r.token < 2 ^ 64) × IsStatus r.status

@@ -7,7 +7,7 @@ use Rattle.std.specs.contracts.net.socket_addr.SocketAddrPartialEq.TheImpl as ad
 use Rattle.std.specs.declared.net.socket_addr.SocketAddr.{SocketAddr}
 use Rattle.lk_probe.specs.declared.neighbours.Origin.{Origin}
 use Rattle.lk_probe.specs.declared.neighbours.Knowledge.{Knowledge}
-use Rattle.lk_probe.specs.declared.neighbours.Knowledge.TheVariants.{Unknown, Asked, AskedTwice, Same, Other, Doubted, AskedAgain}
+use Rattle.lk_probe.specs.declared.neighbours.Knowledge.TheVariants.{Unknown, Asked, AskedTwice, Same, Other}
 use Rattle.lk_probe.specs.declared.neighbours.Neighbour.{Neighbour}
 
 -- entries, of which the free ones follow the others
@@ -34,8 +34,6 @@ entry_for place (e ∷ es) = if is_for place e then 0 else entry_for place es + 
 -- where it is another genesis, so; else not
 abbrev pub if_other : Knowledge → Bool → Bool
 if_other (Other origin) so = so
-if_other (Doubted origin) so = so
-if_other (AskedAgain origin) so = so
 if_other Unknown so = false
 if_other (Asked ticks) so = false
 if_other AskedTwice so = false
@@ -51,15 +49,13 @@ is_stranger es place = list_any (is_stranger_at place) es
 
 -- ---- who is asked
 
--- at that count of ticks a probe is due: it was not asked, or once and before the last tick, or is doubted
+-- at that count of ticks a probe is due: it was not asked, or once and before the last tick
 abbrev pub is_due : ℕ → Knowledge → Bool
 is_due now Unknown = true
 is_due now (Asked ticks) = nat_lt ticks now
 is_due now AskedTwice = false
 is_due now Same = false
 is_due now (Other origin) = false
-is_due now (Doubted origin) = true
-is_due now (AskedAgain origin) = false
 
 abbrev pub is_due_at : ℕ → Option Neighbour → Bool
 is_due_at now None = false
@@ -72,18 +68,16 @@ having_asked now (Asked ticks) = AskedTwice
 having_asked now AskedTwice = AskedTwice
 having_asked now Same = Same
 having_asked now (Other origin) = Other origin
-having_asked now (Doubted origin) = AskedAgain origin
-having_asked now (AskedAgain origin) = AskedAgain origin
 
--- once another genesis is doubted
-abbrev pub having_doubted : Knowledge → Knowledge
-having_doubted Unknown = Unknown
-having_doubted (Asked ticks) = Asked ticks
-having_doubted AskedTwice = AskedTwice
-having_doubted Same = Same
-having_doubted (Other origin) = Doubted origin
-having_doubted (Doubted origin) = Doubted origin
-having_doubted (AskedAgain origin) = Doubted origin
+-- ---- who is heard again
+
+-- once a node of this genesis asks from there: another genesis is forgotten, as if it was never asked
+abbrev pub readmitted : Knowledge → Knowledge
+readmitted Unknown = Unknown
+readmitted (Asked ticks) = Asked ticks
+readmitted AskedTwice = AskedTwice
+readmitted Same = Same
+readmitted (Other origin) = Unknown
 
 -- ---- what changes
 
@@ -106,9 +100,9 @@ pub record Asks (now : ℕ) (place : SocketAddr) (old new : Entries) : Type 0 wh
   pub due : is_due now neighbour.knowledge ≡ true
   pub becomes : new ≡ slice_set old entry (Some (record neighbour { knowledge = having_asked now neighbour.knowledge }))
 
--- the entry of that address is doubted, where there is one; every other entry is as it was
-pub record Doubts (place : SocketAddr) (old new : Entries) : Type 0 where
-  pub known : (n : Neighbour) → slice_get old (entry_for place old) ≡ Some (Some n) → new ≡ slice_set old (entry_for place old) (Some (record n { knowledge = having_doubted n.knowledge }))
+-- the node at that address is readmitted, where it has an entry; every other entry is as it was
+pub record Readmits (place : SocketAddr) (old new : Entries) : Type 0 where
+  pub known : (n : Neighbour) → slice_get old (entry_for place old) ≡ Some (Some n) → new ≡ slice_set old (entry_for place old) (Some (record n { knowledge = readmitted n.knowledge }))
   pub unknown : ((n : Neighbour) → slice_get old (entry_for place old) ≡ Some (Some n) → ⊥) → new ≡ old
 
 -- it was asked, and has not told
@@ -118,8 +112,6 @@ is_open (Asked ticks) = true
 is_open AskedTwice = true
 is_open Same = false
 is_open (Other origin) = false
-is_open (Doubted origin) = false
-is_open (AskedAgain origin) = true
 
 -- an entry that is there is of one that was asked and has not told
 abbrev pub is_open_at : Option (Option Neighbour) → Bool
@@ -130,8 +122,6 @@ is_open_at (Some (Some n)) = is_open n.knowledge
 -- the origin of a node of another genesis
 abbrev pub other_of : Knowledge → Option Origin
 other_of (Other origin) = Some origin
-other_of (Doubted origin) = Some origin
-other_of (AskedAgain origin) = Some origin
 other_of Unknown = None
 other_of (Asked ticks) = None
 other_of AskedTwice = None

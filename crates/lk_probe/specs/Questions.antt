@@ -2,13 +2,14 @@
 use Rattle.std.specs.Prelude.{◌≡◌, ℕ, List, Option, Some, None}
 use Rattle.std.specs.declared.net.socket_addr.SocketAddr.{SocketAddr}
 use Rattle.lk_probe.specs.Grammar.{SpellsReport, Answers}
+use Rattle.lk_probe.specs.declared.neighbours.Origin.{Origin}
 use Rattle.lk_probe.specs.declared.probe.Probe.{Probe}
 use Rattle.lk_probe.specs.declared.probe.Report.{Report}
 use Rattle.lk_probe.specs.declared.reported.Reported.{Reported}
 
 -- the probe of that node of the cluster: its number is the token too
-abbrev pub question : ℕ → ℕ → Probe
-question cluster node = record { cluster = cluster; node = Some node; client = None; token = node }
+abbrev pub question : ℕ → Origin → Probe
+question cluster asker = record { cluster = cluster; origin = Some asker; client = None; token = asker.node }
 
 -- what is taken of a datagram that came from there: what a report tells, if it answers the probe
 abbrev pub IsReportedOf : Probe → SocketAddr × List ℕ → Option Reported → Type 0

@@ -4,6 +4,7 @@ use Rattle.lk_types.specs.Limits.{max_node, max_client}
 use Rattle.lk_fields.specs.Parser.{◌>>=◌, read_byte, both, made, tested}
 use Rattle.lk_fields.specs.FieldReading.{read_two, read_four, read_eight, read_node, read_total, read_mark, read_members}
 use Rattle.lk_probe.specs.Grammar.{probe_length}
+use Rattle.lk_probe.specs.declared.neighbours.Origin.{Origin}
 use Rattle.lk_probe.specs.declared.status.Version.{Version}
 use Rattle.lk_probe.specs.declared.status.Identity.{Identity}
 use Rattle.lk_probe.specs.declared.status.Leadership.{Leadership}
@@ -55,18 +56,32 @@ unfoldable pub read_status : List ℕ → Option (Status × List ℕ)
 read_status = made (λ s. record { identity = s.0; leadership = s.1.0; progress = s.1.1.0; traffic = s.1.1.1.0; members = s.1.1.1.1 })
     (both read_identity (both read_leadership (both read_progress (both read_traffic read_members))))
 
-unfoldable pub read_probe_fields : List ℕ → Option (Probe × List ℕ)
-read_probe_fields = made (λ p. record { cluster = p.0; node = p.1.0; client = p.1.1.0; token = p.1.1.1 })
-    (both read_eight (both read_maybe_node (both read_maybe_client read_eight)))
-
-unfoldable pub read_report_fields : List ℕ → Option (Report × List ℕ)
-read_report_fields = made (λ r. record { cluster = r.0; node = r.1.0; client = r.1.1.0; token = r.1.1.1.0; status = r.1.1.1.1 })
-    (both read_eight (both read_node (both read_maybe_client (both read_eight read_status))))
-
 -- nothing but zeros
 abbrev pub are_zeros : List ℕ → Bool
 are_zeros [] = true
 are_zeros (b ∷ bytes) = b == 0 && are_zeros bytes
+
+-- a digest stands only with a node, and zeros without one
+abbrev pub is_with_node : Option ℕ → List ℕ → Bool
+is_with_node None genesis = are_zeros genesis
+is_with_node (Some n) genesis = true
+
+-- the node that asks, and its genesis
+abbrev pub origin_of : Option ℕ → List ℕ → Option Origin
+origin_of None genesis = None
+origin_of (Some n) genesis = Some (record { node = n; genesis = genesis })
+
+-- both, out of a digest
+abbrev pub read_origin : Option ℕ → List ℕ → Option (Option Origin × List ℕ)
+read_origin node = made (origin_of node) (tested (is_with_node node) read_digest)
+
+unfoldable pub read_probe_fields : List ℕ → Option (Probe × List ℕ)
+read_probe_fields = made (λ p. record { cluster = p.0; origin = origin_of p.1.0 p.1.1.1.1; client = p.1.1.0; token = p.1.1.1.0 })
+    (tested (λ p. is_with_node p.1.0 p.1.1.1.1) (both read_eight (both read_maybe_node (both read_maybe_client (both read_eight read_digest)))))
+
+unfoldable pub read_report_fields : List ℕ → Option (Report × List ℕ)
+read_report_fields = made (λ r. record { cluster = r.0; node = r.1.0; client = r.1.1.0; token = r.1.1.1.0; status = r.1.1.1.1 })
+    (both read_eight (both read_node (both read_maybe_client (both read_eight read_status))))
 
 module _ {X : Type 0} where
   -- after two letters, the version and that number

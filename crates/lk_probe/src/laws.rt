@@ -1,8 +1,8 @@
 //! Laws of probes and reports alone.
 
 ghost use Rattle.std.specs.Prelude.{◌≡◌, List, ℕ, length};
-ghost use Rattle.lk_wire.specs.declared.message.Message.{Message};
-ghost use Rattle.lk_wire.specs.Grammar.{Spells};
+ghost use Rattle.lk_messages.specs.declared.message.Message.{Message};
+ghost use Rattle.lk_messages.specs.Grammar.{Spells};
 ghost use Rattle.lk_seal.specs.Clients.{client_in};
 ghost use Rattle.lk_seal.specs.Seals.{only_request};
 ghost use Rattle.lk_probe.specs.declared.probe.Probe.{Probe};

@@ -3,14 +3,14 @@
 ghost use Rattle.std.specs.Prelude.{◌≡◌, ◌≤◌, ◌<◌, true, false, Some, length, is_some, slice_get, IfSome, IsNone};
 ghost use Rattle.std.specs.List.{list_any};
 ghost use Rattle.std.specs.declared.net.socket_addr.SocketAddr.{SocketAddr as Address};
-ghost use Rattle.lk_probe.specs.Neighbours.{Asks, Doubts, Learns, Meets, bound_at, bound_by, bound_in, entry_for, having_asked, having_doubted, having_met, having_told, is_due, is_due_at, is_for, is_open, is_open_at, is_stranger, other_of, is_stranger_at};
+ghost use Rattle.lk_probe.specs.Neighbours.{Asks, Learns, Meets, Readmits, bound_at, bound_by, bound_in, entry_for, having_asked, having_met, having_told, is_due, is_due_at, is_for, is_open, is_open_at, is_stranger, other_of, is_stranger_at, readmitted};
 
 use crate::status::DIGEST;
 use lk_types::NodeNo;
 use std::marker::Model;
 use std::net::SocketAddr;
 
-/// How many addresses are known. A node at a further one is heard, and never asked.
+// How many addresses are known. A node at a further one is heard, and never asked.
 const ROOM: usize = 64;
 
 /// Which node it is, and the digest of the genesis that it was started with.
@@ -33,10 +33,6 @@ pub enum Knowledge {
     Same,
     /// It is another one.
     Other(Origin),
-    /// It was another one, and is to be asked for again.
-    Doubted(Origin),
-    /// It was another one, and was asked for again.
-    AskedAgain(Origin),
 }
 
 /// An address from which a node writes.
@@ -63,61 +59,56 @@ impl Model for Neighbours {
 }
 
 impl Knowledge {
-    /// Whether a probe is due at that count of ticks.
+    // Whether a probe is due at that count of ticks.
     fn is_due(&self, now: u64) -> bool
         ensures { result ≡ is_due now self.now }
     {
         match self {
-            Knowledge::Unknown | Knowledge::Doubted(_) => true,
+            Knowledge::Unknown => true,
             Knowledge::Asked(ticks) => *ticks < now,
             _ => false,
         }
     }
 
-    /// What is known once it is asked.
+    // What is known once it is asked.
     fn having_asked(self, now: u64) -> Knowledge
         ensures { result ≡ having_asked now self }
     {
         match self {
             Knowledge::Unknown => Knowledge::Asked(now),
             Knowledge::Asked(_) => Knowledge::AskedTwice,
-            Knowledge::Doubted(origin) => Knowledge::AskedAgain(origin),
             known => known,
         }
     }
 
-    /// What is known once it is doubted that it is another one.
-    fn having_doubted(self) -> Knowledge
-        ensures { result ≡ having_doubted self }
+    // What is known once a node of this genesis asks from there.
+    fn readmitted(self) -> Knowledge
+        ensures { result ≡ readmitted self }
     {
         match self {
-            Knowledge::Other(origin) | Knowledge::AskedAgain(origin) => Knowledge::Doubted(origin),
+            Knowledge::Other(_) => Knowledge::Unknown,
             known => known,
         }
     }
 
-    /// The origin of a node of another genesis.
+    // The origin of a node of another genesis.
     fn other(&self) -> Option<Origin>
         ensures { result ≡ other_of self.now }
     {
         match self {
-            Knowledge::Other(origin) | Knowledge::Doubted(origin) | Knowledge::AskedAgain(origin) =>
-                Some(*origin),
+            Knowledge::Other(origin) => Some(*origin),
             _ => None,
         }
     }
 
-    /// Whether it was asked and has not told.
+    // Whether it was asked and has not told.
     fn is_open(self) -> bool
         ensures { result ≡ is_open self }
     {
-        matches!(
-            self,
-            Knowledge::Asked(_) | Knowledge::AskedTwice | Knowledge::AskedAgain(_)
-        )
+        matches!(self, Knowledge::Asked(_) | Knowledge::AskedTwice)
     }
 
-    /// What is known of a node that tells this, by one of that genesis.
+    // What is known of a node that tells this, by one of that genesis.
     fn having_told(own: &[u8; DIGEST], told: Origin) -> Knowledge
         ensures { result ≡ having_told own.now told }
     {
@@ -129,7 +120,7 @@ impl Knowledge {
     }
 }
 
-/// Whether an entry is that of an address, or free.
+// Whether an entry is that of an address, or free.
 fn is_for(place: SocketAddr, entry: &Option<Neighbour>) -> bool
     ensures { result ≡ is_for place entry.now }
 {
@@ -139,7 +130,7 @@ fn is_for(place: SocketAddr, entry: &Option<Neighbour>) -> bool
     }
 }
 
-/// An entry after a node has written from its address.
+// An entry after a node has written from its address.
 fn having_met(place: SocketAddr, binds: bool, entry: Option<Neighbour>) -> Neighbour
     ensures { result ≡ having_met place binds entry }
 {
@@ -156,7 +147,7 @@ fn having_met(place: SocketAddr, binds: bool, entry: Option<Neighbour>) -> Neigh
     }
 }
 
-/// The node of another genesis at an address, where the entry has one there.
+// The node of another genesis at an address, where the entry has one there.
 fn stranger_at(place: SocketAddr, entry: &Option<Neighbour>) -> Option<NodeNo>
     ensures { is_some result ≡ is_stranger_at place entry.now }
 {
@@ -182,7 +173,7 @@ impl Neighbour {
     }
 }
 
-/// The origin of the node of an entry, where it is of another genesis and binds this one.
+// The origin of the node of an entry, where it is of another genesis and binds this one.
 fn bound_at(entry: &Option<Neighbour>) -> Option<Origin>
     ensures { result ≡ bound_at entry.now }
 {
@@ -192,7 +183,7 @@ fn bound_at(entry: &Option<Neighbour>) -> Option<Origin>
     }
 }
 
-/// The first such origin of these entries.
+// The first such origin of these entries.
 fn bound_in(entries: &[Option<Neighbour>]) -> Option<Origin>
     ensures { result ≡ bound_in entries.now }
 {
@@ -204,7 +195,7 @@ fn bound_in(entries: &[Option<Neighbour>]) -> Option<Origin>
     None
 }
 
-/// The index of an address' entry, or of the first free one, or the number of the entries.
+// The index of an address' entry, or of the first free one, or the number of the entries.
 fn entry_for(place: SocketAddr, entries: &[Option<Neighbour>]) -> usize
     ensures is { result ≡ entry_for place entries.now }
     ensures within { result ≤ length entries.now }
@@ -219,7 +210,7 @@ fn entry_for(place: SocketAddr, entries: &[Option<Neighbour>]) -> usize
     at
 }
 
-/// The first entry for which a probe is due, and its index.
+// The first entry for which a probe is due, and its index.
 fn first_due(now: u64, entries: &[Option<Neighbour>]) -> Option<(usize, Neighbour)>
     ensures some { IfSome result (λ d. (slice_get entries.now d.0 ≡ Some (Some d.1)) × (is_due now d.1.knowledge ≡ true) × (d.0 < length entries.now)) }
     ensures none { IsNone result → list_any (is_due_at now) entries.now ≡ false }
@@ -234,7 +225,7 @@ fn first_due(now: u64, entries: &[Option<Neighbour>]) -> Option<(usize, Neighbou
     None
 }
 
-/// The node of another genesis at an address, where one of the entries has one there.
+// The node of another genesis at an address, where one of the entries has one there.
 #[tactic(auto, unfolding(crate::specs::Neighbours::is_stranger))]
 fn stranger_in(place: SocketAddr, entries: &[Option<Neighbour>]) -> Option<NodeNo>
     ensures { is_some result ≡ is_stranger entries.now place }
@@ -286,11 +277,9 @@ impl Neighbours {
         Some(neighbour.place)
     }
 
-    /// It is doubted that the node at that address is of another genesis: a probe is due there again.
-    #[tactic(auto, using(crate::proofs::Strangers::doubted_strangers))]
-    pub fn doubt(&mut self, place: SocketAddr)
-        ensures doubts { Doubts place self.old self.new }
-        ensures strangers { is_stranger self.new ≡ is_stranger self.old }
+    /// A node of this genesis asks from there. If another genesis was known there, it is as if it was never asked.
+    pub fn readmit(&mut self, place: SocketAddr)
+        ensures { Readmits place self.old self.new }
     {
         let at = entry_for(place, &self.entries);
         if at >= ROOM {
@@ -298,7 +287,7 @@ impl Neighbours {
         }
         if let Some(neighbour) = self.entries[at] {
             self.entries[at] = Some(Neighbour {
-                knowledge: neighbour.knowledge.having_doubted(),
+                knowledge: neighbour.knowledge.readmitted(),
                 ..neighbour
             });
         }

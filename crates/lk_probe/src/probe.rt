@@ -1,8 +1,9 @@
 ghost use Rattle.std.specs.Prelude.{◌≡◌, ◌↔◌, IsTrue, IfSome};
 ghost use Rattle.lk_types.specs.Ranges.{IsClient};
-ghost use Rattle.lk_probe.specs.Grammar.{IsProbe, IsReport, Answers, SpellsProbe, SpellsReport};
+ghost use Rattle.lk_probe.specs.Grammar.{IsOrigin, IsProbe, IsReport, Answers, SpellsProbe, SpellsReport, node_in};
 
-use crate::status::{LENGTH, Status, node_facts};
+use crate::neighbours::Origin;
+use crate::status::{LENGTH, Status};
 use crate::writing::{write_probe, write_report};
 use lk_types::{ClientNo, NodeNo};
 
@@ -10,8 +11,8 @@ use lk_types::{ClientNo, NodeNo};
 #[derive(Clone, Copy)]
 pub struct Probe {
     pub cluster: u64,
-    /// The node that asks, if a node does.
-    pub node: Option<NodeNo>,
+    /// The node that asks and its genesis, if a node does.
+    pub origin: Option<Origin>,
     /// The client by whose key it is sealed, if a client asks and has one.
     pub client: Option<ClientNo>,
     /// What the report repeats.
@@ -31,7 +32,26 @@ pub struct Report {
     pub status: Status,
 }
 
-/// A client that is there is in its range. It does nothing.
+impl Origin {
+    // Each part is in its range. It does nothing.
+    fn facts(&self)
+        ensures { IsOrigin self.now }
+    {
+        let _ = self.node.get();
+        let _genesis = self.genesis;
+    }
+}
+
+// An origin that is there is in its range. It does nothing.
+fn origin_facts(origin: &Option<Origin>)
+    ensures { IfSome origin.now IsOrigin }
+{
+    if let Some(origin) = origin {
+        origin.facts();
+    }
+}
+
+// A client that is there is in its range. It does nothing.
 fn client_facts(client: Option<ClientNo>)
     ensures { IfSome client IsClient }
 {
@@ -46,9 +66,19 @@ impl Probe {
         ensures { IsProbe self.now }
     {
         let _cluster = self.cluster;
-        node_facts(self.node);
+        origin_facts(&self.origin);
         client_facts(self.client);
         let _token = self.token;
+    }
+
+    /// The node that asks, if a node does.
+    pub fn node(&self) -> Option<NodeNo>
+        ensures { result ≡ node_in self.now.origin }
+    {
+        match &self.origin {
+            Some(origin) => Some(origin.node),
+            None => None,
+        }
     }
 
     /// Its bytes. It takes no memory.

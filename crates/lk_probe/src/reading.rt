@@ -1,10 +1,11 @@
 ghost use Rattle.std.specs.Prelude.{◌≡◌, IfSome, IsSomeAnd};
 ghost use Rattle.lk_fields.specs.Parser.{Finds};
 ghost use Rattle.lk_probe.specs.Grammar.{SpellsProbe, SpellsReport};
-ghost use Rattle.lk_probe.specs.Reading.{are_zeros, read_maybe_node, read_maybe_client, read_flag, read_digest, read_version, read_identity, read_leadership, read_progress, read_traffic, read_status, read_probe_fields, read_report_fields, fronted, probe_of, report_of};
+ghost use Rattle.lk_probe.specs.Reading.{are_zeros, read_origin, read_maybe_node, read_maybe_client, read_flag, read_digest, read_version, read_identity, read_leadership, read_progress, read_traffic, read_status, read_probe_fields, read_report_fields, fronted, probe_of, report_of};
 ghost use Rattle.lk_probe.specs.declared.probe.Probe.{Probe as ProbeValue};
 ghost use Rattle.lk_probe.specs.declared.probe.Report.{Report as ReportValue};
 
+use crate::neighbours::Origin;
 use crate::probe::{Probe, Report};
 use crate::status::{DIGEST, Identity, LENGTH, Leadership, Progress, Status, Traffic, Version};
 use lk_fields::{
@@ -12,7 +13,7 @@ use lk_fields::{
 };
 use lk_types::{ClientNo, NodeNo};
 
-/// A node, or none where four zeros stand.
+// A node, or none where four zeros stand.
 #[tactic(auto, unfolding(crate::specs::Reading::read_maybe_node))]
 fn read_maybe_node(bytes: &[u8]) -> Option<(Option<NodeNo>, &[u8])>
     ensures { Finds (λ x. (x.0, x.1.now)) result (read_maybe_node bytes.now) }
@@ -24,7 +25,7 @@ fn read_maybe_node(bytes: &[u8]) -> Option<(Option<NodeNo>, &[u8])>
     Some((Some(NodeNo::of(number)?), rest))
 }
 
-/// A client, or none where two zeros stand.
+// A client, or none where two zeros stand.
 #[tactic(auto, unfolding(crate::specs::Reading::read_maybe_client))]
 fn read_maybe_client(bytes: &[u8]) -> Option<(Option<ClientNo>, &[u8])>
     ensures { Finds (λ x. (x.0, x.1.now)) result (read_maybe_client bytes.now) }
@@ -164,6 +165,23 @@ fn read_status(bytes: &[u8]) -> Option<(Status, &[u8])>
     None
 }
 
+// The node that asks, with the digest of its genesis; zeros stand without a node.
+#[tactic(auto, unfolding(crate::specs::Reading::read_digest))]
+fn read_origin(node: Option<NodeNo>, bytes: &[u8]) -> Option<(Option<Origin>, &[u8])>
+    ensures { Finds (λ x. (x.0, x.1.now)) result (read_origin node bytes.now) }
+{
+    let (digest, rest) = bytes.split_first_chunk::<DIGEST>()?;
+    match node {
+        Some(node) => {
+            let genesis = *digest;
+            let origin = Origin { node, genesis };
+            Some((Some(origin), rest))
+        }
+        None if are_zeros(digest) => Some((None, rest)),
+        None => None,
+    }
+}
+
 #[tactic(auto, unfolding(crate::specs::Reading::read_probe_fields))]
 fn read_probe_fields(bytes: &[u8]) -> Option<(Probe, &[u8])>
     ensures { Finds (λ x. (x.0, x.1.now)) result (read_probe_fields bytes.now) }
@@ -172,10 +190,11 @@ fn read_probe_fields(bytes: &[u8]) -> Option<(Probe, &[u8])>
         && let Some((node, rest)) = read_maybe_node(rest)
         && let Some((client, rest)) = read_maybe_client(rest)
         && let Some((token, rest)) = read_u64(rest)
+        && let Some((origin, rest)) = read_origin(node, rest)
     {
         let probe = Probe {
             cluster,
-            node,
+            origin,
             client,
             token,
         };
@@ -206,7 +225,7 @@ fn read_report_fields(bytes: &[u8]) -> Option<(Report, &[u8])>
     None
 }
 
-/// Whether nothing but zeros stand there.
+// Whether nothing but zeros stand there.
 fn are_zeros(bytes: &[u8]) -> bool
     ensures { result ≡ are_zeros bytes.now }
 {
@@ -218,7 +237,7 @@ fn are_zeros(bytes: &[u8]) -> bool
     true
 }
 
-/// The probe that all of the bytes are.
+// The probe that all of the bytes are.
 #[tactic(auto, unfolding(crate::specs::Reading::probe_of))]
 fn probe_of(bytes: &[u8]) -> Option<Probe>
     ensures { Finds (λ x. x) result (probe_of bytes.now) }
@@ -240,7 +259,7 @@ fn probe_of(bytes: &[u8]) -> Option<Probe>
     }
 }
 
-/// The report that all of the bytes are.
+// The report that all of the bytes are.
 #[tactic(auto, unfolding(crate::specs::Reading::report_of))]
 fn report_of(bytes: &[u8]) -> Option<Report>
     ensures { Finds (λ x. x) result (report_of bytes.now) }

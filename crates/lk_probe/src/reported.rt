@@ -5,7 +5,6 @@ ghost use Rattle.lk_probe.specs.Questions.{IsReportedOf, question};
 
 use crate::neighbours::Origin;
 use crate::probe::{Probe, Report};
-use lk_types::NodeNo;
 use std::net::SocketAddr;
 
 /// What a report tells of the node at an address.
@@ -16,14 +15,15 @@ pub struct Reported {
 }
 
 /// The question of a node of the cluster: a probe that has its number as the token too.
-pub fn question(cluster: u64, node: NodeNo) -> Probe
-    ensures { result ≡ question cluster node }
+pub fn question(cluster: u64, asker: Origin) -> Probe
+    ensures { result ≡ question cluster asker }
 {
+    let token = u64::from(asker.node.get());
     Probe {
         cluster,
-        node: Some(node),
+        origin: Some(asker),
         client: None,
-        token: u64::from(node.get()),
+        token,
     }
 }
 

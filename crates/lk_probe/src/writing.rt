@@ -2,14 +2,15 @@ ghost use Rattle.std.specs.Prelude.{◌≡◌, ◌≤◌, ◌+◌, ◌*◌, ◌+
 ghost use Rattle.arrayvec.specs.ArrayVec.{array_vec_len};
 ghost use Rattle.lk_types.specs.Limits.{max_members};
 ghost use Rattle.lk_fields.specs.Fields.{one, two, four, eight, ballot, member, members};
-ghost use Rattle.lk_probe.specs.Grammar.{probe_length, flag, or_zero, version, identity, leadership, progress, traffic, status, front, probe, report, padded, probe_spelling, report_spelling};
+ghost use Rattle.lk_probe.specs.Grammar.{probe_length, flag, genesis_in, or_zero, version, identity, leadership, progress, traffic, status, front, probe, report, padded, probe_spelling, report_spelling};
 
+use crate::neighbours::Origin;
 use crate::probe::{Probe, Report};
-use crate::status::{Identity, LENGTH, Leadership, Progress, Status, Traffic, Version};
+use crate::status::{DIGEST, Identity, LENGTH, Leadership, Progress, Status, Traffic, Version};
 use arrayvec::ArrayVec;
 use lk_types::{Ballot, ClientNo, Member, NodeNo};
 
-/// What is written of a datagram so far.
+// What is written of a datagram so far.
 type Bytes = ArrayVec<u8, LENGTH>;
 
 fn put(out: &mut Bytes, bytes: &[u8])
@@ -55,7 +56,7 @@ fn put_u64(out: &mut Bytes, value: u64)
     put(out, &value.to_be_bytes());
 }
 
-/// A node, or four zeros.
+// A node, or four zeros.
 fn put_maybe_node(out: &mut Bytes, node: Option<NodeNo>)
     requires { array_vec_len out.old + 4 ≤ probe_length }
     ensures items { out.new.items ≡ out.old.items ++ four (or_zero node) }
@@ -67,7 +68,7 @@ fn put_maybe_node(out: &mut Bytes, node: Option<NodeNo>)
     }
 }
 
-/// A client, or two zeros.
+// A client, or two zeros.
 fn put_maybe_client(out: &mut Bytes, client: Option<ClientNo>)
     requires { array_vec_len out.old + 2 ≤ probe_length }
     ensures items { out.new.items ≡ out.old.items ++ two (or_zero client) }
@@ -76,6 +77,18 @@ fn put_maybe_client(out: &mut Bytes, client: Option<ClientNo>)
     match client {
         Some(client) => put_u16(out, client.get()),
         None => put_u16(out, 0),
+    }
+}
+
+// The digest of the genesis of the node that asks, or zeros.
+fn put_genesis(out: &mut Bytes, origin: &Option<Origin>)
+    requires { array_vec_len out.old + 32 ≤ probe_length }
+    ensures items { out.new.items ≡ out.old.items ++ genesis_in origin.now }
+    ensures len { array_vec_len out.new ≡ array_vec_len out.old + 32 }
+{
+    match origin {
+        Some(origin) => put(out, &origin.genesis),
+        None => put(out, &[0; DIGEST]),
     }
 }
 
@@ -186,7 +199,7 @@ fn put_status(out: &mut Bytes, value: &Status)
     put_members(out, value.members.as_slice());
 }
 
-/// The letters and the version, and which of both it is.
+// The letters and the version, and which of both it is.
 fn begun(kind: u8) -> Bytes
     ensures items { result.items ≡ front kind [] }
     ensures len { array_vec_len result ≡ 4 }
@@ -196,7 +209,7 @@ fn begun(kind: u8) -> Bytes
     out
 }
 
-/// The same with zeros behind.
+// The same with zeros behind.
 #[tactic(auto, unfolding(crate::specs::Grammar::padded))]
 fn filled(written: &Bytes) -> [u8; LENGTH]
     ensures { result ≡ padded written.now.items }
@@ -213,9 +226,10 @@ pub fn write_probe(value: &Probe) -> [u8; LENGTH]
 {
     let mut out = begun(9);
     put_u64(&mut out, value.cluster);
-    put_maybe_node(&mut out, value.node);
+    put_maybe_node(&mut out, value.node());
     put_maybe_client(&mut out, value.client);
     put_u64(&mut out, value.token);
+    put_genesis(&mut out, &value.origin);
     filled(&out)
 }
 

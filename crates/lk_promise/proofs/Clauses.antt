@@ -2,7 +2,7 @@
 use Rattle.std.proofs.Common.{◌≡◌, ℕ, suc, ◌+◌, ◌-◌, true, List, take, refl, ap, sym, ◌∙◌, arith}
 use Rattle.std.specs.List.{list_all}
 use Rattle.lk_types.specs.declared.genesis.Genesis.{Genesis}
-use Rattle.lk_wire.specs.declared.message.NodeMessage.TheVariants as message
+use Rattle.lk_messages.specs.declared.message.NodeMessage.TheVariants as message
 use Rattle.lk_members.specs.Effects.{Command, RequestValue, Request, is_older}
 use Rattle.lk_members.proofs.Memberships.{in_effect_after}
 use Rattle.lk_agreement.specs.Datagrams.{Datagram}
@@ -13,11 +13,10 @@ use Rattle.lk_sim.specs.Explained.{Explains}
 use Rattle.lk_sim.specs.Orders.{IsEffectiveAt, InOrder}
 use Rattle.std.specs.Prelude.{Result, Ok, Err, OnOk, IfErr}
 use Rattle.lk_disk.specs.Meters.{trapped}
-use Rattle.lk_log.specs.StoreValue.{device_of}
 use Rattle.lk_locks.specs.Packed.{IsTableText}
 use Rattle.lk_replica.specs.Behaviours.{Behaviour, disks_by}
 use Rattle.lk_replica.specs.Compacted.{CompactsTo}
-use Rattle.lk_replica.specs.ReplicaValue.{ReplicaValue}
+use Rattle.lk_replica.specs.ReplicaValue.{ReplicaValue, device_of}
 use Rattle.lk_replica.specs.Revived.{RevivesTo}
 use Rattle.lk_replica.specs.Taking.{ComesTo}
 use Rattle.lk_replica.specs.Together.{ComesToAll}

@@ -1,15 +1,15 @@
 -- What events do, in the words of the promise.
 use Rattle.std.proofs.Common.{◌≡◌, ℕ, zero, suc, ◌⊎◌, List, [], ◌∷◌, ◌++◌, map, take, set, Option, Some, None, Result, refl, sym, ap, ◌∙◌, inl, inr, append-nil, arith}
 use Rattle.std.proofs.lemmas.List.Elements.{filter_map-append}
-use Rattle.lk_disk.specs.Memory.{Memory, empty}
+use Rattle.lk_simulated_disk.specs.Memory.{Memory, empty}
 use Rattle.lk_disk.specs.declared.trap.Trap.{Trap}
 use Rattle.lk_entries.specs.Values.{HeaderValue}
 use Rattle.lk_locks.specs.Meaning.{table_meaning}
 use Rattle.lk_locks.specs.Packed.{IsTableText}
 use Rattle.lk_replica.specs.Taking.{ComesTo}
-use Rattle.lk_wire.specs.declared.message.Content.{Content}
-use Rattle.lk_wire.specs.declared.message.Content.TheVariants as content
-use Rattle.lk_wire.specs.declared.message.NodeMessage.TheVariants as message
+use Rattle.lk_messages.specs.declared.message.Content.{Content}
+use Rattle.lk_messages.specs.declared.message.Content.TheVariants as content
+use Rattle.lk_messages.specs.declared.message.NodeMessage.TheVariants as message
 use Rattle.lk_agreement.specs.declared.party.Party.TheVariants as party
 use Rattle.lk_step.specs.declared.note.Note.{Note}
 use Rattle.lk_step.specs.declared.note.Note.TheVariants as note
@@ -17,7 +17,7 @@ use Rattle.lk_node.specs.Histories.{Datagram, RequestValue}
 use Rattle.lk_node.specs.Leavings.{header_of}
 use Rattle.lk_node.specs.Served.{IsOfNode}
 use Rattle.lk_replica.specs.Behaviours.{Behaviour}
-use Rattle.lk_replica.specs.ReplicaValue.{ReplicaValue}
+use Rattle.lk_replica.specs.ReplicaValue.{ReplicaValue, device_of}
 use Rattle.lk_replica.specs.Revived.{RevivesTo}
 use Rattle.lk_sim.specs.Events.{Turns, AreOwn, AreAllOwn, Adds, IsGiven, IsGivenTogether, ComesUp, IsCompacted, Brings, Does, IsHalted, LeftBy, LeftByGroup, LeftByRevival, LeftByPacking, Wants, IsRefused}
 use Rattle.lk_replica.specs.Together.{Said, sent_of, ComesToAll}
@@ -38,7 +38,6 @@ use Rattle.lk_sim.specs.declared.end.RunEnd.{RunEnd}
 use Rattle.lk_seats.specs.declared.seat.Seat.{Seat}
 use Rattle.lk_seats.specs.declared.seat.Life.{Life}
 use Rattle.lk_seats.specs.declared.seat.Life.TheVariants.{Up, Down}
-use Rattle.lk_log.specs.StoreValue.{device_of}
 use Rattle.lk_promise.proofs.Falling.{leaves_down}
 use Rattle.lk_promise.proofs.Refusing.{none_started, has_cause, leaves_up, takes_as_told}
 use Rattle.lk_promise.proofs.Reviving.{same_seat, stands_at, restarts_as_told}

@@ -3,7 +3,7 @@ use Rattle.std.proofs.Common.{◌≡◌, ℕ, zero, suc, ◌+◌, ◌≤◌, tru
 use Rattle.std.specs.List.{list_all, AllByRecursion}
 use Rattle.std.proofs.lemmas.Bool.{cases_Bool, and_parts, eqb-true}
 use Rattle.lk_types.specs.Commands.{IsCommand}
-use Rattle.lk_wire.specs.Values.{PartValue}
+use Rattle.lk_messages.specs.Values.{PartValue}
 use Rattle.lk_types.specs.declared.genesis.Genesis.{Genesis}
 use Rattle.lk_members.specs.Effects.{Command, RequestValue, Request, is_of_another, is_at_most}
 use Rattle.lk_members.specs.Rosters.{PlainRoster, roster_of, last_change}

@@ -1,7 +1,7 @@
 -- What an end leaves, in the words of the promise.
 use Rattle.std.proofs.Common.{◌≡◌, ℕ, List, [], ◌∷◌, map, Option, Some, None, Contains, refl, sym, ◌∙◌, subst, inl, inr, arith}
 use Rattle.std.proofs.lemmas.List.Elements.{Contains-append_right}
-use Rattle.lk_disk.specs.Memory.{Memory}
+use Rattle.lk_simulated_disk.specs.Memory.{Memory}
 use Rattle.lk_disk.specs.Meters.{stopping}
 use Rattle.lk_step.specs.declared.note.Note.{Note}
 use Rattle.lk_replica.specs.Behaviours.{Behaviour}

@@ -2,21 +2,20 @@
 use Rattle.std.proofs.Common.{◌≡◌, ℕ, List, [], Some, Contains, refl, subst, sym, ◌∙◌, inl, inr}
 use Rattle.lk_types.specs.declared.genesis.Genesis.{Genesis}
 use Rattle.lk_disk.specs.Disk.{Disk}
-use Rattle.lk_disk.specs.Memory.{disk_of}
+use Rattle.lk_simulated_disk.specs.Memory.{disk_of}
 use Rattle.lk_disk.specs.declared.device.Side.{Side}
 use Rattle.lk_disk.specs.declared.device.Side.TheVariants.{A, B}
 use Rattle.lk_entries.specs.Values.{StandingValue}
 use Rattle.lk_log.specs.Images.{Image, MayLeaveBoth}
-use Rattle.lk_log.specs.StoreValue.{device_of}
-use Rattle.lk_wire.specs.declared.message.NodeMessage.{NodeMessage}
-use Rattle.lk_wire.specs.declared.message.NodeMessage.TheVariants as message
+use Rattle.lk_messages.specs.declared.message.NodeMessage.{NodeMessage}
+use Rattle.lk_messages.specs.declared.message.NodeMessage.TheVariants as message
 use Rattle.lk_agreement.specs.Acceptors.{CoversSent, Covers}
 use Rattle.lk_agreement.specs.Chosen.{Command, command_at, Chosen}
 use Rattle.lk_agreement.specs.Datagrams.{Datagram}
 use Rattle.lk_locks.specs.Meaning.{table_meaning}
 use Rattle.lk_node.specs.Leavings.{header_of, acceptor_of, StandsAs}
 use Rattle.lk_node.specs.Served.{text}
-use Rattle.lk_replica.specs.ReplicaValue.{ReplicaValue}
+use Rattle.lk_replica.specs.ReplicaValue.{ReplicaValue, device_of}
 use Rattle.lk_seats.specs.Seats.{disks_of, At}
 use Rattle.lk_sim.specs.Kept.{EveryStanding, CoversAll, KeepsCommand, IsKeptBy}
 use Rattle.lk_sim.specs.Packed.{StandsPacked}

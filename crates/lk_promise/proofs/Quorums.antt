@@ -5,7 +5,7 @@ use Rattle.std.proofs.lemmas.Bool.{cases_Bool, eqb-true, and_from}
 use Rattle.lk_types.specs.declared.genesis.Genesis.{Genesis}
 use Rattle.lk_types.specs.declared.member.Member.{Member}
 use Rattle.lk_types.specs.BallotValue.{BallotValue}
-use Rattle.lk_wire.specs.declared.message.NodeMessage.{NodeMessage}
+use Rattle.lk_messages.specs.declared.message.NodeMessage.{NodeMessage}
 use Rattle.lk_members.specs.Rosters.{PlainRoster, is_member, members}
 use Rattle.lk_agreement.specs.Datagrams.{Datagram, HasSent, Accepted}
 use Rattle.lk_agreement.specs.Chosen.{Command, command_at, Chosen, IsAcceptedIn, IsBeginning}

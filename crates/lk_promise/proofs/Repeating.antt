@@ -1,14 +1,13 @@
 -- A node of a world that is stopped and restarted again and again is the same.
 use Rattle.std.proofs.Common.{◌≡◌, ℕ, List, [], ◌∷◌, ◌++◌, set, slice_get, Some, Ok, refl, ap, sym, ◌∙◌, subst, inl, inr, append-nil, append_assoc}
 use Rattle.lk_types.specs.declared.genesis.Genesis.{Genesis}
-use Rattle.lk_disk.specs.Memory.{Memory}
+use Rattle.lk_simulated_disk.specs.Memory.{Memory}
 use Rattle.lk_entries.specs.Values.{HeaderValue}
 use Rattle.lk_locks.specs.Meaning.{table_meaning}
 use Rattle.lk_locks.specs.Packed.{IsTableText}
-use Rattle.lk_log.specs.StoreValue.{device_of}
 use Rattle.lk_step.specs.declared.note.Note.{Note}
 use Rattle.lk_node.specs.Leavings.{header_of}
-use Rattle.lk_replica.specs.ReplicaValue.{ReplicaValue}
+use Rattle.lk_replica.specs.ReplicaValue.{ReplicaValue, device_of}
 use Rattle.lk_replica.specs.Revived.{RevivesTo}
 use Rattle.lk_sim.specs.Scenes.{Scene}
 use Rattle.lk_sim.specs.declared.event.Event.TheVariants as event

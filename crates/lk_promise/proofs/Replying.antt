@@ -3,12 +3,12 @@ use Rattle.std.proofs.Common.{◌≡◌, Bool, false, filter, List, [], ◌∷�
 use Rattle.std.proofs.lemmas.Bool.{cases_Bool}
 use Rattle.lk_types.specs.declared.command.Command.{Command}
 use Rattle.lk_types.specs.declared.genesis.Genesis.{Genesis}
-use Rattle.lk_wire.specs.Grammar.{Spells}
-use Rattle.lk_wire.specs.declared.message.Content.{Content}
-use Rattle.lk_wire.specs.declared.message.Content.TheVariants as content
-use Rattle.lk_wire.specs.declared.message.Message.{Message}
-use Rattle.lk_wire.specs.declared.message.NodeMessage.TheVariants as message
-use Rattle.lk_wire.proofs.Spellings.{one_message}
+use Rattle.lk_messages.specs.Grammar.{Spells}
+use Rattle.lk_messages.specs.declared.message.Content.{Content}
+use Rattle.lk_messages.specs.declared.message.Content.TheVariants as content
+use Rattle.lk_messages.specs.declared.message.Message.{Message}
+use Rattle.lk_messages.specs.declared.message.NodeMessage.TheVariants as message
+use Rattle.lk_messages.proofs.Spellings.{one_message}
 use Rattle.lk_agreement.specs.Datagrams.{Datagram}
 use Rattle.lk_agreement.proofs.Histories.{cons_cases, contains_more}
 use Rattle.lk_step.specs.declared.note.Note.{Note}

@@ -1,7 +1,7 @@
 -- What a restart leaves, in the words of the promise.
 use Rattle.std.proofs.Common.{◌≡◌, ℕ, ◌⊎◌, List, [], set, slice_get, Option, Some, None, Result, Ok, Err, refl, ap, ◌∙◌, subst, inl, inr, append-nil}
 use Rattle.std.proofs.lemmas.Option.{slice_get-get_or}
-use Rattle.lk_disk.specs.Memory.{Memory}
+use Rattle.lk_simulated_disk.specs.Memory.{Memory}
 use Rattle.lk_disk.specs.Meters.{stopping}
 use Rattle.lk_entries.specs.Values.{HeaderValue}
 use Rattle.lk_locks.specs.Meaning.{table_meaning}

@@ -8,20 +8,19 @@ use Rattle.lk_types.specs.declared.genesis.Genesis.{Genesis}
 use Rattle.lk_types.specs.declared.member.Member.{Member}
 use Rattle.lk_types.specs.declared.vote.Vote.{Vote}
 use Rattle.lk_disk.specs.Disk.{Disk}
-use Rattle.lk_disk.specs.Memory.{Memory}
+use Rattle.lk_simulated_disk.specs.Memory.{Memory}
 use Rattle.lk_disk.specs.declared.device.Side.{Side}
 use Rattle.lk_disk.specs.declared.device.Side.TheVariants.{A, B}
-use Rattle.lk_wire.specs.declared.message.NodeMessage.{NodeMessage}
-use Rattle.lk_wire.specs.declared.message.NodeMessage.TheVariants as message
+use Rattle.lk_messages.specs.declared.message.NodeMessage.{NodeMessage}
+use Rattle.lk_messages.specs.declared.message.NodeMessage.TheVariants as message
 use Rattle.lk_entries.specs.Standings.{HasHeader, StandsFor}
 use Rattle.lk_entries.specs.Values.{StandingValue}
 use Rattle.lk_entries.specs.declared.stored.Stored.{Stored}
 use Rattle.lk_entries.specs.declared.stored.Stored.TheVariants.{Base}
 use Rattle.lk_log.specs.Images.{IsLive, IsEmpty}
-use Rattle.lk_log.specs.StoreValue.{device_of}
 use Rattle.lk_log.specs.Stores.{first_base}
 use Rattle.lk_agreement.specs.Datagrams.{Datagram}
-use Rattle.lk_replica.specs.ReplicaValue.{ReplicaValue}
+use Rattle.lk_replica.specs.ReplicaValue.{ReplicaValue, device_of}
 use Rattle.lk_seats.specs.declared.seat.Life.{Life}
 use Rattle.lk_seats.specs.declared.seat.Life.TheVariants.{Up, Down}
 use Rattle.lk_seats.specs.declared.seat.Seat.{Seat}

@@ -19,13 +19,13 @@ use Rattle.lk_types.specs.declared.command.Command.TheVariants.{Request}
 use Rattle.lk_types.specs.declared.command.Request.{Request as Asking}
 use Rattle.lk_types.specs.declared.genesis.Genesis.{Genesis}
 use Rattle.lk_types.specs.declared.member.Member.{Member}
-use Rattle.lk_wire.specs.Grammar.{Spells}
-use Rattle.lk_wire.specs.Values.{DecidedValue, PartValue, PassedValue}
-use Rattle.lk_wire.specs.declared.message.Answered.{Answered}
-use Rattle.lk_wire.specs.declared.message.Content.{Content}
-use Rattle.lk_wire.specs.declared.message.Content.TheVariants as content
-use Rattle.lk_wire.specs.declared.message.Message.{Message}
-use Rattle.lk_wire.specs.declared.message.NodeMessage.TheVariants as message
+use Rattle.lk_messages.specs.Grammar.{Spells}
+use Rattle.lk_messages.specs.Values.{DecidedValue, PartValue, PassedValue}
+use Rattle.lk_messages.specs.declared.message.Answered.{Answered}
+use Rattle.lk_messages.specs.declared.message.Content.{Content}
+use Rattle.lk_messages.specs.declared.message.Content.TheVariants as content
+use Rattle.lk_messages.specs.declared.message.Message.{Message}
+use Rattle.lk_messages.specs.declared.message.NodeMessage.TheVariants as message
 use Rattle.lk_agreement.specs.Datagrams.{Datagram}
 use Rattle.lk_step.specs.declared.note.Note.{Note}
 use Rattle.lk_step.specs.declared.note.Note.TheVariants as note

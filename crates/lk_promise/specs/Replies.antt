@@ -3,9 +3,9 @@ use Rattle.std.specs.Prelude.{ℕ, List}
 use Rattle.lk_types.specs.declared.answer.Answer.{Answer}
 use Rattle.lk_types.specs.declared.command.Command.{Command}
 use Rattle.lk_types.specs.declared.genesis.Genesis.{Genesis}
-use Rattle.lk_wire.specs.Values.{PassedValue}
-use Rattle.lk_wire.specs.declared.message.Answered.{Answered}
-use Rattle.lk_wire.specs.declared.message.NodeMessage.TheVariants as message
+use Rattle.lk_messages.specs.Values.{PassedValue}
+use Rattle.lk_messages.specs.declared.message.Answered.{Answered}
+use Rattle.lk_messages.specs.declared.message.NodeMessage.TheVariants as message
 use Rattle.lk_agreement.specs.Datagrams.{Datagram}
 use Rattle.lk_promise.specs.Chosen.{Says}
 use Rattle.lk_promise.specs.Plain.{IsAnswered}

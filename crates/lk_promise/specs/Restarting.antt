@@ -3,15 +3,14 @@
 --
 -- That a recovery may be repeated: Mohan et al., ARIES, 1992.
 use Rattle.std.specs.Prelude.{◌≡◌, ℕ, ◌⊎◌, Some, Ok, Err, List, [], ◌∷◌, ◌++◌, set, slice_get, Contains}
-use Rattle.lk_disk.specs.Memory.{Memory, disk_of}
+use Rattle.lk_simulated_disk.specs.Memory.{Memory, disk_of}
 use Rattle.lk_entries.specs.Formats.{format}
 use Rattle.lk_entries.specs.Values.{HeaderValue}
 use Rattle.lk_entries.specs.declared.stored.Stored.{Stored}
 use Rattle.lk_locks.specs.Meaning.{table_meaning}
 use Rattle.lk_locks.specs.Packed.{IsTableText}
 use Rattle.lk_log.specs.Images.{IsLive, seen}
-use Rattle.lk_log.specs.StoreValue.{device_of}
-use Rattle.lk_replica.specs.ReplicaValue.{ReplicaValue}
+use Rattle.lk_replica.specs.ReplicaValue.{ReplicaValue, device_of}
 use Rattle.lk_replica.specs.Revived.{RevivesTo}
 use Rattle.lk_sim.specs.Scenes.{Scene}
 use Rattle.lk_sim.specs.declared.event.Event.{Event}

@@ -1,6 +1,6 @@
 //! Laws about the definitions alone.
 ghost use Rattle.std.specs.Prelude.{ℕ, List};
-ghost use Rattle.lk_disk.specs.Memory.{Memory};
+ghost use Rattle.lk_simulated_disk.specs.Memory.{Memory};
 ghost use Rattle.lk_entries.specs.Values.{HeaderValue};
 ghost use Rattle.lk_step.specs.declared.note.Note.{Note};
 ghost use Rattle.lk_types.specs.declared.command.Command.{Command};

@@ -3,10 +3,10 @@ ghost use Rattle.lk_promise.specs.Events.{Compacts, IsDone, IsRefused, IsRun, no
 ghost use Rattle.lk_promise.specs.Promise.{KeepsPromise};
 ghost use Rattle.std.specs.Prelude.{◌≡◌, OnOk, IfErr};
 
-use lk_disk::MemoryDisk;
 use lk_locks::LockTable;
 use lk_replica::Replica;
 use lk_sim::{Event, Refused, RunEnd, World};
+use lk_simulated_disk::MemoryDisk;
 use lk_types::Genesis;
 use std::alloc::Global;
 

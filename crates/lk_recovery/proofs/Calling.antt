@@ -6,8 +6,8 @@ use Rattle.lk_disk.proofs.Devices.{passes_on, breaks_on}
 use Rattle.lk_log.specs.Causes.{IsRefusedBy}
 use Rattle.lk_log.specs.declared.fault.StoreFault.{StoreFault}
 use Rattle.lk_log.specs.declared.fault.StoreFault.TheVariants as store
-use Rattle.lk_recovery.specs.Faults.{fault_number, fault_of, RefusedAfter}
-use Rattle.lk_recovery.specs.declared.fault.ReplicaFault.{ReplicaFault}
+use Rattle.lk_step.specs.Faults.{fault_number, fault_of, RefusedAfter}
+use Rattle.lk_step.specs.declared.fault.ReplicaFault.{ReplicaFault}
 
 -- it was refused so
 pub refused_by : {T : Type 0} (m n : Meter) (Goes : T → Type 0) (r : Result T ReplicaFault) (f : ReplicaFault) → IsErrAnd r (λ e. e ≡ f) → RefusedAfter (fault_number f) m n → MatchResult r Goes (λ e. RefusedAfter (fault_number e) m n)
@@ -26,8 +26,6 @@ err_as P (Err e) f is p = subst P (sym is) p
 pub refused_after : (m n : Meter) (f : StoreFault) → IsRefusedBy m n f → RefusedAfter (fault_number (fault_of f)) m n
 refused_after m n store.Device by = by
 refused_after m n store.NoMemory by = by
-refused_after m n store.Damaged by = by
-refused_after m n store.WrongStore by = by
 refused_after m n store.Failed by = by
 
 after_some : {l m : Meter} (j : ℕ) → Passes l m j → (n : Meter) (b : Bool) → MatchBool b (Breaks m n) ((k : ℕ) × Passes m n k) → MatchBool b (Breaks l n) ((k : ℕ) × Passes l n k)

@@ -28,9 +28,9 @@ use Rattle.lk_node.specs.Keeping.{Keeps}
 use Rattle.lk_node.specs.Leavings.{header_of, DisksFit}
 use Rattle.lk_node.specs.NodeValue.{NodeValue}
 use Rattle.lk_node.specs.Served.{text}
-use Rattle.lk_recovery.specs.Faults.{IsStoreFault}
+use Rattle.lk_step.specs.Faults.{IsStoreFault}
 use Rattle.lk_recovery.specs.Compacting.{renew_calls}
-use Rattle.lk_recovery.specs.declared.fault.ReplicaFault.{ReplicaFault}
+use Rattle.lk_step.specs.declared.fault.ReplicaFault.{ReplicaFault}
 use Rattle.lk_recovery.specs.Revivals.{TakesUp, IsOld, IsLastOld, RenewsBy, CallsOfOpening, CallsOfRevival, NarrowsOrRenews}
 use Rattle.lk_recovery.proofs.Revivals.{nothing_later, picked}
 

@@ -15,8 +15,8 @@ use Rattle.lk_log.specs.Images.{Image, IsDamaged, seen}
 use Rattle.lk_log.specs.Rooms.{StaysWithin}
 use Rattle.lk_log.specs.StoreValue.{StoreValue, pick, disks}
 use Rattle.lk_log.specs.Stores.{Opens, NarrowsOrBegins, IsWrong}
-use Rattle.lk_log.specs.declared.fault.StoreFault.{StoreFault}
-use Rattle.lk_log.specs.declared.fault.StoreFault.TheVariants as store
+use Rattle.lk_log.specs.declared.fault.OpenFault.{OpenFault}
+use Rattle.lk_log.specs.declared.fault.OpenFault.TheVariants as opening
 use Rattle.lk_log.proofs.StoreLaws.{found_live, found_sound, one_standing, opens_found, opens_holds, seen_left}
 use Rattle.lk_state.specs.Meanings.{Meaning, KeepsTexts}
 use Rattle.lk_state.specs.Packed.{packed}
@@ -32,9 +32,9 @@ use Rattle.lk_learner.specs.Learners.{Pair}
 use Rattle.lk_learner.proofs.Learnerships.{executed_is}
 use Rattle.lk_step.specs.declared.note.Note.{Note}
 use Rattle.lk_node.specs.Entries.{EntriesFit}
-use Rattle.lk_recovery.specs.Faults.{fault_number, fault_of, IsNumberOfRevival}
-use Rattle.lk_recovery.specs.declared.fault.ReplicaFault.{ReplicaFault}
-use Rattle.lk_recovery.specs.declared.fault.ReplicaFault.TheVariants as fault
+use Rattle.lk_step.specs.Faults.{fault_number, open_fault, IsNumberOfRevival}
+use Rattle.lk_step.specs.declared.fault.ReplicaFault.{ReplicaFault}
+use Rattle.lk_step.specs.declared.fault.ReplicaFault.TheVariants as fault
 use Rattle.lk_node.specs.Histories.{History, Genesis, Command, Datagram, later, IsLawful}
 use Rattle.lk_node.specs.Holdings.{Holding, HoldingFits}
 use Rattle.lk_node.specs.Keeping.{Stands}
@@ -355,22 +355,20 @@ never_wrong m h n disks fits wrong =
     let f = (fits (seen disks) (seen_left disks)).stands in
     wrong.2 (subst (λ (es : List Stored). HasHeader es (header_of h.genesis n)) (found_live (seen disks) (header_of h.genesis n) (text m h.genesis []) f.entries wrong.0 wrong.1 f.found) f.header)
 
--- any other error of a store is one of these
-pub store_number : (f : StoreFault) → (f ≡ store.Damaged → ⊥) → (f ≡ store.WrongStore → ⊥) → (f ≡ store.Failed → ⊥) → IsNumberOfRevival (fault_number (fault_of f))
-store_number store.Device sound own last = inl refl
-store_number store.NoMemory sound own last = inr (inl refl)
-store_number store.Damaged sound own last = absurd (sound refl)
-store_number store.WrongStore sound own last = absurd (own refl)
-store_number store.Failed sound own last = absurd (last refl)
+-- any other error of an opening is one of these
+pub open_number : (f : OpenFault) → (f ≡ opening.Damaged → ⊥) → (f ≡ opening.WrongStore → ⊥) → IsNumberOfRevival (fault_number (open_fault f))
+open_number opening.Device sound own = inl refl
+open_number opening.NoMemory sound own = inr (inl refl)
+open_number opening.Damaged sound own = absurd (sound refl)
+open_number opening.WrongStore sound own = absurd (own refl)
 
 -- ---- which refusal it is
 
-pub wrong_only : (f : StoreFault) → fault_number (fault_of f) ≡ 10 → f ≡ store.WrongStore
-wrong_only store.Device e = absurd (omega (arith, e))
-wrong_only store.NoMemory e = absurd (omega (arith, e))
-wrong_only store.Damaged e = absurd (omega (arith, e))
-wrong_only store.WrongStore e = refl
-wrong_only store.Failed e = absurd (omega (arith, e))
+pub wrong_only : (f : OpenFault) → fault_number (open_fault f) ≡ 10 → f ≡ opening.WrongStore
+wrong_only opening.Device e = absurd (omega (arith, e))
+wrong_only opening.NoMemory e = absurd (omega (arith, e))
+wrong_only opening.Damaged e = absurd (omega (arith, e))
+wrong_only opening.WrongStore e = refl
 
 pub damaged_only : (f : ReplicaFault) → (f ≡ fault.Damaged) ⊎ (f ≡ fault.NoMemory) → fault_number f ≡ 9 → f ≡ fault.Damaged
 damaged_only f (inl damaged) nine = damaged

@@ -10,12 +10,14 @@ use Rattle.lk_log.specs.StoreValue.{StoreValue, pick, disks}
 use Rattle.lk_log.specs.Stores.{KeepsItsFile, NarrowsOrBegins}
 use Rattle.lk_log.specs.declared.fault.StoreFault.{StoreFault}
 use Rattle.lk_log.specs.declared.fault.StoreFault.TheVariants as store
+use Rattle.lk_log.specs.declared.fault.OpenFault.{OpenFault}
+use Rattle.lk_log.specs.declared.fault.OpenFault.TheVariants as opening
 use Rattle.lk_learner.specs.Learners.{executed}
 use Rattle.lk_node.specs.NodeValue.{NodeValue}
 use Rattle.lk_recovery.specs.Compacting.{AreSame, AreLeft, IsDue, IsSameStore, KeepsFileOrGoesOver, RebasesWhereDue}
-use Rattle.lk_recovery.specs.Faults.{IsStoreFault, fault_number, fault_of, IfSpared}
-use Rattle.lk_recovery.specs.declared.fault.ReplicaFault.{ReplicaFault}
-use Rattle.lk_recovery.specs.declared.fault.ReplicaFault.TheVariants as fault
+use Rattle.lk_step.specs.Faults.{IsStoreFault, fault_number, fault_of, open_fault, IfSpared}
+use Rattle.lk_step.specs.declared.fault.ReplicaFault.{ReplicaFault}
+use Rattle.lk_step.specs.declared.fault.ReplicaFault.TheVariants as fault
 use Rattle.lk_recovery.proofs.Refusing.{put_refused}
 use Rattle.lk_recovery.proofs.Revivals.{picked}
 
@@ -137,19 +139,17 @@ second_after node mid old between where_due short less = elim (either_due node o
 pub given_narrow : (old : Side → Disk) (whose : HeaderValue) (text : List ℕ) (s : StoreValue) (d : Side → Disk) → d s.live ≡ s.live_disk → d (other s.live) ≡ s.other_disk → NarrowsOrBegins old (disks s) whose text → NarrowsOrBegins old d whose text
 given_narrow old whose text s d here there = subst (λ (e : Side → Disk). NarrowsOrBegins old e whose text) (λ i side. sym (picked s.live d s.live_disk s.other_disk here there side) i)
 
-pub damage_only : (f : StoreFault) → fault_number (fault_of f) ≡ 9 → f ≡ store.Damaged
-damage_only store.Device e = absurd (omega (arith, e))
-damage_only store.NoMemory e = absurd (omega (arith, e))
-damage_only store.Damaged e = refl
-damage_only store.WrongStore e = absurd (omega (arith, e))
-damage_only store.Failed e = absurd (omega (arith, e))
+pub damage_only : (f : OpenFault) → fault_number (open_fault f) ≡ 9 → f ≡ opening.Damaged
+damage_only opening.Device e = absurd (omega (arith, e))
+damage_only opening.NoMemory e = absurd (omega (arith, e))
+damage_only opening.Damaged e = refl
+damage_only opening.WrongStore e = absurd (omega (arith, e))
 
-pub failed_only : (f : StoreFault) → fault_number (fault_of f) ≡ 11 → f ≡ store.Failed
-failed_only store.Device e = absurd (omega (arith, e))
-failed_only store.NoMemory e = absurd (omega (arith, e))
-failed_only store.Damaged e = absurd (omega (arith, e))
-failed_only store.WrongStore e = absurd (omega (arith, e))
-failed_only store.Failed e = refl
+pub open_not_failed : (f : OpenFault) → fault_number (open_fault f) ≡ 11 → ⊥
+open_not_failed opening.Device e = omega (arith, e)
+open_not_failed opening.NoMemory e = omega (arith, e)
+open_not_failed opening.Damaged e = omega (arith, e)
+open_not_failed opening.WrongStore e = omega (arith, e)
 
 -- a refusal for such a reason is not `Failed`
 pub not_failed_so : (f : StoreFault) → (f ≡ store.Device) ⊎ (f ≡ store.NoMemory) → fault_of f ≡ fault.Failed → ⊥

@@ -1,4 +1,3 @@
-pub mod Faults
 pub mod Rooms
 pub mod Remembering
 pub mod Compacting

@@ -20,12 +20,12 @@ use Rattle.lk_node.specs.Keeping.{Keeps, Stands, StandsBefore}
 use Rattle.lk_node.specs.Leavings.{header_of, DisksFit, AllCover}
 use Rattle.lk_node.specs.NodeValue.{NodeValue}
 use Rattle.lk_node.specs.Packing.{standing_of, standing_here}
-use Rattle.lk_recovery.specs.Faults.{IsStoreFault, fault_number, RefusedAfter, IfSpared}
+use Rattle.lk_step.specs.Faults.{IsStoreFault, fault_number, RefusedAfter, IfSpared}
 use Rattle.lk_recovery.specs.Compacting.{AllStandAt, AreSame, Rebases, RebasesWhereDue, CallsWhereDue}
 use Rattle.lk_recovery.specs.Remembering.{Remembers}
 use Rattle.lk_recovery.specs.Rooms.{GrowsFromBase}
-use Rattle.lk_recovery.specs.declared.fault.ReplicaFault.{ReplicaFault}
-use Rattle.lk_recovery.specs.declared.fault.ReplicaFault.TheVariants as fault
+use Rattle.lk_step.specs.declared.fault.ReplicaFault.{ReplicaFault}
+use Rattle.lk_step.specs.declared.fault.ReplicaFault.TheVariants as fault
 
 -- ---- a rebase
 

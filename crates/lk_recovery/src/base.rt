@@ -9,13 +9,13 @@ ghost use Rattle.lk_node.specs.Packing.{standing_of};
 ghost use Rattle.lk_node.specs.Reaching.{HoldsNear};
 ghost use Rattle.lk_recovery.specs.Compacting.{IsDue, IsSameStore};
 ghost use Rattle.lk_recovery.specs.Rebased.{StandsOnBase, HasGoneOver, StaysSafe, IsNotRebased, StaysAlive, IsReadyToStep, LeavesDisks};
-ghost use Rattle.lk_recovery.specs.Faults.{fault_number, RaisesFailures, PassesOr, WantsNoMemory};
+ghost use Rattle.lk_step.specs.Faults.{fault_number, RaisesFailures, PassesOr, WantsNoMemory};
 
-use crate::fault::ReplicaFault;
 use lk_disk::LogDisk;
 use lk_log::Store;
 use lk_node::Node;
 use lk_state::Machine;
+use lk_step::ReplicaFault;
 use lk_types::limits::MAX_COUNT;
 
 /// Writes what the node holds as the Base of the other file, and switches to that file: a snapshot of everything

@@ -9,6 +9,6 @@ mod renewing;
 mod restart;
 
 pub use base::{is_due, rebase_where_due, write_base};
-pub use fault::{ReplicaFault, ReviveFault};
+pub use fault::ReviveFault;
 pub use renewing::renew;
 pub use restart::{TakenUp, take_up};

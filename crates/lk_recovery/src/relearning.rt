@@ -6,10 +6,9 @@ ghost use Rattle.lk_recovery.specs.Revivals.{run_from, notes_of, relearned, reac
 ghost use Rattle.lk_step.specs.declared.note.Note.TheVariants as note;
 ghost use Rattle.lk_state.specs.Packed.{packed};
 
-use crate::fault::ReplicaFault;
 use lk_learner::Learner;
 use lk_state::{Machine, Whole};
-use lk_step::Note;
+use lk_step::{Note, ReplicaFault};
 use lk_types::{Command, NoMemory, NodeNo, Position};
 use std::alloc::Global;
 

@@ -10,7 +10,7 @@ ghost use Rattle.lk_state.specs.States.{WholeValue};
 ghost use Rattle.lk_agreement.specs.Datagrams.{NodeMessage};
 ghost use Rattle.lk_node.specs.Calls.{Goes};
 ghost use Rattle.lk_recovery.specs.Remembering.{Remembers};
-ghost use Rattle.lk_recovery.specs.Faults.{fault_number, failures_by, RefusedAfter, IsNumberOfRevival};
+ghost use Rattle.lk_step.specs.Faults.{fault_number, failures_by, RefusedAfter, IsNumberOfRevival};
 ghost use Rattle.lk_node.specs.Executing.{NothingToRun};
 ghost use Rattle.lk_node.specs.Histories.{History, Genesis as GenesisValue, IsLawful};
 ghost use Rattle.lk_node.specs.Keeping.{Stands};
@@ -18,7 +18,7 @@ ghost use Rattle.lk_node.specs.Leavings.{header_of, DisksFit, AllCover};
 ghost use Rattle.lk_recovery.specs.Revivals.{Unpacks, MayRevive, Restores, TakesUp, IsTakenUp, IsRefusedFor, CallsOfOpening};
 ghost use Rattle.lk_node.specs.Served.{text};
 
-use crate::fault::{ReplicaFault, ReviveFault};
+use crate::fault::ReviveFault;
 use crate::relearning::relearn;
 use bytes::BytesMut;
 use lk_acceptor::Acceptor;
@@ -27,7 +27,7 @@ use lk_entries::{Header, Standing};
 use lk_log::{Store, reopen};
 use lk_node::Node;
 use lk_state::{Machine, Whole};
-use lk_step::Note;
+use lk_step::{Note, ReplicaFault};
 use lk_types::{Executed, Genesis, NoMemory, Vote};
 use std::alloc::Global;
 

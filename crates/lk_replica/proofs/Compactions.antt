@@ -8,12 +8,12 @@ use Rattle.lk_log.specs.declared.fault.StoreFault.TheVariants as store
 use Rattle.lk_learner.specs.Learners.{executed}
 use Rattle.lk_state.specs.Meanings.{Meaning}
 use Rattle.lk_replica.specs.Compacted.{IsCompacted, IsNotCompacted, CompactsTo}
-use Rattle.lk_recovery.specs.Faults.{IsStoreFault, fault_number, RaisesFailures, RefusedAfter}
+use Rattle.lk_step.specs.Faults.{IsStoreFault, fault_number, RaisesFailures, RefusedAfter}
 use Rattle.lk_recovery.specs.Compacting.{AllStandAt}
 use Rattle.lk_recovery.specs.Rebased.{StandsOnBase, HasGoneOver}
 use Rattle.lk_replica.specs.ReplicaValue.{ReplicaValue}
-use Rattle.lk_recovery.specs.declared.fault.ReplicaFault.{ReplicaFault}
-use Rattle.lk_recovery.specs.declared.fault.ReplicaFault.TheVariants as fault
+use Rattle.lk_step.specs.declared.fault.ReplicaFault.{ReplicaFault}
+use Rattle.lk_step.specs.declared.fault.ReplicaFault.TheVariants as fault
 use Rattle.lk_replica.proofs.OnDevices.{on_device}
 use Rattle.lk_recovery.proofs.Recoveries.{same_error}
 

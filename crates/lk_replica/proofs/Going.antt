@@ -8,9 +8,9 @@ use Rattle.lk_disk.specs.Meters.{Passes}
 use Rattle.lk_disk.specs.declared.meter.Meter.{Meter}
 use Rattle.lk_log.specs.Causes.{put_calls, rebase_calls}
 use Rattle.lk_replica.specs.Taking.{write_calls}
-use Rattle.lk_wire.specs.Grammar.{Spells}
-use Rattle.lk_wire.specs.declared.message.NodeMessage.{NodeMessage}
-use Rattle.lk_wire.specs.declared.message.NodeMessage.TheVariants as kinds
+use Rattle.lk_messages.specs.Grammar.{Spells}
+use Rattle.lk_messages.specs.declared.message.NodeMessage.{NodeMessage}
+use Rattle.lk_messages.specs.declared.message.NodeMessage.TheVariants as kinds
 use Rattle.lk_entries.specs.Standings.{with_all}
 use Rattle.lk_entries.specs.Entries.{plain}
 use Rattle.lk_entries.specs.Values.{HeaderValue, StandingValue}

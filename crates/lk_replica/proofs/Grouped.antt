@@ -13,8 +13,8 @@ use Rattle.lk_disk.specs.Meters.{Passes}
 use Rattle.lk_disk.specs.declared.meter.Meter.{Meter}
 use Rattle.lk_disk.proofs.Devices.{passes_on}
 use Rattle.lk_log.specs.Causes.{put_calls, rebase_calls}
-use Rattle.lk_wire.specs.Grammar.{Spells}
-use Rattle.lk_wire.specs.declared.message.NodeMessage.{NodeMessage}
+use Rattle.lk_messages.specs.Grammar.{Spells}
+use Rattle.lk_messages.specs.declared.message.NodeMessage.{NodeMessage}
 use Rattle.lk_entries.specs.Bases.{is_misplaced, generation}
 use Rattle.lk_entries.specs.Entries.{plain, spelling, spelling_of_all, IsStored}
 use Rattle.lk_entries.specs.Formats.{is_mixed}
@@ -51,11 +51,11 @@ use Rattle.lk_node.specs.Serving.{with_entries, GoesOn}
 use Rattle.lk_node.proofs.Nodes.{with_all_behind, near_behind, told_behind, told_synced}
 use Rattle.lk_recovery.specs.Compacting.{IsDue, IsSameStore, Rebases}
 use Rattle.lk_replica.specs.Groups.{as_synced, as_sent, waits_after, Gathers, Recalls, Gathered, GroupFits, GroupGoes, GroupStays, Settles, GroupValue, Adds, IsCovered, IsRefusedInGroup, LeavesInGroup, IsSettled, MakesRoom, settle_calls, gather_calls}
-use Rattle.lk_recovery.specs.Faults.{IsStoreFault, fault_number, failures_by, WantsNoMemory}
+use Rattle.lk_step.specs.Faults.{IsStoreFault, fault_number, failures_by, WantsNoMemory}
 use Rattle.lk_replica.specs.Posts.{AreOf}
 use Rattle.lk_replica.specs.ReplicaValue.{ReplicaValue}
 use Rattle.lk_replica.specs.Taking.{IsCutShort}
-use Rattle.lk_recovery.specs.declared.fault.ReplicaFault.{ReplicaFault}
+use Rattle.lk_step.specs.declared.fault.ReplicaFault.{ReplicaFault}
 use Rattle.lk_recovery.proofs.Recoveries.{err_as, failed_alone, known_rests, EntriesCover, held_fit, fit_disks, cover_entries, cover_disks, put_fits, put_covers, same_holds}
 use Rattle.lk_replica.proofs.Refusals.{number_of_calls, halted_alone}
 use Rattle.lk_replica.proofs.NoSend.{sends_not}

@@ -4,16 +4,14 @@ use Rattle.lk_log.specs.declared.fault.StoreFault.TheVariants as store
 use Rattle.std.proofs.Common.{◌≡◌, List, Result, Ok, Err, IsErrAnd, sym, subst, arith}
 use Rattle.std.specs.Prelude.{Vec}
 use Rattle.std.specs.Global.{Global}
-use Rattle.lk_recovery.specs.Faults.{fault_number, fault_of, IfSend, IfGoesOn}
-use Rattle.lk_recovery.specs.declared.fault.ReplicaFault.{ReplicaFault}
-use Rattle.lk_recovery.specs.declared.fault.ReplicaFault.TheVariants as fault
+use Rattle.lk_step.specs.Faults.{fault_number, fault_of, IfSend, IfGoesOn}
+use Rattle.lk_step.specs.declared.fault.ReplicaFault.{ReplicaFault}
+use Rattle.lk_step.specs.declared.fault.ReplicaFault.TheVariants as fault
 use Rattle.lk_step.specs.declared.note.Note.{Note}
 
 pub store_never_sends : (f : StoreFault) → IfSend (λ notes. ⊥) (fault_of f)
 store_never_sends store.Device = tt
 store_never_sends store.NoMemory = tt
-store_never_sends store.Damaged = tt
-store_never_sends store.WrongStore = tt
 store_never_sends store.Failed = tt
 
 -- where none was, whatever is said of one holds

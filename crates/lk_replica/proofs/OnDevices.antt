@@ -1,10 +1,11 @@
 -- The disks of a store whose device is one in memory.
 use Rattle.std.proofs.Common.{◌≡◌, refl, sym, subst}
 use Rattle.lk_disk.specs.Disk.{Disk}
-use Rattle.lk_disk.specs.Memory.{disk_of}
+use Rattle.lk_simulated_disk.specs.Memory.{disk_of}
 use Rattle.lk_disk.specs.declared.device.Side.{Side}
 use Rattle.lk_disk.specs.declared.device.Side.TheVariants.{A, B}
-use Rattle.lk_log.specs.StoreValue.{StoreValue, disks, device_of}
+use Rattle.lk_log.specs.StoreValue.{StoreValue, disks}
+use Rattle.lk_replica.specs.ReplicaValue.{device_of}
 
 device_disks : (s : StoreValue) (side : Side) → disks s side ≡ disk_of (device_of s) side
 device_disks s A = refl

@@ -6,16 +6,16 @@ use Rattle.std.proofs.Math.Nat.{add-sub_cancel_left}
 use Rattle.std.proofs.Math.Seq.{take-append_seam, drop-append_seam}
 use Rattle.std.proofs.lemmas.List.{append_cancel_left}
 use Rattle.lk_disk.specs.Disk.{Disk}
-use Rattle.lk_disk.specs.Memory.{disk_of}
+use Rattle.lk_simulated_disk.specs.Memory.{disk_of}
 use Rattle.lk_disk.specs.Meters.{Passes, start}
 use Rattle.lk_disk.specs.declared.device.Side.{Side}
 use Rattle.lk_disk.specs.declared.device.Side.TheVariants.{A, B}
 use Rattle.lk_disk.proofs.Devices.{passes_on}
 use Rattle.lk_log.proofs.Room.{within_first, within_more, within_same}
 use Rattle.lk_log.specs.Rooms.{StaysWithin}
-use Rattle.lk_log.specs.StoreValue.{StoreValue, disks, device_of}
+use Rattle.lk_log.specs.StoreValue.{StoreValue, disks}
 use Rattle.lk_state.specs.Meanings.{Meaning}
-use Rattle.lk_wire.specs.Grammar.{Spells}
+use Rattle.lk_messages.specs.Grammar.{Spells}
 use Rattle.lk_entries.specs.Values.{HeaderValue}
 use Rattle.lk_agreement.specs.Datagrams.{NodeMessage, said_by}
 use Rattle.lk_step.specs.Letters.{LetterValue, datagram_of, batch_of}
@@ -30,9 +30,9 @@ use Rattle.lk_node.specs.NodeValue.{NodeValue}
 use Rattle.lk_replica.specs.Groups.{GroupValue, Adds, IsCovered, KeepsGroup, LeavesInGroup, IsGathered, IsSettled, IsRefusedInGroup, StepSaid, letters_of, GoesThrough, as_sent, with_step, gather_calls, Recalls, GroupStays}
 use Rattle.lk_replica.specs.Posts.{AreOf}
 use Rattle.lk_recovery.specs.Remembering.{Remembers}
-use Rattle.lk_replica.specs.ReplicaValue.{ReplicaValue}
+use Rattle.lk_replica.specs.ReplicaValue.{ReplicaValue, device_of}
 use Rattle.lk_recovery.specs.Rooms.{max_after}
-use Rattle.lk_recovery.specs.Faults.{RefusedAfter}
+use Rattle.lk_step.specs.Faults.{RefusedAfter}
 use Rattle.lk_replica.specs.Together.{Said, sent_of, parts_of, said_by_steps, GoesAll, GathersAll, IsGatheredFrom, IsTakenTogether, IsNotKept, IsNotSent, IsTogetherRefused}
 use Rattle.lk_replica.specs.declared.taken.Step.{Step}
 use Rattle.lk_recovery.proofs.Recoveries.{refused_on}

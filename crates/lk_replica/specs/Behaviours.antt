@@ -1,7 +1,7 @@
 -- The results of a replica's calls, as a world of replicas sees them.
 use Rattle.std.specs.Prelude.{◌≡◌, ℕ, List, Option, Result}
 use Rattle.lk_disk.specs.Disk.{Disk}
-use Rattle.lk_disk.specs.Memory.{Memory, disk_of}
+use Rattle.lk_simulated_disk.specs.Memory.{Memory, disk_of}
 use Rattle.lk_disk.specs.Meters.{trapped}
 use Rattle.lk_disk.specs.declared.device.Side.{Side}
 use Rattle.lk_disk.specs.declared.trap.Trap.{Trap}

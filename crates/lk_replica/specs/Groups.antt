@@ -15,7 +15,7 @@ use Rattle.lk_log.specs.Rooms.{StaysWithin}
 use Rattle.lk_log.specs.StoreValue.{StoreValue, disks}
 use Rattle.lk_log.specs.Stores.{Holds}
 use Rattle.lk_state.specs.Meanings.{Meaning}
-use Rattle.lk_wire.specs.Grammar.{Spells}
+use Rattle.lk_messages.specs.Grammar.{Spells}
 use Rattle.lk_agreement.specs.Acceptors.{AcceptorState}
 use Rattle.lk_agreement.specs.Datagrams.{NodeMessage, said_by}
 use Rattle.lk_step.specs.Letters.{LetterValue, batch_of}
@@ -25,7 +25,7 @@ use Rattle.lk_step.specs.declared.note.Note.{Note}
 use Rattle.lk_node.specs.Steps.{Steps}
 use Rattle.lk_types.specs.Limits.{max_count}
 use Rattle.lk_recovery.specs.Compacting.{IsDue, Rebases, RebasesWhereDue}
-use Rattle.lk_recovery.specs.Faults.{failures_by, RefusedAfter, IsNumberOfCalls}
+use Rattle.lk_step.specs.Faults.{failures_by, RefusedAfter, IsNumberOfCalls}
 use Rattle.lk_replica.specs.Posts.{AreOf}
 use Rattle.lk_recovery.specs.Rooms.{GrowsByStep, max_after}
 use Rattle.lk_replica.specs.ReplicaValue.{ReplicaValue}

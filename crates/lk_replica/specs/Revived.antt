@@ -1,7 +1,7 @@
 -- What a restart of a replica has done, and why it failed.
 use Rattle.std.specs.Prelude.{◌≡◌, ℕ, ◌≤◌, false, Result, Ok, Err, List}
 use Rattle.lk_disk.specs.Disk.{Disk}
-use Rattle.lk_disk.specs.Memory.{Memory, disk_of}
+use Rattle.lk_simulated_disk.specs.Memory.{Memory, disk_of}
 use Rattle.lk_disk.specs.declared.device.Side.{Side}
 use Rattle.lk_entries.specs.Formats.{format}
 use Rattle.lk_entries.specs.Values.{HeaderValue}
@@ -12,7 +12,7 @@ use Rattle.lk_step.specs.declared.note.Note.{Note}
 use Rattle.lk_node.specs.Executing.{NothingToRun}
 use Rattle.lk_node.specs.NodeValue.{NodeValue}
 use Rattle.lk_recovery.specs.Compacting.{Renews}
-use Rattle.lk_recovery.specs.Faults.{failures_by, RefusedAfter}
+use Rattle.lk_step.specs.Faults.{failures_by, RefusedAfter}
 use Rattle.lk_recovery.specs.Revivals.{TakesUp, IsLastOld, CallsOfRevival, IsRefusedFor}
 use Rattle.lk_replica.specs.ReplicaValue.{ReplicaValue}
 

@@ -12,7 +12,7 @@ use Rattle.lk_state.specs.Meanings.{Meaning}
 use Rattle.lk_disk.specs.Disk.{Disk, contents}
 use Rattle.lk_disk.specs.declared.device.Side.{Side}
 use Rattle.lk_agreement.specs.Datagrams.{NodeMessage, said_by}
-use Rattle.lk_wire.specs.Grammar.{Spells}
+use Rattle.lk_messages.specs.Grammar.{Spells}
 use Rattle.lk_log.specs.Rooms.{StaysWithin}
 use Rattle.lk_step.specs.Letters.{LetterValue, batch_of}
 use Rattle.lk_step.specs.Outboxes.{OutboxValue}
@@ -26,9 +26,9 @@ use Rattle.lk_node.specs.Leavings.{DisksFit, AllCover}
 use Rattle.lk_recovery.specs.Remembering.{Remembers}
 use Rattle.lk_recovery.specs.Rooms.{GrowsByStep, GrowsFromBase}
 use Rattle.lk_recovery.specs.Compacting.{AreLeft, IsDue, KeepsFileOrGoesOver, Rebases, RebasesWhereDue, CallsWhereDue}
-use Rattle.lk_recovery.specs.Faults.{fault_number, failures_by, RefusedAfter, IfGoesOn, IfSend, IfSpared, IsOfCalls, IsNumberOfCalls, WantsNoMemory}
-use Rattle.lk_recovery.specs.declared.fault.ReplicaFault.{ReplicaFault}
-use Rattle.lk_recovery.specs.declared.fault.ReplicaFault.TheVariants as fault
+use Rattle.lk_step.specs.Faults.{fault_number, failures_by, RefusedAfter, IfGoesOn, IfSend, IfSpared, IsOfCalls, IsNumberOfCalls, WantsNoMemory}
+use Rattle.lk_step.specs.declared.fault.ReplicaFault.{ReplicaFault}
+use Rattle.lk_step.specs.declared.fault.ReplicaFault.TheVariants as fault
 use Rattle.lk_replica.specs.ReplicaValue.{ReplicaValue}
 use Rattle.lk_node.specs.NodeValue.{NodeValue}
 use Rattle.lk_node.specs.Steps.{Steps}

@@ -3,9 +3,8 @@ ghost use Rattle.std.specs.Prelude.{◌≡◌, ◌∷◌, ◌++◌, [], IfOk, On
 ghost use Rattle.lk_step.specs.Letters.{LetterValue, party_of, datagram_of, batch_of};
 
 use crate::datagram::Datagram;
-use crate::post::{Post, SendFault};
 use lk_agreement::Party;
-use lk_step::{Letter, To};
+use lk_step::{Letter, Post, SendFault, To};
 use lk_types::{NoMemory, NodeNo};
 use std::alloc::Global;
 use std::marker::Model;

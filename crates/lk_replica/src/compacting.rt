@@ -4,12 +4,13 @@ ghost use Rattle.lk_types.specs.Limits.{max_base, max_count};
 ghost use Rattle.lk_log.specs.StoreValue.{disks};
 ghost use Rattle.lk_replica.specs.Compacted.{IsNotCompacted};
 ghost use Rattle.lk_recovery.specs.Rebased.{StandsOnBase, HasGoneOver, LeavesDisks};
-ghost use Rattle.lk_recovery.specs.Faults.{fault_number, RaisesFailures};
+ghost use Rattle.lk_step.specs.Faults.{fault_number, RaisesFailures};
 
 use crate::replica::Replica;
 use lk_disk::LogDisk;
-use lk_recovery::{ReplicaFault, write_base};
+use lk_recovery::write_base;
 use lk_state::Machine;
+use lk_step::ReplicaFault;
 
 impl<M: Machine, D: LogDisk + Drop> Replica<M, D> {
     /// Writes a snapshot of everything executed, which replaces the commands and the votes up to there.

@@ -1,7 +1,7 @@
 // The replica with disks in memory.
 ghost use Rattle.std.specs.Prelude.{◌≡◌, [], refl};
 ghost use Rattle.lk_disk.specs.Meters.{trapped};
-ghost use Rattle.lk_log.specs.StoreValue.{device_of};
+ghost use Rattle.lk_replica.specs.ReplicaValue.{device_of};
 ghost use Rattle.lk_node.specs.Keeping.{Stands};
 ghost use Rattle.lk_replica.specs.Compacted.{CompactsTo};
 ghost use Rattle.lk_replica.specs.Revived.{RevivesTo};
@@ -13,11 +13,12 @@ use crate::grouping::Group;
 use crate::memory_replica::{MemoryReplica, Revived};
 use crate::replica::Replica;
 use crate::taken::{Taken, TakenAll};
-use lk_disk::{LogDisk, MemoryDisk, Trap};
+use lk_disk::{LogDisk, Trap};
 use lk_entries::Header;
-use lk_recovery::{ReplicaFault, ReviveFault};
+use lk_recovery::ReviveFault;
+use lk_simulated_disk::MemoryDisk;
 use lk_state::Machine;
-use lk_step::Input;
+use lk_step::{Input, ReplicaFault};
 use lk_types::{NoMemory, NodeNo};
 use std::alloc::Global;
 

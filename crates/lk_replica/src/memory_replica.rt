@@ -1,30 +1,31 @@
 ghost use Rattle.std.specs.Prelude.{◌≡◌, ℕ, [], map, Contains, Ok, Err, IfOk, IfErr, OnOk, OnErr};
 ghost use Rattle.std.specs.List.{AllByRecursion};
 ghost use Rattle.lk_types.specs.Limits.{max_base};
-ghost use Rattle.lk_disk.specs.Memory.{disk_of};
+ghost use Rattle.lk_simulated_disk.specs.Memory.{disk_of};
 ghost use Rattle.lk_disk.specs.Meters.{Passes};
 ghost use Rattle.lk_disk.specs.declared.trap.Trap.{Trap as TrapValue};
 ghost use Rattle.lk_log.specs.Causes.{rebase_calls};
 ghost use Rattle.lk_log.specs.Rooms.{StaysWithin};
 ghost use Rattle.lk_state.specs.Meanings.{Meaning};
 ghost use Rattle.lk_state.specs.States.{WholeValue, SumsUp};
-ghost use Rattle.lk_wire.specs.Grammar.{Spells};
+ghost use Rattle.lk_messages.specs.Grammar.{Spells};
 ghost use Rattle.lk_agreement.specs.Datagrams.{NodeMessage, Datagram as DatagramValue, said_by};
 ghost use Rattle.lk_node.specs.Histories.{History, Genesis, IsLawful};
 ghost use Rattle.lk_node.specs.Holdings.{Holding};
 ghost use Rattle.lk_node.specs.Leavings.{header_of, DisksFit, AllCover};
 ghost use Rattle.lk_node.specs.Calls.{heard_by, InputFits, NodeFits, Goes};
 ghost use Rattle.lk_replica.specs.Behaviours.{Behaviour, TrapsAlone, disks_by};
-ghost use Rattle.lk_recovery.specs.Faults.{IsStoreFault, fault_number, RefusedAfter, IsNumberOfCalls, IsNumberOfRevival};
+ghost use Rattle.lk_step.specs.Faults.{IsStoreFault, fault_number, RefusedAfter, IsNumberOfCalls, IsNumberOfRevival};
 ghost use Rattle.lk_recovery.specs.Compacting.{AllStandAt};
 ghost use Rattle.lk_recovery.specs.Rooms.{max_after};
 ghost use Rattle.lk_replica.specs.Together.{GoesAll, said_in, sent_of};
 
 use crate::taken::{Taken, TakenAll};
-use lk_disk::{MemoryDisk, Trap};
+use lk_disk::Trap;
 use lk_entries::Header;
-use lk_recovery::{ReplicaFault, ReviveFault};
-use lk_step::{Input, Note};
+use lk_recovery::ReviveFault;
+use lk_simulated_disk::MemoryDisk;
+use lk_step::{Input, Note, ReplicaFault};
 use std::alloc::Global;
 
 /// A replica, and what it executed while it restarted.

@@ -8,7 +8,7 @@ ghost use Rattle.lk_log.specs.Stores.{KeepsItsFile};
 ghost use Rattle.lk_step.specs.Letters.{LetterValue, batch_of};
 ghost use Rattle.lk_node.specs.NodeValue.{NodeValue};
 ghost use Rattle.lk_recovery.specs.Compacting.{AreLeft, AreSame, IsDue, KeepsFileOrGoesOver, RebasesWhereDue};
-ghost use Rattle.lk_wire.specs.Grammar.{Spells};
+ghost use Rattle.lk_messages.specs.Grammar.{Spells};
 ghost use Rattle.lk_agreement.specs.Datagrams.{NodeMessage, Datagram as DatagramValue, said_by};
 ghost use Rattle.lk_node.specs.Calls.{InputFits, NodeFits, Goes};
 ghost use Rattle.lk_node.specs.Executing.{NothingToRun};
@@ -19,18 +19,17 @@ ghost use Rattle.lk_replica.specs.Posts.{AreOf, GivesLetters, SendsAs, RefusesSe
 ghost use Rattle.lk_node.specs.Steps.{Steps};
 ghost use Rattle.lk_replica.specs.Taking.{Writes, CallsOfStep, GivesBy, IsRefused, IsCutShort, StaysUp, StepsOn, StepsToDisk, StepLeavesDisks};
 ghost use Rattle.lk_recovery.specs.Rebased.{LeavesDisks};
-ghost use Rattle.lk_recovery.specs.Faults.{fault_number, RaisesFailures, IfGoesOn, WantsNoMemory};
+ghost use Rattle.lk_step.specs.Faults.{fault_number, RaisesFailures, IfGoesOn, WantsNoMemory};
 ghost use Rattle.lk_recovery.specs.Remembering.{Remembers};
 ghost use Rattle.lk_recovery.specs.Rooms.{max_after};
 
 use crate::delivering::deliver;
-use crate::post::{Post, SendFault};
 use lk_disk::{LogDisk, Trap, Trapped};
 use lk_log::Store;
 use lk_node::Node;
-use lk_recovery::{ReplicaFault, rebase_where_due, write_base};
+use lk_recovery::{rebase_where_due, write_base};
 use lk_state::Machine;
-use lk_step::{Input, Note, Outbox};
+use lk_step::{Input, Note, Outbox, Post, ReplicaFault, SendFault};
 use std::alloc::Global;
 use std::marker::Model;
 

@@ -1,7 +1,7 @@
 // The end of a group whose letters the caller sends, and what remains of its steps.
 ghost use Rattle.std.specs.Prelude.{◌≡◌, ◌∷◌, ◌++◌, [], false, IfErr, OnOk, ⊤};
 ghost use Rattle.lk_log.specs.StoreValue.{disks};
-ghost use Rattle.lk_recovery.specs.Faults.{RaisesFailures, fault_number};
+ghost use Rattle.lk_step.specs.Faults.{RaisesFailures, fault_number};
 ghost use Rattle.lk_replica.specs.Groups.{IsRefusedInGroup, IsSettled, LeavesInGroup};
 ghost use Rattle.lk_replica.specs.Together.{IsNotKept};
 
@@ -9,11 +9,11 @@ use crate::grouping::settle;
 use crate::replica::Replica;
 use crate::taken::Step;
 use lk_disk::LogDisk;
-use lk_recovery::ReplicaFault;
 use lk_state::Machine;
+use lk_step::ReplicaFault;
 
 impl<M: Machine, D: LogDisk + Drop> Replica<M, D> {
-    /// Keeps the result of a step. If it is out of memory, the replica ends.
+    // Keeps the result of a step. If it is out of memory, the replica ends.
     pub(crate) fn keep(&mut self, steps: &mut Vec<Step>, step: Step) -> Result<(), ReplicaFault>
         ensures kept { OnOk result (steps.new.items ≡ steps.old.items ++ step ∷ []) }
         ensures same { OnOk result (self.new ≡ self.old) }
@@ -28,7 +28,7 @@ impl<M: Machine, D: LogDisk + Drop> Replica<M, D> {
         }
     }
 
-    /// Syncs the live file once, if something waits for that, or else flushes it. If that fails, the replica ends.
+    // Syncs the live file once, if something waits for that, or else flushes it. If that fails, the replica ends.
     pub(crate) fn end_group(&mut self, waits: bool) -> Result<(), ReplicaFault>
         ensures exact { D.is_honest → OnOk result (IsSettled D.is_metered self.old waits self.new) }
         // What is on the disks after any exit, where nothing of the group is sent: neither file has grown.

@@ -26,7 +26,7 @@ use std::io::Write;
 /// The most events of a run.
 pub const MAX_EVENTS: u64 = 20_000;
 
-/// The line of a script that begins the world.
+// The line of a script that begins the world.
 const WORLD_LINE: &[u8] = b"genesis 5 2 1:7001 2:7002 3:7003\n";
 
 // The member of that number.

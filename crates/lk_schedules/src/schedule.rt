@@ -13,10 +13,10 @@ use lk_types::limits::MAX_COUNT;
 use lk_types::{NoMemory, NodeNo};
 use std::alloc::Global;
 
-/// The most bytes of a disk that a drawn stop leaves, where it does not leave all.
+// The most bytes of a disk that a drawn stop leaves, where it does not leave all.
 const SOME_BYTES: usize = 64;
 
-/// How many datagrams are drawn for a group, of which those bound for its node join it.
+// How many datagrams are drawn for a group, of which those bound for its node join it.
 const FOR_A_GROUP: usize = 16;
 
 /// What is drawn from, and how many events were drawn.

@@ -32,7 +32,7 @@ impl Transcript {
         }
     }
 
-    /// Adds the line of an event, if lines are kept.
+    // Adds the line of an event, if lines are kept.
     fn add(&mut self, alloc: Global, event: &Event) -> Result<(), NoMemory>
         ensures kept { self.new.is_kept ≡ self.old.is_kept }
         ensures text { OnOk result (self.new.text.items ≡ self.old.text.items ++ kept_lines self.old.is_kept (event.now ∷ [])) }

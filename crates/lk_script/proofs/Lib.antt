@@ -1,5 +1,5 @@
-pub mod TableServerLemmas
-pub mod PrintLemmas
+pub mod TableServerLaws
+pub mod PrintLaws
 pub mod Following
-pub mod ScriptLemmas
+pub mod ScriptLaws
 pub mod OutputLaws

@@ -7,12 +7,12 @@ use Rattle.std.proofs.lemmas.List.Elements.{All-contains}
 use Rattle.std.proofs.lemmas.List.Sums.{AllPass-from_list_all}
 use Rattle.hex.specs.Hex.{encode_lower}
 use Rattle.lk_types.specs.declared.answer.Answer.{Answer}
-use Rattle.lk_wire.specs.declared.message.NodeMessage.{NodeMessage}
-use Rattle.lk_wire.specs.declared.message.NodeMessage.TheVariants as message
-use Rattle.lk_wire.specs.declared.message.Content.TheVariants as content
-use Rattle.lk_wire.specs.declared.message.Message.{Message}
-use Rattle.lk_wire.specs.Grammar.{spelling, Spells}
-use Rattle.lk_wire.proofs.Spellings.{one_message}
+use Rattle.lk_messages.specs.declared.message.NodeMessage.{NodeMessage}
+use Rattle.lk_messages.specs.declared.message.NodeMessage.TheVariants as message
+use Rattle.lk_messages.specs.declared.message.Content.TheVariants as content
+use Rattle.lk_messages.specs.declared.message.Message.{Message}
+use Rattle.lk_messages.specs.Grammar.{spelling, Spells}
+use Rattle.lk_messages.proofs.Spellings.{one_message}
 use Rattle.lk_members.specs.Effects.{Command, RequestValue, Request, Placed, in_effect, is_at_most, IsLast}
 use Rattle.lk_members.proofs.Memberships.{numbers_take_effect_once}
 use Rattle.lk_locks.specs.Lists.{table_of, table_answer}

@@ -5,12 +5,12 @@ use Rattle.hex.specs.Hex.{encode_lower}
 use Rattle.lk_types.specs.declared.answer.Answer.{Answer as AnswerValue}
 use Rattle.lk_types.specs.declared.command.Op.{Op}
 use Rattle.lk_types.specs.declared.command.Op.TheVariants.{Table, Join, Leave, Raise}
-use Rattle.lk_wire.specs.declared.message.NodeMessage.{NodeMessage}
-use Rattle.lk_wire.specs.declared.message.NodeMessage.TheVariants.{Answer, Passed}
-use Rattle.lk_wire.specs.declared.message.Content.{Content}
-use Rattle.lk_wire.specs.declared.message.Content.TheVariants as content
-use Rattle.lk_wire.specs.declared.message.Message.{Message}
-use Rattle.lk_wire.specs.Grammar.{spelling, Spells}
+use Rattle.lk_messages.specs.declared.message.NodeMessage.{NodeMessage}
+use Rattle.lk_messages.specs.declared.message.NodeMessage.TheVariants.{Answer, Passed}
+use Rattle.lk_messages.specs.declared.message.Content.{Content}
+use Rattle.lk_messages.specs.declared.message.Content.TheVariants as content
+use Rattle.lk_messages.specs.declared.message.Message.{Message}
+use Rattle.lk_messages.specs.Grammar.{spelling, Spells}
 use Rattle.lk_members.specs.Effects.{Command, RequestValue, IsLast}
 use Rattle.lk_script.specs.Replies.{IsReply, with_request}
 

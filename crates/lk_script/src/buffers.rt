@@ -2,7 +2,7 @@
 
 ghost use Rattle.std.specs.Prelude.{◌≡◌, [], OnOk};
 ghost use Rattle.hex.specs.Hex.{encode_lower};
-ghost use Rattle.lk_wire.specs.Grammar.{spelling};
+ghost use Rattle.lk_messages.specs.Grammar.{spelling};
 
 use bytes::BytesMut;
 use lk_types::NoMemory;
@@ -49,7 +49,7 @@ impl Buffers {
         self.print_reply()
     }
 
-    /// Makes the text the reply in hex.
+    // Makes the text the reply in hex.
     fn print_reply(&mut self) -> Result<(), NoMemory>
         ensures ok { OnOk result (self.new.text.items ≡ encode_lower self.old.reply.items) }
     {

@@ -8,10 +8,11 @@ use lk_replica::Datagram;
 use lk_sim::{End, Refused};
 use lk_step::Note;
 use lk_types::{Command, NoMemory, NodeNo, Position};
+use lk_wire::{Bad, ContentRef, MessageRef, NodeMessageRef, view};
 use std::alloc::Global;
 use std::io::Write;
 
-/// Adds the line of what a node executed.
+// Adds the line of what a node executed.
 fn print_ran(
     text: &mut Vec<u8>,
     node: NodeNo,
@@ -29,7 +30,7 @@ fn print_ran(
     printed.map_err(|_| NoMemory)
 }
 
-/// Adds the line of a note.
+// Adds the line of a note.
 fn print_note(text: &mut Vec<u8>, note: &Note) -> Result<(), NoMemory> {
     let printed = match note {
         Note::Asked(request) => {
@@ -56,7 +57,7 @@ fn print_note(text: &mut Vec<u8>, note: &Note) -> Result<(), NoMemory> {
     printed.map_err(|_| NoMemory)
 }
 
-/// The letter of a node or a client, and its number.
+// The letter of a node or a client, and its number.
 fn party(party: Party) -> (char, u32) {
     match party {
         Party::Node(node) => ('n', node.get()),
@@ -64,26 +65,36 @@ fn party(party: Party) -> (char, u32) {
     }
 }
 
-/// The name of a datagram's kind, which its fourth byte tells.
-fn kind(bytes: &[u8]) -> &'static str {
-    match bytes.get(3) {
-        Some(1) => "prepare",
-        Some(2) => "promise",
-        Some(3) => "accept",
-        Some(4) => "accepted",
-        Some(5) => "nack",
-        Some(6) => "decided",
-        Some(7) => "want",
-        Some(8) => "part",
-        Some(9) => "request",
-        Some(10) => "answer",
-        Some(11) => "elsewhere",
-        Some(12) => "passed",
-        _ => "lead",
+// The name of the kind of a node's message.
+fn node_kind(message: &NodeMessageRef<'_>) -> &'static str {
+    match message {
+        NodeMessageRef::Prepare(..) => "prepare",
+        NodeMessageRef::Promise(_) => "promise",
+        NodeMessageRef::Accept(_) => "accept",
+        NodeMessageRef::Accepted(_) => "accepted",
+        NodeMessageRef::Nack(_) => "nack",
+        NodeMessageRef::Decided(_) => "decided",
+        NodeMessageRef::Want(_) => "want",
+        NodeMessageRef::Part(_) => "part",
+        NodeMessageRef::Answer(_) => "answer",
+        NodeMessageRef::Elsewhere(_) => "elsewhere",
+        NodeMessageRef::Passed(_) => "passed",
+        NodeMessageRef::Lead(..) => "lead",
     }
 }
 
-/// Adds the line of the datagram of this number.
+// The name of a datagram's kind, or `bad` where it spells no message.
+fn kind(bytes: &[u8]) -> &'static str {
+    match view(bytes) {
+        Ok(message) => match &message.content {
+            ContentRef::Request(_) => "request",
+            ContentRef::Node(_, said) => node_kind(said),
+        },
+        Err(Bad) => "bad",
+    }
+}
+
+// Adds the line of the datagram of this number.
 fn print_datagram(text: &mut Vec<u8>, k: usize, datagram: &Datagram) -> Result<(), NoMemory> {
     let (from, sender) = party(datagram.from);
     let (to, receiver) = party(datagram.to);
@@ -91,17 +102,25 @@ fn print_datagram(text: &mut Vec<u8>, k: usize, datagram: &Datagram) -> Result<(
     writeln!(text, "sent {k} {from}{sender} {to}{receiver} {kind}").map_err(|_| NoMemory)
 }
 
-/// Whether the note comes with a datagram to a client.
+// Whether the note comes with a datagram to a client.
 fn is_told(note: &Note) -> bool {
     matches!(note, Note::Answered(..) | Note::Told(..))
 }
 
-/// Whether a note comes with the datagram: it is an Answer or a Passed.
+// Whether a note comes with the datagram: it is an Answer or a Passed.
 fn is_reply(datagram: &Datagram) -> bool {
-    matches!(datagram.bytes.get(3), Some(10 | 12))
+    match view(&datagram.bytes) {
+        Ok(
+            MessageRef {
+                content: ContentRef::Node(_, NodeMessageRef::Answer(_) | NodeMessageRef::Passed(_)),
+                ..
+            },
+        ) => true,
+        _ => false,
+    }
 }
 
-/// Adds the lines of the notes but of those that come with datagrams.
+// Adds the lines of the notes but of those that come with datagrams.
 fn print_notes(text: &mut Vec<u8>, notes: &[Note]) -> Result<(), NoMemory> {
     for note in notes {
         if !is_told(note) {
@@ -111,7 +130,7 @@ fn print_notes(text: &mut Vec<u8>, notes: &[Note]) -> Result<(), NoMemory> {
     Ok(())
 }
 
-/// Adds the line of the first of the notes that comes with a datagram, and gives those behind it.
+// Adds the line of the first of the notes that comes with a datagram, and gives those behind it.
 fn print_told<'a>(text: &mut Vec<u8>, notes: &'a [Note]) -> Result<&'a [Note], NoMemory> {
     for i in 0..notes.len() {
         if is_told(&notes[i]) {
@@ -122,7 +141,7 @@ fn print_told<'a>(text: &mut Vec<u8>, notes: &'a [Note]) -> Result<&'a [Note], N
     Ok(&[])
 }
 
-/// Adds the lines of the datagrams from that place on, and just before each the line of the note that comes with it.
+// Adds the lines of the datagrams from that place on, and just before each the line of the note that comes with it.
 fn print_sent(
     text: &mut Vec<u8>,
     sent: &[Datagram],
@@ -139,7 +158,7 @@ fn print_sent(
     Ok(())
 }
 
-/// Adds the line of a fault that ended a node.
+// Adds the line of a fault that ended a node.
 fn print_fault(text: &mut Vec<u8>, node: NodeNo, number: u8) -> Result<(), NoMemory> {
     let node = node.get();
     let name = match number {
@@ -150,7 +169,7 @@ fn print_fault(text: &mut Vec<u8>, node: NodeNo, number: u8) -> Result<(), NoMem
     writeln!(text, "fault {node} {number} {name}").map_err(|_| NoMemory)
 }
 
-/// Adds the line of how an event ended a node.
+// Adds the line of how an event ended a node.
 fn print_end(text: &mut Vec<u8>, end: &End) -> Result<(), NoMemory> {
     match end {
         End::Fault(node, number) => print_fault(text, *node, *number),
@@ -179,7 +198,7 @@ pub fn print_event(
     }
 }
 
-/// The name of a refusal.
+// The name of a refusal.
 fn name_of(refused: Refused) -> &'static str
     ensures { result.now ≡ refusal_name refused }
 {

@@ -24,7 +24,7 @@ use lk_types::Genesis;
 use std::alloc::{AllocError, Global};
 use std::io::{BufRead, Write};
 
-/// The number after the word.
+// The number after the word.
 fn cluster_named(line: &[u8]) -> Option<u64>
     ensures { (cluster : ℕ) → IsTableLine line.now cluster → result ≡ Some cluster }
 {
@@ -33,14 +33,14 @@ fn cluster_named(line: &[u8]) -> Option<u64>
     digits.parse().ok()
 }
 
-/// The line that begins table mode for the cluster.
+// The line that begins table mode for the cluster.
 fn table_line(alloc: Global, cluster: u64) -> Result<String, AllocError>
     ensures { IfOk result (λ text. IsTableLine (string_bytes text) cluster) }
 {
     format!(in alloc; "table {cluster}")
 }
 
-/// The cluster for which a line begins table mode.
+// The cluster for which a line begins table mode.
 fn cluster_of(alloc: Global, line: &[u8]) -> Result<u64, LineFault>
     ensures ok { IfOk result (IsTableLine line.now) }
     ensures not_understood { IsErrOf result LineFault.NotUnderstood → (cluster : ℕ) → IsTableLine line.now cluster → ⊥ }
@@ -52,7 +52,7 @@ fn cluster_of(alloc: Global, line: &[u8]) -> Result<u64, LineFault>
     Ok(cluster)
 }
 
-/// A table for the cluster.
+// A table for the cluster.
 fn table_mode<M: MemoryReplica>(alloc: Global, cluster: u64) -> Mode<M>
     ensures fits { Fits (table cluster []) result }
     ensures done { done_in result ≡ 0 }
@@ -60,7 +60,7 @@ fn table_mode<M: MemoryReplica>(alloc: Global, cluster: u64) -> Mode<M>
     Mode::Table(TableServer::new(alloc, cluster))
 }
 
-/// A world in which nothing has happened.
+// A world in which nothing has happened.
 fn world_mode<M: MemoryReplica>(alloc: Global, genesis: Genesis) -> Mode<M>
     ensures fits { Fits (world (new_world genesis) 0) result }
     ensures done { done_in result ≡ 0 }
@@ -68,8 +68,8 @@ fn world_mode<M: MemoryReplica>(alloc: Global, genesis: Genesis) -> Mode<M>
     Mode::World(WorldRun::new(alloc, genesis))
 }
 
-/// What the first line sets up. It is a function of its own since a server is large: in `take_line` each line would
-/// pay for the place of a new one.
+// What the first line sets up. It is a function of its own since a server is large: in `take_line` each line would
+// pay for the place of a new one.
 #[inline(never)]
 fn begin<M: MemoryReplica>(alloc: Global, line: &[u8]) -> Result<Mode<M>, LineFault>
     ensures ok { IfOk result (λ m. (after : Script M) × Takes M.behaves begun line.now [] after × Fits after m) }
@@ -86,7 +86,7 @@ fn begin<M: MemoryReplica>(alloc: Global, line: &[u8]) -> Result<Mode<M>, LineFa
     }
 }
 
-/// Takes a line that is not empty, and makes the text what it prints. An event of it may be refused.
+// Takes a line that is not empty, and makes the text what it prints. An event of it may be refused.
 fn take_line<M: MemoryReplica>(
     alloc: Global,
     mode: &mut Mode<M>,
@@ -113,7 +113,7 @@ fn take_line<M: MemoryReplica>(
     }
 }
 
-/// Writes a text.
+// Writes a text.
 fn write_text<W: Write>(writer: &mut W, text: &[u8]) -> Result<(), ScriptFault>
     ensures ok { OnOk result (Appends (W.contents writer.old) (W.contents writer.new) text.now) }
     ensures err { IfErr result (λ fault. fault ≡ ScriptFault.Write) }
@@ -124,14 +124,14 @@ fn write_text<W: Write>(writer: &mut W, text: &[u8]) -> Result<(), ScriptFault>
     }
 }
 
-/// The line that stands last in world mode where nothing was refused.
+// The line that stands last in world mode where nothing was refused.
 fn done_text(alloc: Global, done: u64) -> Result<String, AllocError>
     ensures { IfOk result (λ text. string_bytes text ≡ done_line done) }
 {
     format!(in alloc; "done {done}\n")
 }
 
-/// Writes what stands last where the input is at its end.
+// Writes what stands last where the input is at its end.
 fn write_last<M: MemoryReplica, W: Write>(
     alloc: Global,
     mode: &Mode<M>,
@@ -149,7 +149,7 @@ fn write_last<M: MemoryReplica, W: Write>(
     }
 }
 
-/// Writes what a line printed. A refusal of the world ends the run.
+// Writes what a line printed. A refusal of the world ends the run.
 fn write_line<W: Write>(
     ended: Option<Refused>,
     text: &[u8],

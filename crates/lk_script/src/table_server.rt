@@ -3,9 +3,9 @@
 ghost use Rattle.std.specs.Prelude.{◌≡◌, ◌+◌, ◌<◌, ◌≤◌, ◌++◌, ◌∷◌, [], List, ℕ, Some, None, true, false, OnOk, IfOk, IfErr, IfSome, IsNone, IsErrOf};
 ghost use Rattle.lk_types.specs.Limits.{max_count};
 ghost use Rattle.lk_members.specs.Effects.{Command as CommandValue};
-ghost use Rattle.lk_wire.specs.Grammar.{Spells};
+ghost use Rattle.lk_messages.specs.Grammar.{Spells};
 ghost use Rattle.lk_wire.specs.Shown.{shown};
-ghost use Rattle.lk_wire.specs.declared.message.Message.{Message as MessageValue};
+ghost use Rattle.lk_messages.specs.declared.message.Message.{Message as MessageValue};
 ghost use Rattle.lk_script.specs.TableMode.{from_client, is_request_to, is_for_table};
 
 use crate::buffers::Buffers;
@@ -18,7 +18,7 @@ use lk_types::{Answer, Command, Genesis, Member, NoMemory, NodeNo, Op, Request};
 use lk_wire::{Answered, Bad, Content, ContentRef, Message, MessageRef, NodeMessage, view};
 use std::alloc::Global;
 
-/// The request in a datagram's message, if it is one to the cluster.
+// The request in a datagram's message, if it is one to the cluster.
 fn request_to(cluster: u64, message: &MessageRef<'_>) -> Option<Request>
     ensures some { IfSome result (λ r. shown message.now ≡ from_client cluster r) }
     ensures none { IsNone result → is_request_to cluster (shown message.now) ≡ false }
@@ -29,7 +29,7 @@ fn request_to(cluster: u64, message: &MessageRef<'_>) -> Option<Request>
     }
 }
 
-/// The request that some bytes spell, if they are a datagram and it is a request to the cluster.
+// The request that some bytes spell, if they are a datagram and it is a request to the cluster.
 fn read_request(cluster: u64, bytes: &[u8]) -> Result<Option<Request>, Bad>
     ensures request { IfOk result (λ found. IfSome found (λ r. Spells (from_client cluster r) bytes.now)) }
     ensures other { IfOk result (λ found. IsNone found → (m : MessageValue) × Spells m bytes.now × (is_request_to cluster m ≡ false)) }
@@ -39,7 +39,7 @@ fn read_request(cluster: u64, bytes: &[u8]) -> Result<Option<Request>, Bad>
     Ok(request_to(cluster, &message))
 }
 
-/// Whether an op is for the lock table, and not for the members.
+// Whether an op is for the lock table, and not for the members.
 fn is_for_table(op: &Op) -> bool
     ensures { result ≡ is_for_table op.now }
 {
@@ -57,8 +57,8 @@ pub struct TableServer {
 }
 
 impl TableServer {
-    ghost use Rattle.lk_wire.specs.declared.message.NodeMessage.TheVariants as reply;
-    ghost use Rattle.lk_wire.specs.Grammar.{Spells};
+    ghost use Rattle.lk_messages.specs.declared.message.NodeMessage.TheVariants as reply;
+    ghost use Rattle.lk_messages.specs.Grammar.{Spells};
     ghost use Rattle.lk_state.specs.Sessions.{session_of, is_new};
     ghost use Rattle.lk_script.specs.Replies.{with_request};
     ghost use Rattle.lk_script.specs.TableMode.{Replies, Prints};
@@ -76,7 +76,7 @@ impl TableServer {
         TableServer { cluster, whole }
     }
 
-    /// Executes a request that takes effect, and answers it.
+    // Executes a request that takes effect, and answers it.
     fn run(&mut self, request: &Request) -> Result<Answer, NoMemory>
         requires room { executed_of self.old < max_count }
         requires table { is_for_table request.now.op ≡ true }
@@ -114,7 +114,7 @@ impl TableServer {
         }))
     }
 
-    /// Makes the text what a client's request to the cluster prints.
+    // Makes the text what a client's request to the cluster prints.
     fn print_request(&mut self, request: &Request, buffers: &mut Buffers) -> Result<(), NoMemory>
         requires { executed_of self.old < max_count }
         ensures ok { OnOk result ((bytes : List ℕ) (L : List CommandValue) → Spells (from_client self.old.cluster request.now) bytes → HasServed L self.old
@@ -133,7 +133,7 @@ impl TableServer {
         buffers.print_message(&message)
     }
 
-    /// Makes the text what the bytes of a datagram print.
+    // Makes the text what the bytes of a datagram print.
     fn print(&mut self, buffers: &mut Buffers) -> Result<(), NoMemory>
         requires { executed_of self.old < max_count }
         ensures ok { OnOk result ((L : List CommandValue) → HasServed L self.old

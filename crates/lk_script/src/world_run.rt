@@ -51,7 +51,7 @@ impl<R: MemoryReplica> WorldRun<R> {
         world
     }
 
-    /// One event happens, and what it prints is appended to the text. It may be rejected.
+    // One event happens, and what it prints is appended to the text. It may be rejected.
     fn happen(&mut self, event: Event, text: &mut Vec<u8>) -> Result<Option<Refused>, NoMemory>
         requires { self.old.done < 2 * max_count }
         ensures does { result ≡ Ok None → Does R.behaves self.old.world event self.new.world × (self.new.done ≡ self.old.done + 1) }
@@ -68,7 +68,7 @@ impl<R: MemoryReplica> WorldRun<R> {
         Ok(None)
     }
 
-    /// A node ticks this many times, or until a tick is rejected.
+    // A node ticks this many times, or until a tick is rejected.
     fn tick(
         &mut self,
         node: NodeNo,
@@ -87,7 +87,7 @@ impl<R: MemoryReplica> WorldRun<R> {
         Ok(None)
     }
 
-    /// Does what a line asks for, or as much of it as is not rejected, and appends what that prints to the text.
+    // Does what a line asks for, or as much of it as is not rejected, and appends what that prints to the text.
     fn follow(&mut self, order: Order, text: &mut Vec<u8>) -> Result<Option<Refused>, NoMemory>
         requires { self.old.done < max_count }
         ensures follows { IfOk result (λ refused. (k : ℕ) × Follows R.behaves self.old.world (events_of order) k refused self.new.world × (self.new.done ≡ self.old.done + k)) }

@@ -7,13 +7,13 @@ use crate::key::Key;
 use crate::mac::TAG;
 use std::alloc::AllocError;
 
-/// The bytes before the tag.
+// The bytes before the tag.
 const HEAD: usize = 4;
 
 /// The bytes that a frame adds to its datagram.
 pub const OVERHEAD: usize = HEAD + TAG;
 
-/// The tagged bytes that precede a datagram.
+// The tagged bytes that precede a datagram.
 const FRONT: usize = 60;
 
 /// The length of a genesis' digest.
@@ -41,7 +41,7 @@ pub struct Scope {
 }
 
 impl Purpose {
-    /// 16 letters.
+    // 16 letters.
     fn label(self) -> [u8; 16]
         ensures { result ≡ label self }
     {
@@ -52,7 +52,7 @@ impl Purpose {
         }
     }
 
-    /// The first bytes of a frame.
+    // The first bytes of a frame.
     fn head(self) -> [u8; HEAD]
         ensures { result ≡ head self }
     {
@@ -65,7 +65,7 @@ impl Purpose {
     }
 }
 
-/// The tagged bytes that precede a datagram.
+// The tagged bytes that precede a datagram.
 #[tactic(auto, unfolding(crate::specs::Frames::front))]
 fn front_of(scope: &Scope) -> [u8; FRONT]
     ensures { result ≡ front scope.now }
@@ -78,7 +78,7 @@ fn front_of(scope: &Scope) -> [u8; FRONT]
     bytes
 }
 
-/// The tag of a datagram.
+// The tag of a datagram.
 #[tactic(auto, unfolding(crate::specs::Frames::seal_tag))]
 fn tag_in(key: &Key, scope: &Scope, datagram: &[u8]) -> [u8; TAG]
     ensures { result ≡ seal_tag key.now scope.now datagram.now }
@@ -86,7 +86,7 @@ fn tag_in(key: &Key, scope: &Scope, datagram: &[u8]) -> [u8; TAG]
     key.tag(&front_of(scope), datagram)
 }
 
-/// Whether these are the first bytes of a frame.
+// Whether these are the first bytes of a frame.
 fn has_head(bytes: &[u8], purpose: Purpose) -> bool
     ensures { IsTrue result ↔ (bytes.now ≡ head purpose) }
 {
@@ -94,7 +94,7 @@ fn has_head(bytes: &[u8], purpose: Purpose) -> bool
     bytes == head.as_slice()
 }
 
-/// Whether two tags are equal. It reads every byte of both, wherever they differ; no clause speaks of its time.
+// Whether two tags are equal. It reads every byte of both, wherever they differ; no clause speaks of its time.
 fn is_same(left: &[u8; TAG], right: &[u8]) -> bool
     requires { length right.now ≡ 32 }
     ensures { IsTrue result ↔ (left.now ≡ right.now) }

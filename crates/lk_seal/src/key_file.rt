@@ -11,14 +11,14 @@ use crate::keys::Keys;
 use std::io;
 use std::io::Write;
 
-/// Whether a line says nothing: it is empty, or a comment.
+// Whether a line says nothing: it is empty, or a comment.
 fn is_idle(line: &[u8]) -> bool
     ensures { result ≡ is_idle line.now }
 {
     line.first().copied().unwrap_or(b'#') == b'#'
 }
 
-/// The key that a line spells.
+// The key that a line spells.
 fn key_in(line: &[u8]) -> Option<Key>
     ensures some { IfSome result (λ key. key_in line.now ≡ Some key) }
     ensures none { IsNone result → key_in line.now ≡ None }
@@ -30,7 +30,7 @@ fn key_in(line: &[u8]) -> Option<Key>
     }
 }
 
-/// The first line of a text, and what stands after its line feed. `None` where there is no line feed.
+// The first line of a text, and what stands after its line feed. `None` where there is no line feed.
 fn first_line(text: &[u8]) -> Option<(&[u8], &[u8])>
     ensures some { IfSome result (λ p. IsLine p.0.now × (text.now ≡ p.0.now ++ 10 ∷ p.1.now)) }
     ensures none { IsNone result → IsLine text.now }
@@ -43,7 +43,7 @@ fn first_line(text: &[u8]) -> Option<(&[u8], &[u8])>
     None
 }
 
-/// The hex digits of a key.
+// The hex digits of a key.
 fn digits_of(key: &Key) -> [u8; 2 * KEY]
     ensures { result ≡ encode_lower key.now }
 {
@@ -52,7 +52,7 @@ fn digits_of(key: &Key) -> [u8; 2 * KEY]
     digits
 }
 
-/// Writes a key in a line.
+// Writes a key in a line.
 #[tactic(auto, using(crate::proofs::KeyFileLaws::appends_more))]
 fn write_line<W: Write>(key: &Key, out: &mut W) -> io::Result<()>
     ensures { OnOk result (Appends (W.contents out.old) (W.contents out.new) (encode_lower key.now ++ 10 ∷ [])) }

@@ -22,7 +22,7 @@ impl Keys {
         matches!(self, Keys::NoKey)
     }
 
-    /// Whether it is one of them.
+    // Whether it is one of them.
     fn has(&self, key: &Key) -> bool
         ensures { IsTrue result ↔ IsAmong key.now (key_list self.now) }
     {

@@ -6,18 +6,18 @@ ghost use Rattle.lk_seal.specs.Macs.{IsKeyed};
 
 use sha2::{Digest, Sha256};
 
-/// The block length of the hash.
+// The block length of the hash.
 const BLOCK: usize = 64;
 
 /// The length of a digest, and of a tag.
 pub const TAG: usize = 32;
 
-/// The pads of a key's block, before the message and before the digest.
+// The pads of a key's block, before the message and before the digest.
 const INNER: u8 = 0x36;
 
 const OUTER: u8 = 0x5c;
 
-/// The block of a key.
+// The block of a key.
 #[tactic(auto, unfolding(crate::specs::Hmac::key_block))]
 fn block_of(key: &[u8]) -> [u8; BLOCK]
     ensures { result ≡ key_block key.now }
@@ -32,7 +32,7 @@ fn block_of(key: &[u8]) -> [u8; BLOCK]
     block
 }
 
-/// A block with a pad.
+// A block with a pad.
 fn padded(block: &[u8; BLOCK], pad: u8) -> [u8; BLOCK]
     ensures { result ≡ with_pad pad block.now }
 {

@@ -10,7 +10,7 @@ use crate::keys::Keys;
 use std::alloc::{AllocError, Global};
 use std::marker::Model;
 
-/// How many entries the table of the clients' keys has: clients are 1 to 256.
+// How many entries the table of the clients' keys has: clients are 1 to 256.
 const ENTRIES: u16 = 257;
 
 /// The masters from which the keys of the clients are derived, and a table of these keys.
@@ -33,7 +33,7 @@ impl Model for Masters {
     ghost invariant = { λ m. IfSome m.table (λ t. IsTable m.keys t.items) };
 }
 
-/// The keys that masters yield for each client.
+// The keys that masters yield for each client.
 fn table_of(alloc: Global, masters: &Keys) -> Result<Vec<Keys>, AllocError>
     ensures { IfOk result (λ table. IsTable masters.now table.items) }
 {

@@ -9,7 +9,7 @@ use crate::keys::Keys;
 use crate::masters::Masters;
 use std::alloc::AllocError;
 
-/// The offset of a datagram's kind, and the kind of a request.
+// The offset of a datagram's kind, and the kind of a request.
 const KIND: usize = 3;
 
 const REQUEST: u8 = 9;
@@ -26,10 +26,10 @@ pub struct Seals {
     pub clients: Masters,
 }
 
-/// The offset of the client in a request, two bytes.
+// The offset of the client in a request, two bytes.
 const CLIENT: usize = 16;
 
-/// What follows the tag of a frame.
+// What follows the tag of a frame.
 fn behind_tag<'a>(frame: &'a [u8]) -> &'a [u8]
     ensures { result.now ≡ drop 36 frame.now }
 {
@@ -39,7 +39,7 @@ fn behind_tag<'a>(frame: &'a [u8]) -> &'a [u8]
     &frame[OVERHEAD..]
 }
 
-/// The client that a request names.
+// The client that a request names.
 fn client_in(datagram: &[u8]) -> u16
     ensures { result ≡ client_in datagram.now }
 {
@@ -48,7 +48,7 @@ fn client_in(datagram: &[u8]) -> u16
     u16::from_be_bytes([first, second])
 }
 
-/// The datagram, if it is a client's kind.
+// The datagram, if it is a client's kind.
 fn only_request<'a>(datagram: &'a [u8]) -> &'a [u8]
     ensures { result.now ≡ only_request datagram.now }
 {
@@ -59,7 +59,7 @@ fn only_request<'a>(datagram: &'a [u8]) -> &'a [u8]
 }
 
 impl Seals {
-    /// A node's message to that node.
+    // A node's message to that node.
     fn to_node(&self, node: u32) -> Scope
         ensures { result ≡ to_node self.now node }
     {
@@ -71,7 +71,7 @@ impl Seals {
         }
     }
 
-    /// What that client asks, or the reply to it.
+    // What that client asks, or the reply to it.
     fn with_client(&self, purpose: Purpose, client: u16) -> Scope
         ensures { result ≡ record { purpose = purpose; cluster = self.now.cluster; genesis = no_genesis; bound = client } }
     {

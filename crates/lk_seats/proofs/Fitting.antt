@@ -2,7 +2,7 @@
 use Rattle.std.proofs.Common.{◌≡◌, ℕ, zero, suc, List, [], ◌++◌, take, refl, ap, sym, ◌∙◌, subst, append-nil}
 use Rattle.lk_types.specs.declared.member.Member.{Member}
 use Rattle.lk_disk.specs.Disk.{Disk, kept_by}
-use Rattle.lk_disk.specs.Memory.{Memory, disk_of}
+use Rattle.lk_simulated_disk.specs.Memory.{Memory, disk_of}
 use Rattle.lk_disk.specs.declared.device.Side.{Side}
 use Rattle.lk_entries.specs.Values.{HeaderValue}
 use Rattle.lk_state.specs.Meanings.{Meaning}

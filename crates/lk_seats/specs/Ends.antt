@@ -1,8 +1,8 @@
 -- How a call of a node ends it.
 use Rattle.std.specs.Prelude.{◌≡◌, ℕ, ◌⊎◌, false, true, List, Option, Some, None, Err}
-use Rattle.lk_disk.specs.Memory.{Memory}
+use Rattle.lk_simulated_disk.specs.Memory.{Memory}
 use Rattle.lk_entries.specs.Values.{HeaderValue}
-use Rattle.lk_recovery.specs.Faults.{RefusedAfter}
+use Rattle.lk_step.specs.Faults.{RefusedAfter}
 use Rattle.lk_replica.specs.Behaviours.{Behaviour}
 use Rattle.lk_seats.specs.declared.end.End.{End}
 use Rattle.lk_seats.specs.declared.end.End.TheVariants.{Fault, Stopped}

@@ -1,7 +1,7 @@
 -- The nodes of a world.
 use Rattle.std.specs.Prelude.{◌≡◌, ℕ, ◌<◌, ◌⊎◌, Option, Some, None, List, length, get_or}
 use Rattle.lk_disk.specs.Disk.{Disk}
-use Rattle.lk_disk.specs.Memory.{Memory, disk_of, stopped}
+use Rattle.lk_simulated_disk.specs.Memory.{Memory, disk_of, stopped}
 use Rattle.lk_disk.specs.Meters.{trapped, eased}
 use Rattle.lk_disk.specs.declared.device.Side.{Side}
 use Rattle.lk_disk.specs.declared.trap.Trap.{Trap}

@@ -1,6 +1,6 @@
 // The calls of a node: it takes an input, compacts, or restarts.
 ghost use Rattle.std.specs.Prelude.{◌≡◌, ◌⊎◌, IfOk, OnErr};
-ghost use Rattle.lk_disk.specs.Memory.{Memory};
+ghost use Rattle.lk_simulated_disk.specs.Memory.{Memory};
 ghost use Rattle.lk_agreement.specs.Nodes.{View};
 ghost use Rattle.lk_node.specs.Calls.{heard_by, InputFits};
 ghost use Rattle.lk_node.specs.Histories.{History, IsLawful};

@@ -1,7 +1,7 @@
 // A node takes several inputs together: it syncs once for all of them.
 ghost use Rattle.std.specs.Prelude.{◌≡◌, ◌⊎◌, [], map, IfOk, OnErr};
 ghost use Rattle.std.specs.List.{AllByRecursion};
-ghost use Rattle.lk_disk.specs.Memory.{disk_of};
+ghost use Rattle.lk_simulated_disk.specs.Memory.{disk_of};
 ghost use Rattle.lk_agreement.specs.Nodes.{View};
 ghost use Rattle.lk_node.specs.Calls.{heard_by, InputFits};
 ghost use Rattle.lk_node.specs.Histories.{History, Genesis as GenesisValue, IsLawful};

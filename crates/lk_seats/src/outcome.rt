@@ -1,10 +1,10 @@
 // What a call of a node leaves.
 ghost use Rattle.std.specs.Prelude.{◌≡◌, true, false, IfOk, OnErr};
-ghost use Rattle.lk_disk.specs.Memory.{disk_of};
+ghost use Rattle.lk_simulated_disk.specs.Memory.{disk_of};
 ghost use Rattle.lk_agreement.specs.Nodes.{View};
 ghost use Rattle.lk_node.specs.Histories.{History};
 ghost use Rattle.lk_node.specs.Leavings.{DisksFit};
-ghost use Rattle.lk_recovery.specs.Faults.{fault_number};
+ghost use Rattle.lk_step.specs.Faults.{fault_number};
 ghost use Rattle.lk_replica.specs.Behaviours.{disks_by};
 ghost use Rattle.lk_seats.specs.Ends.{IsNoWant, IsSound, IsToldEnd, IsWant, end_by, end_at};
 ghost use Rattle.lk_seats.specs.Outcomes.{HasFallen, IsThis, Rests};
@@ -15,10 +15,10 @@ ghost use Rattle.lk_seats.specs.declared.seat.Life.TheVariants.{Down};
 
 use crate::end::End;
 use crate::seat::{Life, Seat, stop};
-use lk_disk::{MemoryDisk, Trap, Trapped};
-use lk_recovery::ReplicaFault;
+use lk_disk::{Trap, Trapped};
 use lk_replica::{Datagram, MemoryReplica};
-use lk_step::Note;
+use lk_simulated_disk::MemoryDisk;
+use lk_step::{Note, ReplicaFault};
 use lk_types::{NoMemory, NodeNo};
 use std::alloc::Global;
 

@@ -1,7 +1,7 @@
 // A node of a world, and its device.
 ghost use Rattle.std.specs.Prelude.{◌≡◌, length};
 ghost use Rattle.lk_disk.specs.Disk.{contents};
-ghost use Rattle.lk_disk.specs.Memory.{disk_of};
+ghost use Rattle.lk_simulated_disk.specs.Memory.{disk_of};
 ghost use Rattle.lk_disk.specs.declared.device.Side.TheVariants.{A, B};
 ghost use Rattle.lk_agreement.specs.Nodes.{View};
 ghost use Rattle.lk_node.specs.Histories.{History};
@@ -11,8 +11,9 @@ ghost use Rattle.lk_seats.specs.Rooms.{AreShort};
 ghost use Rattle.lk_seats.specs.Seats.{SeatFits, IsTrapped, device_in, disks_of, stopped_on};
 ghost use Rattle.lk_seats.specs.declared.seat.Life.TheVariants.{Down};
 
-use lk_disk::{MemoryDisk, Trap, Trapped};
+use lk_disk::{Trap, Trapped};
 use lk_replica::MemoryReplica;
+use lk_simulated_disk::MemoryDisk;
 use lk_types::NodeNo;
 use std::alloc::Global;
 use std::mem;

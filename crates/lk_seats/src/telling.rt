@@ -9,7 +9,7 @@ use lk_types::NoMemory;
 use lk_wire::{Content, Message, NodeMessage, read};
 use std::alloc::Global;
 
-/// The note of an answer or a pass.
+// The note of an answer or a pass.
 fn told(message: &Message) -> Option<Note>
     ensures { told_by message.now.content ≡ listed result }
 {
@@ -24,7 +24,7 @@ fn told(message: &Message) -> Option<Note>
     }
 }
 
-/// Appends the note of the datagram, if it has one.
+// Appends the note of the datagram, if it has one.
 fn tell_one(alloc: Global, notes: &mut Vec<Note>, datagram: &Datagram) -> Result<(), NoMemory>
     ensures { OnOk result ((more : List NoteValue) × (notes.new.items ≡ notes.old.items ++ more) × Tells (datagram.now ∷ []) more) }
 {

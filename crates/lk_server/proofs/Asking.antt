@@ -7,8 +7,8 @@ use Rattle.lk_probe.specs.declared.probe.Report.{Report}
 use Rattle.lk_probe.specs.declared.reported.Reported.{Reported}
 use Rattle.lk_seal.specs.Seals.{heard}
 use Rattle.lk_seal.specs.declared.seals.Seals.{Seals}
-use Rattle.lk_server.specs.declared.found.Found.{Found}
-use Rattle.lk_server.specs.declared.found.Found.TheVariants.{Nothing, Beside, Something}
+use Rattle.lk_pace.specs.declared.found.Found.{Found}
+use Rattle.lk_pace.specs.declared.found.Found.TheVariants.{Nothing, Beside, Something}
 use Rattle.lk_transport.specs.Askers.{IsKeptOf}
 use Rattle.lk_transport.specs.Hearing.{BufferValue, listed}
 use Rattle.lk_transport.specs.Inquiring.{IsToldBy}

@@ -4,11 +4,11 @@ use Rattle.std.proofs.lemmas.Nat.{from_be_bytes-to_be_bytes_2}
 use Rattle.lk_types.specs.declared.command.Request.{Request}
 use Rattle.lk_fields.specs.Fields.{two, four, eight}
 use Rattle.lk_types.specs.Ranges.{IsClient}
-use Rattle.lk_wire.specs.Grammar.{spelling, kind, sender, fields, header, Spells, IsContent}
-use Rattle.lk_wire.specs.declared.message.Message.{Message}
-use Rattle.lk_wire.specs.declared.message.Content.{Content}
-use Rattle.lk_wire.specs.declared.message.Content.TheVariants as content
-use Rattle.lk_wire.specs.declared.message.NodeMessage.TheVariants as kinds
+use Rattle.lk_messages.specs.Grammar.{spelling, kind, sender, fields, header, Spells, IsContent}
+use Rattle.lk_messages.specs.declared.message.Message.{Message}
+use Rattle.lk_messages.specs.declared.message.Content.{Content}
+use Rattle.lk_messages.specs.declared.message.Content.TheVariants as content
+use Rattle.lk_messages.specs.declared.message.NodeMessage.TheVariants as kinds
 use Rattle.lk_seal.specs.Seals.{key_list, heard, IsOfNoNode}
 use Rattle.lk_seal.specs.declared.seals.Seals.{Seals}
 use Rattle.lk_seal.specs.Clients.{client_in}

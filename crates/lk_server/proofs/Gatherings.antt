@@ -6,13 +6,14 @@ use Rattle.std.specs.declared.net.socket_addr.SocketAddr.{SocketAddr}
 use Rattle.lk_step.specs.Letters.{LetterValue}
 use Rattle.lk_replica.specs.Groups.{GroupValue}
 use Rattle.lk_transport.specs.Addresses.{AddressBook, Circle, circle_of, IsSameCircle}
-use Rattle.lk_server.specs.Gatherings.{Sayings, Gatherings, GathersMore, SaysNoMore, TakesAll, EndsWithin, TakesOwn, EndsOwn, TakesHeard, EndsHeard, TakesSocket, EndsSocket, AreFound, Finds}
-use Rattle.lk_server.specs.declared.found.Found.{Found}
-use Rattle.lk_server.specs.declared.found.Found.TheVariants.{Nothing, Beside, Something}
+use Rattle.lk_node_replica.specs.Groups.{Sayings, Gatherings, GathersMore, SaysNoMore}
+use Rattle.lk_server.specs.Gatherings.{TakesAll, EndsWithin, TakesOwn, EndsOwn, TakesHeard, EndsHeard, TakesSocket, EndsSocket, AreFound, Finds}
+use Rattle.lk_pace.specs.declared.found.Found.{Found}
+use Rattle.lk_pace.specs.declared.found.Found.TheVariants.{Nothing, Beside, Something}
 use Rattle.lk_transport.specs.Hearing.{listed}
 use Rattle.lk_transport.specs.Posts.{Hears, HearsAll, is_apart, opened_as, let_in, all_taken_as}
-use Rattle.lk_server.specs.Paces.{ticks_after}
-use Rattle.lk_server.specs.declared.pace.Pace.{Pace}
+use Rattle.lk_pace.specs.Paces.{ticks_after}
+use Rattle.lk_pace.specs.declared.pace.Pace.{Pace}
 use Rattle.lk_server.specs.Servers.{ServerValue, one_more, inputs, all_inputs, counted, datagrams_in}
 
 -- ---- lists

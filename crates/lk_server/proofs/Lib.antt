@@ -4,7 +4,5 @@ mod Asking
 mod Carrying
 mod Apart
 mod Acting
-mod Sayings
 mod Gatherings
 mod Turning
-mod Ticking

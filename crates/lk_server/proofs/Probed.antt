@@ -63,7 +63,7 @@ heard_as_it_is (key ∷ keys) s frame some none =
     opened_or_as_it_is (key ∷ keys) (to_node s s.node) frame (heard_of_client (key_list s.clients) s.cluster frame) (opened_by (key ∷ keys) (to_node s s.node) frame) refl
     (subst (λ (masters : List (List ℕ)). (heard_of_client masters s.cluster frame ≡ []) ⊎ (heard_of_client masters s.cluster frame ≡ frame)) (sym none) (only_is frame))
 
-pub by_a_node : (s : Seals) (d : SocketAddr × List ℕ) (a : Asked) → key_list s.nodes ≢ [] → key_list s.clients ≡ [] → IsSome a.probe.node → IsKeptOf s d (Some a) → IsProbedByANode s d.1
+pub by_a_node : (s : Seals) (d : SocketAddr × List ℕ) (a : Asked) → key_list s.nodes ≢ [] → key_list s.clients ≡ [] → IsSome a.probe.origin → IsKeptOf s d (Some a) → IsProbedByANode s d.1
 by_a_node s d a some none names kept = elim (heard_as_it_is (key_list s.nodes) s d.1 some none) [
   | inl told ↦ told
   | inr (inl empty) ↦ absurd (is_some a.probe (heard s d.1) kept.1.spelled empty)

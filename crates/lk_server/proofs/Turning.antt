@@ -4,32 +4,18 @@ use Rattle.std.specs.Prelude.{Result, Ok, Err, OnOk, OnErr}
 use Rattle.std.specs.declared.net.socket_addr.SocketAddr.{SocketAddr}
 use Rattle.lk_step.specs.Letters.{LetterValue}
 use Rattle.lk_replica.specs.Groups.{GroupValue}
-use Rattle.lk_recovery.specs.declared.fault.ReplicaFault.{ReplicaFault}
-use Rattle.lk_recovery.specs.declared.fault.ReplicaFault.TheVariants as fault
-use Rattle.lk_recovery.specs.Faults.{fault_number}
 use Rattle.lk_transport.specs.Addresses.{AddressBook, Circle, circle_of, IsSameCircle}
-use Rattle.lk_transport.specs.Faults.{replica_fault}
-use Rattle.lk_transport.specs.declared.fault.ServiceFault.TheVariants.{Send}
-use Rattle.lk_server.specs.Gatherings.{Sayings, Gatherings, GathersMore, SaysNoMore, AreFound, Finds, TakesAll, EndsWithin, TakesOwn, EndsOwn, TakesSocket, EndsSocket, TakesWaiting, TakesGroup, EndsGroup, HandsOnAll, SaysNothing}
-use Rattle.lk_server.specs.Paces.{MayFollow}
+use Rattle.lk_node_replica.specs.Groups.{Sayings, Gatherings, GathersMore, SaysNoMore}
+use Rattle.lk_server.specs.Gatherings.{AreFound, Finds, TakesAll, EndsWithin, TakesOwn, EndsOwn, TakesSocket, EndsSocket, TakesWaiting, TakesGroup, EndsGroup, HandsOnAll, SaysNothing}
+use Rattle.lk_pace.specs.Paces.{MayFollow}
 use Rattle.lk_seal.specs.Seals.{heard}
 use Rattle.lk_transport.specs.Posts.{HearsAll, is_apart, all_taken_as}
 use Rattle.lk_server.specs.Servers.{ServerValue, HandsOn, HandsNothing, HasReceived, IsSameServer, Turn, LastTurn, IsIdle, Given, GivenFirst, TakesFirst, all_inputs, counted, datagrams_in}
-use Rattle.lk_server.specs.declared.found.Found.{Found}
-use Rattle.lk_server.specs.declared.found.Found.TheVariants.{Nothing, Beside, Something}
-use Rattle.lk_server.specs.declared.pace.Pace.{Pace}
-use Rattle.lk_server.specs.declared.pace.Pace.TheVariants.{Datagrams, Clock}
+use Rattle.lk_pace.specs.declared.found.Found.{Found}
+use Rattle.lk_pace.specs.declared.found.Found.TheVariants.{Nothing, Beside, Something}
+use Rattle.lk_pace.specs.declared.pace.Pace.{Pace}
+use Rattle.lk_pace.specs.declared.pace.Pace.TheVariants.{Datagrams, Clock}
 use Rattle.lk_server.proofs.Gatherings.{takes_more, ends_more, long_as, taken_more, taken_first, found_none, found_few}
-
--- a fault that tells of no lost letter is told as none
-pub not_send : (e : ReplicaFault) → (fault_number e ≡ 15 → ⊥) → replica_fault e ≡ Send → ⊥
-not_send fault.Device other is = cc is
-not_send fault.NoMemory other is = cc is
-not_send fault.Damaged other is = cc is
-not_send fault.WrongStore other is = cc is
-not_send fault.Failed other is = cc is
-not_send fault.Halted other is = cc is
-not_send (fault.Send notes) other is = other refl
 
 -- no tick may follow, however they go
 no_tick : (pace : Pace) → MayFollow pace []

@@ -3,19 +3,12 @@ use Rattle.std.specs.Prelude.{◌≡◌, ◌≢◌, ◌≤◌, ℕ, true, List, 
 use Rattle.std.specs.declared.net.socket_addr.SocketAddr.{SocketAddr}
 use Rattle.lk_step.specs.Letters.{LetterValue}
 use Rattle.lk_replica.specs.Groups.{GroupValue}
-use Rattle.lk_server.specs.declared.found.Found.{Found}
-use Rattle.lk_server.specs.declared.found.Found.TheVariants.{Nothing, Beside, Something}
+use Rattle.lk_node_replica.specs.Groups.{Sayings, Gatherings, GathersMore, SaysNoMore}
+use Rattle.lk_pace.specs.declared.found.Found.{Found}
+use Rattle.lk_pace.specs.declared.found.Found.TheVariants.{Nothing, Beside, Something}
 use Rattle.lk_transport.specs.Addresses.{Circle, circle_of, IsSameCircle}
 use Rattle.lk_transport.specs.Posts.{HearsAll, is_apart, all_taken_as}
 use Rattle.lk_server.specs.Servers.{ServerValue, all_inputs, counted, datagrams_in, Given, GivenFirst, HasReceived, IsFront, TakesLetters, HandsOn}
-
--- how a replica speaks: the effect of a group, and its letters
-abbrev pub Sayings : Type 0 → Type 1
-Sayings R = R → List (Option (List ℕ)) → List LetterValue → R → Type 0
-
--- how it gathers: the replica when the group began, its input since, the group so far, and the replica now
-abbrev pub Gatherings : Type 0 → Type 1
-Gatherings R = R → List (Option (List ℕ)) → GroupValue → R → Type 0
 
 -- a replica is given nothing of these frames: there is none, or one, which stands beside the protocol or came from a
 -- node of another genesis
@@ -33,14 +26,10 @@ pub record Finds {R : Type 0} (tells : Type 0) (found : Found) (frames : List (S
   pub same : record new { coming = old.coming } ≡ old
 
 module _ {R : Type 0} (Gathers : Gatherings R) where
-  -- whatever input this group had before, it now has this input too, and nothing is synced or sent for it
-  abbrev pub GathersMore : List (Option (List ℕ)) → GroupValue → GroupValue → R → R → Type 0
-  GathersMore more group now old new = (start : R) (given : List (Option (List ℕ))) → Gathers start given group old → Gathers start (given ++ more) now new
-
   -- these datagrams were taken into the group one after another, each counted, and where ticks go by datagrams a tick
   -- after every 64th
   pub record TakesAll (datagrams : List (List ℕ)) (group now : GroupValue) (old new : ServerValue R) : Type 0 where
-    pub gathers : GathersMore (all_inputs old.pace old.received datagrams) group now old.replica new.replica
+    pub gathers : GathersMore Gathers (all_inputs old.pace old.received datagrams) group now old.replica new.replica
     pub counted : new.received ≡ counted old.received datagrams
     pub pace : new.pace ≡ old.pace
 
@@ -74,22 +63,18 @@ module _ {R : Type 0} (Gathers : Gatherings R) where
     pub received : HasReceived tells frames old new
     pub given : List (Option (List ℕ))
     pub may : Given old.pace old.received (datagrams_in (take 64 old.own) (all_taken_as (circle_of old.addresses) frames)) given
-    pub gathers : GathersMore given group now old.replica new.replica
+    pub gathers : GathersMore Gathers given group now old.replica new.replica
     pub counted : new.received ≡ counted old.received (datagrams_in (take 64 old.own) (all_taken_as (circle_of old.addresses) frames))
     pub left : new.own ≡ drop 64 old.own
     pub heard : HearsAll old.cluster (all_taken_as (circle_of old.addresses) frames) old.addresses new.addresses
     pub network : IsSameCircle old.addresses new.addresses
 
 module _ {R : Type 0} (Says : Sayings R) (Gathers : Gatherings R) where
-  -- whatever input the group had, this input has ended the replica, and nothing of the group is sent
-  abbrev pub SaysNoMore : List (Option (List ℕ)) → GroupValue → R → R → Type 0
-  SaysNoMore more group old new = (start : R) (given : List (Option (List ℕ))) → Gathers start given group old → Says start (given ++ more) [] new
-
   -- a prefix of the input at these datagrams has ended it
   pub record EndsWithin (datagrams : List (List ℕ)) (group : GroupValue) (old new : ServerValue R) : Type 0 where
     pub given : List (Option (List ℕ))
     pub front : IsFront given (all_inputs old.pace old.received datagrams)
-    pub silent : SaysNoMore given group old.replica new.replica
+    pub silent : SaysNoMore Says Gathers given group old.replica new.replica
 
   -- at the first letters of the node to itself, of which it took this many
   pub record EndsOwn (most : ℕ) (group : GroupValue) (old new : ServerValue R) : Type 0 where
@@ -117,7 +102,7 @@ module _ {R : Type 0} (Says : Sayings R) (Gathers : Gatherings R) where
     pub letters : TakesLetters count old.own
     pub given : List (Option (List ℕ))
     pub first : GivenFirst old.pace old.received (datagrams_in (take count old.own) (all_taken_as (circle_of old.addresses) frames)) given
-    pub silent : SaysNoMore given group old.replica new.replica
+    pub silent : SaysNoMore Says Gathers given group old.replica new.replica
     pub left : new.own ≡ drop count old.own
     pub heard : HearsAll old.cluster (all_taken_as (circle_of old.addresses) frames) old.addresses new.addresses
     pub network : IsSameCircle old.addresses new.addresses

@@ -1,10 +1,6 @@
-pub mod Paces
+pub mod GroupFaults
 pub mod Servers
 pub mod Gatherings
 pub mod Probes
 pub mod Beside
-pub mod Statuses
-pub mod Sayings
 pub mod Premises
-pub mod TableVersions
-pub mod Metronomes

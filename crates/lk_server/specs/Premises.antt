@@ -1,9 +1,9 @@
 -- What a server takes, and which probes it keeps, if the nodes have a key.
 use Rattle.std.specs.Prelude.{◌≡◌, ◌⊎◌, ℕ, List}
 use Rattle.lk_types.specs.declared.command.Request.{Request}
-use Rattle.lk_wire.specs.Grammar.{Spells}
-use Rattle.lk_wire.specs.declared.message.Message.{Message}
-use Rattle.lk_wire.specs.declared.message.Content.TheVariants as content
+use Rattle.lk_messages.specs.Grammar.{Spells}
+use Rattle.lk_messages.specs.declared.message.Message.{Message}
+use Rattle.lk_messages.specs.declared.message.Content.TheVariants as content
 use Rattle.lk_probe.specs.Grammar.{or_zero}
 use Rattle.lk_probe.specs.declared.probe.Probe.{Probe}
 use Rattle.lk_seal.specs.Seals.{key_list, to_node, heard, IsSealedBy}

@@ -1,35 +1,15 @@
 -- Probes: what a node tells, and how a server answers one.
-use Rattle.std.specs.Prelude.{◌≡◌, ◌↔◌, ◌==◌, ◌+◌, ◌-◌, ℕ, if◌then◌else◌, List, length, min, slice_get, Option, Some, None, IsTrue}
-use Rattle.lk_members.specs.Windows.{RosterValue}
-use Rattle.lk_leader.specs.Proposing.{Leads}
+use Rattle.std.specs.Prelude.{◌≡◌, ℕ, List, Option, Some, None}
 use Rattle.lk_probe.specs.Grammar.{SpellsReport, Answers}
 use Rattle.lk_probe.specs.declared.probe.Probe.{Probe}
 use Rattle.lk_probe.specs.declared.probe.Report.{Report}
 use Rattle.lk_probe.specs.declared.status.Status.{Status}
-use Rattle.lk_replica.specs.ReplicaValue.{ReplicaValue}
 use Rattle.lk_server.specs.Servers.{ServerValue, tray_at}
 use Rattle.lk_transport.specs.declared.asked.Asked.{Asked}
-use Rattle.lk_server.specs.declared.shown.Shown.{Shown}
+use Rattle.lk_node_replica.specs.declared.shown.Shown.{Shown}
 use Rattle.lk_transport.specs.Askers.{Replies}
 
 -- ---- what a node tells
-
--- how many positions from the next one on come before the one from which on the last join or leave is in force
-abbrev pub pending_in : RosterValue → ℕ
-pending_in roster = if roster.changed == 0 then 0 else (roster.changed + length roster.sets) - (roster.executed + 1)
-
--- each part is the replica's
-pub record IsShown (r : ReplicaValue) (s : Shown) : Type 0 where
-  pub leads : IsTrue s.leadership.leads ↔ Leads r.node.leader r.node.learner.whole.roster
-  pub leader : s.leadership.leader ≡ r.node.known
-  pub silence : s.leadership.silence ≡ r.node.ticks
-  pub promised : s.leadership.promised ≡ r.node.acceptor.state.promised
-  pub executed : s.progress.executed ≡ r.node.learner.whole.roster.executed
-  pub snapshot : s.progress.snapshot ≡ r.node.acceptor.state.snapshot_position
-  pub members : slice_get r.node.learner.whole.roster.sets 0 ≡ Some s.members
-  pub pending : s.progress.pending ≡ min (pending_in r.node.learner.whole.roster) 255
-  pub waiting : s.waiting ≡ min (length r.node.leader.waiting) 65535
-  pub format : s.format ≡ r.store.format
 
 -- a status tells what a replica shows, and the digest of the genesis. The rest the server has counted
 pub record Tells (digest : List ℕ) (shown : Shown) (s : Status) : Type 0 where

@@ -1,13 +1,15 @@
 -- The input that a server gives to its replica, and the fate of the letters.
 use Rattle.std.specs.Prelude.{◌≡◌, ◌⊎◌, ◌≤◌, Bool, true, false, ◌+◌, ◌%◌, ◌^◌, ℕ, List, [], ◌∷◌, ◌++◌, length, map, take, drop, Option, Some, None, if◌then◌else◌}
 use Rattle.std.specs.declared.net.socket_addr.SocketAddr.{SocketAddr}
+use Rattle.lk_types.specs.Ranges.{IsClient}
 use Rattle.lk_step.specs.Letters.{LetterValue}
 use Rattle.lk_replica.specs.Posts.{CarriesAll}
-use Rattle.lk_transport.specs.Addresses.{AddressBook, circle_of}
-use Rattle.lk_server.specs.Paces.{ticks_after, MayFollow}
+use Rattle.lk_transport.specs.Addresses.{AddressBook, circle_of, client_at, node_at}
+use Rattle.lk_pace.specs.Paces.{ticks_after, MayFollow}
 use Rattle.lk_transport.specs.Posts.{HearsAll, Tray, Becomes, all_taken_as}
-use Rattle.lk_server.specs.declared.pace.Pace.{Pace}
-use Rattle.lk_server.specs.declared.pace.Pace.TheVariants.{Clock}
+use Rattle.lk_transport.specs.declared.network.Network.{Network}
+use Rattle.lk_pace.specs.declared.pace.Pace.{Pace}
+use Rattle.lk_pace.specs.declared.pace.Pace.TheVariants.{Clock}
 
 -- the number of its cluster and that of its node, what its ticks go by, its replica, the letters of the node to itself
 -- that it has not taken yet, from where others wrote, how many datagrams came, whether a call has ended the replica,
@@ -24,6 +26,21 @@ pub record ServerValue (R : Type 0) : Type 0 where
   pub sent : List (SocketAddr × List ℕ)
   pub socket_failures : ℕ
   pub coming : List (SocketAddr × List ℕ)
+
+-- it serves as that node of that cluster, its ticks go by that, and it knows these places and keys
+pub record ServesAs {R : Type 0} (c n : ℕ) (p : Pace) (known : Network) (s : ServerValue R) : Type 0 where
+  pub cluster : s.cluster ≡ c
+  pub node : s.node ≡ n
+  pub pace : s.pace ≡ p
+  pub hosts : s.addresses.hosts ≡ known.hosts
+  pub seals : s.addresses.seals ≡ known.seals
+
+-- nobody has written to it yet, not even itself
+pub record HasHeardNobody {R : Type 0} (s : ServerValue R) : Type 0 where
+  pub own : s.own ≡ []
+  pub received : s.received ≡ 0
+  pub clients : (c : ℕ) → IsClient c → client_at s.addresses c ≡ None
+  pub nodes : (n : ℕ) → node_at s.addresses n ≡ None
 
 -- it runs that replica, which a call has ended or not
 pub record Runs {R : Type 0} (r : R) (ended : Bool) (s : ServerValue R) : Type 0 where

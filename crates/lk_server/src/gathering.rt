@@ -1,33 +1,35 @@
 //! How a server collects one group. It sends nothing until the group ends.
 
-ghost use Rattle.std.specs.Prelude.{◌≡◌, ◌≤◌, ◌++◌, ℕ, List, ◌∷◌, [], length, Some, None, true, false, OnOk, OnErr, IfOk, IfErr, IfSome, IsNone};
+ghost use Rattle.std.specs.Prelude.{◌≡◌, ◌≤◌, ◌++◌, ℕ, List, ◌∷◌, [], length, Some, None, true, false, OnOk, OnErr, IfOk, IfSome, IsNone};
 ghost use Rattle.std.specs.declared.net.socket_addr.SocketAddr.{SocketAddr as Address};
 ghost use Rattle.lk_step.specs.Letters.{LetterValue};
 ghost use Rattle.lk_node.specs.Calls.{heard_by};
 ghost use Rattle.lk_transport.specs.Addresses.{circle_of, IsSameCircle};
-ghost use Rattle.lk_server.specs.Gatherings.{GathersMore, SaysNoMore, Finds, TakesAll, EndsWithin, TakesOwn, EndsOwn, TakesHeard, EndsHeard, TakesSocket, EndsSocket, TakesWaiting, TakesGroup, EndsGroup};
+ghost use Rattle.lk_node_replica.specs.Groups.{GathersMore, SaysNoMore};
+ghost use Rattle.lk_server.specs.Gatherings.{Finds, TakesAll, EndsWithin, TakesOwn, EndsOwn, TakesHeard, EndsHeard, TakesSocket, EndsSocket, TakesWaiting, TakesGroup, EndsGroup};
 ghost use Rattle.lk_transport.specs.Hearing.{listed};
 ghost use Rattle.lk_transport.specs.Posts.{Hears, is_apart};
 ghost use Rattle.lk_transport.specs.Kept.{Keeps, KeepsOf};
 ghost use Rattle.lk_server.specs.Servers.{HasReceived, IsIdle};
 
-use crate::found::Found;
-use crate::metronome::Metronome;
-use crate::node_replica::NodeReplica;
+use crate::group_fault::GroupFault;
 use crate::server::Server;
 use crate::watching::{log_changes, log_served};
+use lk_node_replica::NodeReplica;
+use lk_pace::found::Found;
+use lk_pace::metronome::Metronome;
 use lk_replica::Group;
 use lk_step::{Input, Letter};
 use lk_transport::arrival::Arrival;
 use lk_transport::asked::is_beside;
-use lk_transport::fault::ServiceFault;
 use lk_transport::receive_buffer::ReceiveBuffer;
 use lk_transport::socket::DatagramSocket;
+use lk_wire::Datagram;
 use log::Log;
 use std::net::SocketAddr;
 use std::time::{Clock, Duration};
 
-/// A group has at most this many datagrams after its first.
+// A group has at most this many datagrams after its first.
 const FURTHER: u64 = 63;
 
 impl<R: NodeReplica, S: DatagramSocket + Drop> Server<R, S> {
@@ -92,14 +94,16 @@ impl<R: NodeReplica, S: DatagramSocket + Drop> Server<R, S> {
     }
 
     // Records the source of a datagram of this cluster, and counts a datagram that means nothing to it.
-    fn hear<L: Log>(&mut self, bytes: &[u8], from: SocketAddr, log: &L) -> Arrival
-        ensures heard { Hears self.old.cluster bytes.now from self.old.addresses self.new.addresses }
+    fn hear<L: Log>(&mut self, datagram: &Datagram<'_>, from: SocketAddr, log: &L) -> Arrival
+        ensures heard { Hears self.old.cluster datagram.now from self.old.addresses self.new.addresses }
         // Where nodes live and the keys do not change.
         ensures network { IsSameCircle self.old.addresses self.new.addresses }
         ensures others { self.new ≡ record self.old { addresses = self.new.addresses } }
     {
-        let came = self.post.hear(self.cluster, bytes, from);
-        self.ignored.count(&came, log);
+        let came = self.post.hear(self.cluster, datagram, from);
+        if let Some(count) = self.ignored.count(&came, log) {
+            self.happened.foreign = Some(count);
+        }
         came
     }
 
@@ -110,11 +114,10 @@ impl<R: NodeReplica, S: DatagramSocket + Drop> Server<R, S> {
         came: &Arrival,
         group: &mut Group,
         log: &L,
-    ) -> Result<(), ServiceFault>
+    ) -> Result<(), GroupFault>
         ensures gathers { OnOk result (GathersMore R.Gathers (heard_by input.entry ∷ []) group.old group.new self.old.replica self.new.replica) }
         ensures silent { OnErr result (SaysNoMore R.Says R.Gathers (heard_by input.entry ∷ []) group.old self.old.replica self.new.replica) }
         ensures others { self.new ≡ record self.old { replica = self.new.replica; failed = self.new.failed } }
-        ensures passes { IfErr result (λ f. f ≡ ServiceFault.Send → ⊥) }
         ensures broken { OnErr result (self.new.failed ≡ true) }
     {
         let before = self.replica.status();
@@ -127,7 +130,7 @@ impl<R: NodeReplica, S: DatagramSocket + Drop> Server<R, S> {
         log_served(log, came, group.letters().len().saturating_sub(said));
         match gathered {
             Ok(()) => Ok(()),
-            Err(fault) => Err(ServiceFault::of_replica(&fault)),
+            Err(fault) => Err(GroupFault::of(&fault)),
         }
     }
 
@@ -136,11 +139,10 @@ impl<R: NodeReplica, S: DatagramSocket + Drop> Server<R, S> {
         &mut self,
         group: &mut Group,
         log: &L,
-    ) -> Result<(), ServiceFault>
+    ) -> Result<(), GroupFault>
         ensures gathers { OnOk result (GathersMore R.Gathers (None ∷ []) group.old group.new self.old.replica self.new.replica) }
         ensures silent { OnErr result (SaysNoMore R.Says R.Gathers (None ∷ []) group.old self.old.replica self.new.replica) }
         ensures others { self.new ≡ record self.old { replica = self.new.replica; failed = self.new.failed } }
-        ensures passes { IfErr result (λ f. f ≡ ServiceFault.Send → ⊥) }
         ensures broken { OnErr result (self.new.failed ≡ true) }
     {
         self.ticks = self.ticks.saturating_add(1);
@@ -150,19 +152,18 @@ impl<R: NodeReplica, S: DatagramSocket + Drop> Server<R, S> {
     // Its replica takes a datagram into the group, and a tick where one follows it.
     fn gather_counted<L: Log>(
         &mut self,
-        bytes: &[u8],
+        datagram: Datagram<'_>,
         came: &Arrival,
         group: &mut Group,
         log: &L,
-    ) -> Result<(), ServiceFault>
-        ensures takes { OnOk result (TakesAll R.Gathers (bytes.now ∷ []) group.old group.new self.old self.new) }
-        ensures ends { OnErr result (EndsWithin R.Says R.Gathers (bytes.now ∷ []) group.old self.old self.new) }
+    ) -> Result<(), GroupFault>
+        ensures takes { OnOk result (TakesAll R.Gathers (datagram.entry ∷ []) group.old group.new self.old self.new) }
+        ensures ends { OnErr result (EndsWithin R.Says R.Gathers (datagram.entry ∷ []) group.old self.old self.new) }
         ensures others { self.new ≡ record self.old { replica = self.new.replica; failed = self.new.failed; received = self.new.received } }
-        ensures passes { IfErr result (λ f. f ≡ ServiceFault.Send → ⊥) }
         ensures broken { OnErr result (self.new.failed ≡ true) }
     {
         self.received = self.received.wrapping_add(1);
-        self.gather(Input::Datagram(bytes), came, group, log)?;
+        self.gather(Input::Datagram(datagram), came, group, log)?;
         if self.pace.ticks_after(self.received) {
             self.gather_tick(group, log)?;
         }
@@ -170,28 +171,27 @@ impl<R: NodeReplica, S: DatagramSocket + Drop> Server<R, S> {
     }
 
     // The group takes the first letter of the node to itself. Returns whether one was waiting.
-    fn gather_letter<L: Log>(&mut self, group: &mut Group, log: &L) -> Result<bool, ServiceFault>
+    fn gather_letter<L: Log>(&mut self, group: &mut Group, log: &L) -> Result<bool, GroupFault>
         ensures takes { IfOk result (λ some. some ≡ true → (l : LetterValue) × (self.old.own ≡ l ∷ self.new.own) × TakesAll R.Gathers (l.bytes ∷ []) group.old group.new self.old self.new) }
         ensures none { IfOk result (λ some. some ≡ false → (self.old.own ≡ []) × (self.new ≡ self.old) × (group.new ≡ group.old)) }
         ensures ends { OnErr result ((l : LetterValue) × (self.old.own ≡ l ∷ self.new.own) × EndsWithin R.Says R.Gathers (l.bytes ∷ []) group.old self.old self.new) }
         ensures others { self.new ≡ record self.old { replica = self.new.replica; failed = self.new.failed; received = self.new.received; own = self.new.own } }
-        ensures passes { IfErr result (λ f. f ≡ ServiceFault.Send → ⊥) }
         ensures broken { OnErr result (self.new.failed ≡ true) }
     {
         let Some(letter) = self.next_letter() else {
             return Ok(false);
         };
-        let came = Arrival::own(&letter.bytes);
-        self.gather_counted(&letter.bytes, &came, group, log)?;
+        let datagram = Datagram::of(&letter.bytes);
+        let came = Arrival::own(&datagram);
+        self.gather_counted(datagram, &came, group, log)?;
         Ok(true)
     }
 
     // The group takes further letters of the node to itself, in order, at most 63.
-    fn gather_letters<L: Log>(&mut self, group: &mut Group, log: &L) -> Result<(), ServiceFault>
+    fn gather_letters<L: Log>(&mut self, group: &mut Group, log: &L) -> Result<(), GroupFault>
         ensures takes { OnOk result (TakesOwn R.Gathers 63 group.old group.new self.old self.new) }
         ensures ends { OnErr result (EndsOwn R.Says R.Gathers 63 group.old self.old self.new) }
         ensures others { self.new ≡ record self.old { replica = self.new.replica; failed = self.new.failed; received = self.new.received; own = self.new.own } }
-        ensures passes { IfErr result (λ f. f ≡ ServiceFault.Send → ⊥) }
         ensures broken { OnErr result (self.new.failed ≡ true) }
     {
         'letters: for _ in 0..FURTHER {
@@ -209,7 +209,7 @@ impl<R: NodeReplica, S: DatagramSocket + Drop> Server<R, S> {
         buffer: &mut ReceiveBuffer,
         group: &mut Group,
         log: &L,
-    ) -> Result<Found, ServiceFault>
+    ) -> Result<Found, GroupFault>
         ensures takes { IfOk result (λ found. found ≡ Found.Something → (frame : Address × List ℕ) × (buffer.old.last ≡ Some frame) × (is_apart (circle_of self.old.addresses) frame ≡ false) × TakesHeard R.Gathers (frame ∷ []) group.old group.new self.old self.new) }
         ensures beside { IfOk result (λ found. found ≡ Found.Beside → (frame : Address × List ℕ) × (buffer.old.last ≡ Some frame) × (is_apart (circle_of self.old.addresses) frame ≡ true) × (self.new ≡ self.old) × (group.new ≡ group.old)) }
         ensures none { IfOk result (λ found. found ≡ Found.Nothing → (buffer.old.last ≡ None) × (self.new ≡ self.old) × (group.new ≡ group.old)) }
@@ -218,7 +218,6 @@ impl<R: NodeReplica, S: DatagramSocket + Drop> Server<R, S> {
         ensures rest { IfOk result (λ found. (found ≡ Found.Beside → ⊥) → buffer.new ≡ buffer.old) }
         ensures spares { OnErr result (buffer.new ≡ buffer.old) }
         ensures others { self.new ≡ record self.old { replica = self.new.replica; failed = self.new.failed; received = self.new.received; addresses = self.new.addresses } }
-        ensures passes { IfErr result (λ f. f ≡ ServiceFault.Send → ⊥) }
         ensures broken { OnErr result (self.new.failed ≡ true) }
     {
         let Some((frame, from)) = buffer.heard() else {
@@ -233,11 +232,12 @@ impl<R: NodeReplica, S: DatagramSocket + Drop> Server<R, S> {
             return Ok(Found::Beside);
         }
         if let Some(node) = self.post.stranger(from) {
-            self.pass_over(node, from, log);
+            self.tell_stranger(node, log);
             return Ok(Found::Beside);
         }
-        let came = self.hear(datagram, from, log);
-        self.gather_counted(datagram, &came, group, log)?;
+        let viewed = Datagram::of(datagram);
+        let came = self.hear(&viewed, from, log);
+        self.gather_counted(viewed, &came, group, log)?;
         Ok(Found::Something)
     }
 
@@ -247,12 +247,11 @@ impl<R: NodeReplica, S: DatagramSocket + Drop> Server<R, S> {
         buffer: &mut ReceiveBuffer,
         group: &mut Group,
         log: &L,
-    ) -> Result<Found, ServiceFault>
+    ) -> Result<Found, GroupFault>
         ensures takes { IfOk result (λ found. found ≡ Found.Something → (frame : Address × List ℕ) × (is_apart (circle_of self.old.addresses) frame ≡ false) × TakesSocket R.Gathers S.is_telling (frame ∷ []) group.old group.new self.old self.new × KeepsOf self.old.node self.old.addresses.seals (frame ∷ []) buffer.old buffer.new) }
         ensures none { IfOk result (λ found. (found ≡ Found.Something → ⊥) → (frames : List (Address × List ℕ)) × Finds S.is_telling found frames self.old self.new × (group.new ≡ group.old) × KeepsOf self.old.node self.old.addresses.seals frames buffer.old buffer.new) }
         ensures ends { OnErr result ((frame : Address × List ℕ) × (is_apart (circle_of self.old.addresses) frame ≡ false) × EndsSocket R.Says R.Gathers S.is_telling (frame ∷ []) group.old self.old self.new) }
         ensures others { self.new ≡ record self.old { replica = self.new.replica; failed = self.new.failed; received = self.new.received; addresses = self.new.addresses; coming = self.new.coming } }
-        ensures passes { IfErr result (λ f. f ≡ ServiceFault.Send → ⊥) }
         ensures broken { OnErr result (self.new.failed ≡ true) }
     {
         self.listen(buffer);
@@ -267,12 +266,11 @@ impl<R: NodeReplica, S: DatagramSocket + Drop> Server<R, S> {
         metronome: &Metronome<C>,
         group: &mut Group,
         log: &L,
-    ) -> Result<bool, ServiceFault>
+    ) -> Result<bool, GroupFault>
         ensures takes { IfOk result (λ came. came ≡ true → (frame : Address × List ℕ) × TakesSocket R.Gathers S.is_telling (frame ∷ []) group.old group.new self.old self.new × KeepsOf self.old.node self.old.addresses.seals (frame ∷ []) buffer.old buffer.new) }
         ensures none { IfOk result (λ came. came ≡ false → (S.is_telling → self.new.coming ≡ self.old.coming) × (record self.new { coming = self.old.coming } ≡ self.old) × (group.new ≡ group.old) × (buffer.new.asked ≡ buffer.old.asked) × (buffer.new.reported ≡ buffer.old.reported)) }
         ensures ends { OnErr result ((frame : Address × List ℕ) × EndsSocket R.Says R.Gathers S.is_telling (frame ∷ []) group.old self.old self.new) }
         ensures others { self.new ≡ record self.old { replica = self.new.replica; failed = self.new.failed; received = self.new.received; addresses = self.new.addresses; coming = self.new.coming } }
-        ensures passes { IfErr result (λ f. f ≡ ServiceFault.Send → ⊥) }
         ensures broken { OnErr result (self.new.failed ≡ true) }
     {
         if group.letters().is_empty() {
@@ -294,11 +292,10 @@ impl<R: NodeReplica, S: DatagramSocket + Drop> Server<R, S> {
         metronome: &Metronome<C>,
         group: &mut Group,
         log: &L,
-    ) -> Result<(), ServiceFault>
+    ) -> Result<(), GroupFault>
         ensures takes { OnOk result ((frames : List (Address × List ℕ)) × (length frames ≤ 63) × TakesSocket R.Gathers S.is_telling frames group.old group.new self.old self.new × KeepsOf self.old.node self.old.addresses.seals frames buffer.old buffer.new) }
         ensures ends { OnErr result ((frames : List (Address × List ℕ)) × (length frames ≤ 63) × EndsSocket R.Says R.Gathers S.is_telling frames group.old self.old self.new) }
         ensures others { self.new ≡ record self.old { replica = self.new.replica; failed = self.new.failed; received = self.new.received; addresses = self.new.addresses; coming = self.new.coming } }
-        ensures passes { IfErr result (λ f. f ≡ ServiceFault.Send → ⊥) }
         ensures broken { OnErr result (self.new.failed ≡ true) }
     {
         'datagrams: for _ in 0..FURTHER {
@@ -316,13 +313,12 @@ impl<R: NodeReplica, S: DatagramSocket + Drop> Server<R, S> {
         metronome: &Metronome<C>,
         group: &mut Group,
         log: &L,
-    ) -> Result<Found, ServiceFault>
+    ) -> Result<Found, GroupFault>
         requires { self.old.own ≡ [] }
         ensures takes { IfOk result (λ found. found ≡ Found.Something → (frames : List (Address × List ℕ)) × TakesWaiting R.Gathers S.is_telling frames group.old group.new self.old self.new × KeepsOf self.old.node self.old.addresses.seals frames buffer.old buffer.new) }
         ensures none { IfOk result (λ found. (found ≡ Found.Something → ⊥) → (self.old.own ≡ []) × (frames : List (Address × List ℕ)) × Finds S.is_telling found frames self.old self.new × (group.new ≡ group.old) × KeepsOf self.old.node self.old.addresses.seals frames buffer.old buffer.new) }
         ensures ends { OnErr result ((frames : List (Address × List ℕ)) × EndsGroup R.Says R.Gathers S.is_telling frames group.old self.old self.new) }
         ensures others { self.new ≡ record self.old { replica = self.new.replica; failed = self.new.failed; received = self.new.received; addresses = self.new.addresses; coming = self.new.coming } }
-        ensures passes { IfErr result (λ f. f ≡ ServiceFault.Send → ⊥) }
         ensures broken { OnErr result (self.new.failed ≡ true) }
     {
         let found = self.gather_first(buffer, group, log)?;
@@ -342,12 +338,11 @@ impl<R: NodeReplica, S: DatagramSocket + Drop> Server<R, S> {
         metronome: &Metronome<C>,
         group: &mut Group,
         log: &L,
-    ) -> Result<Found, ServiceFault>
+    ) -> Result<Found, GroupFault>
         ensures takes { IfOk result (λ found. found ≡ Found.Something → (frames : List (Address × List ℕ)) × TakesWaiting R.Gathers S.is_telling frames group.old group.new self.old self.new × KeepsOf self.old.node self.old.addresses.seals frames buffer.old buffer.new) }
         ensures none { IfOk result (λ found. (found ≡ Found.Something → ⊥) → (self.old.own ≡ []) × (frames : List (Address × List ℕ)) × Finds S.is_telling found frames self.old self.new × (group.new ≡ group.old) × KeepsOf self.old.node self.old.addresses.seals frames buffer.old buffer.new) }
         ensures ends { OnErr result ((frames : List (Address × List ℕ)) × EndsGroup R.Says R.Gathers S.is_telling frames group.old self.old self.new) }
         ensures others { self.new ≡ record self.old { replica = self.new.replica; failed = self.new.failed; received = self.new.received; own = self.new.own; addresses = self.new.addresses; coming = self.new.coming } }
-        ensures passes { IfErr result (λ f. f ≡ ServiceFault.Send → ⊥) }
         ensures broken { OnErr result (self.new.failed ≡ true) }
     {
         if !self.gather_letter(group, log)? {
@@ -364,12 +359,11 @@ impl<R: NodeReplica, S: DatagramSocket + Drop> Server<R, S> {
         metronome: &mut Metronome<C>,
         group: &mut Group,
         log: &L,
-    ) -> Result<bool, ServiceFault>
+    ) -> Result<bool, GroupFault>
         ensures takes { IfOk result (λ some. some ≡ true → (frames : List (Address × List ℕ)) × TakesGroup R.Gathers S.is_telling frames group.old group.new self.old self.new × KeepsOf self.old.node self.old.addresses.seals frames buffer.old buffer.new) }
         ensures idle { IfOk result (λ some. some ≡ false → (frames : List (Address × List ℕ)) × HasReceived S.is_telling frames self.old self.new × IsIdle S.is_telling frames self.old self.new × KeepsOf self.old.node self.old.addresses.seals frames buffer.old buffer.new) }
         ensures ends { OnErr result ((frames : List (Address × List ℕ)) × EndsGroup R.Says R.Gathers S.is_telling frames group.old self.old self.new) }
         ensures others { self.new ≡ record self.old { replica = self.new.replica; failed = self.new.failed; received = self.new.received; own = self.new.own; addresses = self.new.addresses; coming = self.new.coming } }
-        ensures passes { IfErr result (λ f. f ≡ ServiceFault.Send → ⊥) }
         ensures broken { OnErr result (self.new.failed ≡ true) }
     {
         self.wait_for(metronome.left());

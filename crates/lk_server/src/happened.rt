@@ -3,7 +3,7 @@
 ghost use Rattle.std.specs.Prelude.{◌≡◌, ◌≤◌, ◌<◌, ℕ, Some, None};
 ghost use Rattle.lk_transport.specs.Arrivals.{sender};
 
-use crate::replica_status::ReplicaStatus;
+use lk_node_replica::replica_status::ReplicaStatus;
 use lk_transport::arrival::Arrival;
 use lk_transport::post::Carried;
 use lk_types::{Executed, NodeNo};
@@ -17,6 +17,8 @@ pub struct Happened {
     pub carried: Carried,
     /// The node of another genesis that it heard, if that is to be told.
     pub stranger: Option<NodeNo>,
+    /// How many datagrams of another cluster have come, if that is to be told.
+    pub foreign: Option<u64>,
 }
 
 impl Happened {
@@ -25,6 +27,7 @@ impl Happened {
         installed: None,
         carried: Carried::NOTHING,
         stranger: None,
+        foreign: None,
     };
 
     /// Notes what has changed by what came.

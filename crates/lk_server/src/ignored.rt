@@ -1,6 +1,6 @@
 //! Counts of datagrams that mean nothing to a server.
 
-ghost use Rattle.std.specs.Prelude.{◌≡◌, ◌≢◌};
+ghost use Rattle.std.specs.Prelude.{◌≡◌, ◌≢◌, IfSome};
 ghost use Rattle.lk_disk.specs.Disk.{one_more};
 
 use lk_transport::arrival::Arrival;
@@ -13,11 +13,13 @@ pub struct IgnoredCounts {
     foreign: u64,
 }
 
-/// Logs a count that is a power of two.
-fn log_count<L: Log>(log: &L, what: &str, count: u64) {
+// Logs a count that is a power of two. Returns whether it is one.
+fn log_count<L: Log>(log: &L, what: &str, count: u64) -> bool {
     if count.is_power_of_two() {
         debug!(log; "datagrams {what}: {count}");
+        return true;
     }
+    false
 }
 
 impl IgnoredCounts {
@@ -35,22 +37,26 @@ impl IgnoredCounts {
         self.bad
     }
 
-    /// Counts a datagram if it is one of them. Each count that is a power of two is logged at level debug.
-    pub fn count<L: Log>(&mut self, came: &Arrival, log: &L)
+    /// Counts a datagram if it is one of them. Each count that is a power of two is logged at level debug. Returns such
+    /// a count of datagrams of another cluster.
+    pub fn count<L: Log>(&mut self, came: &Arrival, log: &L) -> Option<u64>
         ensures bad { came.now ≡ Arrival.Bad → self.new ≡ record self.old { bad = one_more self.old.bad } }
         ensures foreign { came.now ≡ Arrival.Foreign → self.new ≡ record self.old { foreign = one_more self.old.foreign } }
         ensures others { came.now ≢ Arrival.Bad → came.now ≢ Arrival.Foreign → self.new ≡ self.old }
+        ensures told { IfSome result (λ count. (came.now ≡ Arrival.Foreign) × (count ≡ self.new.foreign)) }
     {
         match came {
             Arrival::Bad => {
                 self.bad = self.bad.saturating_add(1);
-                log_count(log, "that do not read", self.bad);
+                let _ = log_count(log, "that do not read", self.bad);
+                None
             }
             Arrival::Foreign => {
                 self.foreign = self.foreign.saturating_add(1);
-                log_count(log, "of another cluster", self.foreign);
+                let is_told = log_count(log, "of another cluster", self.foreign);
+                if is_told { Some(self.foreign) } else { None }
             }
-            _ => {}
+            _ => None,
         }
     }
 }

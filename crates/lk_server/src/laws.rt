@@ -25,5 +25,5 @@ pub fn is_told_or_asked()
 /// probe that names a node was sealed by one.
 pub fn is_probed_by_whom_it_names()
     ensures keys { (s : Seals) (d : SocketAddr × List ℕ) (a : Asked) → key_list s.nodes ≢ [] → key_list s.clients ≢ [] → IsKeptOf s d (Some a) → IsProbedByWhomItNames s d.1 a.probe }
-    ensures node { (s : Seals) (d : SocketAddr × List ℕ) (a : Asked) → key_list s.nodes ≢ [] → key_list s.clients ≡ [] → IsSome a.probe.node → IsKeptOf s d (Some a) → IsProbedByANode s d.1 }
+    ensures node { (s : Seals) (d : SocketAddr × List ℕ) (a : Asked) → key_list s.nodes ≢ [] → key_list s.clients ≡ [] → IsSome a.probe.origin → IsKeptOf s d (Some a) → IsProbedByANode s d.1 }
 {}

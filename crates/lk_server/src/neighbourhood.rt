@@ -1,25 +1,24 @@
 //! What a server does beside the protocol after a turn: it finds out which genesis each node that writes to it was
 //! started with.
 
-ghost use Rattle.std.specs.Prelude.{◌≡◌, Option, None};
-ghost use Rattle.std.specs.declared.net.socket_addr.SocketAddr.{SocketAddr as Address};
+ghost use Rattle.std.specs.Prelude.{◌≡◌, None};
 ghost use Rattle.lk_probe.specs.Neighbours.{bound_in};
 ghost use Rattle.lk_transport.specs.Addresses.{IsSameNetwork};
-ghost use Rattle.lk_transport.specs.Inquiring.{AsksOne, DoubtsMaybe, Inquires, LearnsKept};
+ghost use Rattle.lk_transport.specs.Inquiring.{AsksOne, LearnsKept, ReadmitsKept};
 ghost use Rattle.lk_server.specs.Beside.{ActsBeside};
 ghost use Rattle.lk_server.specs.Servers.{tray_at};
 
-use crate::node_replica::NodeReplica;
 use crate::server::Server;
 use crate::watching::log_stranger;
+use lk_node_replica::NodeReplica;
 use lk_probe::neighbours::{Neighbour, Origin};
+use lk_transport::asked::Asked;
 use lk_transport::receive_buffer::ReceiveBuffer;
 use lk_transport::socket::DatagramSocket;
 use lk_types::NodeNo;
 use log::Log;
-use std::net::SocketAddr;
 
-/// The ticks of a minute.
+// The ticks of a minute.
 const MINUTE: u64 = 600;
 
 impl<R: NodeReplica, S: DatagramSocket + Drop> Server<R, S> {
@@ -33,27 +32,17 @@ impl<R: NodeReplica, S: DatagramSocket + Drop> Server<R, S> {
         }
     }
 
-    // Tells at most once a minute that it hears a node of another genesis. Returns whether it does.
-    fn tell_stranger<L: Log>(&mut self, node: NodeNo, log: &L) -> bool
+    // Tells at most once a minute that it hears a node of another genesis.
+    pub(crate) fn tell_stranger<L: Log>(&mut self, node: NodeNo, log: &L)
         ensures { self.new ≡ self.old }
     {
         match self.stranger_told {
-            Some(ticks) if self.ticks.saturating_sub(ticks) < MINUTE => false,
+            Some(ticks) if self.ticks.saturating_sub(ticks) < MINUTE => {}
             _ => {
                 self.stranger_told = Some(self.ticks);
                 self.happened.stranger = Some(node);
                 log_stranger(log, node);
-                true
             }
-        }
-    }
-
-    // Passes over a datagram of a node of another genesis. Where it tells so, that node is to be asked again.
-    pub(crate) fn pass_over<L: Log>(&mut self, node: NodeNo, from: SocketAddr, log: &L)
-        ensures { self.new ≡ self.old }
-    {
-        if self.tell_stranger(node, log) {
-            self.told_place = Some(from);
         }
     }
 
@@ -65,7 +54,18 @@ impl<R: NodeReplica, S: DatagramSocket + Drop> Server<R, S> {
             return;
         };
         if let Some(other) = neighbour.other() {
-            let _ = self.tell_stranger(other.node, log);
+            self.tell_stranger(other.node, log);
+        }
+    }
+
+    // Hears the node again that has asked, if one of this genesis has.
+    fn readmit(&mut self, asked: &Option<Asked>)
+        ensures readmits { ReadmitsKept asked.now self.old.addresses self.new.addresses }
+        ensures network { IsSameNetwork self.old.addresses self.new.addresses }
+        ensures others { self.new ≡ record self.old { addresses = self.new.addresses } }
+    {
+        if let Some(asked) = asked {
+            self.post.readmit(asked);
         }
     }
 
@@ -95,28 +95,6 @@ impl<R: NodeReplica, S: DatagramSocket + Drop> Server<R, S> {
         }
     }
 
-    // Doubts the node that it has passed over and told of, if there is one: it may have been started anew.
-    fn doubt(&mut self)
-        ensures doubts { (place : Option Address) × DoubtsMaybe place self.old.addresses self.new.addresses }
-        ensures network { IsSameNetwork self.old.addresses self.new.addresses }
-        ensures others { self.new ≡ record self.old { addresses = self.new.addresses } }
-    {
-        if let Some(place) = self.told_place.take() {
-            self.post.doubt(place);
-        }
-    }
-
-    // Asks one node where that is due at this count of ticks, also one that it doubts from now on.
-    fn inquire(&mut self, now: u64)
-        ensures inquires { Inquires S.is_telling now self.old.node self.old.addresses self.new.addresses (tray_at self.old.own self.old) (tray_at self.new.own self.new) }
-        ensures network { IsSameNetwork self.old.addresses self.new.addresses }
-        ensures still { S.is_telling → self.new.coming ≡ self.old.coming }
-        ensures others { self.new ≡ record self.old { addresses = self.new.addresses; sent = self.new.sent; socket_failures = self.new.socket_failures; coming = self.new.coming } }
-    {
-        self.doubt();
-        self.ask(now);
-    }
-
     // The ticks that its replica was given since its start.
     fn now(&self) -> u64 {
         self.ticks
@@ -129,18 +107,20 @@ impl<R: NodeReplica, S: DatagramSocket + Drop> Server<R, S> {
         self.post.bound()
     }
 
-    /// After the letters of a turn: answers the probe that the buffer keeps, learns what the report tells that it
-    /// keeps, and asks one node where that is due. Returns the first node of another genesis that this one has
-    /// followed, if there is one.
+    /// After the letters of a turn: answers the probe that the buffer keeps, hears the node again that asks by it if
+    /// it is of this genesis, learns what the report tells that the buffer keeps, and asks one node where that is due.
+    /// Returns the first node of another genesis that this one has followed, if there is one.
     pub fn act_beside<L: Log>(&mut self, buffer: &mut ReceiveBuffer, log: &L) -> Option<Origin>
         ensures acts { ActsBeside R.Shows S.is_telling buffer.old.asked buffer.old.reported self.old self.new }
         ensures kept { buffer.new ≡ record buffer.old { asked = None; reported = None } }
         ensures bound { result ≡ bound_in self.new.addresses.neighbours }
     {
-        self.answer(buffer);
+        let asked = buffer.take_asked();
+        self.answer(&asked);
+        self.readmit(&asked);
         self.learn(buffer, log);
         let now = self.now();
-        self.inquire(now);
+        self.ask(now);
         self.bound()
     }
 }

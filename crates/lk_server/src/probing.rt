@@ -1,15 +1,13 @@
 //! What a server tells of its node, and how it answers a probe.
 
-ghost use Rattle.std.specs.Prelude.{◌≡◌, None};
+ghost use Rattle.std.specs.Prelude.{◌≡◌};
 ghost use Rattle.lk_server.specs.Probes.{AnswersKept, IsAnswer, Tells};
-ghost use Rattle.lk_server.specs.declared.shown.Shown.{Shown as ShownValue};
+ghost use Rattle.lk_node_replica.specs.declared.shown.Shown.{Shown as ShownValue};
 
-use crate::node_replica::NodeReplica;
 use crate::server::Server;
-use crate::table_version::TableVersion;
+use lk_node_replica::{NodeReplica, TableVersion};
 use lk_probe::{Identity, LENGTH, PROGRAM, Status, Traffic};
 use lk_transport::asked::Asked;
-use lk_transport::receive_buffer::ReceiveBuffer;
 use lk_transport::socket::DatagramSocket;
 
 impl<R: NodeReplica, S: DatagramSocket + Drop> Server<R, S> {
@@ -56,18 +54,17 @@ impl<R: NodeReplica, S: DatagramSocket + Drop> Server<R, S> {
             .datagram()
     }
 
-    /// Answers the probe that the buffer keeps, if it keeps one, by a report to where the probe came from.
-    pub fn answer(&mut self, buffer: &mut ReceiveBuffer)
-        ensures answers { AnswersKept R.Shows S.is_telling buffer.old.asked self.old self.new }
-        ensures kept { buffer.new ≡ record buffer.old { asked = None } }
+    /// Answers a probe, if there is one, by a report to where it came from.
+    pub fn answer(&mut self, asked: &Option<Asked>)
+        ensures answers { AnswersKept R.Shows S.is_telling asked.now self.old self.new }
         ensures others { self.new ≡ record self.old { sent = self.new.sent; socket_failures = self.new.socket_failures; coming = self.new.coming } }
     {
-        let Some(asked) = buffer.take_asked() else {
+        let Some(asked) = asked else {
             return;
         };
         self.table = self.known_table();
-        let report = self.report(&asked);
-        if self.post.reply(&asked, &report).is_err() {
+        let report = self.report(asked);
+        if self.post.reply(asked, &report).is_err() {
             self.unsent = self.unsent.saturating_add(1);
         }
     }

@@ -2,27 +2,25 @@
 
 ghost use Rattle.std.specs.Prelude.{◌≡◌, ℕ, List, ◌∷◌, [], None, true, false, OnOk, OnErr, IfOk, IfErr};
 ghost use Rattle.std.specs.declared.net.socket_addr.SocketAddr.{SocketAddr as Address};
-ghost use Rattle.lk_types.specs.Ranges.{IsClient};
-ghost use Rattle.lk_recovery.specs.Faults.{fault_number};
-ghost use Rattle.lk_transport.specs.Addresses.{circle_of, client_at, node_at, IsSameNetwork};
+ghost use Rattle.lk_transport.specs.Addresses.{circle_of, IsSameNetwork};
 ghost use Rattle.lk_server.specs.Gatherings.{Finds, HandsOnAll, SaysNothing};
 ghost use Rattle.lk_transport.specs.Posts.{all_taken_as};
 ghost use Rattle.lk_transport.specs.Kept.{KeepsOf};
-ghost use Rattle.lk_server.specs.Servers.{HandsOn, HandsNothing, HasReceived, IsSameServer, LastTurn, Runs, ServesOn, TakesTurn, Turn};
+ghost use Rattle.lk_node_replica.specs.Refusals.{IsOfGroups};
+ghost use Rattle.lk_server.specs.Servers.{HandsOn, HandsNothing, HasHeardNobody, HasReceived, IsSameServer, LastTurn, Runs, ServesAs, ServesOn, TakesTurn, Turn};
 
-use crate::found::Found;
+use crate::group_fault::GroupFault;
 use crate::happened::Happened;
 use crate::ignored::IgnoredCounts;
-use crate::metronome::{Metronome, Still};
-use crate::node_replica::NodeReplica;
 use crate::notes::log_notes;
-use crate::pace::Pace;
-use crate::sync_pause::SyncPause;
-use crate::table_version::TableVersion;
 use crate::watching::log_carried;
-use lk_recovery::ReplicaFault;
+use lk_node_replica::{NodeReplica, TableVersion};
+use lk_pace::found::Found;
+use lk_pace::metronome::{Metronome, Still};
+use lk_pace::pace::Pace;
+use lk_pace::sync_pause::SyncPause;
 use lk_replica::Group;
-use lk_transport::fault::ServiceFault;
+use lk_step::ReplicaFault;
 use lk_transport::network::Network;
 use lk_transport::post::SocketPost;
 use lk_transport::receive_buffer::ReceiveBuffer;
@@ -31,7 +29,6 @@ use lk_types::NodeNo;
 use log::Log;
 use std::alloc::Global;
 use std::marker::Model;
-use std::net::SocketAddr;
 use std::time::Clock;
 
 /// A replica, and the post with the socket on which it serves.
@@ -58,8 +55,6 @@ pub struct Server<R: NodeReplica, S: DatagramSocket + Drop> {
     pub(crate) sync_pause: SyncPause,
     // at which count of ticks it told last that it hears a node of another genesis
     pub(crate) stranger_told: Option<u64>,
-    // the address of that node, until it is doubted
-    pub(crate) told_place: Option<SocketAddr>,
 }
 
 impl<R: NodeReplica, S: DatagramSocket + Drop> Model for Server<R, S> {
@@ -81,17 +76,10 @@ impl<R: NodeReplica, S: DatagramSocket + Drop> Server<R, S> {
         replica: R,
         socket: S,
     ) -> Server<R, S>
-        ensures cluster { result.cluster ≡ cluster }
-        ensures node { result.node ≡ node }
-        ensures pace { result.pace ≡ pace }
+        ensures node { ServesAs cluster node pace network result }
         ensures replica { Runs replica (R.failed replica) result }
-        ensures own { result.own ≡ [] }
-        ensures clients { (c : ℕ) → IsClient c → client_at result.addresses c ≡ None }
-        ensures nodes { (n : ℕ) → node_at result.addresses n ≡ None }
-        ensures received { result.received ≡ 0 }
-        ensures hosts { result.addresses.hosts ≡ network.hosts }
-        ensures seals { result.addresses.seals ≡ network.seals }
         ensures socket { ServesOn (S.sent socket) (S.failures socket) (S.coming socket) result }
+        ensures unheard { HasHeardNobody result }
     {
         Server {
             alloc,
@@ -107,7 +95,6 @@ impl<R: NodeReplica, S: DatagramSocket + Drop> Server<R, S> {
             table: TableVersion::Unread,
             sync_pause: SyncPause::NONE,
             stranger_told: None,
-            told_place: None,
         }
     }
 
@@ -152,7 +139,6 @@ impl<R: NodeReplica, S: DatagramSocket + Drop> Server<R, S> {
             table: _,
             sync_pause: _,
             stranger_told: _,
-            told_place: _,
         } = self;
         replica
     }
@@ -175,7 +161,7 @@ impl<R: NodeReplica, S: DatagramSocket + Drop> Server<R, S> {
         ensures still { S.is_telling → self.new.coming ≡ self.old.coming }
         ensures alive { OnOk result (self.new.failed ≡ false) }
         ensures broken { OnErr result (self.new.failed ≡ true) }
-        ensures no_send { IfErr result (λ e. fault_number e ≡ 15 → ⊥) }
+        ensures told { IfErr result IsOfGroups }
     {
         self.post.begin();
         let released = self.replica.release(group, &mut self.post);
@@ -185,8 +171,8 @@ impl<R: NodeReplica, S: DatagramSocket + Drop> Server<R, S> {
         released
     }
 
-    /// Ends a group. What could not be sent is lost; the notes count all the same.
-    fn release<L: Log>(&mut self, group: &Group, log: &L) -> Result<(), ServiceFault>
+    // Ends a group. What could not be sent is lost; the notes count all the same.
+    fn release<L: Log>(&mut self, group: &Group, log: &L) -> Result<(), GroupFault>
         // Each letter of the group was sent to its destination, kept for the node itself, or lost by a failed send, in
         // order.
         ensures gives { OnOk result (HandsOnAll R.Says R.Gathers S.is_telling group.now self.old self.new) }
@@ -196,7 +182,6 @@ impl<R: NodeReplica, S: DatagramSocket + Drop> Server<R, S> {
         ensures same { IsSameServer self.old self.new }
         ensures received { self.new.received ≡ self.old.received }
         ensures still { S.is_telling → self.new.coming ≡ self.old.coming }
-        ensures passes { IfErr result (λ f. f ≡ ServiceFault.Send → ⊥) }
         ensures alive { OnOk result (self.new.failed ≡ false) }
         ensures broken { OnErr result (self.new.failed ≡ true) }
     {
@@ -206,12 +191,12 @@ impl<R: NodeReplica, S: DatagramSocket + Drop> Server<R, S> {
                 self.table = self.table.after(group.notes());
                 Ok(())
             }
-            Err(fault) => Err(ServiceFault::of_replica(&fault)),
+            Err(fault) => Err(GroupFault::of(&fault)),
         }
     }
 
     /// Some time has passed: takes a group of one tick.
-    pub fn tick<L: Log>(&mut self, log: &L) -> Result<(), ServiceFault>
+    pub fn tick<L: Log>(&mut self, log: &L) -> Result<(), GroupFault>
         // The replica took a tick and nothing else. Each of its letters was sent, kept, or lost by a failed send, and
         // nothing else was sent.
         ensures hands_on { OnOk result (HandsOn R.Says S.is_telling (None ∷ []) self.old.own self.old self.new) }
@@ -219,7 +204,6 @@ impl<R: NodeReplica, S: DatagramSocket + Drop> Server<R, S> {
         ensures addresses { self.new.addresses ≡ self.old.addresses }
         ensures same { IsSameServer self.old self.new }
         ensures received { self.new.received ≡ self.old.received }
-        ensures passes { IfErr result (λ f. f ≡ ServiceFault.Send → ⊥) }
         ensures alive { OnOk result (self.new.failed ≡ false) }
         ensures broken { OnErr result (self.new.failed ≡ true) }
     {
@@ -234,13 +218,12 @@ impl<R: NodeReplica, S: DatagramSocket + Drop> Server<R, S> {
         &mut self,
         buffer: &mut ReceiveBuffer,
         log: &L,
-    ) -> Result<bool, ServiceFault>
+    ) -> Result<bool, GroupFault>
         ensures turn { IfOk result (λ came. came ≡ true → (frames : List (Address × List ℕ)) × HasReceived S.is_telling frames self.old self.new × Turn R.Says S.is_telling (all_taken_as (circle_of self.old.addresses) frames) self.old self.new × KeepsOf self.old.node self.old.addresses.seals frames buffer.old buffer.new) }
         ensures ends { OnErr result ((frames : List (Address × List ℕ)) × HasReceived S.is_telling frames self.old self.new × LastTurn R.Says S.is_telling (all_taken_as (circle_of self.old.addresses) frames) self.old self.new) }
         ensures none { IfOk result (λ came. came ≡ false → (self.old.own ≡ []) × (found : Found) × (frames : List (Address × List ℕ)) × Finds S.is_telling found frames self.old self.new × KeepsOf self.old.node self.old.addresses.seals frames buffer.old buffer.new) }
         // Where nodes live and the keys do not change.
         ensures network { IsSameNetwork self.old.addresses self.new.addresses }
-        ensures passes { IfErr result (λ f. f ≡ ServiceFault.Send → ⊥) }
     {
         let mut group = self.begin();
         let metronome = Metronome::new(Still);
@@ -259,7 +242,7 @@ pub fn node_turn<R: NodeReplica, S: DatagramSocket + Drop, C: Clock, L: Log>(
     buffer: &mut ReceiveBuffer,
     metronome: &mut Metronome<C>,
     log: &L,
-) -> Result<(), ServiceFault>
+) -> Result<(), GroupFault>
     // Where the node wrote to itself it takes the first 64 letters of that, once and in order, and nothing of the
     // socket. Else it takes the frames that came next, at most 64, and at least one if one was to come: of each what it
     // opens to, from where it came. No other frame is lost. Its replica was given just that, as one group, and a tick
@@ -271,7 +254,6 @@ pub fn node_turn<R: NodeReplica, S: DatagramSocket + Drop, C: Clock, L: Log>(
     ensures ends { OnErr result ((frames : List (Address × List ℕ)) × HasReceived S.is_telling frames server.old server.new × LastTurn R.Says S.is_telling (all_taken_as (circle_of server.old.addresses) frames) server.old server.new) }
     // Where nodes live and the keys do not change.
     ensures network { IsSameNetwork server.old.addresses server.new.addresses }
-    ensures passes { IfErr result (λ f. f ≡ ServiceFault.Send → ⊥) }
 {
     let mut group = server.begin();
     if !server.gather_turn(buffer, metronome, &mut group, log)? {

@@ -1,7 +1,7 @@
 //! What a server logs of its replica besides the notes: lines of level debug, one fact each. A line that cannot be
 //! written is dropped.
 
-use crate::replica_status::ReplicaStatus;
+use lk_node_replica::replica_status::ReplicaStatus;
 use lk_transport::arrival::Arrival;
 use lk_transport::post::Carried;
 use lk_types::{NodeNo, Port, RealBallot};
@@ -30,24 +30,24 @@ pub fn log_stranger<L: Log>(log: &L, node: NodeNo) {
     warn!(log; "hears node {} of another genesis", node.get());
 }
 
-/// Logs a named number.
+// Logs a named number.
 fn log_number<L: Log>(log: &L, name: &str, number: u64) {
     debug!(log; "{name} {number}");
 }
 
-/// Logs that a term has begun.
+// Logs that a term has begun.
 fn log_begun<L: Log>(log: &L, term: RealBallot) {
     let ballot = term.get();
     debug!(log; "term {}.{} begun", ballot.round(), ballot.node());
 }
 
-/// Logs that a term has ended, and why.
+// Logs that a term has ended, and why.
 fn log_ended<L: Log>(log: &L, came: &Arrival, term: RealBallot) {
     let ballot = term.get();
     debug!(log; "term {}.{} ended by {came}", ballot.round(), ballot.node());
 }
 
-/// Logs which term has ended and which has begun.
+// Logs which term has ended and which has begun.
 fn log_term<L: Log>(
     log: &L,
     came: &Arrival,
@@ -65,7 +65,7 @@ fn log_term<L: Log>(
     }
 }
 
-/// Logs a change of the leader.
+// Logs a change of the leader.
 fn log_known<L: Log>(log: &L, before: Option<NodeNo>, after: Option<NodeNo>) {
     match after {
         _ if before == after => {}
@@ -74,7 +74,7 @@ fn log_known<L: Log>(log: &L, before: Option<NodeNo>, after: Option<NodeNo>) {
     }
 }
 
-/// Logs a compaction of the store, and an installed snapshot of another node.
+// Logs a compaction of the store, and an installed snapshot of another node.
 fn log_store<L: Log>(log: &L, before: &ReplicaStatus, after: &ReplicaStatus) {
     let rebases = after.generation.saturating_sub(before.generation);
     let is_installed = after.snapshot.get() > before.executed.get();
@@ -100,14 +100,14 @@ pub fn log_served<L: Log>(log: &L, came: &Arrival, said: usize) {
     }
 }
 
-/// Logs that the node asks for what it has missed.
+// Logs that the node asks for what it has missed.
 fn log_wants<L: Log>(log: &L, carried: &Carried) {
     if let Some(node) = carried.wanted {
         log_number(log, "Want sent to node", u64::from(node.get()));
     }
 }
 
-/// Logs why sends were lost.
+// Logs why sends were lost.
 fn log_lost<L: Log>(log: &L, lost: u64, cause: Option<io::Error>) {
     match cause {
         _ if lost == 0 => {}

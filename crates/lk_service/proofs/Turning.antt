@@ -13,9 +13,9 @@ use Rattle.lk_transport.specs.Addresses.{IsSameNetwork, circle_of}
 use Rattle.lk_transport.specs.Hearing.{BufferValue}
 use Rattle.lk_transport.specs.Kept.{KeepsOf}
 use Rattle.lk_transport.specs.Posts.{all_taken_as}
-use Rattle.lk_server.specs.Sayings.{SaysOf}
+use Rattle.lk_node_replica.specs.Sayings.{SaysOf}
 use Rattle.lk_server.specs.Beside.{ActsBeside}
-use Rattle.lk_server.specs.Probes.{IsShown}
+use Rattle.lk_node_replica.specs.Showing.{IsShown}
 use Rattle.lk_server.specs.Servers.{ServerValue, HasReceived, TakesTurn as ServerTurn, LastTurn}
 use Rattle.lk_transport.specs.Chains.{Repeats}
 use Rattle.lk_service.specs.Revivals.{StaysDown}

@@ -67,7 +67,7 @@ pub record CannotSend (is_back : Bool) (old new : SocketValue) : Type 0 where
 
 -- the bytes of the probe of a header's node to itself: in a frame of the nodes' key, if they have one
 abbrev pub IsOwnProbe : HeaderValue → Seals → List ℕ → Type 0
-IsOwnProbe header s frame = (bytes : List ℕ) × SpellsProbe (question header.cluster header.node) bytes × (frame ≡ framed_by (key_list s.nodes) (to_node s header.node) bytes)
+IsOwnProbe header s frame = (bytes : List ℕ) × SpellsProbe (question header.cluster (record { node = header.node; genesis = s.genesis })) bytes × (frame ≡ framed_by (key_list s.nodes) (to_node s header.node) bytes)
 
 -- the node sends that probe there, once, and tells whether it came back
 abbrev pub ProbesItself : HeaderValue → Seals → SocketAddr → Bool → SocketValue → SocketValue → Type 0

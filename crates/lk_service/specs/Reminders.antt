@@ -6,7 +6,7 @@ use Rattle.lk_probe.specs.declared.status.Leadership.{Leadership}
 use Rattle.lk_probe.specs.declared.status.Status.{Status}
 use Rattle.lk_server.specs.Probes.{Tells}
 use Rattle.lk_server.specs.Servers.{ServerValue}
-use Rattle.lk_server.specs.declared.shown.Shown.{Shown}
+use Rattle.lk_node_replica.specs.declared.shown.Shown.{Shown}
 use Rattle.lk_service.specs.declared.port_reminder.PortReminder.{PortReminder}
 
 -- a server tells this of its node; `Shows` is what its replica shows

@@ -11,7 +11,7 @@ use Rattle.lk_seal.specs.declared.seals.Seals.{Seals}
 use Rattle.lk_transport.specs.Addresses.{IsSameNetwork, circle_of}
 use Rattle.lk_transport.specs.Posts.{all_taken_as}
 use Rattle.lk_server.specs.Beside.{ActsBeside}
-use Rattle.lk_server.specs.Probes.{IsShown}
+use Rattle.lk_node_replica.specs.Showing.{IsShown}
 use Rattle.lk_server.specs.Servers.{ServerValue, HasReceived, Turn, LastTurn, IsIdle}
 use Rattle.lk_transport.specs.Askers.{IsKeptOf}
 use Rattle.lk_transport.specs.Inquiring.{IsToldBy}
@@ -37,9 +37,10 @@ LeavesOff s = IsSome (bound_in s.addresses.neighbours)
 module _ (Says : ReplicaValue → List (Option (List ℕ)) → List LetterValue → ReplicaValue → Type 0) (tells : Type 0) where
   -- a turn: the replica was given the first letters of the node to itself as one group, or where none waited what was
   -- taken of the frames that came, and a tick where one was due, and goes on; or it is idle, and given nothing. After
-  -- that the probe kept from before, or else the first in those frames, is answered; what the report kept from before
-  -- told, or else the first in those frames that answers the node's question, is learned; one question is sent where
-  -- one is due; and nothing else is sent. Where nodes live, and the keys, are the same. `After` holds of the server then
+  -- that the probe kept from before, or else the first in those frames, is answered, and a node of the same genesis that
+  -- asks by it is heard again; what the report kept from before told, or else the first in those frames that answers the
+  -- node's question, is learned; one question is sent where one is due; and nothing else is sent. Where nodes live, and
+  -- the keys, are the same. `After` holds of the server then
   pub record TakesTurnWith (kept : Option Asked) (told : Option Reported) (After : ServerValue ReplicaValue → Type 0) (old new : ServerValue ReplicaValue) : Type 0 where
     pub frames : List (SocketAddr × List ℕ)
     pub came : List (SocketAddr × List ℕ)

@@ -8,7 +8,7 @@ use lk_transport::fault::ServiceFault;
 use std::io;
 use std::io::Write;
 
-/// Writes a node and the digest of its genesis in hex.
+// Writes a node and the digest of its genesis in hex.
 fn write_origin<E: Write>(origin: &Origin, err: &mut E) -> io::Result<()> {
     let mut digits = [0; 2 * DIGEST];
     let _ = hex::encode_to_slice(&origin.genesis, &mut digits);
@@ -16,7 +16,7 @@ fn write_origin<E: Write>(origin: &Origin, err: &mut E) -> io::Result<()> {
     err.write_all(&digits)
 }
 
-/// Writes the line.
+// Writes the line.
 fn write_line<E: Write>(own: &Origin, leader: &Origin, err: &mut E) -> io::Result<()> {
     err.write_all(b"another genesis: ")?;
     write_origin(own, err)?;

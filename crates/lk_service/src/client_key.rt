@@ -10,7 +10,7 @@ use std::alloc::Global;
 use std::fs::{File, Files};
 use std::io::Write;
 
-/// Prints the key file of a client, made of the masters in a file.
+// Prints the key file of a client, made of the masters in a file.
 fn print_keys<R: Files<File = File>, W: Write, E: Write>(
     rt: &R,
     alloc: Global,

@@ -8,11 +8,11 @@ use lk_arguments::operation::read_operation;
 use lk_client::destination::Destination;
 use lk_client::question::{Heard, Question, datagram, next_reply, write_reply};
 use lk_client::reply::Reply;
-use lk_disk::MemoryDisk;
 use lk_entries::Header;
+use lk_pace::pace::Pace;
 use lk_replica::Replica;
-use lk_server::pace::Pace;
 use lk_server::server::Server;
+use lk_simulated_disk::MemoryDisk;
 use lk_state::Machine;
 use lk_transport::fault::ServiceFault;
 use lk_transport::network::Network;
@@ -24,24 +24,24 @@ use std::alloc::Global;
 use std::io::Write;
 use std::net::Net;
 
-/// The number of the demonstration's cluster.
+// The number of the demonstration's cluster.
 const CLUSTER: u64 = 1;
-/// How many positions ahead its members are known.
+// How many positions ahead its members are known.
 const ALPHA: u8 = 2;
-/// How many nodes it has.
+// How many nodes it has.
 const NODES: usize = 3;
-/// The clients' requests in order: the client, its number, and the words.
+// The clients' requests in order: the client, its number, and the words.
 const STORY: [(u16, u64, &[u8]); 4] = [
     (1, 1, b"acquire db"),
     (2, 1, b"acquire db"),
     (1, 2, b"release db 1"),
     (2, 2, b"acquire db"),
 ];
-/// How many idle turns pass before a request is resent.
+// How many idle turns pass before a request is resent.
 const PATIENCE: u32 = 200;
-/// How many idle turns pass before the client gives up.
+// How many idle turns pass before the client gives up.
 const IDLE_TURNS: u32 = 10_000;
-/// The largest number of turns between two idle ones.
+// The largest number of turns between two idle ones.
 const TURNS: u64 = 1 << 48;
 
 /// The sockets of the nodes, and that of their clients.
@@ -51,10 +51,10 @@ pub struct Sockets<S: DatagramSocket + Drop> {
     pub client: S,
 }
 
-/// A node with a disk in memory.
+// A node with a disk in memory.
 type DemoServer<M, S> = Server<Replica<M, MemoryDisk>, S>;
 
-/// The nodes, and the socket of their clients.
+// The nodes, and the socket of their clients.
 #[derive(Drop)]
 struct Cluster<M: Machine, S: DatagramSocket + Drop> {
     nodes: Vec<DemoServer<M, S>>,
@@ -65,7 +65,7 @@ struct Cluster<M: Machine, S: DatagramSocket + Drop> {
     port: Port,
 }
 
-/// The member that serves on a socket.
+// The member that serves on a socket.
 fn member_at<S: DatagramSocket>(node: u32, socket: &S) -> Option<Member> {
     let port = socket.port()?;
     match (NodeNo::of(node), Port::of(port)) {
@@ -74,7 +74,7 @@ fn member_at<S: DatagramSocket>(node: u32, socket: &S) -> Option<Member> {
     }
 }
 
-/// The genesis of a cluster whose members, numbered from 1, serve on these sockets.
+// The genesis of a cluster whose members, numbered from 1, serve on these sockets.
 fn genesis_at<S: DatagramSocket>(alloc: Global, sockets: &[S]) -> Result<Genesis, ServiceFault> {
     let mut members = Vec::new(alloc);
     let mut node = 0u32;
@@ -88,7 +88,7 @@ fn genesis_at<S: DatagramSocket>(alloc: Global, sockets: &[S]) -> Result<Genesis
     Genesis::of(CLUSTER, ALPHA, &members).map_err(|_| ServiceFault::CannotOpen)
 }
 
-/// The server of a member.
+// The server of a member.
 fn start<M: Machine, S: DatagramSocket + Drop>(
     alloc: Global,
     node: NodeNo,
@@ -103,12 +103,13 @@ fn start<M: Machine, S: DatagramSocket + Drop>(
         pace: Pace::Datagrams,
         unheard: None,
     };
-    revive::<M, _, _, _>(alloc, &header, resources, &Discard).map_err(
-        |refused| ServiceFault::of_replica(&refused.fault),
-    )
+    match revive::<M, _, _, _>(alloc, &header, resources, &Discard) {
+        Ok(server) => Ok(server),
+        Err(refused) => Err(ServiceFault::of_replica(&refused.fault)),
+    }
 }
 
-/// The servers of the members, in order, on these sockets.
+// The servers of the members, in order, on these sockets.
 fn start_all<M: Machine, S: DatagramSocket + Drop>(
     alloc: Global,
     genesis: &Genesis,
@@ -121,7 +122,7 @@ fn start_all<M: Machine, S: DatagramSocket + Drop>(
     Ok(nodes)
 }
 
-/// The question of a row of the story, for a port.
+// The question of a row of the story, for a port.
 fn question_of(row: (u16, u64, &[u8]), port: Port) -> Option<Question> {
     let (client, number, words) = row;
     let op = read_operation(words)?;
@@ -137,7 +138,7 @@ fn question_of(row: (u16, u64, &[u8]), port: Port) -> Option<Question> {
 }
 
 impl<M: Machine, S: DatagramSocket + Drop> Cluster<M, S> {
-    /// A new cluster on these sockets.
+    // A new cluster on these sockets.
     fn begin(alloc: Global, sockets: Sockets<S>) -> Result<Cluster<M, S>, ServiceFault> {
         let Sockets { nodes, client } = sockets;
         let genesis = genesis_at(alloc, &nodes)?;
@@ -151,7 +152,7 @@ impl<M: Machine, S: DatagramSocket + Drop> Cluster<M, S> {
         })
     }
 
-    /// Each node takes its next waiting datagram. Returns whether any node had one.
+    // Each node takes its next waiting datagram. Returns whether any node had one.
     fn serve(&mut self) -> Result<bool, ServiceFault> {
         let mut was_served = false;
         for node in &mut self.nodes {
@@ -160,7 +161,7 @@ impl<M: Machine, S: DatagramSocket + Drop> Cluster<M, S> {
         Ok(was_served)
     }
 
-    /// Each node takes a tick.
+    // Each node takes a tick.
     fn tick(&mut self) -> Result<(), ServiceFault> {
         for node in &mut self.nodes {
             node.tick(&Discard)?;
@@ -168,7 +169,7 @@ impl<M: Machine, S: DatagramSocket + Drop> Cluster<M, S> {
         Ok(())
     }
 
-    /// What the clients receive next. It follows an Elsewhere.
+    // What the clients receive next. It follows an Elsewhere.
     fn hear(&mut self, question: &Question, bytes: &[u8]) -> Heard {
         match next_reply(&mut self.buffer, &mut self.client, question) {
             Heard::Reply(Reply::Elsewhere(member)) => {
@@ -179,7 +180,7 @@ impl<M: Machine, S: DatagramSocket + Drop> Cluster<M, S> {
         }
     }
 
-    /// Serves until a reply arrives or no datagram is waiting.
+    // Serves until a reply arrives or no datagram is waiting.
     fn serve_waiting(
         &mut self,
         question: &Question,
@@ -196,8 +197,8 @@ impl<M: Machine, S: DatagramSocket + Drop> Cluster<M, S> {
         Ok(None)
     }
 
-    /// Sends a request, and resends it after every 200 idle turns; in each idle turn every node takes a tick. Returns
-    /// the reply, or `None` after 10,000 idle turns.
+    // Sends a request, and resends it after every 200 idle turns; in each idle turn every node takes a tick. Returns
+    // the reply, or `None` after 10,000 idle turns.
     fn ask(&mut self, alloc: Global, question: &Question) -> Result<Option<Reply>, ServiceFault> {
         let bytes = datagram(alloc, question)?;
         for idle in 0..IDLE_TURNS {
@@ -212,7 +213,7 @@ impl<M: Machine, S: DatagramSocket + Drop> Cluster<M, S> {
         Ok(None)
     }
 
-    /// Sends the request of a row of the story, and prints the reply. Returns whether there was one.
+    // Sends the request of a row of the story, and prints the reply. Returns whether there was one.
     fn tell<W: Write>(
         &mut self,
         alloc: Global,
@@ -243,7 +244,7 @@ pub fn play<M: Machine, S: DatagramSocket + Drop, W: Write>(
     Ok(true)
 }
 
-/// Sockets of this many free ports of 127.0.0.1.
+// Sockets of this many free ports of 127.0.0.1.
 fn free_sockets<R: Net>(
     rt: &R,
     alloc: Global,
@@ -256,7 +257,7 @@ fn free_sockets<R: Net>(
     Ok(sockets)
 }
 
-/// Plays the story on four free ports of 127.0.0.1.
+// Plays the story on four free ports of 127.0.0.1.
 fn play_on_ports<M: Machine, R: Net, W: Write>(
     rt: &R,
     alloc: Global,

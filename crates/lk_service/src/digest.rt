@@ -10,7 +10,7 @@ use lk_seal::DIGEST;
 use sha2::{Digest, Sha256};
 use std::alloc::{AllocError, Global};
 
-/// Appends the canonical bytes of a header's genesis.
+// Appends the canonical bytes of a header's genesis.
 fn put_genesis(out: &mut BytesMut, header: &Header) -> Result<(), AllocError>
     ensures { OnOk result (out.new.items ≡ out.old.items ++ genesis_spelling header.now) }
 {

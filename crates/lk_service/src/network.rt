@@ -24,8 +24,7 @@ use std::io::{Read, Write};
 use std::net::{IpAddr, Ipv4Addr, SocketAddr};
 use std::os::unix::fs::PermissionsExt;
 
-/// The options of a command line about other machines: the file of the hosts, the address to listen on, and the files
-/// of the keys.
+/// The options of a command line about other machines: the file of the hosts, the address to listen on, the key files.
 #[derive(Clone, Copy)]
 pub struct NetworkOptions<'a> {
     pub hosts: Option<&'a str>,
@@ -34,18 +33,18 @@ pub struct NetworkOptions<'a> {
     pub client_key: Option<&'a str>,
 }
 
-/// The mode bits that give others access to a file.
+// The mode bits that give others access to a file.
 const OTHERS: u32 = 0o077;
 
-/// Opens a file to read.
+// Opens a file to read.
 fn open<R: Files<File = File>>(rt: &R, path: &str) -> io::Result<File> {
     let mut how = OpenOptions::new();
     how.read(true);
     how.open(rt, path)
 }
 
-/// Reads a file. On failure it writes the reason and returns `CannotOpen`; also if the file should be secret and
-/// others have access to it.
+// Reads a file. On failure it writes the reason and returns `CannotOpen`; also if the file should be secret and
+// others have access to it.
 fn bytes_of<R: Files<File = File>, E: Write>(
     rt: &R,
     alloc: Global,
@@ -71,7 +70,7 @@ fn bytes_of<R: Files<File = File>, E: Write>(
     }
 }
 
-/// A line of the hosts: NODE ADDRESS.
+// A line of the hosts: NODE ADDRESS.
 fn host_of(line: &[u8]) -> Option<(NodeNo, IpAddr)> {
     let (node, address) = split_word(line)?;
     let node = node_of(node)?;
@@ -81,7 +80,7 @@ fn host_of(line: &[u8]) -> Option<(NodeNo, IpAddr)> {
     }
 }
 
-/// Whether a line may follow the last one.
+// Whether a line may follow the last one.
 fn follows(last: Option<&(NodeNo, IpAddr)>, host: &(NodeNo, IpAddr)) -> bool {
     match last {
         Some(last) => last.0 < host.0 && last.1.is_ipv4() == host.1.is_ipv4(),
@@ -89,13 +88,13 @@ fn follows(last: Option<&(NodeNo, IpAddr)>, host: &(NodeNo, IpAddr)) -> bool {
     }
 }
 
-/// Whether a line is empty or a comment.
+// Whether a line is empty or a comment.
 fn is_idle(line: &[u8]) -> bool {
     line.is_empty() || line[0] == b'#'
 }
 
-/// Reads the lines of hosts, or returns the number of the first invalid one. Nodes must rise, and all addresses must
-/// be of one family.
+// Reads the lines of hosts, or returns the number of the first invalid one. Nodes must rise, and all addresses must
+// be of one family.
 fn read_hosts(
     alloc: Global,
     text: &[u8],
@@ -115,7 +114,7 @@ fn read_hosts(
     Ok(Ok(hosts))
 }
 
-/// Where the nodes live.
+// Where the nodes live.
 fn hosts_in<R: Files<File = File>, E: Write>(
     rt: &R,
     alloc: Global,
@@ -151,7 +150,7 @@ pub fn keys_of<R: Files<File = File>, E: Write>(
     }
 }
 
-/// The same, and none where no file is named.
+// The same, and none where no file is named.
 fn keys_in<R: Files<File = File>, E: Write>(
     rt: &R,
     alloc: Global,
@@ -164,13 +163,13 @@ fn keys_in<R: Files<File = File>, E: Write>(
     }
 }
 
-/// Writes that no address of a node is known.
+// Writes that no address of a node is known.
 fn tell_homeless<E: Write>(node: NodeNo, path: &str, err: &mut E) -> ServiceFault {
     let _ = writeln!(err, "{path}: no line of node {}, and no --bind", node.get());
     ServiceFault::CannotOpen
 }
 
-/// The address on which a node listens.
+// The address on which a node listens.
 fn place_of<E: Write>(
     header: &Header,
     hosts: &Hosts,
@@ -184,7 +183,7 @@ fn place_of<E: Write>(
     }
 }
 
-/// Rejects a clients' key if the nodes have none, or if the nodes have the same key.
+// Rejects a clients' key if the nodes have none, or if the nodes have the same key.
 fn check_keys<E: Write>(
     nodes: &Keys,
     clients: &Keys,
@@ -200,7 +199,7 @@ fn check_keys<E: Write>(
     Ok(())
 }
 
-/// The keys of a header's node, in its cluster, for its genesis.
+// The keys of a header's node, in its cluster, for its genesis.
 fn seals_in<R: Files<File = File>, E: Write>(
     rt: &R,
     alloc: Global,
@@ -222,7 +221,7 @@ fn seals_in<R: Files<File = File>, E: Write>(
     })
 }
 
-/// Rejects an address that other machines can reach if the nodes have no key, and warns if the clients have none.
+// Rejects an address that other machines can reach if the nodes have no key, and warns if the clients have none.
 fn check_reach<E: Write>(seals: &Seals, place: SocketAddr, err: &mut E) -> Result<(), ServiceFault>
     ensures { OnOk result (IsReachedWithKey seals.now place) }
 {

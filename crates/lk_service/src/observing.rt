@@ -13,17 +13,17 @@ use lk_state::Machine;
 use lk_transport::socket::DatagramSocket;
 use lk_types::{Members, NodeNo};
 
-/// The ticks within which a leader is heard again: from the next on a node waits for none.
+// The ticks within which a leader is heard again: from the next on a node waits for none.
 const HEARD: u8 = 4;
 
-/// The node that a node hears to lead.
+// The node that a node hears to lead.
 fn follows<M: Machine>(node: &Node<M>) -> Option<NodeNo> {
     let known = node.known()?;
     let is_heard = node.term().is_none() && node.ticks() < HEARD;
     (is_heard && known != node.header().node()).then_some(known)
 }
 
-/// The members of the next position.
+// The members of the next position.
 fn members<M: Machine>(node: &Node<M>) -> &Members {
     let roster = node.roster();
     match roster.window().get(0) {
@@ -32,7 +32,7 @@ fn members<M: Machine>(node: &Node<M>) -> &Members {
     }
 }
 
-/// What is seen of a node after what has happened to it.
+// What is seen of a node after what has happened to it.
 fn view_of<M: Machine>(node: &Node<M>, happened: &Happened) -> View {
     let own = node.header().node();
     let members = members(node).copy();
@@ -49,10 +49,11 @@ fn view_of<M: Machine>(node: &Node<M>, happened: &Happened) -> View {
         wanted: happened.carried.wanted,
         unsent: happened.carried.unsent,
         stranger: happened.stranger,
+        foreign: happened.foreign,
     }
 }
 
-/// Whether a node that has come up remembers nothing.
+// Whether a node that has come up remembers nothing.
 fn is_empty<M: Machine>(node: &Node<M>) -> bool {
     node.executed().get() == 0 && node.promised().round() == 0
 }

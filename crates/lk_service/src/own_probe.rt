@@ -4,6 +4,7 @@ ghost use Rattle.std.specs.Prelude.{◌≡◌, Ok, None, Some, true, false, IfOk
 ghost use Rattle.lk_service.specs.OwnProbes.{ComesNext, FindsUnheard, IsHeard, ProbesItself, socket_value};
 
 use lk_entries::Header;
+use lk_probe::neighbours::Origin;
 use lk_probe::reported::question;
 use lk_seal::Seals;
 use lk_transport::fault::ServiceFault;
@@ -15,12 +16,12 @@ use std::alloc::Global;
 use std::net::SocketAddr;
 use std::time::Duration;
 
-/// In how many datagrams a node looks for its probe.
+// In how many datagrams a node looks for its probe.
 const RECEIVES: u32 = 30;
-/// How long it waits for each, in milliseconds.
+// How long it waits for each, in milliseconds.
 const WAIT: u64 = 10;
 
-/// Receives the next datagram, and drops it. Returns whether these are its bytes.
+// Receives the next datagram, and drops it. Returns whether these are its bytes.
 fn comes_next<S: DatagramSocket>(buffer: &mut ReceiveBuffer, socket: &mut S, frame: &[u8]) -> bool
     ensures comes { S.is_telling → ComesNext frame.now result (S.coming socket.old) (S.coming socket.new) }
     ensures unchanged { S.sent socket.new ≡ S.sent socket.old }
@@ -33,7 +34,7 @@ fn comes_next<S: DatagramSocket>(buffer: &mut ReceiveBuffer, socket: &mut S, fra
     }
 }
 
-/// Drops what comes, up to these bytes, 30 datagrams or 300 ms. Returns whether they came.
+// Drops what comes, up to these bytes, 30 datagrams or 300 ms. Returns whether they came.
 fn comes_back<S: DatagramSocket>(socket: &mut S, frame: &[u8]) -> bool
     ensures heard { S.is_telling → IsHeard frame.now 30 result (S.coming socket.old) (S.coming socket.new) }
     ensures unchanged { S.sent socket.new ≡ S.sent socket.old }
@@ -49,7 +50,7 @@ fn comes_back<S: DatagramSocket>(socket: &mut S, frame: &[u8]) -> bool
     false
 }
 
-/// Sends the probe of a header's node to itself, sealed if the nodes have a key. Returns whether it came back.
+// Sends the probe of a header's node to itself, sealed if the nodes have a key. Returns whether it came back.
 fn probe_itself<S: DatagramSocket>(
     alloc: Global,
     socket: &mut S,
@@ -62,7 +63,11 @@ fn probe_itself<S: DatagramSocket>(
     ensures err { OnErr result (socket.new ≡ socket.old) }
     ensures only { IfErr result (λ f. f ≡ ServiceFault.NoMemory) }
 {
-    let probe = question(header.genesis().cluster, header.node()).datagram();
+    let asker = Origin {
+        node: header.node(),
+        genesis: seals.genesis,
+    };
+    let probe = question(header.genesis().cluster, asker).datagram();
     let mut frame = Vec::new(alloc);
     let framed = seals.frame_to_node(header.node().get(), &probe, &mut frame)?;
     match socket.send_to(place, framed) {

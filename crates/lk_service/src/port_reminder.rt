@@ -6,15 +6,15 @@ ghost use Rattle.lk_probe.specs.declared.status.Status.{Status as StatusValue};
 ghost use Rattle.lk_service.specs.Reminders.{IsDue, IsNoneDue, IsStatusOf, KnowsNobody, Reminds, having_warned, reminder_line};
 
 use crate::resources::NodePlan;
+use lk_node_replica::NodeReplica;
 use lk_probe::{Leadership, Status};
-use lk_server::node_replica::NodeReplica;
 use lk_server::server::Server;
 use lk_transport::socket::DatagramSocket;
 use lk_types::Port;
 use std::io;
 use std::io::Write;
 
-/// The ticks between two warnings: a minute, since a node to which nobody writes ticks each 100 ms.
+// The ticks between two warnings: a minute, since a node to which nobody writes ticks each 100 ms.
 const MINUTE: u64 = 600;
 
 /// When the next warning is due, and the port that the genesis names, if the node is not heard there.
@@ -24,7 +24,7 @@ pub struct PortReminder {
     pub due: u64,
 }
 
-/// Writes the line of a warning: the node, the port at which it listens, and the one that the genesis names.
+// Writes the line of a warning: the node, the port at which it listens, and the one that the genesis names.
 #[tactic(auto, unfolding(crate::specs::Reminders::reminder_line))]
 fn write_line<E: Write>(node: u32, own: u16, named: u16, err: &mut E) -> io::Result<()>
     ensures { OnOk result (Appends (E.contents err.old) (E.contents err.new) (reminder_line node own named)) }
@@ -35,7 +35,7 @@ fn write_line<E: Write>(node: u32, own: u16, named: u16, err: &mut E) -> io::Res
     )
 }
 
-/// Warns that the node has heard of no leader since its start.
+// Warns that the node has heard of no leader since its start.
 fn write_reminder<E: Write>(plan: &NodePlan<'_>, named: Port, err: &mut E) -> io::Result<()>
     ensures { OnOk result (Appends (E.contents err.old) (E.contents err.new) (reminder_line plan.now.header.node plan.now.port named)) }
 {
@@ -43,7 +43,7 @@ fn write_reminder<E: Write>(plan: &NodePlan<'_>, named: Port, err: &mut E) -> io
     write_line(node, own, named.get(), err)
 }
 
-/// Whether a node neither leads nor has heard of a leader since its start.
+// Whether a node neither leads nor has heard of a leader since its start.
 fn knows_nobody(leadership: &Leadership) -> bool
     ensures { IsTrue result ↔ KnowsNobody leadership.now }
 {
@@ -61,7 +61,7 @@ impl PortReminder {
         }
     }
 
-    /// The port of which a warning is due. The next one is then a minute away.
+    // The port of which a warning is due. The next one is then a minute away.
     fn take_due(&mut self, status: &Status) -> Option<Port>
         ensures some { IfSome result (λ port. IsDue self.old status.now port × (self.new ≡ having_warned self.old status.now)) }
         ensures none { IsNone result → IsNoneDue self.old status.now × (self.new ≡ self.old) }

@@ -13,8 +13,8 @@ use lk_disk::SystemDisk;
 use lk_entries::Header;
 use lk_folder::causes::open_socket_at;
 use lk_folder::folder::{FolderLock, open_device};
+use lk_pace::pace::Pace;
 use lk_seal::{Keys, Seals};
-use lk_server::pace::Pace;
 use lk_transport::fault::ServiceFault;
 use lk_transport::network::Network;
 use lk_transport::socket::{DatagramSocket, LocalSocket};
@@ -49,7 +49,7 @@ pub struct Resources<D: Drop, S: Drop> {
 /// The files of a folder as a device.
 pub type FolderDisk = SystemDisk<File>;
 
-/// The port that the members give the node, if they have it.
+// The port that the members give the node, if they have it.
 fn named_port(members: &[Member], node: NodeNo) -> Option<Port>
     ensures { result ≡ port_in node members.now }
 {
@@ -61,8 +61,8 @@ fn named_port(members: &[Member], node: NodeNo) -> Option<Port>
     None
 }
 
-/// Warns that the node does not listen at the port that the genesis names: without a relay in between, it would send
-/// but not receive.
+// Warns that the node does not listen at the port that the genesis names: without a relay in between, it would send
+// but not receive.
 fn write_warning<E: Write>(plan: &NodePlan<'_>, named: Port, err: &mut E) {
     let (node, named, own) = (plan.header.node().get(), named.get(), plan.port.get());
     let _ = writeln!(
@@ -71,7 +71,7 @@ fn write_warning<E: Write>(plan: &NodePlan<'_>, named: Port, err: &mut E) {
     );
 }
 
-/// The port that the genesis gives the node, if it listens at another one.
+// The port that the genesis gives the node, if it listens at another one.
 fn other_port(plan: &NodePlan<'_>) -> Option<Port>
     ensures { result ≡ misnamed plan.now.header plan.now.port }
 {
@@ -82,8 +82,8 @@ fn other_port(plan: &NodePlan<'_>) -> Option<Port>
     }
 }
 
-/// Finds out whether the node is heard at the port that the genesis names, if it listens at another one. Warns if it is
-/// not, and returns that port.
+// Finds out whether the node is heard at the port that the genesis names, if it listens at another one. Warns if it is
+// not, and returns that port.
 fn warn_of_port<S: DatagramSocket, E: Write>(
     alloc: Global,
     plan: &NodePlan<'_>,
@@ -107,8 +107,8 @@ fn warn_of_port<S: DatagramSocket, E: Write>(
     Ok(unheard)
 }
 
-/// What the ticks of a node go by that has these seals: with a key of the nodes by the clock, so that a stranger's
-/// payloads neither bring nor prevent them.
+// What the ticks of a node go by that has these seals: with a key of the nodes by the clock, so that a stranger's
+// payloads neither bring nor prevent them.
 fn pace_with(seals: &Seals, asked: Pace) -> Pace
     ensures key { key_list seals.now.nodes ≢ [] → result ≡ Pace.Clock }
     ensures none { key_list seals.now.nodes ≡ [] → result ≡ asked }
@@ -119,7 +119,7 @@ fn pace_with(seals: &Seals, asked: Pace) -> Pace
     }
 }
 
-/// A further member at the port of this one.
+// A further member at the port of this one.
 fn sharer(members: &[Member], member: Member) -> Option<Member> {
     members
         .iter()
@@ -127,7 +127,7 @@ fn sharer(members: &[Member], member: Member) -> Option<Member> {
         .copied()
 }
 
-/// The first two members at one port.
+// The first two members at one port.
 fn at_one_port(members: &[Member]) -> Option<(Member, Member)> {
     for member in members {
         if let Some(other) = sharer(members, *member) {
@@ -137,7 +137,7 @@ fn at_one_port(members: &[Member]) -> Option<(Member, Member)> {
     None
 }
 
-/// Warns where the genesis names two members at one port of this machine.
+// Warns where the genesis names two members at one port of this machine.
 fn warn_of_members<E: Write>(plan: &NodePlan<'_>, err: &mut E) {
     if plan.options.hosts.is_some() {
         return;

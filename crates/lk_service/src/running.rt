@@ -1,12 +1,12 @@
 //! A node: its start from a device, and its turns.
 
 ghost use Rattle.std.specs.Prelude.{◌≡◌, ◌≤◌, ◌^◌, ◌⊎◌, None, IfOk, IfErr, OnOk, OnErr};
-ghost use Rattle.lk_recovery.specs.Faults.{fault_number};
+ghost use Rattle.lk_step.specs.Faults.{fault_number};
 ghost use Rattle.lk_replica.specs.ReplicaValue.{ReplicaValue};
 ghost use Rattle.lk_replica.specs.Revived.{MayGoOn};
 ghost use Rattle.lk_server.specs.Beside.{ActsBeside};
-ghost use Rattle.lk_server.specs.Probes.{IsShown};
-ghost use Rattle.lk_server.specs.Servers.{ServerValue, ServesOn};
+ghost use Rattle.lk_node_replica.specs.Showing.{IsShown};
+ghost use Rattle.lk_server.specs.Servers.{ServerValue, ServesAs, ServesOn};
 ghost use Rattle.lk_transport.specs.Chains.{Repeats};
 ghost use Rattle.lk_service.specs.Revivals.{ComesUp, IsBegun, IsNotTakenUp, IsRefusedWith};
 ghost use Rattle.lk_service.specs.Turns.{TakesTurn, TakesTurnWith, GoesOn, LeavesOff, EndsTurn, BreaksOff, Leaves, AreSealsOf, Serves, EndsEarly, LeavesEarly, TellsFailure};
@@ -21,10 +21,10 @@ use lk_events::line::Observer;
 use lk_folder::causes::{FailureCause, tell_device};
 use lk_folder::refusals::tell_refusal;
 use lk_log::look;
+use lk_node_replica::NodeReplica;
+use lk_pace::metronome::Metronome;
 use lk_recovery::ReviveFault;
 use lk_replica::Replica;
-use lk_server::metronome::Metronome;
-use lk_server::node_replica::NodeReplica;
 use lk_server::notes::log_notes;
 use lk_server::server::{Server, node_turn};
 use lk_server::watching::{log_port, log_start};
@@ -37,13 +37,13 @@ use std::alloc::Global;
 use std::io::Write;
 use std::time::Clock;
 
-/// How many turns a node takes.
+// How many turns a node takes.
 const TURNS: u64 = 1 << 48;
 
-/// The server of a node's replica on a device, with a socket.
+// The server of a node's replica on a device, with a socket.
 type NodeServer<M, D, S> = Server<Replica<M, D>, S>;
 
-/// Restarts the replica from a device. Logs how it started and what it executed.
+// Restarts the replica from a device. Logs how it started and what it executed.
 fn take_up<M: Machine, D: LogDisk + Drop, L: Log>(
     alloc: Global,
     header: &Header,
@@ -75,9 +75,7 @@ pub fn revive<M: Machine, D: LogDisk + Drop, S: DatagramSocket + Drop, L: Log>(
     // It serves as the node of this header, in its cluster, with a replica restarted from what the device has, and has
     // received nothing.
     ensures begun { IfOk result (IsBegun M.meaning D.is_honest (D.disk resources.device) header.now) }
-    ensures hosts { IfOk result (λ s. s.addresses.hosts ≡ resources.network.hosts) }
-    ensures seals { IfOk result (λ s. s.addresses.seals ≡ resources.network.seals) }
-    ensures pace { IfOk result (λ s. s.pace ≡ resources.pace) }
+    ensures serves { IfOk result (ServesAs header.now.cluster header.now.node resources.pace resources.network) }
     ensures socket { IfOk result (ServesOn (S.sent resources.socket) (S.failures resources.socket) (S.coming resources.socket)) }
     // It fails with 7 to 11, each with its cause, and what the device then has fits as what it had.
     ensures refused { IfErr result (λ e. IsNotTakenUp M.meaning M.IsText D.is_honest (D.disk resources.device) header.now (fault_number e.fault) (D.disk e.device)) }
@@ -102,7 +100,7 @@ pub fn revive<M: Machine, D: LogDisk + Drop, S: DatagramSocket + Drop, L: Log>(
     ))
 }
 
-/// The same. Where it is refused, lines tell what was found.
+// The same. Where it is refused, lines tell what was found.
 fn revive_plan<
     M: Machine,
     D: LogDisk + FailureCause + Drop,
@@ -131,8 +129,8 @@ fn revive_plan<
     }
 }
 
-/// Ends a turn: acts beside the protocol, and tells an observer of the turn. Where the node has followed one of another
-/// genesis a line tells so.
+// Ends a turn: acts beside the protocol, and tells an observer of the turn. Where the node has followed one of another
+// genesis a line tells so.
 fn end_turn<M: Machine, D: LogDisk + Drop, S: DatagramSocket + Drop, L: Log, O: Observer, E: Write>(
     server: &mut NodeServer<M, D, S>,
     buffer: &mut ReceiveBuffer,
@@ -145,7 +143,6 @@ fn end_turn<M: Machine, D: LogDisk + Drop, S: DatagramSocket + Drop, L: Log, O: 
     ensures leaves { OnErr result (LeavesOff server.new) }
     ensures spent { (buffer.new.asked ≡ None) × (buffer.new.reported ≡ None) }
     ensures failure { TellsFailure server.new }
-    ensures passes { IfErr result (λ f. f ≡ ServiceFault.Send → ⊥) }
 {
     let leader = server.act_beside(buffer, log);
     let _ = server.replica();
@@ -156,7 +153,7 @@ fn end_turn<M: Machine, D: LogDisk + Drop, S: DatagramSocket + Drop, L: Log, O: 
     }
 }
 
-/// Takes one turn, of which an observer is told. Where the device failed a line tells why.
+// Takes one turn, of which an observer is told. Where the device failed a line tells why.
 fn take_turn<
     M: Machine,
     D: LogDisk + FailureCause + Drop,
@@ -176,23 +173,24 @@ fn take_turn<
 ) -> Result<(), ServiceFault>
     // Its replica was given as one group just what it wrote to itself, or what was taken of what came, and a tick
     // where one was due. Of the letters that it said it keeps none but those of the node to itself, after the ones
-    // that wait. After that the probe that was kept, or else the first of those that came, is answered, what the report
-    // tells that was kept, or else the first of those that came, is learned, and a node is asked where that is due. No
-    // node of another genesis has led it.
+    // that wait. After that it acts beside the protocol, by the probe and the report that were kept, or else by the
+    // first that came. No node of another genesis has led it.
     ensures turn { OnOk result (TakesTurnWith ⟦<Replica<M, D> as NodeReplica>⟧.Says S.is_telling buffer.old.asked buffer.old.reported GoesOn server.old server.new) }
     ensures spent { OnOk result ((buffer.new.asked ≡ None) × (buffer.new.reported ≡ None)) }
     // The turn ended the replica, and after that nothing is sent and no probe is answered; or it is such a turn, and a
     // node of another genesis has led the node.
     ensures ends { OnErr result (EndsTurn ⟦<Replica<M, D> as NodeReplica>⟧.Says S.is_telling server.old server.new ⊎ TakesTurnWith ⟦<Replica<M, D> as NodeReplica>⟧.Says S.is_telling buffer.old.asked buffer.old.reported LeavesOff server.old server.new) }
-    ensures passes { IfErr result (λ f. f ≡ ServiceFault.Send → ⊥) }
 {
     match node_turn(server, buffer, metronome, log) {
         Ok(()) => end_turn(server, buffer, log, observer, err),
-        Err(fault) => Err(tell_device(fault, server.replica().device(), folder, err)),
+        Err(fault) => {
+            let told = ServiceFault::from(fault);
+            Err(tell_device(told, server.replica().device(), folder, err))
+        }
     }
 }
 
-/// Takes 2^48 turns, of which an observer is told. Where the device failed a line tells why.
+// Takes 2^48 turns, of which an observer is told. Where the device failed a line tells why.
 fn take_turns<
     M: Machine,
     D: LogDisk + FailureCause + Drop,
@@ -215,7 +213,6 @@ fn take_turns<
     // At an error it has taken fewer, and then one that ended the replica, or after which a node of another genesis had
     // led the node.
     ensures err { OnErr result (BreaksOff ⟦<Replica<M, D> as NodeReplica>⟧.Says S.is_telling (2 ^ 48) server.old server.new ⊎ Leaves ⟦<Replica<M, D> as NodeReplica>⟧.Says S.is_telling (2 ^ 48) server.old server.new) }
-    ensures passes { IfErr result (λ f. f ≡ ServiceFault.Send → ⊥) }
 {
     let mut buffer = ReceiveBuffer::new();
     let mut metronome = Metronome::new(clock);
@@ -235,8 +232,8 @@ fn take_turns<
     Ok(())
 }
 
-/// Takes 2^48 turns with a server that ends then. That it serves, and at which port, is logged, and an observer is
-/// told of it.
+// Takes 2^48 turns with a server that ends then. That it serves, and at which port, is logged, and an observer is
+// told of it.
 fn serve_turns<
     M: Machine,
     D: LogDisk + FailureCause + Drop,
@@ -263,7 +260,7 @@ fn serve_turns<
     take_turns(clock, &mut server, plan, reminder, log, observer, err)
 }
 
-/// Starts the server of a node, and takes 2^48 turns.
+// Starts the server of a node, and takes 2^48 turns.
 fn serve<
     M: Machine,
     D: LogDisk + FailureCause + Drop,

@@ -1,9 +1,9 @@
 -- A longer list bears out as much, and one chosen list bears out all.
 use Rattle.std.proofs.Common.{◌≡◌, ℕ, zero, suc, List, [], ◌∷◌, ◌++◌, length, take, drop, Some, slice_get, Contains, refl, ap, sym, ◌∙◌, subst, inl, inr, arith, append_assoc, append-nil, length-append}
 use Rattle.std.proofs.lemmas.List.{take-append-le}
-use Rattle.lk_wire.specs.declared.message.NodeMessage.{NodeMessage}
-use Rattle.lk_wire.specs.declared.message.NodeMessage.TheVariants as kinds
-use Rattle.lk_wire.specs.Values.{PartValue}
+use Rattle.lk_messages.specs.declared.message.NodeMessage.{NodeMessage}
+use Rattle.lk_messages.specs.declared.message.NodeMessage.TheVariants as kinds
+use Rattle.lk_messages.specs.Values.{PartValue}
 use Rattle.lk_members.proofs.Memberships.{members_stay}
 use Rattle.lk_state.specs.Meanings.{Meaning}
 use Rattle.lk_state.proofs.Wholes.{replies_stay}

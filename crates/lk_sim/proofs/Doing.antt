@@ -1,7 +1,7 @@
 -- What an event has done, by what its calls came to.
 use Rattle.std.proofs.Common.{◌≡◌, ℕ, ◌⊎◌, List, [], ◌++◌, length, set, Option, Some, None, Ok, refl, ap, sym, ◌∙◌, subst, subst₂, inl, inr, append_assoc, append-nil}
 use Rattle.std.proofs.lemmas.List.{get_or_default}
-use Rattle.lk_disk.specs.Memory.{Memory}
+use Rattle.lk_simulated_disk.specs.Memory.{Memory}
 use Rattle.lk_disk.specs.Meters.{stopping}
 use Rattle.lk_entries.specs.Values.{HeaderValue}
 use Rattle.lk_state.specs.Meanings.{Meaning}

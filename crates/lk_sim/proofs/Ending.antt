@@ -3,7 +3,7 @@ use Rattle.std.proofs.Common.{◌≡◌, ℕ, List, set, get_or, refl, ap, sym, 
 use Rattle.std.proofs.lemmas.Bool.{cases_eq}
 use Rattle.std.proofs.lemmas.List.{get_or_default}
 use Rattle.lk_disk.specs.Disk.{Disk}
-use Rattle.lk_disk.specs.Memory.{Memory}
+use Rattle.lk_simulated_disk.specs.Memory.{Memory}
 use Rattle.lk_disk.specs.declared.device.Side.{Side}
 use Rattle.lk_state.specs.Meanings.{Meaning}
 use Rattle.lk_agreement.specs.Nodes.{View}

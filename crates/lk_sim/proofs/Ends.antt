@@ -1,7 +1,7 @@
 -- By which faults a node ends in an event.
 use Rattle.std.proofs.Common.{◌≡◌, ℕ, Option, Some, None, sym, subst, inl, inr}
 use Rattle.std.specs.Prelude.{List, [], ◌∷◌, map, take}
-use Rattle.lk_disk.specs.Memory.{Memory, empty}
+use Rattle.lk_simulated_disk.specs.Memory.{Memory, empty}
 use Rattle.lk_replica.specs.Behaviours.{Behaviour}
 use Rattle.lk_step.specs.declared.note.Note.{Note}
 use Rattle.lk_seats.specs.Ends.{IsToldEnd}

@@ -4,7 +4,7 @@ use Rattle.std.specs.List.{AllByRecursion}
 use Rattle.std.proofs.Math.Seq.{take-append_seam, drop-append_seam}
 use Rattle.std.proofs.lemmas.List.{length-take, take-append-drop}
 use Rattle.lk_disk.specs.Disk.{Disk, kept_by}
-use Rattle.lk_disk.specs.Memory.{Memory, disk_of}
+use Rattle.lk_simulated_disk.specs.Memory.{Memory, disk_of}
 use Rattle.lk_disk.specs.declared.device.Side.{Side}
 use Rattle.lk_disk.specs.declared.device.Side.TheVariants.{A, B}
 use Rattle.lk_state.specs.Meanings.{Meaning}
@@ -55,14 +55,14 @@ pub all_heard : {R : Type 0} (Shows : R → Genesis → ℕ → Holding → Type
 all_heard Shows disks m genesis seats sent trace w [] were = tt
 all_heard Shows disks m genesis seats sent trace w (Tick ∷ is) were = (tt, all_heard Shows disks m genesis seats sent trace w is were.1)
 all_heard Shows disks m genesis seats sent trace w (Heard bytes ∷ is) were =
-    (heard_sent Shows disks m genesis seats sent trace w were.0.0 were.0.1 bytes.now were.0.2, all_heard Shows disks m genesis seats sent trace w is were.1)
+    (heard_sent Shows disks m genesis seats sent trace w were.0.0 were.0.1 bytes were.0.2, all_heard Shows disks m genesis seats sent trace w is were.1)
 
 -- the turns of a group bring what was sent
 was_brought : (sent : List Datagram) (n : ℕ) (t : Turn) (i : Input) → IsFor sent n t → heard_by i ≡ given_by sent t → WasSentTo sent i
 was_brought sent n t Tick is same = tt
 was_brought sent n turn.Tick (Heard bytes) is same = absurd cc
 was_brought sent n (turn.Deliver k) (Heard bytes) is same =
-    let brought : Some bytes.now ≡ Some is.0.bytes = same ∙ ap (λ o. given_of o) is.1 in
+    let brought : Some bytes ≡ Some is.0.bytes = same ∙ ap (λ o. given_of o) is.1 in
     (is.0, datagram_listed sent k is.0 is.1, cc brought)
   where
     given_of : Option Datagram → Option (List ℕ)

@@ -66,7 +66,7 @@ module _ {R : Type 0} (Shows : R → Genesis → ℕ → Holding → Type 0) (di
     where
       fits : (x : Input) → WasSentTo sent x → InputFits (happened genesis sent trace) x
       fits Tick was = tt
-      fits (Heard bytes) was = heard_sent Shows disks m genesis seats sent trace w was.0 was.1 bytes.now was.2
+      fits (Heard bytes) was = heard_sent Shows disks m genesis seats sent trace w was.0 was.1 bytes was.2
 
   -- each step notes what is its own
   pub group_own : (is : List Input) (r q : R) (said : List Said) (seats : List (Seat R)) (sent : List Datagram) (trace notes : List Note) (s : Seat R)
@@ -87,4 +87,4 @@ module _ {R : Type 0} (Shows : R → Genesis → ℕ → Holding → Type 0) (di
     where
       fits : (x : Input) → WasSentTo sent x → InputFits (happened genesis sent trace) x
       fits Tick was = tt
-      fits (Heard bytes) was = heard_sent Shows disks m genesis seats sent trace w was.0 was.1 bytes.now was.2
+      fits (Heard bytes) was = heard_sent Shows disks m genesis seats sent trace w was.0 was.1 bytes was.2

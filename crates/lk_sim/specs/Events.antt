@@ -2,14 +2,14 @@
 use Rattle.std.specs.Prelude.{◌≡◌, ℕ, ◌+◌, ◌<◌, ◌⊎◌, length, map, take, List, [], ◌∷◌, ◌++◌, Option, Some, None, Result, Ok, Err, set, Contains, Vec, vec_len, vec_capacity}
 use Rattle.std.specs.Global.{Global}
 use Rattle.std.specs.List.{AllByRecursion}
-use Rattle.lk_disk.specs.Memory.{Memory, empty}
+use Rattle.lk_simulated_disk.specs.Memory.{Memory, empty}
 use Rattle.lk_disk.specs.Meters.{Passes, stopping}
 use Rattle.lk_disk.specs.declared.trap.Trap.{Trap}
 use Rattle.lk_disk.specs.declared.trap.Trap.TheVariants.{Fail, Arm}
 use Rattle.lk_entries.specs.Values.{HeaderValue}
 use Rattle.lk_log.specs.Causes.{rebase_calls}
-use Rattle.lk_wire.specs.Grammar.{Spells}
-use Rattle.lk_wire.specs.declared.message.Content.TheVariants as content
+use Rattle.lk_messages.specs.Grammar.{Spells}
+use Rattle.lk_messages.specs.declared.message.Content.TheVariants as content
 use Rattle.lk_agreement.specs.declared.party.Party.TheVariants as party
 use Rattle.lk_step.specs.declared.note.Note.{Note}
 use Rattle.lk_step.specs.declared.note.Note.TheVariants as note

@@ -2,9 +2,9 @@
 use Rattle.std.specs.Prelude.{◌≡◌, ℕ, ◌+◌, ◌≤◌, ◌<◌, List, length, slice_get, Some, Contains}
 use Rattle.lk_types.specs.declared.answer.Answer.{Answer}
 use Rattle.lk_types.specs.declared.member.Member.{Member}
-use Rattle.lk_wire.specs.Values.{DecidedValue, PartValue, PassedValue}
-use Rattle.lk_wire.specs.declared.message.Answered.{Answered}
-use Rattle.lk_wire.specs.declared.message.NodeMessage.TheVariants as kinds
+use Rattle.lk_messages.specs.Values.{DecidedValue, PartValue, PassedValue}
+use Rattle.lk_messages.specs.declared.message.Answered.{Answered}
+use Rattle.lk_messages.specs.declared.message.NodeMessage.TheVariants as kinds
 use Rattle.lk_members.specs.Rosters.{members}
 use Rattle.lk_state.specs.Meanings.{Meaning}
 use Rattle.lk_state.specs.States.{reply}

@@ -30,7 +30,7 @@ copied (Some bytes) = Some bytes.items
 -- a tick, or a datagram that was sent
 abbrev pub WasSentTo : List Datagram → Input → Type 0
 WasSentTo sent Tick = Unit {0}
-WasSentTo sent (Heard bytes) = (d : Datagram) × Contains sent d × (bytes.now ≡ d.bytes)
+WasSentTo sent (Heard bytes) = (d : Datagram) × Contains sent d × (bytes ≡ d.bytes)
 
 abbrev pub WereSentTo : List Datagram → List Input → Type 0
 WereSentTo sent [] = Unit {0}

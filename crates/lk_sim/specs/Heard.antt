@@ -1,8 +1,8 @@
 -- Bytes that no node has sent.
 use Rattle.std.specs.Prelude.{◌≡◌, ℕ, List, Option, Some}
-use Rattle.lk_wire.specs.Grammar.{Spells}
-use Rattle.lk_wire.specs.declared.message.Message.{Message}
-use Rattle.lk_wire.specs.declared.message.Content.TheVariants as content
+use Rattle.lk_messages.specs.Grammar.{Spells}
+use Rattle.lk_messages.specs.declared.message.Message.{Message}
+use Rattle.lk_messages.specs.declared.message.Content.TheVariants as content
 use Rattle.lk_node.specs.Histories.{RequestValue}
 
 -- whatever the bytes spell is this request

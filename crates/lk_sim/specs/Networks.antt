@@ -2,12 +2,12 @@
 -- order.
 use Rattle.std.specs.Prelude.{◌≡◌, ◌⊎◌, ℕ, Option, Some, None, List, [], ◌∷◌, ◌++◌}
 use Rattle.lk_disk.specs.Disk.{Disk, kept_by}
-use Rattle.lk_disk.specs.Memory.{Memory, disk_of}
+use Rattle.lk_simulated_disk.specs.Memory.{Memory, disk_of}
 use Rattle.lk_disk.specs.declared.device.Side.{Side}
-use Rattle.lk_wire.specs.Grammar.{Spells}
-use Rattle.lk_wire.specs.declared.message.Content.TheVariants as content
-use Rattle.lk_wire.specs.declared.message.Message.{Message}
-use Rattle.lk_wire.specs.declared.message.NodeMessage.{NodeMessage}
+use Rattle.lk_messages.specs.Grammar.{Spells}
+use Rattle.lk_messages.specs.declared.message.Content.TheVariants as content
+use Rattle.lk_messages.specs.declared.message.Message.{Message}
+use Rattle.lk_messages.specs.declared.message.NodeMessage.{NodeMessage}
 use Rattle.lk_state.specs.Meanings.{Meaning}
 use Rattle.lk_agreement.specs.Datagrams.{said_by, HasSent}
 use Rattle.lk_step.specs.declared.note.Note.{Note}

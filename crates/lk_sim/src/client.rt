@@ -1,7 +1,7 @@
 // A client sends a request: its datagram joins the list, addressed to a node that was started.
 ghost use Rattle.std.specs.Prelude.{◌≡◌, ◌++◌, [], ◌∷◌, IfOk, IfErr, OnOk, OnErr};
-ghost use Rattle.lk_wire.specs.Grammar.{Spells};
-ghost use Rattle.lk_wire.specs.declared.message.Content.TheVariants as content;
+ghost use Rattle.lk_messages.specs.Grammar.{Spells};
+ghost use Rattle.lk_messages.specs.declared.message.Content.TheVariants as content;
 ghost use Rattle.lk_replica.specs.Behaviours.{disks_by};
 ghost use Rattle.lk_sim.specs.Events.{Does, IsAsked, IsRefused};
 ghost use Rattle.lk_sim.specs.Worlds.{PartsHold, scene_of};

@@ -3,7 +3,7 @@ ghost use Rattle.std.specs.Prelude.{◌≡◌, ◌⊎◌, Some, IfOk, IfErr, OnO
 ghost use Rattle.lk_agreement.specs.Datagrams.{Datagram as DatagramValue};
 ghost use Rattle.lk_agreement.specs.declared.party.Party.TheVariants as party;
 ghost use Rattle.lk_wire.specs.Shown.{shown_content};
-ghost use Rattle.lk_wire.specs.declared.message.Content.TheVariants as content;
+ghost use Rattle.lk_messages.specs.declared.message.Content.TheVariants as content;
 ghost use Rattle.lk_node.specs.Histories.{RequestValue};
 ghost use Rattle.lk_replica.specs.Behaviours.{disks_by};
 ghost use Rattle.lk_sim.specs.Events.{Does, IsInjected, IsNotInjected, IsRefused};
@@ -22,7 +22,7 @@ use lk_replica::MemoryReplica;
 use lk_seats::{Refused, find_up};
 use lk_step::{Input, Note};
 use lk_types::{NoMemory, NodeNo, Request};
-use lk_wire::{ContentRef, view};
+use lk_wire::{ContentRef, Datagram};
 
 // The place of the node of this number, which is up, with room for what it sends.
 fn turn_of<R: MemoryReplica>(parts: &Parts<R>, number: NodeNo) -> Result<usize, Refused>
@@ -83,7 +83,7 @@ pub fn deliver<R: MemoryReplica>(parts: &mut Parts<R>, k: usize) -> Result<(), R
     let number = bound(parts, k)?;
     let i = turn_of(parts, number)?;
     let bytes = bytes_of(parts, k)?;
-    give(parts, i, Input::Datagram(&bytes), None)?;
+    give(parts, i, Input::Datagram(Datagram::of(&bytes)), None)?;
     Ok(())
 }
 
@@ -99,11 +99,11 @@ fn request_of(said: &ContentRef<'_>) -> Result<Request, Refused>
 }
 
 // The request that the bytes spell, if they spell one. A node's datagram would be forged.
-fn request_in(bytes: &[u8]) -> Result<Option<Request>, Refused>
-    ensures ok { IfOk result (λ o. Asks bytes.now o) }
-    ensures err { IfErr result (λ e. (e ≡ Refused.Forged) × IsForged bytes.now) }
+fn request_in(viewed: &Datagram<'_>) -> Result<Option<Request>, Refused>
+    ensures ok { IfOk result (λ o. Asks viewed.now o) }
+    ensures err { IfErr result (λ e. (e ≡ Refused.Forged) × IsForged viewed.now) }
 {
-    let Ok(message) = view(bytes) else {
+    let Ok(message) = viewed.message() else {
         return Ok(None);
     };
     let request = request_of(&message.content)?;
@@ -134,11 +134,12 @@ pub fn inject<R: MemoryReplica>(
     ensures err { IfErr result (λ e. IsNotInjected R.behaves (scene_of parts.old) number bytes.now e (scene_of parts.new)) }
 {
     let i = find_up(&parts.seats, number)?;
-    let asked = request_in(bytes)?;
+    let viewed = Datagram::of(bytes);
+    let asked = request_in(&viewed)?;
     if !has_room(&parts.sent) {
         return Err(Refused::WorldFull);
     }
     make_room(&mut parts.trace, &asked)?;
-    give(parts, i, Input::Datagram(bytes), asked)?;
+    give(parts, i, Input::Datagram(viewed), asked)?;
     Ok(())
 }

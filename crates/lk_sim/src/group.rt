@@ -174,7 +174,7 @@ fn inputs_of<'a>(alloc: Global, all: &'a [Option<Vec<u8>>]) -> Result<Vec<Input<
     let mut inputs = Vec::new(alloc);
     'all: for bytes in all {
         inputs.push(match bytes {
-            Some(bytes) => Input::Datagram(bytes),
+            Some(bytes) => Input::Datagram(lk_wire::Datagram::of(bytes)),
             None => Input::Tick,
         })?;
     }

@@ -9,9 +9,10 @@ ghost use Rattle.lk_seats.specs.declared.refused.Refused.TheVariants.{WorldMemor
 
 use crate::giving::{add, come_up};
 use crate::parts::Parts;
-use lk_disk::{MemoryDisk, Trap};
+use lk_disk::Trap;
 use lk_replica::MemoryReplica;
 use lk_seats::{Life, Refused, Seat, find, find_down, find_up, rest, revive, set_trap, stop};
+use lk_simulated_disk::MemoryDisk;
 use lk_types::{NoMemory, NodeNo};
 
 // The largest number of nodes that are ever started.

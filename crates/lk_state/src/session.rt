@@ -46,7 +46,7 @@ impl Default for Session {
     }
 }
 
-/// The sessions, rising by client: at most 256, since there are no more clients. No call takes memory.
+// The sessions, rising by client: at most 256, since there are no more clients. No call takes memory.
 #[derive(Drop)]
 pub(crate) struct Sessions {
     list: ArrayVec<Session, 256>,
@@ -64,7 +64,7 @@ impl Model for Sessions {
 }
 
 impl Sessions {
-    /// No session.
+    // No session.
     pub(crate) fn new() -> Sessions
         ensures { result ≡ [] }
     {
@@ -73,7 +73,7 @@ impl Sessions {
         }
     }
 
-    /// The sessions of this list, or `None` if they do not rise by client.
+    // The sessions of this list, or `None` if they do not rise by client.
     pub(crate) fn of(list: ArrayVec<Session, 256>) -> Option<Sessions>
         ensures some { IsSome result ↔ IsTrue (are_sessions_above 0 list.items) }
         ensures value { IfSome result (λ s. s ≡ list.items) }
@@ -85,7 +85,7 @@ impl Sessions {
         Some(Sessions { list })
     }
 
-    /// The sessions, rising by client.
+    // The sessions, rising by client.
     pub(crate) fn as_slice(&self) -> &[Session]
         ensures value { result.now ≡ self.now }
         ensures fits { AreSessions self.now }
@@ -94,7 +94,7 @@ impl Sessions {
         self.list.as_slice()
     }
 
-    /// The client's session.
+    // The client's session.
     pub(crate) fn get(&self, client: ClientNo) -> Option<Session>
         ensures { result ≡ session_of client self.now }
     {
@@ -102,7 +102,7 @@ impl Sessions {
         own_at(sessions, place_of(sessions, client), client)
     }
 
-    /// Replaces an older session of the same client with this one.
+    // Replaces an older session of the same client with this one.
     pub(crate) fn put(&mut self, session: &Session)
         ensures { self.new ≡ with_session session.now self.old }
     {
@@ -116,7 +116,7 @@ impl Sessions {
     }
 }
 
-/// Each part of the sessions is in its range. The function does nothing.
+// Each part of the sessions is in its range. The function does nothing.
 fn facts_of(sessions: &[Session])
     ensures { AllByRecursion IsSession sessions.now }
 {
@@ -125,7 +125,7 @@ fn facts_of(sessions: &[Session])
     }
 }
 
-/// Whether the clients rise strictly.
+// Whether the clients rise strictly.
 fn are_rising(sessions: &[Session]) -> bool
     ensures { result ≡ are_sessions_above 0 sessions.now }
 {
@@ -140,7 +140,7 @@ fn are_rising(sessions: &[Session]) -> bool
     true
 }
 
-/// How many sessions of smaller clients come first.
+// How many sessions of smaller clients come first.
 fn place_of(sessions: &[Session], client: ClientNo) -> usize
     requires { IsTrue (are_sessions_above 0 sessions.now) }
     ensures place { result ≡ prefix_len (λ s. nat_lt s.client client) sessions.now }
@@ -149,7 +149,7 @@ fn place_of(sessions: &[Session], client: ClientNo) -> usize
     sessions.partition_point(|session| session.client < client)
 }
 
-/// The session at this index, if it is the client's.
+// The session at this index, if it is the client's.
 fn own_at(sessions: &[Session], index: usize, client: ClientNo) -> Option<Session>
     ensures { result ≡ own client (slice_get sessions.now index) }
 {
@@ -159,7 +159,7 @@ fn own_at(sessions: &[Session], index: usize, client: ClientNo) -> Option<Sessio
     }
 }
 
-/// Whether the session at this index is the client's.
+// Whether the session at this index is the client's.
 fn stands_at(sessions: &[Session], index: usize, client: ClientNo) -> bool
     ensures { result ≡ is_at client (slice_get sessions.now index) }
 {

@@ -123,7 +123,7 @@ fn read_sessions(bytes: &[u8]) -> Option<(Sessions, &[u8])>
     Some((sessions, rest))
 }
 
-/// Everything before the machine's text.
+// Everything before the machine's text.
 #[tactic(auto, unfolding(crate::specs::Reading::read_front))]
 fn read_front(bytes: &[u8]) -> Option<(Roster, Sessions, &[u8])>
     ensures { Finds (λ x. ((x.0, x.1), x.2.now)) result (read_front bytes.now) }

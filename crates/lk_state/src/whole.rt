@@ -130,7 +130,7 @@ impl<M: Machine> Whole<M> {
         Seen::of(self.sessions.get(client), number)
     }
 
-    /// Whether the client's request of this number takes effect.
+    // Whether the client's request of this number takes effect.
     fn is_new(&self, client: ClientNo, number: RequestNumber) -> bool
         ensures { result ≡ is_new (session_of client self.now.sessions) number }
     {
@@ -161,7 +161,7 @@ impl<M: Machine> Whole<M> {
         Ok(Ran { position, answer })
     }
 
-    /// The position that is executed next.
+    // The position that is executed next.
     fn next_position(&self) -> Position
         requires { self.now.roster.executed < max_count }
         ensures { result ≡ self.now.roster.executed + 1 }
@@ -169,7 +169,7 @@ impl<M: Machine> Whole<M> {
         Position::of(self.executed().get() + 1).unwrap()
     }
 
-    /// Advances by one position with a command, and returns its answer if it takes effect.
+    // Advances by one position with a command, and returns its answer if it takes effect.
     fn run_command(&mut self, command: &Command) -> Result<Option<Answer>, NoMemory>
         requires { self.old.roster.executed < max_count }
         ensures ok { OnOk result (self.new ≡ ran M.meaning command.now self.old) }
@@ -186,7 +186,7 @@ impl<M: Machine> Whole<M> {
         }
     }
 
-    /// Executes an op that takes effect, advancing by one position, and returns its answer.
+    // Executes an op that takes effect, advancing by one position, and returns its answer.
     fn run_op(&mut self, client: ClientNo, op: &Op) -> Result<Answer, NoMemory>
         requires { self.old.roster.executed < max_count }
         ensures ok { OnOk result (self.new ≡ record { roster = changed_by op.now self.old.roster; sessions = self.old.sessions; text = next_text M.meaning self.old.text client op.now }) }
@@ -216,7 +216,7 @@ impl<M: Machine> Whole<M> {
         }
     }
 
-    /// Advances by one position with a request, and returns its answer if it takes effect.
+    // Advances by one position with a request, and returns its answer if it takes effect.
     fn run_request(&mut self, request: &Request) -> Result<Option<Answer>, NoMemory>
         requires { self.old.roster.executed < max_count }
         ensures ok { OnOk result (self.new ≡ ran M.meaning (Command.Request request.now) self.old) }
@@ -234,7 +234,7 @@ impl<M: Machine> Whole<M> {
         Ok(Some(session.answer))
     }
 
-    /// Advances by one position with nothing that takes effect.
+    // Advances by one position with nothing that takes effect.
     fn pass(&mut self)
         requires { self.old.roster.executed < max_count }
         ensures { self.new ≡ served_by M.meaning self.old None }
@@ -243,7 +243,7 @@ impl<M: Machine> Whole<M> {
         self.roster.facts();
     }
 
-    /// Keeps the answer of the client's last request.
+    // Keeps the answer of the client's last request.
     fn keep(&mut self, session: &Session)
         ensures { self.new ≡ record self.old { sessions = with_session session.now self.old.sessions } }
     {

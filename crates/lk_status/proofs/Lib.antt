@@ -1,5 +1,2 @@
-mod Serving
-mod Gathered
-mod Measuring
 mod Writing
 mod Showing

@@ -3,9 +3,9 @@ use Rattle.std.specs.Prelude.{◌≡◌, ◌≢◌, ◌↔◌, ℕ, Bool, true, 
 use Rattle.std.proofs.lemmas.Bool.{false≢true}
 use Rattle.std.specs.declared.net.socket_addr.SocketAddr.{SocketAddr}
 use Rattle.lk_probe.specs.declared.probe.Report.{Report}
+use Rattle.lk_health.specs.Rounds.{AreHeard}
+use Rattle.lk_health.specs.Verdicts.{IsServed}
 use Rattle.lk_status.specs.Outcomes.{IsReady, Shows}
-use Rattle.lk_status.specs.Rounds.{AreHeard}
-use Rattle.lk_status.specs.Verdicts.{IsServed}
 use Rattle.lk_status.specs.declared.status.Plan.{Plan}
 
 module _ {S : Type 0} (sent coming : S → List (SocketAddr × List ℕ)) (failures : S → ℕ) (tells : Type 0) (p : Plan) (ended : S) where

@@ -1,12 +1,14 @@
 -- One text after another.
-use Rattle.std.proofs.Common.{◌≡◌, ℕ, ◌+◌, false, List, [], ◌∷◌, ◌++◌, Option, Some, None, take, sym, ap, subst, ◌∙◌, append_assoc}
+use Rattle.std.proofs.Common.{◌≡◌, ◌<◌, ◌≤◌, ℕ, suc, ◌+◌, ◌%◌, ◌^◌, false, List, [], ◌∷◌, ◌++◌, Option, Some, None, length, get_or, take, drop, sym, ap, subst, ◌∙◌, append_assoc, drop-cons, arith}
 use Rattle.std.specs.List.{flat_map}
-use Rattle.std.proofs.lemmas.List.{append-nil, flat_map_more}
+use Rattle.std.proofs.lemmas.List.{append-nil, flat_map_more, drop_all}
 use Rattle.std.specs.Io.KnownBytes.{Appends, Keeps}
 use Rattle.std.specs.Prelude.{codes}
 use Rattle.lk_probe.specs.declared.probe.Report.{Report}
+use Rattle.lk_health.specs.Verdicts.{one_genesis}
+use Rattle.lk_health.specs.declared.target.Target.{Target}
 use Rattle.lk_status.specs.Lines.{count_text, traffic_text, stranger_word, strangers_text}
-use Rattle.lk_status.specs.Verdicts.{one_genesis}
+use Rattle.lk_status.specs.Tokens.{by_token}
 
 pub appends_nothing : (a : Option (List ℕ)) → Appends a a []
 appends_nothing None = tt
@@ -43,3 +45,32 @@ pub strangers_as : (a z : Option (List ℕ)) (measure : Report) (rs front : List
     → Appends a z (codes "; genesis differs:" ++ flat_map (stranger_word measure) front) → Appends a z (strangers_text measure rs)
 strangers_as a z measure rs front several all printed =
     rw several (subst (λ (l : List Report). Appends a z (codes "; genesis differs:" ++ flat_map (stranger_word measure) l)) all printed)
+
+-- ---- a text for each target
+
+same : (n : ℕ) → suc n ≡ n + 1
+same n = omega arith
+
+-- the targets from a place on begin with the one that is there
+pub next_target : (ts : List Target) (i : ℕ) (t : Target) → i < length ts → t ≡ get_or ts i t → drop i ts ≡ t ∷ drop (i + 1) ts
+next_target ts i t within is =
+    drop-cons ts i t within ∙ ap (λ (other : Target). other ∷ drop (suc i) ts) (sym is) ∙ ap (λ (n : ℕ). t ∷ drop n ts) (same i)
+
+-- what was written, with the texts of the targets that are left, is all
+abbrev pub SoFar : (ℕ → Target → List ℕ) → Option (List ℕ) → Option (List ℕ) → List ℕ → ℕ → List Target → Type 0
+SoFar text old new all token ts = (written : List ℕ) × Appends old new written × (written ++ by_token text token ts ≡ all)
+
+pub targets_more : (text : ℕ → Target → List ℕ) (a b c : Option (List ℕ)) (all : List ℕ) (token : ℕ) (ts : List Target) (i : ℕ) (t : Target) → drop i ts ≡ t ∷ drop (i + 1) ts
+    → SoFar text a b all token (drop i ts) → Appends b c (text token t) → SoFar text a c all ((token + 1) % (2 ^ 64)) (drop (i + 1) ts)
+targets_more text a b c all token ts i t next so_far more = (
+  so_far.0 ++ text token t,
+  appends_more a b c so_far.0 (text token t) so_far.1 more,
+  append_assoc so_far.0 (text token t) (by_token text ((token + 1) % (2 ^ 64)) (drop (i + 1) ts))
+      ∙ ap (λ (l : List ℕ). so_far.0 ++ l) (sym (ap (λ (l : List Target). by_token text token l) next)) ∙ so_far.2,
+)
+
+pub targets_done : (text : ℕ → Target → List ℕ) (a b : Option (List ℕ)) (all : List ℕ) (token : ℕ) (ts : List Target) (i : ℕ) → length ts ≤ i
+    → SoFar text a b all token (drop i ts) → Appends a b all
+targets_done text a b all token ts i past so_far =
+    subst (λ (l : List ℕ). Appends a b l)
+    (sym (append-nil so_far.0) ∙ ap (λ (l : List Target). so_far.0 ++ by_token text token l) (sym (drop_all i ts past)) ∙ so_far.2) so_far.1

@@ -1,9 +1,10 @@
 -- The numbers that a node tells, and the node that others follow.
-use Rattle.std.specs.Prelude.{ℕ, nat_lt, ◌==◌, not, ◌&&◌, Bool, is_some, Option, None, List, [], ◌∷◌, length, if◌then◌else◌}
+use Rattle.std.specs.Prelude.{ℕ, nat_lt, ◌==◌, not, ◌&&◌, Bool, true, false, is_some, Option, None, List, [], ◌∷◌, length, codes, if◌then◌else◌}
 use Rattle.std.specs.List.{list_any}
 use Rattle.lk_types.specs.declared.member.Member.{Member}
 use Rattle.lk_probe.specs.Grammar.{flag, or_zero}
 use Rattle.lk_probe.specs.declared.probe.Report.{Report}
+use Rattle.lk_health.specs.Verdicts.{seeks_votes}
 use Rattle.lk_status.specs.declared.field.Field.{Field}
 use Rattle.lk_status.specs.declared.field.Field.TheVariants.{Leads, Leader, Silence, Promised, Executed, Snapshot, Members, Pending, Waiting, Unread, Unsent, Ticks, Format, Table}
 
@@ -24,13 +25,60 @@ field_value Ticks r = r.status.traffic.ticks
 field_value Format r = r.status.identity.format
 field_value Table r = r.status.identity.table
 
+-- its name in JSON, and in a metric
+abbrev pub field_name : Field → List ℕ
+field_name Leads = codes "leads"
+field_name Leader = codes "leader"
+field_name Silence = codes "leader_silence_ticks"
+field_name Promised = codes "promised_round"
+field_name Executed = codes "executed_positions"
+field_name Snapshot = codes "snapshot_position"
+field_name Members = codes "members"
+field_name Pending = codes "change_pending_positions"
+field_name Waiting = codes "waiting_requests"
+field_name Unread = codes "unread_datagrams_total"
+field_name Unsent = codes "failed_sends_total"
+field_name Ticks = codes "ticks_total"
+field_name Format = codes "store_format"
+field_name Table = codes "table_version"
+
+-- it only grows until the node restarts
+abbrev pub is_counter : Field → Bool
+is_counter Unread = true
+is_counter Unsent = true
+is_counter Ticks = true
+is_counter _ = false
+
+-- its kind, as Prometheus has it
+abbrev pub field_kind : Field → List ℕ
+field_kind field = if is_counter field then codes "counter" else codes "gauge"
+
+-- what it is
+abbrev pub field_help : Field → List ℕ
+field_help Leads = codes "Whether the node leads."
+field_help Leader = codes "The node that it takes for the leader, or 0."
+field_help Silence = codes "Ticks since it last heard of a leader."
+field_help Promised = codes "Round of the ballot that it has promised."
+field_help Executed = codes "Positions that it has executed."
+field_help Snapshot = codes "Position of its snapshot."
+field_help Members = codes "Members of the next position, as it knows them."
+field_help Pending = codes "Positions before the last join or leave takes effect."
+field_help Waiting = codes "Requests that wait to be proposed."
+field_help Unread = codes "Datagrams that could not be read, since its start."
+field_help Unsent = codes "Sends that failed, since its start."
+field_help Ticks = codes "Ticks since its start."
+field_help Format = codes "Format of its store."
+field_help Table = codes "Version of its lock table: 2 once it is raised."
+
+-- all of them, in the order in which they are printed
+abbrev pub all_fields : List Field
+all_fields =
+    Leads ∷ Leader ∷ Silence ∷ Promised ∷ Executed ∷ Snapshot ∷ Members ∷ Pending
+    ∷ Waiting ∷ Unread ∷ Unsent ∷ Ticks ∷ Format ∷ Table ∷ []
+
 -- the node is one of these members
 abbrev pub is_member : ℕ → List Member → Bool
 is_member node members = list_any (λ m. m.node == node) members
-
--- it does not lead, the ballot that it has promised is its own, and it counts no tick without a leader: it has a term
-abbrev pub seeks_votes : Report → Bool
-seeks_votes r = not r.status.leadership.leads && r.status.leadership.promised.node == r.node && r.status.leadership.silence == 0
 
 -- it follows a leader, of which it has heard in the last 28 ticks
 abbrev pub follows : Report → Bool

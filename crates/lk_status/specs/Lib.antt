@@ -1,9 +1,8 @@
-pub mod Verdicts
-pub mod Rounds
 pub mod Outcomes
 pub mod Fields
-pub mod Measures
-pub mod Targets
 pub mod Lines
 pub mod Reasons
+pub mod Tokens
+pub mod Json
+pub mod Metrics
 pub mod Prints

@@ -7,11 +7,10 @@ use Rattle.lk_types.specs.BallotValue.{BallotValue}
 use Rattle.lk_types.specs.declared.member.Member.{Member}
 use Rattle.lk_probe.specs.declared.probe.Report.{Report}
 use Rattle.lk_probe.specs.declared.status.Leadership.{Leadership}
-use Rattle.lk_status.specs.Fields.{seeks_votes}
-use Rattle.lk_status.specs.Measures.{executed_of}
-use Rattle.lk_status.specs.Rounds.{report_of}
-use Rattle.lk_status.specs.Verdicts.{up, one_genesis}
-use Rattle.lk_status.specs.declared.target.Target.{Target}
+use Rattle.lk_health.specs.Measures.{executed_of}
+use Rattle.lk_health.specs.Rounds.{report_of}
+use Rattle.lk_health.specs.Verdicts.{seeks_votes, up, one_genesis}
+use Rattle.lk_health.specs.declared.target.Target.{Target}
 
 -- ---- of a node
 

@@ -2,9 +2,9 @@
 use Rattle.std.specs.Prelude.{◌≡◌, ◌≢◌, ◌↔◌, ℕ, Bool, true, List, length, IsTrue}
 use Rattle.std.specs.declared.net.socket_addr.SocketAddr.{SocketAddr}
 use Rattle.lk_probe.specs.declared.probe.Report.{Report}
-use Rattle.lk_status.specs.Rounds.{AreHeard}
-use Rattle.lk_status.specs.Verdicts.{IsServed, is_ready}
-use Rattle.lk_status.specs.declared.target.Inquiry.{Inquiry}
+use Rattle.lk_health.specs.Rounds.{AreHeard}
+use Rattle.lk_health.specs.Verdicts.{IsServed, is_ready}
+use Rattle.lk_health.specs.declared.target.Inquiry.{Inquiry}
 use Rattle.lk_status.specs.declared.status.Plan.{Plan}
 
 -- each target reports, and has executed what was the goal

@@ -3,8 +3,8 @@ use Rattle.std.specs.Prelude.{ℕ, Bool, nat_le, not, ◌&&◌, Option, Some, No
 use Rattle.std.specs.Fmt.{decimal}
 use Rattle.lk_types.specs.declared.member.Member.{Member}
 use Rattle.lk_probe.specs.declared.probe.Report.{Report}
-use Rattle.lk_status.specs.Fields.{is_member, seeks_votes, followed}
-use Rattle.lk_status.specs.Verdicts.{one_genesis, has_majority}
+use Rattle.lk_health.specs.Verdicts.{seeks_votes, one_genesis, has_majority}
+use Rattle.lk_status.specs.Fields.{is_member, followed}
 
 -- ---- of a node
 

@@ -1,6 +1,6 @@
 ghost use Rattle.std.specs.Prelude.{◌≡◌};
 ghost use Rattle.lk_probe.specs.Grammar.{or_zero};
-ghost use Rattle.lk_status.specs.Fields.{field_value};
+ghost use Rattle.lk_status.specs.Fields.{field_name, field_kind, field_help, field_value};
 
 use lk_probe::Report;
 use lk_types::NodeNo;
@@ -24,29 +24,25 @@ pub enum Field {
     Table,
 }
 
-/// A field, its name, its kind as Prometheus has it, and what it is.
-pub type Row<'a> = (Field, &'a str, &'a str, &'a str);
-
-/// All of them.
-#[rattlefmt::skip]
-pub const FIELDS: [Row; 14] = [
-    (Field::Leads, "leads", "gauge", "Whether the node leads."),
-    (Field::Leader, "leader", "gauge", "The node that it takes for the leader, or 0."),
-    (Field::Silence, "leader_silence_ticks", "gauge", "Ticks since it last heard of a leader."),
-    (Field::Promised, "promised_round", "gauge", "Round of the ballot that it has promised."),
-    (Field::Executed, "executed_positions", "gauge", "Positions that it has executed."),
-    (Field::Snapshot, "snapshot_position", "gauge", "Position of its snapshot."),
-    (Field::Members, "members", "gauge", "Members of the next position, as it knows them."),
-    (Field::Pending, "change_pending_positions", "gauge", "Positions before the last join or leave takes effect."),
-    (Field::Waiting, "waiting_requests", "gauge", "Requests that wait to be proposed."),
-    (Field::Unread, "unread_datagrams_total", "counter", "Datagrams that could not be read, since its start."),
-    (Field::Unsent, "failed_sends_total", "counter", "Sends that failed, since its start."),
-    (Field::Ticks, "ticks_total", "counter", "Ticks since its start."),
-    (Field::Format, "store_format", "gauge", "Format of its store."),
-    (Field::Table, "table_version", "gauge", "Version of its lock table: 2 once it is raised."),
+/// All of them, in the order in which they are printed.
+pub const FIELDS: [Field; 14] = [
+    Field::Leads,
+    Field::Leader,
+    Field::Silence,
+    Field::Promised,
+    Field::Executed,
+    Field::Snapshot,
+    Field::Members,
+    Field::Pending,
+    Field::Waiting,
+    Field::Unread,
+    Field::Unsent,
+    Field::Ticks,
+    Field::Format,
+    Field::Table,
 ];
 
-/// The number of a node, or 0.
+// The number of a node, or 0.
 fn node_number(node: Option<NodeNo>) -> u64
     ensures { result ≡ or_zero node }
 {
@@ -57,6 +53,60 @@ fn node_number(node: Option<NodeNo>) -> u64
 }
 
 impl Field {
+    /// Its name in JSON, and in a metric.
+    pub fn name(self) -> &'static str
+        ensures { result.now ≡ field_name self }
+    {
+        match self {
+            Field::Leads => "leads",
+            Field::Leader => "leader",
+            Field::Silence => "leader_silence_ticks",
+            Field::Promised => "promised_round",
+            Field::Executed => "executed_positions",
+            Field::Snapshot => "snapshot_position",
+            Field::Members => "members",
+            Field::Pending => "change_pending_positions",
+            Field::Waiting => "waiting_requests",
+            Field::Unread => "unread_datagrams_total",
+            Field::Unsent => "failed_sends_total",
+            Field::Ticks => "ticks_total",
+            Field::Format => "store_format",
+            Field::Table => "table_version",
+        }
+    }
+
+    /// Its kind, as Prometheus has it: a counter only grows until the node restarts.
+    pub fn kind(self) -> &'static str
+        ensures { result.now ≡ field_kind self }
+    {
+        match self {
+            Field::Unread | Field::Unsent | Field::Ticks => "counter",
+            _ => "gauge",
+        }
+    }
+
+    /// What it is.
+    pub fn help(self) -> &'static str
+        ensures { result.now ≡ field_help self }
+    {
+        match self {
+            Field::Leads => "Whether the node leads.",
+            Field::Leader => "The node that it takes for the leader, or 0.",
+            Field::Silence => "Ticks since it last heard of a leader.",
+            Field::Promised => "Round of the ballot that it has promised.",
+            Field::Executed => "Positions that it has executed.",
+            Field::Snapshot => "Position of its snapshot.",
+            Field::Members => "Members of the next position, as it knows them.",
+            Field::Pending => "Positions before the last join or leave takes effect.",
+            Field::Waiting => "Requests that wait to be proposed.",
+            Field::Unread => "Datagrams that could not be read, since its start.",
+            Field::Unsent => "Sends that failed, since its start.",
+            Field::Ticks => "Ticks since its start.",
+            Field::Format => "Format of its store.",
+            Field::Table => "Version of its lock table: 2 once it is raised.",
+        }
+    }
+
     /// Its value in a report.
     pub fn value(self, report: &Report) -> u64
         ensures { result ≡ field_value self report.now }

@@ -1,92 +1,224 @@
-use crate::field::FIELDS;
-use crate::measure::measure_in;
-use crate::target::{Inquiry, report_with};
-use crate::verdict::{has_one_genesis, is_served, up};
+ghost use Rattle.std.specs.Io.KnownBytes.{Appends};
+ghost use Rattle.std.specs.Option.{option_copied};
+ghost use Rattle.std.specs.Prelude.{◌≡◌, ◌∷◌, flat_map, OnOk};
+ghost use Rattle.hex.specs.Hex.{encode_lower};
+ghost use Rattle.lk_status.specs.Json.{program_part, genesis_part, field_part, more_numbers, numbers, members_part, report_part, target_object, more_objects, objects, head_part, verdict_part, counts_part, majority_part, json_text};
+
+use crate::field::{FIELDS, Field};
+use lk_health::target::{Inquiry, Target, report_with};
+use lk_health::verdict::{has_one_genesis, is_served, up};
 use lk_probe::{DIGEST, Report};
 use lk_types::Member;
 use std::io;
 use std::io::Write;
 
-/// Writes the digest of a genesis in hex.
-fn write_genesis<W: Write>(genesis: &[u8; DIGEST], out: &mut W) -> io::Result<()> {
+// The hex digits of a digest.
+fn digits_of(genesis: &[u8; DIGEST]) -> [u8; 2 * DIGEST]
+    ensures { result ≡ encode_lower genesis.now }
+{
     let mut digits = [0; 2 * DIGEST];
-    let _ = hex::encode_to_slice(genesis, &mut digits);
+    hex::encode_to_slice(genesis, &mut digits).unwrap();
+    digits
+}
+
+// Writes the digest of a genesis in hex.
+fn write_genesis<W: Write>(genesis: &[u8; DIGEST], out: &mut W) -> io::Result<()>
+    ensures { OnOk result (Appends (W.contents out.old) (W.contents out.new) (genesis_part genesis.now)) }
+{
     out.write_all(b",\"genesis\":\"")?;
-    out.write_all(&digits)?;
-    out.write_all(b"\"")
+    out.write_all(&digits_of(genesis))?;
+    out.write_all(b"\"")?;
+    Ok(())
 }
 
-/// Writes the members in an array.
-fn write_members<W: Write>(members: &[Member], out: &mut W) -> io::Result<()> {
-    out.write_all(b",\"member_nodes\":[")?;
-    let mut sign = "";
-    for member in members {
-        write!(out, "{sign}{}", member.node.get())?;
-        sign = ",";
-    }
-    out.write_all(b"]")
-}
-
-/// Writes the fields of a report.
-fn write_fields<W: Write>(report: &Report, out: &mut W) -> io::Result<()> {
-    for (field, name, _, _) in FIELDS {
-        write!(out, ",\"{name}\":{}", field.value(report))?;
+// Writes the numbers of these members, each after a comma.
+fn write_more_numbers<W: Write>(members: &[Member], out: &mut W) -> io::Result<()>
+    ensures { OnOk result (Appends (W.contents out.old) (W.contents out.new) (more_numbers members.now)) }
+{
+    'members: for member in members {
+        write!(out, ",{}", member.node.get())?;
     }
     Ok(())
 }
 
-/// Writes a report as what follows the port.
-fn write_report<W: Write>(report: &Report, out: &mut W) -> io::Result<()> {
+// Writes the numbers of these members, with commas between them.
+#[tactic(auto, using(crate::proofs::Writing::appends_more, crate::proofs::Writing::appends_nothing))]
+fn write_numbers<W: Write>(members: &[Member], out: &mut W) -> io::Result<()>
+    ensures { OnOk result (Appends (W.contents out.old) (W.contents out.new) (numbers members.now)) }
+{
+    let [first, others @ ..] = members else {
+        return Ok(());
+    };
+    write!(out, "{}", first.node.get())?;
+    write_more_numbers(others, out)?;
+    Ok(())
+}
+
+// Writes the members in an array.
+#[tactic(auto, using(crate::proofs::Writing::appends_more))]
+fn write_members<W: Write>(members: &[Member], out: &mut W) -> io::Result<()>
+    ensures { OnOk result (Appends (W.contents out.old) (W.contents out.new) (members_part members.now)) }
+{
+    out.write_all(b",\"member_nodes\":[")?;
+    write_numbers(members, out)?;
+    out.write_all(b"]")?;
+    Ok(())
+}
+
+// Writes a field of a report.
+fn write_field<W: Write>(field: Field, report: &Report, out: &mut W) -> io::Result<()>
+    ensures { OnOk result (Appends (W.contents out.old) (W.contents out.new) (field_part report.now field)) }
+{
+    let (name, value) = (field.name(), field.value(report));
+    write!(out, ",\"{name}\":{value}")
+}
+
+// Writes these fields of a report.
+fn write_fields<W: Write>(fields: &[Field], report: &Report, out: &mut W) -> io::Result<()>
+    ensures { OnOk result (Appends (W.contents out.old) (W.contents out.new) (flat_map (field_part report.now) fields.now)) }
+{
+    'all: for field in fields {
+        write_field(*field, report, out)?;
+    }
+    Ok(())
+}
+
+// Writes the number of the node of a report, and the version of its program.
+fn write_program<W: Write>(report: &Report, out: &mut W) -> io::Result<()>
+    ensures { OnOk result (Appends (W.contents out.old) (W.contents out.new) (program_part report.now.node report.now.status.identity.program)) }
+{
     let program = report.status.identity.program;
     let (major, minor, patch) = (program.major, program.minor, program.patch);
     write!(
         out,
         ",\"node\":{},\"program\":\"{major}.{minor}.{patch}\"",
         report.node.get()
-    )?;
-    write_genesis(&report.status.identity.genesis, out)?;
-    write_fields(report, out)?;
-    write_members(report.status.members.as_slice(), out)
+    )
 }
 
-/// Writes the targets in an array.
-fn write_targets<W: Write>(
-    inquiry: &Inquiry,
-    first: u64,
-    reports: &[Report],
-    out: &mut W,
-) -> io::Result<()> {
-    let (mut token, mut sign) = (first, "");
-    for target in inquiry.targets.as_slice() {
-        let report = report_with(reports, token);
-        write!(
-            out,
-            "{sign}{{\"port\":{},\"up\":{}",
-            target.port.get(),
-            report.is_some()
-        )?;
-        if let Some(report) = report {
-            write_report(report, out)?;
-        }
-        out.write_all(b"}")?;
-        token = token.wrapping_add(1);
-        sign = ",";
+// Writes a report as what follows the port.
+fn write_report<W: Write>(report: &Report, out: &mut W) -> io::Result<()>
+    ensures { OnOk result (Appends (W.contents out.old) (W.contents out.new) (report_part report.now)) }
+{
+    write_program(report, out)?;
+    write_genesis(&report.status.identity.genesis, out)?;
+    write_fields(&FIELDS, report, out)?;
+    write_members(report.status.members.as_slice(), out)?;
+    Ok(())
+}
+
+// Writes the target at that port, which reports.
+fn write_reporting<W: Write>(port: u16, report: &Report, out: &mut W) -> io::Result<()>
+    ensures { OnOk result (Appends (W.contents out.old) (W.contents out.new) (target_object port (Some report.now))) }
+{
+    write!(out, "{{\"port\":{port},\"up\":true")?;
+    write_report(report, out)?;
+    out.write_all(b"}")?;
+    Ok(())
+}
+
+// Writes the target at that port.
+fn write_target<W: Write>(port: u16, report: Option<&Report>, out: &mut W) -> io::Result<()>
+    ensures { OnOk result (Appends (W.contents out.old) (W.contents out.new) (target_object port (option_copied report.entry))) }
+{
+    match report {
+        Some(report) => write_reporting(port, report, out)?,
+        None => write!(out, "{{\"port\":{port},\"up\":false}}")?,
     }
     Ok(())
 }
 
-/// Writes how many of how many members report.
-fn write_majority<W: Write>(reports: &[Report], out: &mut W) -> io::Result<()> {
-    let Some(measure) = measure_in(reports) else {
+// The same after a comma.
+#[tactic(auto, using(crate::proofs::Writing::appends_more))]
+fn write_next<W: Write>(port: u16, report: Option<&Report>, out: &mut W) -> io::Result<()>
+    ensures { OnOk result (Appends (W.contents out.old) (W.contents out.new) (44 ∷ target_object port (option_copied report.entry))) }
+{
+    out.write_all(b",")?;
+    write_target(port, report, out)?;
+    Ok(())
+}
+
+// Writes these targets, each after a comma, the first by the report with that token.
+fn write_more_targets<W: Write>(
+    first: u64,
+    targets: &[Target],
+    reports: &[Report],
+    out: &mut W,
+) -> io::Result<()>
+    ensures { OnOk result (Appends (W.contents out.old) (W.contents out.new) (more_objects first targets.now reports.now)) }
+{
+    let mut token = first;
+    'targets: for target in targets {
+        write_next(target.port.get(), report_with(reports, token), out)?;
+        token = token.wrapping_add(1);
+    }
+    Ok(())
+}
+
+// Writes these targets, with commas between them, the first by the report with that token.
+fn write_targets<W: Write>(
+    first: u64,
+    targets: &[Target],
+    reports: &[Report],
+    out: &mut W,
+) -> io::Result<()>
+    ensures { OnOk result (Appends (W.contents out.old) (W.contents out.new) (objects first targets.now reports.now)) }
+{
+    let [target, others @ ..] = targets else {
         return Ok(());
     };
-    let members = measure.status.members.as_slice();
+    write_target(target.port.get(), report_with(reports, first), out)?;
+    write_more_targets(first.wrapping_add(1), others, reports, out)?;
+    Ok(())
+}
+
+// Writes the cluster, whether it is served, and whether all tell one genesis.
+fn write_head<W: Write>(cluster: u64, served: bool, one: bool, out: &mut W) -> io::Result<()>
+    ensures { OnOk result (Appends (W.contents out.old) (W.contents out.new) (head_part cluster served one)) }
+{
     write!(
         out,
-        ",\"members_up\":{},\"members\":{}",
-        up(members, reports),
-        members.len()
+        "{{\"cluster\":{cluster},\"served\":{served},\"one_genesis\":{one}"
     )
+}
+
+// Writes what the reports come to.
+fn write_verdict<W: Write>(cluster: u64, reports: &[Report], out: &mut W) -> io::Result<()>
+    ensures { OnOk result (Appends (W.contents out.old) (W.contents out.new) (verdict_part cluster reports.now)) }
+{
+    write_head(cluster, is_served(reports), has_one_genesis(reports), out)?;
+    Ok(())
+}
+
+// Writes that so many of so many members report.
+fn write_counts<W: Write>(reporting: usize, count: usize, out: &mut W) -> io::Result<()>
+    ensures { OnOk result (Appends (W.contents out.old) (W.contents out.new) (counts_part reporting count)) }
+{
+    write!(out, ",\"members_up\":{reporting},\"members\":{count}")
+}
+
+// Writes how many of the members of the measure report.
+fn write_measured<W: Write>(measure: &Report, reports: &[Report], out: &mut W) -> io::Result<()>
+    ensures { OnOk result (Appends (W.contents out.old) (W.contents out.new) (majority_part (Some measure.now) reports.now)) }
+{
+    let members = measure.status.members.as_slice();
+    write_counts(up(members, reports), members.len(), out)?;
+    Ok(())
+}
+
+// The same, if any node reports.
+fn write_majority<W: Write>(
+    measure: Option<&Report>,
+    reports: &[Report],
+    out: &mut W,
+) -> io::Result<()>
+    ensures { OnOk result (Appends (W.contents out.old) (W.contents out.new) (majority_part (option_copied measure.entry) reports.now)) }
+{
+    let Some(measure) = measure else {
+        return Ok(());
+    };
+    write_measured(measure, reports, out)?;
+    Ok(())
 }
 
 /// Writes all in one object and a line.
@@ -94,16 +226,15 @@ pub fn write_json<W: Write>(
     inquiry: &Inquiry,
     first: u64,
     reports: &[Report],
+    measure: Option<&Report>,
     out: &mut W,
-) -> io::Result<()> {
-    let (is_served, is_one) = (is_served(reports), has_one_genesis(reports));
-    write!(
-        out,
-        "{{\"cluster\":{},\"served\":{is_served},\"one_genesis\":{is_one}",
-        inquiry.cluster
-    )?;
-    write_majority(reports, out)?;
+) -> io::Result<()>
+    ensures { OnOk result (Appends (W.contents out.old) (W.contents out.new) (json_text inquiry.now.cluster first inquiry.now.targets.items reports.now (option_copied measure.entry))) }
+{
+    write_verdict(inquiry.cluster, reports, out)?;
+    write_majority(measure, reports, out)?;
     out.write_all(b",\"nodes\":[")?;
-    write_targets(inquiry, first, reports, out)?;
-    out.write_all(b"]}\n")
+    write_targets(first, inquiry.targets.as_slice(), reports, out)?;
+    out.write_all(b"]}\n")?;
+    Ok(())
 }

@@ -3,15 +3,15 @@ ghost use Rattle.std.specs.Option.{option_copied};
 ghost use Rattle.std.specs.Prelude.{OnOk};
 ghost use Rattle.lk_status.specs.Lines.{following_text, leadership_text, executed_text, snapshot_text, behind_text, promised_text, progress_text, members_text, count_text, traffic_text, node_line, target_line, target_lines, stranger_word, strangers_text, raised_text, majority_text, cluster_line, status_text};
 
-use crate::measure::executed_of;
-use crate::target::{Inquiry, report_with};
-use crate::verdict::{has_one_genesis, seeks_votes, up};
+use lk_health::measure::executed_of;
+use lk_health::target::{Inquiry, report_with};
+use lk_health::verdict::{has_one_genesis, seeks_votes, up};
 use lk_probe::{Leadership, Report};
 use lk_types::{Ballot, Member};
 use std::io;
 use std::io::Write;
 
-/// Writes whom a node follows: `leads`, `follows 1, heard 2 ticks ago` or `knows no leader for 28 ticks`.
+// Writes whom a node follows: `leads`, `follows 1, heard 2 ticks ago` or `knows no leader for 28 ticks`.
 fn write_following<W: Write>(leadership: &Leadership, out: &mut W) -> io::Result<()>
     ensures { OnOk result (Appends (W.contents out.old) (W.contents out.new) (following_text leadership.now)) }
 {
@@ -27,7 +27,7 @@ fn write_following<W: Write>(leadership: &Leadership, out: &mut W) -> io::Result
     Ok(())
 }
 
-/// Writes that a node `seeks votes`, or whom it follows.
+// Writes that a node `seeks votes`, or whom it follows.
 fn write_leadership<W: Write>(report: &Report, out: &mut W) -> io::Result<()>
     ensures { OnOk result (Appends (W.contents out.old) (W.contents out.new) (leadership_text report.now)) }
 {
@@ -39,7 +39,7 @@ fn write_leadership<W: Write>(report: &Report, out: &mut W) -> io::Result<()>
     Ok(())
 }
 
-/// Writes the numbers of the members.
+// Writes the numbers of the members.
 fn write_members<W: Write>(members: &[Member], out: &mut W) -> io::Result<()>
     ensures { OnOk result (Appends (W.contents out.old) (W.contents out.new) (members_text members.now)) }
 {
@@ -50,21 +50,21 @@ fn write_members<W: Write>(members: &[Member], out: &mut W) -> io::Result<()>
     Ok(())
 }
 
-/// Writes how many positions a node has executed.
+// Writes how many positions a node has executed.
 fn write_executed<W: Write>(report: &Report, out: &mut W) -> io::Result<()>
     ensures { OnOk result (Appends (W.contents out.old) (W.contents out.new) (executed_text report.now)) }
 {
     write!(out, ", executed {}", report.status.progress.executed.get())
 }
 
-/// Writes the position of a node's snapshot.
+// Writes the position of a node's snapshot.
 fn write_snapshot<W: Write>(report: &Report, out: &mut W) -> io::Result<()>
     ensures { OnOk result (Appends (W.contents out.old) (W.contents out.new) (snapshot_text report.now)) }
 {
     write!(out, ", snapshot {}", report.status.progress.snapshot.get())
 }
 
-/// Writes how many positions behind a node is, if it is.
+// Writes how many positions behind a node is, if it is.
 fn write_behind<W: Write>(executed: u64, most: u64, out: &mut W) -> io::Result<()>
     ensures { OnOk result (Appends (W.contents out.old) (W.contents out.new) (behind_text executed most)) }
 {
@@ -74,14 +74,14 @@ fn write_behind<W: Write>(executed: u64, most: u64, out: &mut W) -> io::Result<(
     Ok(())
 }
 
-/// Writes the ballot that a node has promised.
+// Writes the ballot that a node has promised.
 fn write_promised<W: Write>(promised: Ballot, out: &mut W) -> io::Result<()>
     ensures { OnOk result (Appends (W.contents out.old) (W.contents out.new) (promised_text promised)) }
 {
     write!(out, ", promised {}.{}", promised.round(), promised.node())
 }
 
-/// Writes how far a node is: how many positions it has executed, how many fewer than that, its ballot and its snapshot.
+// Writes how far a node is: how many positions it has executed, how many fewer than that, its ballot and its snapshot.
 fn write_progress<W: Write>(report: &Report, most: u64, out: &mut W) -> io::Result<()>
     ensures { OnOk result (Appends (W.contents out.old) (W.contents out.new) (progress_text report.now most)) }
 {
@@ -92,7 +92,7 @@ fn write_progress<W: Write>(report: &Report, most: u64, out: &mut W) -> io::Resu
     Ok(())
 }
 
-/// Writes a count between words, unless it is 0.
+// Writes a count between words, unless it is 0.
 fn write_count<W: Write>(front: &str, count: u64, behind: &str, out: &mut W) -> io::Result<()>
     ensures { OnOk result (Appends (W.contents out.old) (W.contents out.new) (count_text front.now count behind.now)) }
 {
@@ -102,7 +102,7 @@ fn write_count<W: Write>(front: &str, count: u64, behind: &str, out: &mut W) -> 
     Ok(())
 }
 
-/// Writes what waits and what failed, where there is any.
+// Writes what waits and what failed, where there is any.
 fn write_traffic<W: Write>(report: &Report, out: &mut W) -> io::Result<()>
     ensures { OnOk result (Appends (W.contents out.old) (W.contents out.new) (traffic_text report.now)) }
 {
@@ -114,7 +114,7 @@ fn write_traffic<W: Write>(report: &Report, out: &mut W) -> io::Result<()>
     Ok(())
 }
 
-/// Writes the line of a node.
+// Writes the line of a node.
 fn write_node<W: Write>(port: u16, report: &Report, most: u64, out: &mut W) -> io::Result<()>
     ensures { OnOk result (Appends (W.contents out.old) (W.contents out.new) (node_line port report.now most)) }
 {
@@ -127,7 +127,7 @@ fn write_node<W: Write>(port: u16, report: &Report, most: u64, out: &mut W) -> i
     Ok(())
 }
 
-/// Writes the line of the target at that port.
+// Writes the line of the target at that port.
 fn write_target<W: Write>(
     port: u16,
     report: Option<&Report>,
@@ -143,7 +143,7 @@ fn write_target<W: Write>(
     Ok(())
 }
 
-/// Writes a line for each target.
+// Writes a line for each target.
 fn write_targets<W: Write>(
     inquiry: &Inquiry,
     first: u64,
@@ -162,7 +162,7 @@ fn write_targets<W: Write>(
     Ok(())
 }
 
-/// Writes a node that tells another genesis than the measure.
+// Writes a node that tells another genesis than the measure.
 fn write_stranger<W: Write>(measure: &Report, report: &Report, out: &mut W) -> io::Result<()>
     ensures { OnOk result (Appends (W.contents out.old) (W.contents out.new) (stranger_word measure.now report.now)) }
 {
@@ -172,7 +172,7 @@ fn write_stranger<W: Write>(measure: &Report, report: &Report, out: &mut W) -> i
     Ok(())
 }
 
-/// Writes which nodes tell another genesis than the measure.
+// Writes which nodes tell another genesis than the measure.
 fn write_strangers<W: Write>(measure: &Report, reports: &[Report], out: &mut W) -> io::Result<()>
     ensures { OnOk result (Appends (W.contents out.old) (W.contents out.new) (strangers_text measure.now reports.now)) }
 {
@@ -186,7 +186,7 @@ fn write_strangers<W: Write>(measure: &Report, reports: &[Report], out: &mut W) 
     Ok(())
 }
 
-/// Writes whether the table is raised.
+// Writes whether the table is raised.
 fn write_raised<W: Write>(measure: &Report, out: &mut W) -> io::Result<()>
     ensures { OnOk result (Appends (W.contents out.old) (W.contents out.new) (raised_text measure.now)) }
 {
@@ -196,7 +196,7 @@ fn write_raised<W: Write>(measure: &Report, out: &mut W) -> io::Result<()>
     Ok(())
 }
 
-/// Writes how many members are up.
+// Writes how many members are up.
 fn write_majority<W: Write>(measure: &Report, reports: &[Report], out: &mut W) -> io::Result<()>
     ensures { OnOk result (Appends (W.contents out.old) (W.contents out.new) (majority_text measure.now reports.now)) }
 {
@@ -205,7 +205,7 @@ fn write_majority<W: Write>(measure: &Report, reports: &[Report], out: &mut W) -
     write!(out, "majority: {up} of {count} up")
 }
 
-/// Writes the line of the cluster, if any node reports: `majority: 2 of 3 up; raised; genesis differs: 4`.
+// Writes the line of the cluster, if any node reports: `majority: 2 of 3 up; raised; genesis differs: 4`.
 fn write_cluster<W: Write>(
     measure: Option<&Report>,
     reports: &[Report],

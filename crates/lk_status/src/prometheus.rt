@@ -1,89 +1,208 @@
-use crate::field::{FIELDS, Row};
-use crate::measure::measure_in;
-use crate::target::{Inquiry, report_with};
-use crate::verdict::{has_one_genesis, is_served, up};
+ghost use Rattle.std.specs.Io.KnownBytes.{Appends};
+ghost use Rattle.std.specs.Option.{option_copied};
+ghost use Rattle.std.specs.Prelude.{◌≡◌, flat_map, OnOk};
+ghost use Rattle.lk_probe.specs.Grammar.{flag};
+ghost use Rattle.lk_status.specs.Metrics.{head_text, gauge_text, served_text, genesis_text, members_up, members_up_text, verdict_text, up_line, up_lines, up_text, sample_line, field_text, metrics_text};
+
+use crate::field::{FIELDS, Field};
+use lk_health::target::{Inquiry, Target, is_answered};
+use lk_health::verdict::{has_one_genesis, is_served, up};
 use lk_probe::Report;
 use std::io;
 use std::io::Write;
 
-/// Writes what a metric is.
-fn write_head<W: Write>(name: &str, kind: &str, help: &str, out: &mut W) -> io::Result<()> {
+// Writes what a metric is.
+fn write_head<W: Write>(name: &str, kind: &str, help: &str, out: &mut W) -> io::Result<()>
+    ensures { OnOk result (Appends (W.contents out.old) (W.contents out.new) (head_text name.now kind.now help.now)) }
+{
     write!(
         out,
         "# HELP locks_{name} {help}\n# TYPE locks_{name} {kind}\n"
     )
 }
 
-/// Writes a metric of the cluster.
+// Writes a metric of the cluster.
+#[tactic(auto, using(crate::proofs::Writing::appends_more))]
 fn write_gauge<W: Write>(
     cluster: u64,
     name: &str,
     help: &str,
     value: u64,
     out: &mut W,
-) -> io::Result<()> {
+) -> io::Result<()>
+    ensures { OnOk result (Appends (W.contents out.old) (W.contents out.new) (gauge_text cluster name.now help.now value)) }
+{
     write_head(name, "gauge", help, out)?;
-    writeln!(out, "locks_{name}{{cluster=\"{cluster}\"}} {value}")
+    writeln!(out, "locks_{name}{{cluster=\"{cluster}\"}} {value}")?;
+    Ok(())
 }
 
-/// Writes whether each target reports.
-fn write_up<W: Write>(
-    inquiry: &Inquiry,
-    first: u64,
+// Writes a metric of the cluster that is 1 or 0.
+fn write_flag<W: Write>(
+    cluster: u64,
+    name: &str,
+    help: &str,
+    is: bool,
+    out: &mut W,
+) -> io::Result<()>
+    ensures { OnOk result (Appends (W.contents out.old) (W.contents out.new) (gauge_text cluster name.now help.now (flag is))) }
+{
+    write_gauge(cluster, name, help, u64::from(is), out)?;
+    Ok(())
+}
+
+// Writes whether the cluster is served.
+fn write_served<W: Write>(cluster: u64, reports: &[Report], out: &mut W) -> io::Result<()>
+    ensures { OnOk result (Appends (W.contents out.old) (W.contents out.new) (served_text cluster reports.now)) }
+{
+    let help = "Whether somebody leads with a majority, and nobody tells another genesis.";
+    write_flag(cluster, "served", help, is_served(reports), out)?;
+    Ok(())
+}
+
+// Writes whether all nodes tell one genesis.
+fn write_genesis<W: Write>(cluster: u64, reports: &[Report], out: &mut W) -> io::Result<()>
+    ensures { OnOk result (Appends (W.contents out.old) (W.contents out.new) (genesis_text cluster reports.now)) }
+{
+    let help = "Whether all nodes tell one genesis.";
+    write_flag(cluster, "one_genesis", help, has_one_genesis(reports), out)?;
+    Ok(())
+}
+
+// How many members of the measure report.
+fn members_up(measure: Option<&Report>, reports: &[Report]) -> u64
+    ensures { result ≡ members_up (option_copied measure.entry) reports.now }
+{
+    match measure {
+        Some(measure) => up(measure.status.members.as_slice(), reports) as u64,
+        None => 0,
+    }
+}
+
+// Writes how many members report.
+fn write_members_up<W: Write>(
+    cluster: u64,
+    measure: Option<&Report>,
     reports: &[Report],
     out: &mut W,
-) -> io::Result<()> {
-    write_head("up", "gauge", "Whether the node at this port answers.", out)?;
+) -> io::Result<()>
+    ensures { OnOk result (Appends (W.contents out.old) (W.contents out.new) (members_up_text cluster (option_copied measure.entry) reports.now)) }
+{
+    let help = "Members that answer.";
+    write_gauge(
+        cluster,
+        "members_up",
+        help,
+        members_up(measure, reports),
+        out,
+    )?;
+    Ok(())
+}
+
+// Writes what the reports come to.
+#[tactic(auto, using(crate::proofs::Writing::appends_more))]
+fn write_verdict<W: Write>(
+    cluster: u64,
+    measure: Option<&Report>,
+    reports: &[Report],
+    out: &mut W,
+) -> io::Result<()>
+    ensures { OnOk result (Appends (W.contents out.old) (W.contents out.new) (verdict_text cluster (option_copied measure.entry) reports.now)) }
+{
+    write_served(cluster, reports, out)?;
+    write_genesis(cluster, reports, out)?;
+    write_members_up(cluster, measure, reports, out)?;
+    Ok(())
+}
+
+// Writes whether the target at that port reports.
+fn write_up_line<W: Write>(cluster: u64, port: u16, is_up: bool, out: &mut W) -> io::Result<()>
+    ensures { OnOk result (Appends (W.contents out.old) (W.contents out.new) (up_line cluster port is_up)) }
+{
+    let value = u8::from(is_up);
+    writeln!(
+        out,
+        "locks_up{{cluster=\"{cluster}\",port=\"{port}\"}} {value}"
+    )
+}
+
+// Writes whether each of these targets reports, the first by the report with that token.
+fn write_up_lines<W: Write>(
+    cluster: u64,
+    first: u64,
+    targets: &[Target],
+    reports: &[Report],
+    out: &mut W,
+) -> io::Result<()>
+    ensures { OnOk result (Appends (W.contents out.old) (W.contents out.new) (up_lines cluster first targets.now reports.now)) }
+{
     let mut token = first;
-    for target in inquiry.targets.as_slice() {
-        let (cluster, port) = (inquiry.cluster, target.port.get());
-        let is_up = u8::from(report_with(reports, token).is_some());
-        writeln!(
-            out,
-            "locks_up{{cluster=\"{cluster}\",port=\"{port}\"}} {is_up}"
-        )?;
+    'targets: for target in targets {
+        write_up_line(cluster, target.port.get(), is_answered(reports, token), out)?;
         token = token.wrapping_add(1);
     }
     Ok(())
 }
 
-/// Writes a field of each report.
-fn write_row<W: Write>(row: &Row<'_>, reports: &[Report], out: &mut W) -> io::Result<()> {
-    let (field, name, kind, help) = row;
-    write_head(name, kind, help, out)?;
-    for report in reports {
-        let (cluster, node, value) = (report.cluster, report.node.get(), field.value(report));
-        writeln!(
-            out,
-            "locks_{name}{{cluster=\"{cluster}\",node=\"{node}\"}} {value}"
-        )?;
+// Writes whether each target reports.
+fn write_up<W: Write>(
+    inquiry: &Inquiry,
+    first: u64,
+    reports: &[Report],
+    out: &mut W,
+) -> io::Result<()>
+    ensures { OnOk result (Appends (W.contents out.old) (W.contents out.new) (up_text inquiry.now.cluster first inquiry.now.targets.items reports.now)) }
+{
+    write_head("up", "gauge", "Whether the node at this port answers.", out)?;
+    write_up_lines(
+        inquiry.cluster,
+        first,
+        inquiry.targets.as_slice(),
+        reports,
+        out,
+    )?;
+    Ok(())
+}
+
+// Writes a field of a report.
+fn write_sample<W: Write>(field: Field, report: &Report, out: &mut W) -> io::Result<()>
+    ensures { OnOk result (Appends (W.contents out.old) (W.contents out.new) (sample_line field report.now)) }
+{
+    let (name, value) = (field.name(), field.value(report));
+    let (cluster, node) = (report.cluster, report.node.get());
+    writeln!(
+        out,
+        "locks_{name}{{cluster=\"{cluster}\",node=\"{node}\"}} {value}"
+    )
+}
+
+// Writes a field of each report.
+fn write_samples<W: Write>(field: Field, reports: &[Report], out: &mut W) -> io::Result<()>
+    ensures { OnOk result (Appends (W.contents out.old) (W.contents out.new) (flat_map (sample_line field) reports.now)) }
+{
+    'all: for report in reports {
+        write_sample(field, report, out)?;
     }
     Ok(())
 }
 
-/// Writes what the reports come to.
-fn write_verdict<W: Write>(cluster: u64, reports: &[Report], out: &mut W) -> io::Result<()> {
-    let served = u64::from(is_served(reports));
-    write_gauge(
-        cluster,
-        "served",
-        "Whether somebody leads with a majority, and nobody tells another genesis.",
-        served,
-        out,
-    )?;
-    let one = u64::from(has_one_genesis(reports));
-    write_gauge(
-        cluster,
-        "one_genesis",
-        "Whether all nodes tell one genesis.",
-        one,
-        out,
-    )?;
-    let count = match measure_in(reports) {
-        Some(measure) => up(measure.status.members.as_slice(), reports) as u64,
-        None => 0,
-    };
-    write_gauge(cluster, "members_up", "Members that answer.", count, out)
+// Writes what a field is, and that of each report.
+fn write_field<W: Write>(field: Field, reports: &[Report], out: &mut W) -> io::Result<()>
+    ensures { OnOk result (Appends (W.contents out.old) (W.contents out.new) (field_text reports.now field)) }
+{
+    write_head(field.name(), field.kind(), field.help(), out)?;
+    write_samples(field, reports, out)?;
+    Ok(())
+}
+
+// Writes these fields.
+fn write_fields<W: Write>(fields: &[Field], reports: &[Report], out: &mut W) -> io::Result<()>
+    ensures { OnOk result (Appends (W.contents out.old) (W.contents out.new) (flat_map (field_text reports.now) fields.now)) }
+{
+    'all: for field in fields {
+        write_field(*field, reports, out)?;
+    }
+    Ok(())
 }
 
 /// Writes all in the text format of Prometheus.
@@ -91,12 +210,13 @@ pub fn write_metrics<W: Write>(
     inquiry: &Inquiry,
     first: u64,
     reports: &[Report],
+    measure: Option<&Report>,
     out: &mut W,
-) -> io::Result<()> {
-    write_verdict(inquiry.cluster, reports, out)?;
+) -> io::Result<()>
+    ensures { OnOk result (Appends (W.contents out.old) (W.contents out.new) (metrics_text inquiry.now.cluster first inquiry.now.targets.items reports.now (option_copied measure.entry))) }
+{
+    write_verdict(inquiry.cluster, measure, reports, out)?;
     write_up(inquiry, first, reports, out)?;
-    for row in FIELDS {
-        write_row(&row, reports, out)?;
-    }
+    write_fields(&FIELDS, reports, out)?;
     Ok(())
 }

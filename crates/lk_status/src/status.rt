@@ -3,19 +3,19 @@
 ghost use Rattle.std.specs.Io.KnownBytes.{Appends};
 ghost use Rattle.std.specs.Option.{option_copied};
 ghost use Rattle.std.specs.Prelude.{◌≡◌, ◌≢◌, ◌≤◌, ◌↔◌, ◌&&◌, true, false, length, IfOk, OnOk, IsTrue};
-ghost use Rattle.lk_status.specs.Prints.{lines_text, PrintsLines, Prints};
-ghost use Rattle.lk_status.specs.Rounds.{AreHeard};
+ghost use Rattle.lk_health.specs.Rounds.{AreHeard};
+ghost use Rattle.lk_health.specs.Verdicts.{IsServed, is_at};
+ghost use Rattle.lk_status.specs.Prints.{lines_text, form_text, Prints};
 ghost use Rattle.lk_status.specs.Outcomes.{IsReady, Shows, IsShownServed};
-ghost use Rattle.lk_status.specs.Verdicts.{IsServed, is_at};
 
-use crate::asking::ask_all;
 use crate::json::write_json;
 use crate::lines::write_lines;
-use crate::measure::measure_in;
 use crate::prometheus::write_metrics;
-use crate::target::Inquiry;
-use crate::verdict::{is_ready, is_served};
 use crate::why::write_why;
+use lk_health::asking::ask_all;
+use lk_health::measure::measure_in;
+use lk_health::target::Inquiry;
+use lk_health::verdict::{is_ready, is_served};
 use lk_probe::Report;
 use lk_transport::fault::ServiceFault;
 use lk_transport::receive_buffer::ReceiveBuffer;
@@ -24,10 +24,10 @@ use std::alloc::Global;
 use std::io;
 use std::io::Write;
 
-/// The receives of 100 ms in a second.
+// The receives of 100 ms in a second.
 const A_SECOND: u32 = 10;
 
-/// The tokens of a round: more than targets.
+// The tokens of a round: more than targets.
 const TOKENS: u64 = 256;
 
 /// How the reports are printed.
@@ -47,7 +47,7 @@ pub struct Plan {
     pub seconds: u32,
 }
 
-/// A round of reports, the token of its first target, and whether it shows what was waited for.
+// A round of reports, the token of its first target, and whether it shows what was waited for.
 #[derive(Drop)]
 struct Round {
     first: u64,
@@ -71,41 +71,43 @@ fn write_text<W: Write>(
     Ok(())
 }
 
-// The same by the measure of the round.
-fn print_lines<W: Write>(
-    inquiry: &Inquiry,
+// Writes the reports of a round in a form.
+fn write_form<W: Write>(
+    plan: &Plan,
     first: u64,
     reports: &[Report],
+    measure: Option<&Report>,
     out: &mut W,
 ) -> io::Result<()>
-    ensures { OnOk result (PrintsLines first inquiry.now reports.now (W.contents out.old) (W.contents out.new)) }
+    ensures { OnOk result (Appends (W.contents out.old) (W.contents out.new) (form_text plan.now.form first plan.now.inquiry reports.now (option_copied measure.entry))) }
 {
-    write_text(inquiry, first, reports, measure_in(reports), out)?;
-    out.flush()?;
+    let inquiry = &plan.inquiry;
+    match plan.form {
+        Form::Lines => write_text(inquiry, first, reports, measure, out)?,
+        Form::Json => write_json(inquiry, first, reports, measure, out)?,
+        Form::Prometheus => write_metrics(inquiry, first, reports, measure, out)?,
+    }
     Ok(())
 }
 
-/// Prints the reports of a round. Whether they show that the cluster is served.
+// Prints the reports of a round. Whether they show that the cluster is served.
 fn print<W: Write>(plan: &Plan, first: u64, reports: &[Report], out: &mut W) -> io::Result<bool>
     ensures served { IfOk result (λ is. IsTrue is ↔ IsServed reports.now) }
     ensures printed { OnOk result (Prints plan.now.form first plan.now.inquiry reports.now (W.contents out.old) (W.contents out.new)) }
 {
-    match plan.form {
-        Form::Lines => print_lines(&plan.inquiry, first, reports, out)?,
-        Form::Json => write_json(&plan.inquiry, first, reports, out)?,
-        Form::Prometheus => write_metrics(&plan.inquiry, first, reports, out)?,
-    }
+    write_form(plan, first, reports, measure_in(reports), out)?;
+    out.flush()?;
     Ok(is_served(reports))
 }
 
-/// Waits 100 ms, unless something comes.
+// Waits 100 ms, unless something comes.
 fn pause<S: DatagramSocket>(socket: &mut S, idle: &mut u32) {
     let mut buffer = ReceiveBuffer::new();
     buffer.receive(socket);
     *idle = idle.saturating_add(1);
 }
 
-/// How many positions the measure has executed, where it leads.
+// How many positions the measure has executed, where it leads.
 fn goal_in(reports: &[Report]) -> Option<u64> {
     match measure_in(reports) {
         Some(measure) if measure.status.leadership.leads => {
@@ -115,7 +117,7 @@ fn goal_in(reports: &[Report]) -> Option<u64> {
     }
 }
 
-/// Whether all that were asked report, and have executed what is the goal.
+// Whether all that were asked report, and have executed what is the goal.
 fn is_at(goal: Option<u64>, inquiry: &Inquiry, reports: &[Report]) -> bool
     ensures test { result ≡ is_at goal (length inquiry.now.targets.items) reports.now }
     ensures ready { IsTrue result → IsReady inquiry.now reports.now }
@@ -126,8 +128,8 @@ fn is_at(goal: Option<u64>, inquiry: &Inquiry, reports: &[Report]) -> bool
     }
 }
 
-/// Asks again and again until all targets report that they have executed what the leader had when it was first heard
-/// of, or until so many receives brought nothing. The last round.
+// Asks again and again until all targets report that they have executed what the leader had when it was first heard
+// of, or until so many receives brought nothing. The last round.
 fn wait_until_ready<S: DatagramSocket>(
     alloc: Global,
     socket: &mut S,
@@ -151,7 +153,7 @@ fn wait_until_ready<S: DatagramSocket>(
     Ok(round)
 }
 
-/// A round.
+// A round.
 fn ask_once<S: DatagramSocket>(
     alloc: Global,
     socket: &mut S,
@@ -169,7 +171,7 @@ fn ask_once<S: DatagramSocket>(
     })
 }
 
-/// Asks as the plan says.
+// Asks as the plan says.
 fn round_of<S: DatagramSocket>(
     alloc: Global,
     socket: &mut S,
@@ -195,7 +197,7 @@ fn are_both(one: bool, other: bool) -> bool
     one && other
 }
 
-/// Asks, and prints what is reported. Whether the cluster is served, and ready where that was waited for.
+// Asks, and prints what is reported. Whether the cluster is served, and ready where that was waited for.
 fn ask_and_print<S: DatagramSocket, W: Write>(
     alloc: Global,
     socket: &mut S,

@@ -4,23 +4,23 @@ ghost use Rattle.std.specs.Prelude.{◌≡◌, OnOk};
 ghost use Rattle.lk_status.specs.Fields.{is_member, follows, followed};
 ghost use Rattle.lk_status.specs.Reasons.{deaf_line, seeking_line, hearing_reason, outside_line, node_reason, node_reasons, nobody_line, majority_line, mute_text, leaderless_line, geneses_reason, leader_reason, leaders_reason, members_reason, why_text};
 
-use crate::verdict::{has_majority, has_one_genesis, seeks_votes};
+use lk_health::verdict::{has_majority, has_one_genesis, seeks_votes};
 use lk_probe::Report;
 use lk_types::{Member, NodeNo};
 use std::io;
 use std::io::Write;
 
-/// The ticks without a leader from which on a node hears nobody: so long waits the last of seven members.
+// The ticks without a leader from which on a node hears nobody: so long waits the last of seven members.
 const SILENT: u64 = 28;
 
-/// Whether that node is one of these members.
+// Whether that node is one of these members.
 fn is_among(node: NodeNo, members: &[Member]) -> bool
     ensures { result ≡ is_member node members.now }
 {
     members.iter().any(|member| member.node == node)
 }
 
-/// Whether a node follows a leader, of which it has heard in the last 28 ticks.
+// Whether a node follows a leader, of which it has heard in the last 28 ticks.
 fn follows(report: &Report) -> bool
     ensures { result ≡ follows report.now }
 {
@@ -28,7 +28,7 @@ fn follows(report: &Report) -> bool
     leadership.leader.is_some() && leadership.silence < SILENT && !seeks_votes(report)
 }
 
-/// The leader that the first of these follows.
+// The leader that the first of these follows.
 fn followed_in(reports: &[Report]) -> Option<NodeNo>
     ensures { result ≡ followed reports.now }
 {

@@ -1,1 +1,2 @@
-pub mod ReplyRules
+pub mod ReplyLaws
+mod Walks

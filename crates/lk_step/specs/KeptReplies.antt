@@ -1,7 +1,9 @@
--- The reply to a client's request that is not new.
+-- The reply to a client's request that is not new, and the session that one leaves.
 use Rattle.std.specs.Prelude.{ℕ, nat_lt, if◌then◌else◌, Option, Some, None}
-use Rattle.lk_wire.specs.declared.message.NodeMessage.{NodeMessage}
-use Rattle.lk_wire.specs.declared.message.NodeMessage.TheVariants.{Answer, Passed}
+use Rattle.lk_types.specs.declared.answer.Answer.{Answer as AnswerValue}
+use Rattle.lk_members.specs.Effects.{Command, Noop, Request}
+use Rattle.lk_messages.specs.declared.message.NodeMessage.{NodeMessage}
+use Rattle.lk_messages.specs.declared.message.NodeMessage.TheVariants.{Answer, Passed}
 use Rattle.lk_state.specs.declared.session.Session.{Session}
 use Rattle.lk_state.specs.declared.whole.Seen.{Seen}
 use Rattle.lk_state.specs.declared.whole.Seen.TheVariants as seen
@@ -20,3 +22,9 @@ abbrev pub told : Session → ℕ → NodeMessage
 told s number =
     if nat_lt number s.number then Passed (record { client = s.client; number = number; last = s.number })
     else Answer (record { client = s.client; number = number; answer = s.answer })
+
+-- the session that a command with this answer leaves, if it took effect
+abbrev pub session_by : Command → Option AnswerValue → Option Session
+session_by Noop answer = None
+session_by (Request r) None = None
+session_by (Request r) (Some answer) = Some (record { client = r.client; number = r.number; answer = answer })

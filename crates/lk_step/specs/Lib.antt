@@ -5,3 +5,6 @@ pub mod Ticks
 pub mod News
 pub mod Grants
 pub mod KeptReplies
+pub mod Recipients
+pub mod Rounds
+pub mod Faults

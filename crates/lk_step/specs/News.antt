@@ -1,7 +1,7 @@
 -- What the other nodes are told of a decided position.
 use Rattle.std.specs.Prelude.{[], ◌∷◌}
-use Rattle.lk_wire.specs.declared.message.NodeMessage.{NodeMessage}
-use Rattle.lk_wire.specs.declared.message.NodeMessage.TheVariants as kinds
+use Rattle.lk_messages.specs.declared.message.NodeMessage.{NodeMessage}
+use Rattle.lk_messages.specs.declared.message.NodeMessage.TheVariants as kinds
 use Rattle.lk_learner.specs.Learners.{Pair}
 
 -- that the pair is decided

@@ -1,5 +1,5 @@
 -- How many ticks a node counts.
-use Rattle.std.specs.Prelude.{ℕ}
+use Rattle.std.specs.Prelude.{ℕ, ◌+◌, ◌*◌, Bool, false, nat_le, Option, Some, None}
 
 -- the first member waits this many ticks for a leader before it begins a ballot, and each further one this many more
 -- than the one before it
@@ -9,3 +9,8 @@ ticks_a_place = 4
 -- the wait of the last of seven members; no more ticks are counted
 abbrev pub max_ticks : ℕ
 max_ticks = 28
+
+-- how many ticks are enough at this place
+abbrev pub is_enough : ℕ → Option ℕ → Bool
+is_enough ticks None = false
+is_enough ticks (Some place) = nat_le (ticks_a_place + ticks_a_place * place) ticks

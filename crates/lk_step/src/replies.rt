@@ -1,10 +1,10 @@
-// An acceptor's reply, and the reply to a client's request that is not new.
+// An acceptor's reply, the reply to a client's request that is not new, and the session that one leaves.
 ghost use Rattle.std.specs.Prelude.{◌≡◌, ◌≤◌};
 ghost use Rattle.lk_step.specs.Grants.{is_granted};
-ghost use Rattle.lk_step.specs.KeptReplies.{kept_reply, told};
+ghost use Rattle.lk_step.specs.KeptReplies.{kept_reply, told, session_by};
 
 use lk_state::{Seen, Session};
-use lk_types::{ClientNo, RequestNumber};
+use lk_types::{Answer, ClientNo, Command, RequestNumber};
 use lk_wire::{Answered, NodeMessage, Passed};
 
 /// Whether a reply of an acceptor grants what was asked.
@@ -41,4 +41,14 @@ pub fn told(session: Session, number: RequestNumber) -> NodeMessage
     let client = session.client;
     let seen = Seen::of(Some(session), number);
     kept_reply(client, number, seen).unwrap()
+}
+
+/// The session that a command with this answer leaves, if it took effect.
+pub fn session_of(command: &Command, answer: Option<Answer>) -> Option<Session>
+    ensures { result ≡ session_by command.now answer }
+{
+    match command {
+        Command::Request(request) => Some(Session::of(request, answer?)),
+        Command::Noop => None,
+    }
 }

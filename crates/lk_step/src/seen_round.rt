@@ -1,6 +1,11 @@
 // The greatest round that a node has seen of others.
-ghost use Rattle.std.specs.Prelude.{◌≡◌, max};
+ghost use Rattle.std.specs.Prelude.{◌≡◌, ◌≤◌, max, MatchOption};
+ghost use Rattle.lk_types.specs.Ballots.{IsBelow};
+ghost use Rattle.lk_types.specs.Limits.{max_count};
+ghost use Rattle.lk_step.specs.Rounds.{greater_round, ballot_above};
 
+use lk_types::limits::MAX_COUNT;
+use lk_types::{Ballot, NodeNo, RealBallot, Round};
 use std::marker::Model;
 
 /// The greatest round of a ballot that was seen in a rejection, a proposal or a leader's notice: 0 to 2^48, 0 if there
@@ -42,5 +47,18 @@ impl SeenRound {
         ensures { result ≡ self.now }
     {
         self.round
+    }
+
+    /// The node's ballot in the round above this one and the promised ballot's, or none if that would exceed 2^48.
+    pub fn next_ballot(&self, promised: Ballot, node: NodeNo) -> Option<RealBallot>
+        ensures { MatchOption result (max_count ≤ greater_round promised self.now) (λ b. (b ≡ ballot_above promised self.now node) × IsBelow promised b) }
+    {
+        let (promised, seen) = (promised.round(), self.get());
+        let greatest = if promised < seen { seen } else { promised };
+        if greatest >= MAX_COUNT {
+            return None;
+        }
+        let round = Round::of(greatest + 1)?;
+        Some(RealBallot::new(round, node))
     }
 }

@@ -1,6 +1,6 @@
 // The bytes of a node's message.
 ghost use Rattle.std.specs.Prelude.{◌≡◌, IfOk};
-ghost use Rattle.lk_wire.specs.Grammar.{spelling, IsMessage};
+ghost use Rattle.lk_messages.specs.Grammar.{spelling, IsMessage};
 ghost use Rattle.lk_step.specs.Saying.{saying};
 
 use bytes::BytesMut;

@@ -1,12 +1,12 @@
 // How many ticks have passed since a leader was heard.
 ghost use Rattle.std.specs.Prelude.{◌≡◌, ◌+◌, ◌≤◌, min};
-ghost use Rattle.lk_step.specs.Ticks.{max_ticks};
+ghost use Rattle.lk_step.specs.Ticks.{max_ticks, is_enough};
 
 use std::marker::Model;
 
-/// How many ticks the first member waits for a leader before it begins a ballot, and how many more each further member
-/// waits: they seldom begin at once.
-pub const TICKS_A_PLACE: u8 = 4;
+// How many ticks the first member waits for a leader before it begins a ballot, and how many more each further member
+// waits: they seldom begin at once.
+const TICKS_A_PLACE: u8 = 4;
 
 // How long the last of seven members waits, the most that there are, so no more are counted.
 const MAX_TICKS: u8 = 28;
@@ -59,5 +59,17 @@ impl TickCount {
         ensures most { self.now ≤ max_ticks }
     {
         self.count
+    }
+
+    /// Whether a node at this place, from 0, among the members of the next position has waited long enough for a
+    /// leader. One that is no member never has.
+    pub fn is_enough(&self, place: Option<usize>) -> bool
+        ensures { result ≡ is_enough self.now place }
+    {
+        let ticks = self.get();
+        match place {
+            Some(place) => ticks >= TICKS_A_PLACE && place < usize::from(ticks / TICKS_A_PLACE),
+            None => false,
+        }
     }
 }

@@ -1,6 +1,6 @@
 //! Clocks that a test sets, and what a metronome makes of them.
 
-use lk_server::metronome::Metronome;
+use lk_pace::metronome::Metronome;
 use std::cell::Cell;
 use std::io;
 use std::test::Fail;

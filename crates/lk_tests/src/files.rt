@@ -1,5 +1,6 @@
 //! Two files of a folder as a device, and files whose calls fail.
-use lk_disk::{AppendFile, DeviceFault, FileDisk, FileFault, FileInMemory, LogDisk, Side};
+use lk_disk::{AppendFile, DeviceFault, FileDisk, FileFault, LogDisk, Side};
+use lk_simulated_disk::MemoryFile;
 use std::alloc::Global;
 use std::fs;
 use std::fs::Files;
@@ -31,7 +32,7 @@ fn cut<D: LogDisk>(disk: &mut D) -> Result<(bool, bool), DeviceFault> {
 // A file of the system in which one of its calls fails once.
 #[derive(Drop)]
 struct Failing {
-    bytes: FileInMemory,
+    bytes: MemoryFile,
     passes: u8,
 }
 
@@ -85,9 +86,9 @@ impl AppendFile for Failing {
 }
 
 fn failing_at(alloc: Global, passes: u8) -> FileDisk<Failing> {
-    let bytes = FileInMemory::new(alloc);
+    let bytes = MemoryFile::new(alloc);
     let other = Failing {
-        bytes: FileInMemory::new(alloc),
+        bytes: MemoryFile::new(alloc),
         passes: u8::MAX,
     };
     FileDisk::of(Failing { bytes, passes }, other)
@@ -105,7 +106,7 @@ fn made(disk: &mut FileDisk<Failing>) -> [bool; 6] {
     ]
 }
 
-/// How many calls pass before one fails, and what is made.
+// How many calls pass before one fails, and what is made.
 const FAILED: [(u8, [bool; 6]); 6] = [
     (0, [false, false, false, false, false, true]),
     (1, [true, false, false, false, false, true]),
@@ -115,7 +116,7 @@ const FAILED: [(u8, [bool; 6]); 6] = [
     (5, [true, true, true, true, true, true]),
 ];
 
-/// The first of the rows in which other calls are made.
+// The first of the rows in which other calls are made.
 fn first_other(alloc: Global, rows: &[(u8, [bool; 6])]) -> Option<usize> {
     for (at, (passes, wanted)) in rows.iter().enumerate() {
         if made(&mut failing_at(alloc, *passes)) != *wanted {

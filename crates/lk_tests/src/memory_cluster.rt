@@ -3,16 +3,16 @@
 use crate::clocks::Stopped;
 use crate::digits::bytes_of;
 use crate::node_turns::{Locks, header};
-use lk_disk::MemoryDisk;
 use lk_locks::LockTable;
+use lk_memory_socket::{MemorySocket, Told};
+use lk_node_replica::NodeReplica;
+use lk_pace::metronome::Metronome;
+use lk_pace::pace::Pace;
 use lk_recovery::ReviveFault;
-use lk_server::metronome::Metronome;
-use lk_server::node_replica::NodeReplica;
-use lk_server::pace::Pace;
 use lk_server::server::{Server, node_turn};
 use lk_service::resources::Resources;
 use lk_service::running::revive;
-use lk_transport::memory_socket::{MemorySocket, Told};
+use lk_simulated_disk::MemoryDisk;
 use lk_transport::network::Network;
 use lk_transport::receive_buffer::ReceiveBuffer;
 use lk_transport::socket::{DatagramSocket, local};
@@ -21,7 +21,7 @@ use std::alloc::Global;
 use std::net::SocketAddr;
 use std::test::Fail;
 
-/// The rounds until a leader or an answer is there, at most.
+// The rounds until a leader or an answer is there, at most.
 const ROUNDS: u32 = 100;
 
 type LockServer = Server<Locks, MemorySocket>;
@@ -150,7 +150,7 @@ impl Cluster {
     }
 }
 
-/// From which port a client asks, at which port, and as hex what it asks and what it is told.
+// From which port a client asks, at which port, and as hex what it asks and what it is told.
 type Row<'a> = (u16, u16, &'a str, &'a str);
 
 #[rattlefmt::skip]

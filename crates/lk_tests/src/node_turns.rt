@@ -2,11 +2,12 @@
 
 use crate::digits::bytes_of;
 use lk_agreement::Party;
-use lk_disk::{LogDisk, MemoryDisk, Side};
+use lk_disk::{LogDisk, Side};
 use lk_entries::Header;
 use lk_locks::LockTable;
 use lk_recovery::ReviveFault;
 use lk_replica::{Datagram, MemoryReplica, Replica};
+use lk_simulated_disk::MemoryDisk;
 use lk_step::Input;
 use lk_types::{ClientNo, Genesis, Member, NodeNo, Port};
 use std::alloc::Global;
@@ -122,7 +123,7 @@ fn hear(alloc: Global, replica: &mut Locks, heard: Heard<'_>) -> Result<Vec<Data
         Heard::Tick => take(replica, Input::Tick),
         Heard::Said(sender, kind, fields) => {
             let bytes = spelled(alloc, sender, kind, fields)?;
-            take(replica, Input::Datagram(&bytes))
+            take(replica, Input::Datagram(lk_wire::Datagram::of(&bytes)))
         }
     }
 }

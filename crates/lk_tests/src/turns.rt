@@ -4,17 +4,15 @@ ghost use Rattle.std.specs.Prelude.{◌≡◌, [], ⊤};
 use crate::clocks::Stopped;
 use crate::node_turns::{Locks, begun};
 use lk_locks::LockTable;
-use lk_recovery::ReplicaFault;
-use lk_replica::{Group, Post};
-use lk_server::metronome::Metronome;
-use lk_server::node_replica::NodeReplica;
-use lk_server::pace::Pace;
-use lk_server::replica_status::ReplicaStatus;
+use lk_memory_socket::MemorySocket;
+use lk_node_replica::replica_status::ReplicaStatus;
+use lk_node_replica::{NodeReplica, Shown};
+use lk_pace::metronome::Metronome;
+use lk_pace::pace::Pace;
+use lk_replica::Group;
 use lk_server::server::{Server, node_turn};
-use lk_server::shown::Shown;
 use lk_service::demo::{Sockets, play};
-use lk_step::{Input, Note, Outbox};
-use lk_transport::memory_socket::MemorySocket;
+use lk_step::{Input, Note, Outbox, Post, ReplicaFault};
 use lk_transport::network::Network;
 use lk_transport::receive_buffer::ReceiveBuffer;
 use lk_types::{Ballot, Command, Executed, NodeNo, Position, RealBallot};
@@ -102,8 +100,8 @@ impl NodeReplica for Told {
     }
 }
 
-/// The generation, the snapshot's position, how many positions are executed, and where there is one the round of a
-/// term of node 1 and the known leader, else 0.
+// The generation, the snapshot's position, how many positions are executed, and where there is one the round of a
+// term of node 1 and the known leader, else 0.
 type Seen = (u64, u64, u64, u64, u32);
 
 const NEW: Seen = (1, 0, 0, 0, 0);
@@ -163,7 +161,7 @@ fn logged(alloc: Global, end: End, before: Seen, after: Seen) -> Result<Vec<u8>,
     Ok(text)
 }
 
-/// What is seen before a tick and after it, and the lines of level debug.
+// What is seen before a tick and after it, and the lines of level debug.
 type Change<'a> = (Seen, Seen, &'a [u8]);
 
 const CHANGES: [Change; 6] = [

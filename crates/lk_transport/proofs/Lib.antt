@@ -1,3 +1,2 @@
 pub mod Chaining
 mod Books
-mod Cutting

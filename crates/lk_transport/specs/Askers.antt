@@ -1,7 +1,7 @@
 -- Who asks a node by a probe, and where the answer goes.
 use Rattle.std.specs.Prelude.{◌≡◌, ◌≢◌, ◌⊎◌, ◌++◌, ℕ, List, [], ◌∷◌, length, Option, Some, None, IsSome}
 use Rattle.std.specs.declared.net.socket_addr.SocketAddr.{SocketAddr}
-use Rattle.lk_probe.specs.Grammar.{SpellsProbe}
+use Rattle.lk_probe.specs.Grammar.{SpellsProbe, node_in}
 use Rattle.lk_probe.specs.declared.probe.Probe.{Probe}
 use Rattle.lk_seal.specs.Seals.{key_list, heard}
 use Rattle.lk_seal.specs.declared.seals.Seals.{Seals}
@@ -13,7 +13,7 @@ use Rattle.lk_transport.specs.declared.asked.Asked.{Asked}
 -- a node names itself in a probe only if it seals it, where the nodes have a key: what was taken of the frame is
 -- shorter than it
 abbrev pub IsSealedAsNamed : Seals → List ℕ → Probe → Type 0
-IsSealedAsNamed s frame p = IsSome p.node → key_list s.nodes ≢ [] → length frame ≢ length (heard s frame)
+IsSealedAsNamed s frame p = IsSome p.origin → key_list s.nodes ≢ [] → length frame ≢ length (heard s frame)
 
 -- by this frame somebody asks the node that has these seals
 pub record Asks (s : Seals) (frame : List ℕ) (p : Probe) : Type 0 where
@@ -33,7 +33,7 @@ who None (Some n) = Some (Node n 0)
 who None None = None
 
 abbrev pub asker : Probe → Option To
-asker p = who p.client p.node
+asker p = who p.client (node_in p.origin)
 
 -- as what a report is sent: by the seal for whoever asks, and as it is to one that names nobody
 abbrev pub frame_for : Seals → Option To → List ℕ → List ℕ

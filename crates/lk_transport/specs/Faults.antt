@@ -1,22 +1,21 @@
 -- Why a command of the service ended early.
-use Rattle.lk_log.specs.declared.fault.StoreFault.{StoreFault}
-use Rattle.lk_log.specs.declared.fault.StoreFault.TheVariants as store
+use Rattle.lk_log.specs.declared.fault.OpenFault.{OpenFault}
+use Rattle.lk_log.specs.declared.fault.OpenFault.TheVariants as opening
 use Rattle.lk_state.specs.declared.machine.UnpackFault.{UnpackFault}
 use Rattle.lk_state.specs.declared.machine.UnpackFault.TheVariants as unpack
 use Rattle.lk_transport.specs.declared.fault.ServiceFault.{ServiceFault}
-use Rattle.lk_recovery.specs.declared.fault.ReplicaFault.{ReplicaFault}
-use Rattle.lk_recovery.specs.declared.fault.ReplicaFault.TheVariants as replica
-use Rattle.lk_transport.specs.declared.fault.ServiceFault.TheVariants.{Device, NoMemory, Damaged, WrongStore, Failed, Halted, Send}
+use Rattle.lk_step.specs.declared.fault.ReplicaFault.{ReplicaFault}
+use Rattle.lk_step.specs.declared.fault.ReplicaFault.TheVariants as replica
+use Rattle.lk_transport.specs.declared.fault.ServiceFault.TheVariants.{Device, NoMemory, Damaged, WrongStore, Failed, Halted}
 
--- the fault that reports a store's fault
-abbrev pub fault_of : StoreFault → ServiceFault
-fault_of store.Device = Device
-fault_of store.NoMemory = NoMemory
-fault_of store.Damaged = Damaged
-fault_of store.WrongStore = WrongStore
-fault_of store.Failed = Failed
+-- the fault that reports why no store was opened
+abbrev pub open_fault : OpenFault → ServiceFault
+open_fault opening.Device = Device
+open_fault opening.NoMemory = NoMemory
+open_fault opening.Damaged = Damaged
+open_fault opening.WrongStore = WrongStore
 
--- the fault that reports a replica's fault
+-- the fault that reports a replica's fault; none is reported of a lost datagram
 abbrev pub replica_fault : ReplicaFault → ServiceFault
 replica_fault replica.Device = Device
 replica_fault replica.NoMemory = NoMemory
@@ -24,7 +23,7 @@ replica_fault replica.Damaged = Damaged
 replica_fault replica.WrongStore = WrongStore
 replica_fault replica.Failed = Failed
 replica_fault replica.Halted = Halted
-replica_fault (replica.Send notes) = Send
+replica_fault (replica.Send notes) = Failed
 
 -- the fault that reports a text that does not unpack
 abbrev pub unpack_fault : UnpackFault → ServiceFault

@@ -1,11 +1,13 @@
 -- How a node finds out which genesis each node that writes to it was started with: whom it asks, and what it learns.
-use Rattle.std.specs.Prelude.{◌≡◌, ◌≢◌, ◌⊎◌, ℕ, false, List, [], Option, Some, None, slice_get}
+use Rattle.std.specs.Prelude.{◌≡◌, ◌≢◌, ◌⊎◌, ℕ, nat_eq, Bool, true, false, List, [], Option, Some, None, slice_get}
+use Rattle.std.specs.Cmp.Lexicographic.{pointwise}
 use Rattle.std.specs.List.{list_any}
 use Rattle.std.specs.declared.net.socket_addr.SocketAddr.{SocketAddr}
 use Rattle.lk_probe.specs.Grammar.{SpellsProbe}
-use Rattle.lk_probe.specs.Neighbours.{Asks, Doubts, Learns, entry_for, is_due_at, is_open_at}
+use Rattle.lk_probe.specs.Neighbours.{Asks, Learns, Readmits, entry_for, is_due_at, is_open_at}
 use Rattle.lk_probe.specs.Questions.{IsReportedOf, question}
 use Rattle.lk_probe.specs.declared.neighbours.Neighbour.{Neighbour}
+use Rattle.lk_probe.specs.declared.neighbours.Origin.{Origin}
 use Rattle.lk_probe.specs.declared.probe.Probe.{Probe}
 use Rattle.lk_probe.specs.declared.reported.Reported.{Reported}
 use Rattle.lk_seal.specs.Seals.{key_list, heard}
@@ -13,6 +15,7 @@ use Rattle.lk_seal.specs.declared.seals.Seals.{Seals}
 use Rattle.lk_transport.specs.Addresses.{AddressBook}
 use Rattle.lk_transport.specs.Askers.{SendsTo}
 use Rattle.lk_transport.specs.Posts.{Tray, Loses}
+use Rattle.lk_transport.specs.declared.asked.Asked.{Asked}
 
 -- ---- whom it asks
 
@@ -21,6 +24,10 @@ use Rattle.lk_transport.specs.Posts.{Tray, Loses}
 abbrev pub IsAskedAt : ℕ → Option SocketAddr → AddressBook → AddressBook → Type 0
 IsAskedAt now (Some place) old new = (key_list old.seals.nodes ≡ []) × Asks now place old.neighbours new.neighbours × (new ≡ record old { neighbours = new.neighbours })
 IsAskedAt now None old new = ((key_list old.seals.nodes ≢ []) ⊎ (list_any (is_due_at now) old.neighbours ≡ false)) × (new ≡ old)
+
+-- the question of the node of that number, which has these seals
+abbrev pub question_by : Seals → ℕ → Probe
+question_by s node = question s.cluster (record { node = node; genesis = s.genesis })
 
 -- the probe is sent there as it is, or lost by a send that failed; nothing is sent where there is no address
 abbrev pub SendsProbe : Type 0 → Probe → Option SocketAddr → Tray → Tray → Type 0
@@ -32,27 +39,30 @@ SendsProbe tells p (Some place) old new = (bytes : List ℕ) × SpellsProbe p by
 pub record AsksOne (tells : Type 0) (now node : ℕ) (old new : AddressBook) (before after : Tray) : Type 0 where
   pub place : Option SocketAddr
   pub asked : IsAskedAt now place old new
-  pub sends : SendsProbe tells (question old.seals.cluster node) place before after
+  pub sends : SendsProbe tells (question_by old.seals node) place before after
 
--- ---- whom it asks again
+-- ---- whom it hears again
 
--- it is doubted that the node at that address is of another genesis, if an address is named
-abbrev pub DoubtsMaybe : Option SocketAddr → AddressBook → AddressBook → Type 0
-DoubtsMaybe None old new = new ≡ old
-DoubtsMaybe (Some place) old new = Doubts place old.neighbours new.neighbours × (new ≡ record old { neighbours = new.neighbours })
+-- a node of that genesis asks
+abbrev pub is_of : List ℕ → Option Origin → Bool
+is_of genesis None = false
+is_of genesis (Some asker) = pointwise nat_eq asker.genesis genesis
 
--- a node of another genesis may be doubted, and then one question is sent where one is due
-pub record Inquires (tells : Type 0) (now node : ℕ) (old new : AddressBook) (before after : Tray) : Type 0 where
-  pub place : Option SocketAddr
-  pub doubted : AddressBook
-  pub doubts : DoubtsMaybe place old doubted
-  pub asks : AsksOne tells now node doubted new before after
+-- if so, what is known of the node at that address is forgotten where it is another genesis; else nothing changes
+abbrev pub ReadmitsIf : Bool → SocketAddr → AddressBook → AddressBook → Type 0
+ReadmitsIf true place old new = Readmits place old.neighbours new.neighbours × (new ≡ record old { neighbours = new.neighbours })
+ReadmitsIf false place old new = new ≡ old
+
+-- so at the address from which a probe came that is kept, exactly if a node of the same genesis asks by it
+abbrev pub ReadmitsKept : Option Asked → AddressBook → AddressBook → Type 0
+ReadmitsKept None old new = new ≡ old
+ReadmitsKept (Some a) old new = ReadmitsIf (is_of old.seals.genesis a.probe.origin) a.from old new
 
 -- ---- what it learns
 
 -- what a frame that came from there tells, if it is a report that answers the question of the node of that number
 abbrev pub IsToldBy : ℕ → Seals → SocketAddr × List ℕ → Option Reported → Type 0
-IsToldBy node s d told = IsReportedOf (question s.cluster node) (d.0, heard s d.1) told
+IsToldBy node s d told = IsReportedOf (question_by s node) (d.0, heard s d.1) told
 
 -- what a report tells is known from now on of the node at its address, which was asked and had not told; a report of
 -- another address changes nothing

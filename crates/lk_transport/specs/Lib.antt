@@ -4,7 +4,6 @@ pub mod Addresses
 pub mod Hosts
 pub mod Posts
 pub mod Hearing
-pub mod Sockets
 pub mod Askers
 pub mod Inquiring
 pub mod Kept

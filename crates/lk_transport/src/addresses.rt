@@ -15,9 +15,9 @@ use lk_types::{ClientNo, NodeNo};
 use std::marker::Model;
 use std::net::{IpAddr, SocketAddr};
 
-/// How many clients there are.
+// How many clients there are.
 const CLIENTS: usize = 256;
-/// How many nodes' addresses are kept. A node of the window has a known port, so these are for other nodes that ask.
+// How many nodes' addresses are kept. A node of the window has a known port, so these are for other nodes that ask.
 const NODES: usize = 64;
 
 /// The address from which each client last wrote, and those of the last 64 nodes that wrote. Its size is fixed,
@@ -41,7 +41,7 @@ impl Model for Addresses {
     ghost view = { λ a. record { clients = a.clients; nodes = a.nodes; hosts = a.hosts; seals = a.seals; neighbours = a.neighbours } };
 }
 
-/// The address in the first entry of a node.
+// The address in the first entry of a node.
 fn address_in(places: &[Option<(NodeNo, SocketAddr)>], node: NodeNo) -> Option<SocketAddr>
     ensures { result ≡ node_in places.now node }
 {

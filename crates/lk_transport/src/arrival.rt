@@ -4,7 +4,7 @@ ghost use Rattle.std.specs.Prelude.{◌≡◌};
 ghost use Rattle.lk_transport.specs.Arrivals.{sender};
 
 use lk_types::{ClientNo, NodeNo};
-use lk_wire::{ContentRef, MessageRef, NodeMessageRef, view};
+use lk_wire::{ContentRef, Datagram, MessageRef, NodeMessageRef};
 use std::fmt;
 
 /// What arrived at a server, as far as it could be parsed.
@@ -44,8 +44,8 @@ pub fn name_of(message: &NodeMessageRef<'_>) -> &'static str {
 
 impl Arrival {
     /// A letter of the node to itself.
-    pub fn own(bytes: &[u8]) -> Arrival {
-        match &view(bytes) {
+    pub fn own(datagram: &Datagram<'_>) -> Arrival {
+        match datagram.message() {
             Ok(
                 MessageRef {
                     content: ContentRef::Node(node, said),

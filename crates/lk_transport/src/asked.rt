@@ -4,9 +4,10 @@ ghost use Rattle.std.specs.Prelude.{◌≡◌, ◌≢◌, ◌↔◌, [], length,
 ghost use Rattle.lk_seal.specs.Seals.{key_list, heard};
 ghost use Rattle.lk_transport.specs.Posts.{is_beside};
 ghost use Rattle.lk_transport.specs.Askers.{asker, IsKeptOf, IsSealedAsNamed};
+ghost use Rattle.lk_transport.specs.Inquiring.{is_of};
 
 use lk_probe::Probe;
-use lk_seal::Seals;
+use lk_seal::{DIGEST, Seals};
 use lk_step::To;
 use std::net::SocketAddr;
 
@@ -24,11 +25,11 @@ pub fn is_beside(datagram: &[u8]) -> bool
     matches!(datagram, [b'L', b'P', ..])
 }
 
-/// Whether a probe that names a node came sealed, where the nodes have a key.
+// Whether a probe that names a node came sealed, where the nodes have a key.
 fn is_sealed_as_named(seals: &Seals, frame: &[u8], datagram: &[u8], probe: &Probe) -> bool
-    ensures { IsTrue result ↔ (IsSome probe.now.node → key_list seals.now.nodes ≢ [] → length frame.now ≢ length datagram.now) }
+    ensures { IsTrue result ↔ (IsSome probe.now.origin → key_list seals.now.nodes ≢ [] → length frame.now ≢ length datagram.now) }
 {
-    probe.node.is_none() || seals.nodes.is_none() || frame.len() != datagram.len()
+    probe.origin.is_none() || seals.nodes.is_none() || frame.len() != datagram.len()
 }
 
 impl Asked {
@@ -44,11 +45,21 @@ impl Asked {
         Some(Asked { from, probe })
     }
 
+    /// Whether a node of that genesis asks.
+    pub fn is_of(&self, genesis: &[u8; DIGEST]) -> bool
+        ensures { result ≡ is_of genesis.now self.now.probe.origin }
+    {
+        match &self.probe.origin {
+            Some(asker) => asker.genesis == *genesis,
+            None => false,
+        }
+    }
+
     /// The client or the node that asks, if the probe names one.
     pub fn asker(&self) -> Option<To>
         ensures { result ≡ asker self.now.probe }
     {
-        match (self.probe.client, self.probe.node) {
+        match (self.probe.client, self.probe.node()) {
             (Some(client), _) => Some(To::Client(client)),
             (None, Some(node)) => Some(To::Node(node, 0)),
             (None, None) => None,

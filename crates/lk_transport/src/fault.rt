@@ -1,11 +1,11 @@
 //! Why a command of the service ended early.
 
-ghost use Rattle.std.specs.Prelude.{◌≡◌};
+ghost use Rattle.std.specs.Prelude.{◌≡◌, ◌<◌};
 
 use lk_disk::CannotOpen;
-use lk_log::StoreFault;
-use lk_recovery::ReplicaFault;
+use lk_log::OpenFault;
 use lk_state::UnpackFault;
+use lk_step::ReplicaFault;
 use lk_types::NoMemory;
 use std::alloc::{AllocError, AllocFailed};
 use std::io::Write;
@@ -27,8 +27,6 @@ pub enum ServiceFault {
     Failed,
     /// Fault 14: the node ran out of memory.
     Halted,
-    /// Fault 15: a datagram was not sent. A server ignores it.
-    Send,
     /// Fault 24: the output could not be written.
     Write,
     /// A node of another genesis has led this one. The line that tells it is written where it is found.
@@ -36,10 +34,12 @@ pub enum ServiceFault {
 }
 
 impl ServiceFault {
+    ghost use Rattle.lk_step.specs.Faults.{fault_number};
     ghost use Rattle.lk_transport.specs.Faults.{replica_fault};
 
-    /// The fault that reports a replica's fault.
+    /// The fault that reports why a replica did not start.
     pub fn of_replica(fault: &ReplicaFault) -> ServiceFault
+        requires { fault_number fault.now < 15 }
         ensures { result ≡ replica_fault fault.now }
     {
         match fault {
@@ -49,7 +49,7 @@ impl ServiceFault {
             ReplicaFault::WrongStore => ServiceFault::WrongStore,
             ReplicaFault::Failed => ServiceFault::Failed,
             ReplicaFault::Halted => ServiceFault::Halted,
-            ReplicaFault::Send(_) => ServiceFault::Send,
+            ReplicaFault::Send(_) => unreachable!(),
         }
     }
 
@@ -63,7 +63,6 @@ impl ServiceFault {
             ServiceFault::WrongStore => "fault 10\n",
             ServiceFault::Failed => "fault 11\n",
             ServiceFault::Halted => "fault 14\n",
-            ServiceFault::Send => "fault 15\n",
             ServiceFault::Write => "fault 24\n",
             ServiceFault::OtherGenesis => "",
         }
@@ -108,18 +107,17 @@ impl<T: Drop> From<AllocFailed<T>> for ServiceFault {
     }
 }
 
-impl From<StoreFault> for ServiceFault {
-    ghost use Rattle.lk_transport.specs.Faults.{fault_of};
+impl From<OpenFault> for ServiceFault {
+    ghost use Rattle.lk_transport.specs.Faults.{open_fault};
 
-    ghost from_gives = { λ f e. e ≡ fault_of f };
+    ghost from_gives = { λ f e. e ≡ open_fault f };
 
-    fn from(fault: StoreFault) -> ServiceFault {
+    fn from(fault: OpenFault) -> ServiceFault {
         match fault {
-            StoreFault::Device => ServiceFault::Device,
-            StoreFault::NoMemory => ServiceFault::NoMemory,
-            StoreFault::Damaged => ServiceFault::Damaged,
-            StoreFault::WrongStore => ServiceFault::WrongStore,
-            StoreFault::Failed => ServiceFault::Failed,
+            OpenFault::Device => ServiceFault::Device,
+            OpenFault::NoMemory => ServiceFault::NoMemory,
+            OpenFault::Damaged => ServiceFault::Damaged,
+            OpenFault::WrongStore => ServiceFault::WrongStore,
         }
     }
 }

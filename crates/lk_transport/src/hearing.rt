@@ -7,10 +7,10 @@ ghost use Rattle.lk_transport.specs.Posts.{Hears, is_binding};
 
 use crate::addresses::Addresses;
 use crate::arrival::Arrival;
-use lk_wire::{ContentRef, NodeMessageRef, view};
+use lk_wire::{ContentRef, Datagram, NodeMessageRef};
 use std::net::SocketAddr;
 
-/// Whether whoever takes a message follows its sender.
+// Whether whoever takes a message follows its sender.
 fn is_binding(message: &NodeMessageRef<'_>) -> bool
     ensures { result ≡ is_binding (shown_node message.now) }
 {
@@ -26,11 +26,11 @@ fn is_binding(message: &NodeMessageRef<'_>) -> bool
 impl Addresses {
     /// Records the source of a datagram of the cluster if it is a client's request or a node's message, and ignores
     /// everything else. Returns what arrived, for the log.
-    pub fn hear(&mut self, cluster: u64, bytes: &[u8], from: SocketAddr) -> Arrival
-        ensures heard { Hears cluster bytes.now from self.old self.new }
+    pub fn hear(&mut self, cluster: u64, datagram: &Datagram<'_>, from: SocketAddr) -> Arrival
+        ensures heard { Hears cluster datagram.now from self.old self.new }
         ensures network { IsSameCircle self.old self.new }
     {
-        let Ok(message) = view(bytes) else {
+        let Ok(message) = datagram.message() else {
             return Arrival::Bad;
         };
         if message.cluster != cluster {

@@ -13,7 +13,7 @@ pub enum Hosts {
     Listed(Vec<(NodeNo, IpAddr)>),
 }
 
-/// The address in the first line of a node.
+// The address in the first line of a node.
 fn address_in(lines: &[(NodeNo, IpAddr)], node: NodeNo) -> Option<IpAddr>
     ensures { result ≡ host_in lines.now node }
 {

@@ -1,19 +1,20 @@
 //! How a node finds out which genesis each node that writes to it was started with.
 
 ghost use Rattle.std.specs.Prelude.{◌≡◌, Some, is_some};
-ghost use Rattle.lk_probe.specs.Neighbours.{Doubts, bound_in, is_stranger};
-ghost use Rattle.lk_probe.specs.Questions.{IsReportedOf, question};
-ghost use Rattle.lk_transport.specs.Addresses.{IsSameCircle, IsSameNetwork};
-ghost use Rattle.lk_transport.specs.Inquiring.{AsksOne, IsAskedAt, LearnsOf, SendsProbe};
+ghost use Rattle.lk_probe.specs.Neighbours.{Readmits, bound_in, is_stranger};
+ghost use Rattle.lk_probe.specs.Questions.{IsReportedOf};
+ghost use Rattle.lk_transport.specs.Addresses.{IsSameNetwork};
+ghost use Rattle.lk_transport.specs.Inquiring.{AsksOne, IsAskedAt, LearnsOf, ReadmitsKept, SendsProbe, question_by};
 ghost use Rattle.lk_transport.specs.Posts.{tray_of};
 
 use crate::addresses::Addresses;
+use crate::asked::Asked;
 use crate::post::SocketPost;
 use crate::socket::DatagramSocket;
 use lk_probe::Probe;
 use lk_probe::neighbours::{Neighbour, Origin};
 use lk_probe::reported::{Reported, question};
-use lk_replica::SendFault;
+use lk_step::SendFault;
 use lk_types::NodeNo;
 use std::net::SocketAddr;
 
@@ -30,13 +31,12 @@ impl Addresses {
         self.neighbours.ask(now)
     }
 
-    // It is doubted that the node at that address is of another genesis: a question is due there again.
-    fn doubt(&mut self, place: SocketAddr)
-        ensures doubts { Doubts place self.old.neighbours self.new.neighbours }
-        ensures circle { IsSameCircle self.old self.new }
+    // A node of this genesis asks from that address: if another genesis was known there, it is as if it was never asked.
+    fn readmit(&mut self, place: SocketAddr)
+        ensures readmits { Readmits place self.old.neighbours self.new.neighbours }
         ensures others { self.new ≡ record self.old { neighbours = self.new.neighbours } }
     {
-        self.neighbours.doubt(place);
+        self.neighbours.readmit(place);
     }
 
     // Learns what a report tells of the node at an address that was asked.
@@ -52,14 +52,19 @@ impl Addresses {
 impl<S: DatagramSocket + Drop> SocketPost<S> {
     // The question of this node.
     fn question(&self) -> Probe
-        ensures { result ≡ question self.now.addresses.seals.cluster self.now.node }
+        ensures { result ≡ question_by self.now.addresses.seals self.now.node }
     {
-        question(self.addresses.seals().cluster, self.node)
+        let genesis = self.genesis();
+        let asker = Origin {
+            node: self.node,
+            genesis,
+        };
+        question(self.addresses.seals().cluster, asker)
     }
 
     /// What a report that came from there tells, if it answers the question of this node.
     pub fn reported(&self, from: SocketAddr, datagram: &[u8]) -> Option<Reported>
-        ensures { IsReportedOf (question self.now.addresses.seals.cluster self.now.node) (from, datagram.now) result }
+        ensures { IsReportedOf (question_by self.now.addresses.seals self.now.node) (from, datagram.now) result }
     {
         Reported::by(&self.question(), from, datagram)
     }
@@ -74,18 +79,22 @@ impl<S: DatagramSocket + Drop> SocketPost<S> {
         self.addresses.learn(reported)
     }
 
-    /// It is doubted that the node at that address is of another genesis: a question is due there again.
-    pub fn doubt(&mut self, place: SocketAddr)
-        ensures doubts { Doubts place self.old.addresses.neighbours self.new.addresses.neighbours }
-        ensures circle { IsSameCircle self.old.addresses self.new.addresses }
-        ensures others { self.new ≡ record self.old { addresses = record self.old.addresses { neighbours = self.new.addresses.neighbours } } }
+    /// Where a node of this genesis asks by a probe, what comes from its address is heard again: if another genesis was
+    /// known there, it is as if it was never asked.
+    pub fn readmit(&mut self, asked: &Asked)
+        ensures readmits { ReadmitsKept (Some asked.now) self.old.addresses self.new.addresses }
+        ensures network { IsSameNetwork self.old.addresses self.new.addresses }
+        ensures others { self.new ≡ record self.old { addresses = self.new.addresses } }
     {
-        self.addresses.doubt(place);
+        let genesis = self.genesis();
+        if asked.is_of(&genesis) {
+            self.addresses.readmit(asked.from);
+        }
     }
 
     // Sends the question of this node to an address.
     fn send_question(&mut self, place: SocketAddr) -> Result<(), SendFault>
-        ensures sends { SendsProbe S.is_telling (question self.old.addresses.seals.cluster self.old.node) (Some place) (tray_of self.old) (tray_of self.new) }
+        ensures sends { SendsProbe S.is_telling (question_by self.old.addresses.seals self.old.node) (Some place) (tray_of self.old) (tray_of self.new) }
         ensures still { S.is_telling → self.new.coming ≡ self.old.coming }
         ensures others { self.new ≡ record self.old { sent = self.new.sent; socket_failures = self.new.socket_failures; coming = self.new.coming } }
     {

@@ -9,7 +9,6 @@ pub mod fault;
 mod hearing;
 pub mod hosts;
 mod inquiring;
-pub mod memory_socket;
 pub mod network;
 pub mod post;
 pub mod receive_buffer;

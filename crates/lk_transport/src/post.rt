@@ -15,10 +15,10 @@ use crate::asked::Asked;
 use crate::network::Network;
 use crate::receive_buffer::ReceiveBuffer;
 use crate::socket::DatagramSocket;
-use lk_replica::{Post, SendFault};
 use lk_seal::{DIGEST, Seals};
-use lk_step::{Letter, To};
+use lk_step::{Letter, Post, SendFault, To};
 use lk_types::{NoMemory, NodeNo};
+use lk_wire::Datagram;
 use std::alloc::{AllocError, Global};
 use std::collections::VecDeque;
 use std::io;
@@ -26,7 +26,7 @@ use std::marker::Model;
 use std::net::SocketAddr;
 use std::time::Duration;
 
-/// The offset of a datagram's kind, and the kind of a Want.
+// The offset of a datagram's kind, and the kind of a Want.
 const KIND: usize = 3;
 
 const WANT: u8 = 7;
@@ -82,7 +82,7 @@ impl<S: DatagramSocket + Drop> Model for SocketPost<S> {
     ghost view = { λ p. record { node = p.node; addresses = p.addresses; own = p.own.items; sent = S.sent p.socket; socket_failures = S.failures p.socket; failures = p.failures; coming = S.coming p.socket } };
 }
 
-/// The destination of a letter.
+// The destination of a letter.
 fn route(addresses: &Addresses, to: &To) -> Option<SocketAddr>
     ensures { IsRoute addresses.now to.now result }
 {
@@ -96,7 +96,7 @@ fn route(addresses: &Addresses, to: &To) -> Option<SocketAddr>
     }
 }
 
-/// The bytes to send for a datagram. A frame overwrites the frame buffer.
+// The bytes to send for a datagram. A frame overwrites the frame buffer.
 fn framed<'a>(
     seals: &Seals,
     to: &To,
@@ -112,7 +112,7 @@ fn framed<'a>(
     }
 }
 
-/// The same of a report, for whoever asks.
+// The same of a report, for whoever asks.
 fn framed_for<'a>(
     seals: &Seals,
     asker: &Option<To>,
@@ -156,12 +156,12 @@ impl<S: DatagramSocket + Drop> SocketPost<S> {
     }
 
     /// Records the source of a datagram of the cluster, as `Addresses::hear` does.
-    pub fn hear(&mut self, cluster: u64, bytes: &[u8], from: SocketAddr) -> Arrival
-        ensures heard { Hears cluster bytes.now from self.old.addresses self.new.addresses }
+    pub fn hear(&mut self, cluster: u64, datagram: &Datagram<'_>, from: SocketAddr) -> Arrival
+        ensures heard { Hears cluster datagram.now from self.old.addresses self.new.addresses }
         ensures network { IsSameCircle self.old.addresses self.new.addresses }
         ensures others { self.new ≡ record self.old { addresses = self.new.addresses } }
     {
-        self.addresses.hear(cluster, bytes, from)
+        self.addresses.hear(cluster, datagram, from)
     }
 
     /// Removes the first letter of the node to itself.

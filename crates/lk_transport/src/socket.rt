@@ -6,15 +6,15 @@ ghost use Rattle.std.specs.declared.net.socket_addr.SocketAddr.{SocketAddr as Ad
 ghost use Rattle.lk_disk.specs.Disk.{HasCause};
 
 use crate::fault::ServiceFault;
-use lk_replica::SendFault;
+use lk_step::SendFault;
 use std::io;
 use std::net::{Ipv4Addr, Net, SocketAddr, UdpSocket};
 use std::time::Duration;
 
-/// How long a receive waits at most if it is not told otherwise, in milliseconds.
+// How long a receive waits at most if it is not told otherwise, in milliseconds.
 const WAIT: u64 = 100;
 
-/// A receive may wait this many milliseconds longer than it is told to, since each change costs a call of the system.
+// A receive may wait this many milliseconds longer than it is told to, since each change costs a call of the system.
 const SLACK: u64 = 10;
 
 /// The address of a port on 127.0.0.1.

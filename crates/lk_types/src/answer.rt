@@ -61,7 +61,7 @@ impl Answer {
         ensures { IsAnswer self }
     {}
 
-    /// The answer in words, without its numbers.
+    // The answer in words, without its numbers.
     fn word(self) -> &'static str {
         match self {
             Answer::Granted(_) => "granted",

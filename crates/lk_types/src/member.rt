@@ -42,7 +42,7 @@ impl Model for Members {
     ghost inverse = { λ xs. record { list = record { items = xs } } };
 }
 
-/// Whether the nodes rise strictly.
+// Whether the nodes rise strictly.
 fn are_rising(members: &[Member]) -> bool
     ensures { result ≡ members_rise 0 members.now }
 {

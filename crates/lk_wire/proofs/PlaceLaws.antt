@@ -2,15 +2,15 @@
 use Rattle.std.proofs.Common.{◌≡◌, ℕ, ◌+◌, List, ◌++◌, length, drop, refl, sym, ap, subst, ◌∙◌}
 use Rattle.std.proofs.Math.Seq.{drop-append-add}
 use Rattle.std.proofs.lemmas.List.{length-append}
-use Rattle.lk_wire.specs.declared.message.NodeMessage.TheVariants as kinds
-use Rattle.lk_wire.specs.declared.message.Content.{Content}
-use Rattle.lk_wire.specs.declared.message.Content.TheVariants as content
-use Rattle.lk_wire.specs.declared.message.Message.{Message}
+use Rattle.lk_messages.specs.declared.message.NodeMessage.TheVariants as kinds
+use Rattle.lk_messages.specs.declared.message.Content.{Content}
+use Rattle.lk_messages.specs.declared.message.Content.TheVariants as content
+use Rattle.lk_messages.specs.declared.message.Message.{Message}
 use Rattle.lk_fields.specs.Fields.{two, four, eight, ballot}
-use Rattle.lk_wire.specs.Grammar.{fields, header, kind, sender, Spells}
+use Rattle.lk_messages.specs.Grammar.{fields, header, kind, sender, Spells}
 use Rattle.lk_wire.specs.Shown.{LieAtTheirPlaces}
 use Rattle.lk_fields.proofs.Spellings.{length-two, length-four, length-eight}
-use Rattle.lk_wire.proofs.Lengths.{length-ballot}
+use Rattle.lk_messages.proofs.Spellings.{length-ballot}
 
 -- what lies so far into the rest lies that much further into all
 past : (front rest slice : List ℕ) (n k : ℕ) → length front ≡ n → drop k rest ≡ slice → drop (n + k) (front ++ rest) ≡ slice

@@ -1,11 +1,11 @@
 -- The message that a view shows, and where its slices are in the datagram.
 use Rattle.std.specs.Prelude.{◌≡◌, ℕ, List, drop}
 use Rattle.std.specs.List.{flat_map}
-use Rattle.lk_wire.specs.declared.message.NodeMessage.{NodeMessage}
-use Rattle.lk_wire.specs.declared.message.NodeMessage.TheVariants as kinds
-use Rattle.lk_wire.specs.declared.message.Content.{Content}
-use Rattle.lk_wire.specs.declared.message.Content.TheVariants as content
-use Rattle.lk_wire.specs.declared.message.Message.{Message}
+use Rattle.lk_messages.specs.declared.message.NodeMessage.{NodeMessage}
+use Rattle.lk_messages.specs.declared.message.NodeMessage.TheVariants as kinds
+use Rattle.lk_messages.specs.declared.message.Content.{Content}
+use Rattle.lk_messages.specs.declared.message.Content.TheVariants as content
+use Rattle.lk_messages.specs.declared.message.Message.{Message}
 use Rattle.lk_wire.specs.declared.viewing.message.NodeMessageRef.{NodeMessageRef}
 use Rattle.lk_wire.specs.declared.viewing.message.NodeMessageRef.TheVariants as viewed
 use Rattle.lk_wire.specs.declared.viewing.message.ContentRef.{ContentRef}

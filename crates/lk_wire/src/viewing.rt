@@ -1,31 +1,30 @@
 //! Viewing bytes as a message: nothing is copied, and no memory is taken. To read a message is to copy a view of it.
 
 ghost use Rattle.std.specs.Prelude.{◌≡◌, ◌⊎◌, List, ℕ, Ok, Err, IfOk, IsOkAnd};
-ghost use Rattle.lk_wire.specs.declared.message.Message.{Message};
-ghost use Rattle.lk_wire.specs.declared.message.NodeMessage.TheVariants as kinds;
-ghost use Rattle.lk_wire.specs.Grammar.{Spells};
+ghost use Rattle.lk_messages.specs.declared.message.Message.{Message};
+ghost use Rattle.lk_messages.specs.declared.message.NodeMessage.TheVariants as kinds;
+ghost use Rattle.lk_messages.specs.Grammar.{Spells};
 ghost use Rattle.lk_fields.specs.Parser.{Finds, made};
-ghost use Rattle.lk_wire.specs.Reading.{read_prepare, read_proposal, read_nack, read_want, read_answered, read_elsewhere, read_passed, read_lead, node_of, read_asked, content_of, read_header, read_message, all_of};
+ghost use Rattle.lk_messages.specs.Reading.{read_prepare, read_promise, read_proposal, read_nack, read_decided, read_want, read_part, read_answered, read_elsewhere, read_passed, read_lead, node_of, read_asked, content_of, read_header, read_message, all_of};
 ghost use Rattle.lk_wire.specs.Shown.{shown_node, shown_content, shown, LieAtTheirPlaces};
 
 pub(crate) mod command;
+pub(crate) mod decided;
 pub(crate) mod message;
 
-use crate::decided::read_decided;
 use crate::fault::{Bad, ReadFault};
-use crate::message::{Answered, Elsewhere, Message, Nack, Passed, Want};
-use crate::part::read_part;
-use crate::promise::read_promise;
 use command::{RequestRef, VoteRef};
+use decided::DecidedRef;
 use lk_fields::{
     read_answer, read_ballot, read_client, read_executed, read_mark, read_member, read_number,
     read_position, read_u8, read_u32, read_u64,
 };
+use lk_messages::{Answered, Elsewhere, Message, Nack, PartRef, Passed, PromiseRef, Want};
 use lk_types::NodeNo;
 use message::{ContentRef, MessageRef, NodeMessageRef};
 use std::alloc::Global;
 
-#[tactic(auto, unfolding(crate::specs::Reading::read_prepare))]
+#[tactic(auto, unfolding(lk_messages::specs::Reading::read_prepare))]
 fn read_prepare(bytes: &[u8]) -> Option<(NodeMessageRef<'_>, &[u8])>
     ensures { Finds (λ x. (shown_node x.0, x.1.now)) result (read_prepare bytes.now) }
 {
@@ -35,6 +34,15 @@ fn read_prepare(bytes: &[u8]) -> Option<(NodeMessageRef<'_>, &[u8])>
         return Some((NodeMessageRef::Prepare(ballot, first), rest));
     }
     None
+}
+
+fn read_promise(bytes: &[u8]) -> Option<(NodeMessageRef<'_>, &[u8])>
+    ensures { Finds (λ x. (shown_node x.0, x.1.now)) result (made kinds.Promise read_promise bytes.now) }
+{
+    let Some((promise, rest)) = PromiseRef::of(bytes) else {
+        return None;
+    };
+    Some((NodeMessageRef::Promise(promise), rest))
 }
 
 fn read_accept(bytes: &[u8]) -> Option<(NodeMessageRef<'_>, &[u8])>
@@ -55,7 +63,7 @@ fn read_accepted(bytes: &[u8]) -> Option<(NodeMessageRef<'_>, &[u8])>
     Some((NodeMessageRef::Accepted(vote), rest))
 }
 
-#[tactic(auto, unfolding(crate::specs::Reading::read_nack))]
+#[tactic(auto, unfolding(lk_messages::specs::Reading::read_nack))]
 fn read_nack(bytes: &[u8]) -> Option<(NodeMessageRef<'_>, &[u8])>
     ensures { Finds (λ x. (shown_node x.0, x.1.now)) result (made kinds.Nack read_nack bytes.now) }
 {
@@ -73,7 +81,16 @@ fn read_nack(bytes: &[u8]) -> Option<(NodeMessageRef<'_>, &[u8])>
     None
 }
 
-#[tactic(auto, unfolding(crate::specs::Reading::read_want))]
+fn read_decided(bytes: &[u8]) -> Option<(NodeMessageRef<'_>, &[u8])>
+    ensures { Finds (λ x. (shown_node x.0, x.1.now)) result (made kinds.Decided read_decided bytes.now) }
+{
+    let Some((decided, rest)) = DecidedRef::of(bytes) else {
+        return None;
+    };
+    Some((NodeMessageRef::Decided(decided), rest))
+}
+
+#[tactic(auto, unfolding(lk_messages::specs::Reading::read_want))]
 fn read_want(bytes: &[u8]) -> Option<(NodeMessageRef<'_>, &[u8])>
     ensures { Finds (λ x. (shown_node x.0, x.1.now)) result (made kinds.Want read_want bytes.now) }
 {
@@ -85,7 +102,16 @@ fn read_want(bytes: &[u8]) -> Option<(NodeMessageRef<'_>, &[u8])>
     None
 }
 
-#[tactic(auto, unfolding(crate::specs::Reading::read_answered))]
+fn read_part(bytes: &[u8]) -> Option<(NodeMessageRef<'_>, &[u8])>
+    ensures { Finds (λ x. (shown_node x.0, x.1.now)) result (made kinds.Part read_part bytes.now) }
+{
+    let Some((part, rest)) = PartRef::of(bytes) else {
+        return None;
+    };
+    Some((NodeMessageRef::Part(part), rest))
+}
+
+#[tactic(auto, unfolding(lk_messages::specs::Reading::read_answered))]
 fn read_answered(bytes: &[u8]) -> Option<(NodeMessageRef<'_>, &[u8])>
     ensures { Finds (λ x. (shown_node x.0, x.1.now)) result (made kinds.Answer read_answered bytes.now) }
 {
@@ -103,7 +129,7 @@ fn read_answered(bytes: &[u8]) -> Option<(NodeMessageRef<'_>, &[u8])>
     None
 }
 
-#[tactic(auto, unfolding(crate::specs::Reading::read_elsewhere))]
+#[tactic(auto, unfolding(lk_messages::specs::Reading::read_elsewhere))]
 fn read_elsewhere(bytes: &[u8]) -> Option<(NodeMessageRef<'_>, &[u8])>
     ensures { Finds (λ x. (shown_node x.0, x.1.now)) result (made kinds.Elsewhere read_elsewhere bytes.now) }
 {
@@ -121,7 +147,7 @@ fn read_elsewhere(bytes: &[u8]) -> Option<(NodeMessageRef<'_>, &[u8])>
     None
 }
 
-#[tactic(auto, unfolding(crate::specs::Reading::read_passed))]
+#[tactic(auto, unfolding(lk_messages::specs::Reading::read_passed))]
 fn read_passed(bytes: &[u8]) -> Option<(NodeMessageRef<'_>, &[u8])>
     ensures { Finds (λ x. (shown_node x.0, x.1.now)) result (made kinds.Passed read_passed bytes.now) }
 {
@@ -135,7 +161,7 @@ fn read_passed(bytes: &[u8]) -> Option<(NodeMessageRef<'_>, &[u8])>
     None
 }
 
-#[tactic(auto, unfolding(crate::specs::Reading::read_lead))]
+#[tactic(auto, unfolding(lk_messages::specs::Reading::read_lead))]
 fn read_lead(bytes: &[u8]) -> Option<(NodeMessageRef<'_>, &[u8])>
     ensures { Finds (λ x. (shown_node x.0, x.1.now)) result (read_lead bytes.now) }
 {
@@ -147,8 +173,8 @@ fn read_lead(bytes: &[u8]) -> Option<(NodeMessageRef<'_>, &[u8])>
     None
 }
 
-/// A node's message, by its kind.
-#[tactic(auto, unfolding(crate::specs::Reading::node_of, crate::specs::Reading::small_of))]
+// A node's message, by its kind.
+#[tactic(auto, unfolding(lk_messages::specs::Reading::node_of, lk_messages::specs::Reading::small_of))]
 fn node_of(kind: u8, bytes: &[u8]) -> Option<(NodeMessageRef<'_>, &[u8])>
     ensures { Finds (λ x. (shown_node x.0, x.1.now)) result (node_of kind bytes.now) }
 {
@@ -169,8 +195,8 @@ fn node_of(kind: u8, bytes: &[u8]) -> Option<(NodeMessageRef<'_>, &[u8])>
     }
 }
 
-/// The kind, the cluster and the sender.
-#[tactic(auto, unfolding(crate::specs::Reading::read_header))]
+// The kind, the cluster and the sender.
+#[tactic(auto, unfolding(lk_messages::specs::Reading::read_header))]
 fn read_header(bytes: &[u8]) -> Option<(u8, u64, u32, &[u8])>
     ensures { Finds (λ x. ((x.0, (x.1, x.2)), x.3.now)) result (read_header bytes.now) }
 {
@@ -185,8 +211,8 @@ fn read_header(bytes: &[u8]) -> Option<(u8, u64, u32, &[u8])>
     }
 }
 
-/// A client's request, which no node sends.
-#[tactic(auto, unfolding(crate::specs::Reading::read_asked))]
+// A client's request, which no node sends.
+#[tactic(auto, unfolding(lk_messages::specs::Reading::read_asked))]
 fn read_asked(sender: u32, bytes: &[u8]) -> Option<(ContentRef<'_>, &[u8])>
     ensures { Finds (λ x. (shown_content x.0, x.1.now)) result (read_asked sender bytes.now) }
 {
@@ -198,8 +224,8 @@ fn read_asked(sender: u32, bytes: &[u8]) -> Option<(ContentRef<'_>, &[u8])>
     None
 }
 
-/// What follows the header.
-#[tactic(auto, unfolding(crate::specs::Reading::content_of))]
+// What follows the header.
+#[tactic(auto, unfolding(lk_messages::specs::Reading::content_of))]
 fn content_of(kind: u8, sender: u32, bytes: &[u8]) -> Option<(ContentRef<'_>, &[u8])>
     ensures { Finds (λ x. (shown_content x.0, x.1.now)) result (content_of kind sender bytes.now) }
 {
@@ -213,8 +239,8 @@ fn content_of(kind: u8, sender: u32, bytes: &[u8]) -> Option<(ContentRef<'_>, &[
     Some((ContentRef::Node(node, message), rest))
 }
 
-/// All of the bytes.
-#[tactic(auto, unfolding(crate::specs::Reading::read_message))]
+// All of the bytes.
+#[tactic(auto, unfolding(lk_messages::specs::Reading::read_message))]
 fn all_of(bytes: &[u8]) -> Option<MessageRef<'_>>
     ensures { Finds shown result (all_of bytes.now) }
 {

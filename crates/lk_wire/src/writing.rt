@@ -1,17 +1,14 @@
 ghost use Rattle.std.specs.Prelude.{◌≡◌, ◌<◌, ◌+◌, ◌*◌, ◌++◌, length, OnOk, OnErr};
 ghost use Rattle.lk_fields.specs.Rooms.{UsesRoom, mark_room, command_room, vote_room};
 ghost use Rattle.lk_wire.specs.Rooms.{header_room, node_fields_room, fields_room};
-ghost use Rattle.lk_wire.specs.Grammar.{votes, promise, proposal, nack, commands, decided, part, node_kind, node_fields, fields, header, kind, spelling, Spells};
+ghost use Rattle.lk_messages.specs.Grammar.{votes, promise, proposal, nack, commands, decided, part, node_kind, node_fields, fields, header, kind, spelling, Spells};
 
-use crate::decided::Decided;
-use crate::message::{Content, Message, Nack, NodeMessage};
-use crate::part::Part;
-use crate::promise::Promise;
 use bytes::{BufMut, BytesMut};
 use lk_fields::{
     put_answer, put_ballot, put_client, put_command, put_executed, put_mark, put_member,
     put_number, put_position, put_request, put_u8, put_u16, put_u32, put_u64, put_vote, room,
 };
+use lk_messages::{Content, Decided, Message, Nack, NodeMessage, Part, Promise};
 use lk_types::{Command, NoMemory, Vote};
 use std::alloc::AllocError;
 
@@ -32,9 +29,10 @@ fn put_promise(out: &mut BytesMut, value: &Promise) -> Result<(), AllocError>
     ensures room { UsesRoom result out.old.spare out.new.spare (mark_room + 8 + 1 + vote_room * length value.now.votes) }
 {
     value.facts();
-    put_ballot(out, value.ballot)?;
-    put_position(out, value.first)?;
-    put_votes(out, &value.votes)
+    let (ballot, first, votes) = value.fields();
+    put_ballot(out, ballot)?;
+    put_position(out, first)?;
+    put_votes(out, votes)
 }
 
 fn put_proposal(out: &mut BytesMut, value: &Vote) -> Result<(), AllocError>
@@ -72,8 +70,9 @@ fn put_decided(out: &mut BytesMut, value: &Decided) -> Result<(), AllocError>
     ensures room { UsesRoom result out.old.spare out.new.spare (8 + 1 + command_room * length value.now.commands) }
 {
     value.facts();
-    put_position(out, value.first)?;
-    put_commands(out, &value.commands)
+    let (first, commands) = value.fields();
+    put_position(out, first)?;
+    put_commands(out, commands)
 }
 
 fn put_part(out: &mut BytesMut, value: &Part) -> Result<(), AllocError>
@@ -81,15 +80,15 @@ fn put_part(out: &mut BytesMut, value: &Part) -> Result<(), AllocError>
     ensures room { UsesRoom result out.old.spare out.new.spare (8 + 4 + 4 + 2 + length value.now.bytes) }
 {
     value.facts();
-    let bytes = &value.bytes;
-    put_position(out, value.position)?;
-    put_u32(out, value.total)?;
-    put_u32(out, value.offset)?;
+    let (position, total, offset, bytes) = value.fields();
+    put_position(out, position)?;
+    put_u32(out, total)?;
+    put_u32(out, offset)?;
     put_u16(out, bytes.len() as u16)?;
     out.put_slice(bytes)
 }
 
-/// The tag of a message's kind.
+// The tag of a message's kind.
 fn kind_of(message: &NodeMessage) -> u8
     ensures { result ≡ node_kind message.now }
 {
@@ -175,10 +174,10 @@ fn put_message(out: &mut BytesMut, message: &Message) -> Result<(), AllocError>
     Ok(())
 }
 
-/// The length of a header: two letters and the version, the kind, the cluster and the sender.
+// The length of a header: two letters and the version, the kind, the cluster and the sender.
 const HEADER_ROOM: usize = 3 + 1 + 8 + 4;
 
-/// The most bytes that the fields of a message take.
+// The most bytes that the fields of a message take.
 fn room_of(content: &Content) -> usize
     ensures { result ≡ fields_room content.now }
 {
@@ -187,15 +186,15 @@ fn room_of(content: &Content) -> usize
         Content::Request(_) => room::REQUEST,
         Content::Node(_, NodeMessage::Promise(promise)) => {
             promise.facts();
-            room::MARK + 8 + 1 + room::VOTE * promise.votes.len()
+            room::MARK + 8 + 1 + room::VOTE * promise.fields().2.len()
         }
         Content::Node(_, NodeMessage::Decided(decided)) => {
             decided.facts();
-            8 + 1 + room::COMMAND * decided.commands.len()
+            8 + 1 + room::COMMAND * decided.fields().1.len()
         }
         Content::Node(_, NodeMessage::Part(part)) => {
             part.facts();
-            8 + 4 + 4 + 2 + part.bytes.len()
+            8 + 4 + 4 + 2 + part.fields().3.len()
         }
         Content::Node(_, _) => room::VOTE,
     }

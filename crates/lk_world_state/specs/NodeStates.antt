@@ -1,7 +1,7 @@
 -- What the nodes of a world leave.
 use Rattle.std.specs.Prelude.{◌≡◌, ⊤, ℕ, ◌+◌, Bool, true, false, List, [], ◌∷◌, length, IfOk, if◌then◌else◌}
 use Rattle.lk_disk.specs.Disk.{contents}
-use Rattle.lk_disk.specs.Memory.{disk_of}
+use Rattle.lk_simulated_disk.specs.Memory.{disk_of}
 use Rattle.lk_agreement.specs.declared.party.Party.{Party}
 use Rattle.lk_agreement.specs.declared.party.Party.TheVariants as party
 use Rattle.lk_log.specs.Images.{seen}

@@ -33,7 +33,7 @@ pub struct NodeState {
     pub found: Result<Option<Inspection>, ServiceFault>,
 }
 
-/// What a node leaves.
+// What a node leaves.
 fn state_of(alloc: Global, node: LeftNode) -> NodeState
     ensures { IsStateOf node result }
 {
@@ -54,7 +54,7 @@ fn state_of(alloc: Global, node: LeftNode) -> NodeState
     }
 }
 
-/// What each node leaves, in order.
+// What each node leaves, in order.
 fn all_states(alloc: Global, nodes: Vec<LeftNode>) -> Result<Vec<NodeState>, NoMemory>
     ensures { IfOk result (λ states. AreStatesOf nodes.items states.items) }
 {
@@ -76,7 +76,7 @@ pub fn states_of<M: MemoryReplica>(
     all_states(alloc, nodes)
 }
 
-/// Writes what a store comes to, or the fault of that.
+// Writes what a store comes to, or the fault of that.
 fn write_store<W: Write>(
     found: &Result<Option<Inspection>, ServiceFault>,
     out: &mut W,
@@ -90,14 +90,14 @@ fn write_store<W: Write>(
     }
 }
 
-/// Writes a line `disk NAME SYNCED of WRITTEN bytes synced`.
+// Writes a line `disk NAME SYNCED of WRITTEN bytes synced`.
 fn write_disk<W: Write>(name: &str, synced: usize, written: usize, out: &mut W) -> io::Result<()>
     ensures { OnOk result (Appends (W.contents out.old) (W.contents out.new) (disk_line name.now synced written)) }
 {
     writeln!(out, "disk {name} {synced} of {written} bytes synced")
 }
 
-/// Writes the lines of a node.
+// Writes the lines of a node.
 fn write_state<W: Write>(state: &NodeState, out: &mut W) -> io::Result<()> {
     let life = if state.is_up { "up" } else { "down" };
     writeln!(out, "node {} {life}", state.number.get())?;
@@ -106,7 +106,7 @@ fn write_state<W: Write>(state: &NodeState, out: &mut W) -> io::Result<()> {
     write_store(&state.found, out)
 }
 
-/// How many datagrams are bound for nodes.
+// How many datagrams are bound for nodes.
 fn bound_for_nodes(sent: &[Datagram]) -> usize
     ensures { result ≡ bound_for_nodes sent.now }
 {
@@ -119,7 +119,7 @@ fn bound_for_nodes(sent: &[Datagram]) -> usize
     count
 }
 
-/// The lines of all nodes of a world, and a line `datagrams COUNT` of those that it may still deliver to them.
+// The lines of all nodes of a world, and a line `datagrams COUNT` of those that it may still deliver to them.
 fn text_of<M: MemoryReplica>(alloc: Global, world: World<M>) -> Result<Vec<u8>, NoMemory> {
     let mut text = Vec::new(alloc);
     let datagrams = bound_for_nodes(world.datagrams());
@@ -130,7 +130,7 @@ fn text_of<M: MemoryReplica>(alloc: Global, world: World<M>) -> Result<Vec<u8>, 
     Ok(text)
 }
 
-/// Writes what the nodes of a script leave, if it has set up a world.
+// Writes what the nodes of a script leave, if it has set up a world.
 fn write_left<M: MemoryReplica, W: Write>(
     alloc: Global,
     mode: Mode<M>,
@@ -150,7 +150,7 @@ fn write_left<M: MemoryReplica, W: Write>(
     }
 }
 
-/// Runs a script to its end, and then writes what the nodes leave.
+// Runs a script to its end, and then writes what the nodes leave.
 fn run_and_write<M: MemoryReplica, R: BufRead, W: Write>(
     alloc: Global,
     reader: &mut R,

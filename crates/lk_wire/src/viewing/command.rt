@@ -3,7 +3,7 @@ ghost use Rattle.lk_types.specs.Commands.{IsCommand, IsRequest};
 ghost use Rattle.lk_types.specs.Votes.{IsVote};
 ghost use Rattle.lk_fields.specs.FieldReading.{read_request, read_command};
 ghost use Rattle.lk_fields.specs.Parser.{Finds};
-ghost use Rattle.lk_wire.specs.Reading.{read_proposal};
+ghost use Rattle.lk_messages.specs.Reading.{read_proposal};
 
 use lk_fields::{
     front_of, read_ballot, read_command, read_position, read_request, skip_command, skip_request,
@@ -29,7 +29,7 @@ impl<'a> Model for RequestRef<'a> {
 }
 
 impl<'a> RequestRef<'a> {
-    /// The request at the front of some bytes, and what stands after it.
+    // The request at the front of some bytes, and what stands after it.
     pub(crate) fn of(bytes: &'a [u8]) -> Option<(RequestRef<'a>, &'a [u8])>
         ensures { Finds (λ x. (x.0, x.1.now)) result (read_request bytes.now) }
     {
@@ -68,7 +68,7 @@ impl<'a> Model for CommandRef<'a> {
 }
 
 impl<'a> CommandRef<'a> {
-    /// The command at the front of some bytes, and what stands after it.
+    // The command at the front of some bytes, and what stands after it.
     pub(crate) fn of(bytes: &'a [u8]) -> Option<(CommandRef<'a>, &'a [u8])>
         ensures { Finds (λ x. (x.0, x.1.now)) result (read_command bytes.now) }
     {
@@ -106,8 +106,8 @@ impl<'a> Model for VoteRef<'a> {
 }
 
 impl<'a> VoteRef<'a> {
-    /// A ballot, a position and a command, and what stands after them.
-    #[tactic(auto, unfolding(crate::specs::Reading::read_proposal))]
+    // A ballot, a position and a command, and what stands after them.
+    #[tactic(auto, unfolding(lk_messages::specs::Reading::read_proposal))]
     pub(crate) fn of(bytes: &'a [u8]) -> Option<(VoteRef<'a>, &'a [u8])>
         ensures { Finds (λ x. (x.0, x.1.now)) result (read_proposal bytes.now) }
     {

@@ -1,11 +1,11 @@
 ghost use Rattle.std.specs.Prelude.{◌≡◌, IfOk};
 ghost use Rattle.lk_wire.specs.Shown.{shown_node, shown_content, shown};
 
-use crate::decided::DecidedRef;
-use crate::message::{Answered, Content, Elsewhere, Message, Nack, NodeMessage, Passed, Want};
-use crate::part::PartRef;
-use crate::promise::PromiseRef;
 use crate::viewing::command::{RequestRef, VoteRef};
+use crate::viewing::decided::DecidedRef;
+use lk_messages::{
+    Answered, Content, Elsewhere, Message, Nack, NodeMessage, PartRef, Passed, PromiseRef, Want,
+};
 use lk_types::{Executed, NoMemory, NodeNo, Position, RealBallot};
 use std::alloc::Global;
 

@@ -1,5 +1,5 @@
 use Rattle.std.proofs.Common.{ap}
-use Rattle.lk_wire.specs.declared.message.Message.{Message}
+use Rattle.lk_messages.specs.declared.message.Message.{Message}
 use Rattle.lk_client.specs.Replies.{reply_of}
 use Rattle.lk_client.proofs.Replying.{same_said, not_asked}
 use Rattle.lk_client.proofs.reply.read_reply.Goals.{in_default-content-via-in-Node+else-message-cluster, in_default-content-via-in_default-content}

@@ -1,6 +1,6 @@
 -- The parts so far.
 use Rattle.std.proofs.Common.{◌≡◌, ◌<◌, ◌+◌, ◌*◌, ℕ, length, Some, slice_get}
-use Rattle.lk_wire.specs.Values.{PartValue}
+use Rattle.lk_messages.specs.Values.{PartValue}
 use Rattle.lk_learner.specs.Parts.{part_of}
 use Rattle.lk_learner.proofs.parts.parts_behind.Given as goal
 

@@ -3,7 +3,7 @@ use Rattle.lk_types.specs.Genesis.{genesis_fault}
 use Rattle.lk_types.specs.declared.member.Member.{Member}
 use Rattle.lk_arguments.specs.Geneses.{SpellsMembers}
 use Rattle.lk_arguments.proofs.MemberWords.{members_once, at_most_seven}
-use Rattle.lk_lines.proofs.GenesisLemmas.{numbers_once}
+use Rattle.lk_lines.proofs.GenesisLaws.{numbers_once}
 use Rattle.lk_lines.proofs.genesis_line.genesis_of.Goals as goal
 
 pub returns-in_err-cluster-clause-none : goal.returns-in_err-cluster-clause-none

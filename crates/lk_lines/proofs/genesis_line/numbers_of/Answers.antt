@@ -1,6 +1,6 @@
 use Rattle.std.proofs.Common.{ℕ, List, refl, sym, subst, arith}
 use Rattle.lk_lines.specs.WorldLines.{Leads}
-use Rattle.lk_lines.proofs.WordLemmas.{leads_once}
+use Rattle.lk_lines.proofs.WordLaws.{leads_once}
 use Rattle.lk_lines.proofs.genesis_line.numbers_of.Goals as goal
 
 pub returns-in_err-alpha-clause-none : goal.returns-in_err-alpha-clause-none

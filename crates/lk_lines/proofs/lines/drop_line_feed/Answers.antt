@@ -1,7 +1,7 @@
 use Rattle.std.proofs.Common.{rules, ◌≡◌, ◌∙◌, ap, ℕ, [], ◌∷◌, ◌++◌, length, take}
 use Rattle.std.proofs.Math.Seq.{take-append_seam}
 use Rattle.std.proofs.lemmas.List.{nil_from_length}
-use Rattle.lk_lines.proofs.LineLemmas.{ends_line, whole_line, no_line}
+use Rattle.lk_lines.proofs.LineLaws.{ends_line, whole_line, no_line}
 use Rattle.lk_lines.proofs.lines.drop_line_feed.Goals as goal
 
 pub returns-then-last-eq10 : goal.returns-then-last-eq10

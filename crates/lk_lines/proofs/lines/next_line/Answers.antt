@@ -1,5 +1,5 @@
 use Rattle.std.proofs.Common.{rules}
-use Rattle.lk_lines.proofs.LineLemmas.{took_line}
+use Rattle.lk_lines.proofs.LineLaws.{took_line}
 use Rattle.lk_lines.proofs.lines.next_line.Goals as goal
 
 pub returns-in-Ok-clause-line : goal.returns-in-Ok-clause-line

@@ -1,6 +1,6 @@
 use Rattle.std.proofs.Common.{rules, ◌≡◌, ◌∷◌, ◌++◌, [], refl}
 use Rattle.lk_lines.specs.WorldLines.SpellsTurns.{one}
-use Rattle.lk_lines.proofs.TurnLemmas.{one_read, no_turn, no_last}
+use Rattle.lk_lines.proofs.TurnLaws.{one_read, no_turn, no_last}
 use Rattle.lk_lines.proofs.turn_words.read_turns.Goals as goal
 
 pub returns-in_default-turn_of-clause-not_understood : goal.returns-in_default-turn_of-clause-not_understood

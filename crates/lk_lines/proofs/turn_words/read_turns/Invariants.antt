@@ -1,5 +1,5 @@
 use Rattle.std.proofs.Common.{length}
-use Rattle.lk_lines.proofs.TurnLemmas.{ReadSoFar}
+use Rattle.lk_lines.proofs.TurnLaws.{ReadSoFar}
 use Rattle.lk_lines.proofs.turn_words.read_turns.Given as goal
 
 abbrev pub invariant-words : goal.invariant-words

@@ -2,7 +2,7 @@ use Rattle.std.proofs.Common.{ℕ, List, refl, sym, subst, arith}
 use Rattle.lk_types.specs.Limits.{max_count, max_client}
 use Rattle.lk_arguments.specs.Operations.{SpellsOp}
 use Rattle.lk_lines.specs.WorldLines.{Leads}
-use Rattle.lk_lines.proofs.WordLemmas.{leads_once}
+use Rattle.lk_lines.proofs.WordLaws.{leads_once}
 use Rattle.lk_lines.proofs.world_line.request.Goals as goal
 
 pub returns-in_err-number-clause-none : goal.returns-in_err-number-clause-none

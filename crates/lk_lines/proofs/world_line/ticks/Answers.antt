@@ -1,7 +1,7 @@
 use Rattle.std.proofs.Common.{ℕ, List, inl, inr, refl, sym, subst, arith}
 use Rattle.lk_types.specs.Limits.{max_node}
 use Rattle.lk_lines.specs.WorldLines.{IsWord}
-use Rattle.lk_lines.proofs.WordLemmas.{leads_once, not_both}
+use Rattle.lk_lines.proofs.WordLaws.{leads_once, not_both}
 use Rattle.lk_lines.proofs.world_line.ticks.Goals as goal
 
 pub returns-in_err-times-clause-none : goal.returns-in_err-times-clause-none

@@ -1,7 +1,7 @@
 use Rattle.std.proofs.Common.{List, rules, sym, subst, arith}
 use Rattle.lk_types.specs.Limits.{max_node}
 use Rattle.lk_lines.specs.WorldLines.{SpellsTurns}
-use Rattle.lk_lines.proofs.WordLemmas.{leads_once}
+use Rattle.lk_lines.proofs.WordLaws.{leads_once}
 use Rattle.lk_lines.proofs.world_line.to_group.Goals as goal
 
 pub returns-in_err-turns-clause-not_understood : goal.returns-in_err-turns-clause-not_understood

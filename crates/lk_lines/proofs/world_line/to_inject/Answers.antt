@@ -1,7 +1,7 @@
 use Rattle.std.proofs.Common.{◌≡◌, ℕ, List, Ok, rules, sym, subst, arith}
 use Rattle.hex.specs.Hex.{decode_of}
 use Rattle.lk_types.specs.Limits.{max_node}
-use Rattle.lk_lines.proofs.WordLemmas.{leads_once}
+use Rattle.lk_lines.proofs.WordLaws.{leads_once}
 use Rattle.lk_lines.proofs.world_line.to_inject.Goals as goal
 
 pub returns-in_err-bytes-clause-not_understood : goal.returns-in_err-bytes-clause-not_understood

@@ -1,7 +1,7 @@
 use Rattle.std.proofs.Common.{ℕ, List, refl, sym, subst, arith}
 use Rattle.lk_types.specs.Limits.{max_count, max_node}
 use Rattle.lk_lines.specs.WorldLines.{IsWord, Leads}
-use Rattle.lk_lines.proofs.WordLemmas.{leads_once}
+use Rattle.lk_lines.proofs.WordLaws.{leads_once}
 use Rattle.lk_lines.proofs.world_line.to_stop.Goals as goal
 
 pub returns-in_err-x-clause-none : goal.returns-in_err-x-clause-none

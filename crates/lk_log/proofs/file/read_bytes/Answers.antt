@@ -1,7 +1,7 @@
 use Rattle.std.proofs.Common.{rules}
 use Rattle.lk_disk.proofs.Devices.{passes_on, breaks_on, read_passes, read_breaks}
-use Rattle.lk_log.specs.declared.fault.StoreFault.TheVariants.{Device, NoMemory}
-use Rattle.lk_log.proofs.Metering.{refused}
+use Rattle.lk_log.specs.declared.fault.OpenFault.TheVariants.{Device, NoMemory}
+use Rattle.lk_log.proofs.OpenMetering.{refused}
 use Rattle.lk_log.proofs.file.read_bytes.Goals as goal
 
 pub returns-in_err-count-clause-metered : goal.returns-in_err-count-clause-metered

@@ -8,7 +8,7 @@ use Rattle.lk_log.specs.declared.verdict.Verdict.TheVariants.{Damaged, Empty}
 use Rattle.lk_log.proofs.ImageLaws.{means_of, found_a, found_b}
 use Rattle.lk_log.proofs.opening.find.Goals as goal
 use Rattle.lk_disk.proofs.Devices.{passes_on}
-use Rattle.lk_log.proofs.Metering.{refused, refused_on}
+use Rattle.lk_log.proofs.OpenMetering.{refused, refused_on}
 
 pub returns-in-Damaged-clause-damaged : goal.returns-in-Damaged-clause-damaged
 returns-in-Damaged-clause-damaged g c honest e =

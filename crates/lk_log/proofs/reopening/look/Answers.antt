@@ -13,5 +13,5 @@ returns-clause-some g c honest =
       live = found_is_live old c.in-Some.field-0-0 c.in-Some.file.entries.items c.in-Some.file.end c.in-Some.file.size found;
       generation_is = c.generation_of-generation.ensures ∙ ap generation c.deref.ensures.value;
       format_is = c.format_of-format.ensures ∙ ap format c.deref-2.ensures.value;
-      stands = c.in_ok-standing.ensures.stands;
+      stands = c.in_ok-standing.ensures;
     }

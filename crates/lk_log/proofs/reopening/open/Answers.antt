@@ -1,43 +1,30 @@
-use Rattle.std.proofs.Common.{refl, inl, subst, List, rules}
-use Rattle.lk_entries.specs.Standings.{HasHeader}
-use Rattle.lk_entries.specs.declared.stored.Stored.{Stored}
-use Rattle.lk_log.proofs.BeginLaws.{begins_same, begins_narrows}
+use Rattle.std.proofs.Common.{inl, rules}
+use Rattle.lk_log.proofs.BeginLaws.{begins_narrows}
 use Rattle.lk_log.proofs.ImageLaws.{found_is_live}
 use Rattle.lk_log.proofs.reopening.open.Goals as goal
-use Rattle.lk_log.proofs.Room.{within_same}
-use Rattle.lk_disk.specs.Meters.{start}
-
-pub returns-then-not-has_header-clause-stays : goal.returns-then-not-has_header-clause-stays
-returns-then-not-has_header-clause-stays g c honest found zero = begins_same (g.D.LogDisk.disk c.args.device.now) (g.D.LogDisk.disk c.args.device.now) c.args.header.now zero (λ s. refl)
 
 pub returns-in_err-settle-clause-stays : goal.returns-in_err-settle-clause-stays
-returns-in_err-settle-clause-stays g c honest found zero =
-    begins_narrows (g.D.LogDisk.disk c.args.device.now) (g.D.LogDisk.disk c.settle.new.device) c.args.header.now zero (c.settle.ensures.narrows honest c.args.file.entries.items found)
+returns-in_err-settle-clause-stays g c honest found whose zero =
+    begins_narrows (g.D.LogDisk.disk c.args.device.now) (g.D.LogDisk.disk c.settle.new.device) whose zero (c.settle.ensures.narrows honest c.args.file.entries.items found)
 
 pub returns-in_err-standing-clause-stays : goal.returns-in_err-standing-clause-stays
-returns-in_err-standing-clause-stays g c honest found zero =
-    begins_narrows (g.D.LogDisk.disk c.args.device.now) (g.D.LogDisk.disk c.settle.new.device) c.args.header.now zero (c.settle.ensures.narrows honest c.args.file.entries.items found)
+returns-in_err-standing-clause-stays g c honest found whose zero =
+    begins_narrows (g.D.LogDisk.disk c.args.device.now) (g.D.LogDisk.disk c.settle.new.device) whose zero (c.settle.ensures.narrows honest c.args.file.entries.items found)
 
 pub returns-clause-stays : goal.returns-clause-stays
-returns-clause-stays g c honest found zero =
-    begins_narrows (g.D.LogDisk.disk c.args.device.now) (g.D.LogDisk.disk c.settle.new.device) c.args.header.now zero (c.settle.ensures.narrows honest c.args.file.entries.items found)
+returns-clause-stays g c honest found whose zero =
+    begins_narrows (g.D.LogDisk.disk c.args.device.now) (g.D.LogDisk.disk c.settle.new.device) whose zero (c.settle.ensures.narrows honest c.args.file.entries.items found)
 
 pub returns-clause-opens : goal.returns-clause-opens
-returns-clause-opens g c honest found zero = record {
+returns-clause-opens g c honest found whose zero own = record {
   entries = c.args.file.entries.items;
   found = inl (found_is_live (g.D.LogDisk.disk c.args.device.now) c.args.live c.args.file.entries.items c.args.file.end c.args.file.size found);
   holds = c.in_ok-settle.ensures.holds honest c.args.file.entries.items found;
-  header = subst (λ (l : List Stored). HasHeader l c.args.header.now) c.deref.ensures.value (c.has_header.ensures.0 (search rules));
+  header = own;
   generation_is = search rules;
   format_is = search rules;
-  stands = c.in_ok-standing.ensures.stands;
+  stands = c.in_ok-standing.ensures;
 }
-
-pub returns-then-not-has_header-clause-room : goal.returns-then-not-has_header-clause-room
-returns-then-not-has_header-clause-room g c honest = within_same 0 (g.D.LogDisk.disk c.args.device.now) (g.D.LogDisk.disk c.args.device.now) (λ s. refl)
-
-pub returns-then-not-has_header-clause-metered : goal.returns-then-not-has_header-clause-metered
-returns-then-not-has_header-clause-metered g c metered honest found = (0, start)
 
 pub returns-in_err-settle-clause-room : goal.returns-in_err-settle-clause-room
 returns-in_err-settle-clause-room g c honest = c.settle.ensures.room honest

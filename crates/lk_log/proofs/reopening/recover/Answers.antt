@@ -1,5 +1,7 @@
-use Rattle.std.proofs.Common.{◌∙◌, rules, ap, refl, inl}
+use Rattle.std.proofs.Common.{rules, ap, refl, inl, subst, List}
 use Rattle.lk_disk.specs.Disk.{contents, other}
+use Rattle.lk_entries.specs.Standings.{HasHeader}
+use Rattle.lk_entries.specs.declared.stored.Stored.{Stored}
 use Rattle.lk_log.specs.Images.{seen}
 use Rattle.lk_log.proofs.BeginLaws.{begins_same, begins_after}
 use Rattle.lk_log.proofs.ImageLaws.{found_is_live}
@@ -8,13 +10,14 @@ use Rattle.lk_log.proofs.StoreLaws.{not_both}
 use Rattle.lk_log.proofs.reopening.recover.Goals as goal
 use Rattle.lk_log.proofs.Room.{within_same, within_then, within_more}
 use Rattle.lk_types.specs.Limits.{max_base}
-use Rattle.lk_log.proofs.Metering.{found_opens, opens_metered}
+use Rattle.lk_log.proofs.Metering.{found_opens}
+use Rattle.lk_log.proofs.OpenMetering.{opens_metered}
 
 pub returns-in_err-live-clause-stays : goal.returns-in_err-live-clause-stays
 returns-in_err-live-clause-stays g c honest = begins_same (g.D.LogDisk.disk c.args.device.now) (g.D.LogDisk.disk c.find.new.device) c.args.header.now c.args.zero.now (c.find.ensures.unchanged honest)
 
-pub returns-in-Some-clause-opens : goal.returns-in-Some-clause-opens
-returns-in-Some-clause-opens g c honest =
+pub returns-else-not-has_header-clause-opens : goal.returns-else-not-has_header-clause-opens
+returns-else-not-has_header-clause-opens g c honest =
     let old = g.D.LogDisk.disk c.args.device.now in
     let mid = g.D.LogDisk.disk c.find.new.device in
     let new = g.D.LogDisk.disk c.open.new.device in
@@ -22,32 +25,45 @@ returns-in-Some-clause-opens g c honest =
     let found = rw c.in-Some.is at (c.in_ok-live.ensures.live honest) in
     ok_then c.open.result _ _
     (λ o p. opens_before old mid same c.args.header.now c.args.zero.now (new o.live) (new (other o.live)) o.generation o.format o.standing p)
-    (c.open.ensures.opens honest (found_after old mid same c.in-Some.live c.in-Some.file.entries.items c.in-Some.file.end c.in-Some.file.size found) c.args.zero.now)
+    (c.open.ensures.opens honest (found_after old mid same c.in-Some.live c.in-Some.file.entries.items c.in-Some.file.end c.in-Some.file.size found) c.args.header.now c.args.zero.now
+    (subst (λ (l : List Stored). HasHeader l c.args.header.now) c.deref.ensures.value (c.has_header.ensures.0 (search rules))))
 
 -- where a file is live nothing is empty
-pub returns-in-Some-clause-begun : goal.returns-in-Some-clause-begun
-returns-in-Some-clause-begun g c honest empty =
+pub returns-else-not-has_header-clause-begun : goal.returns-else-not-has_header-clause-begun
+returns-else-not-has_header-clause-begun g c honest empty =
     let old = g.D.LogDisk.disk c.args.device.now in
     let found = rw c.in-Some.is at (c.in_ok-live.ensures.live honest) in
     absurd (not_both (seen old) c.in-Some.file.entries.items (found_is_live old c.in-Some.live c.in-Some.file.entries.items c.in-Some.file.end c.in-Some.file.size found) empty)
 
-pub returns-in-Some-clause-stays : goal.returns-in-Some-clause-stays
-returns-in-Some-clause-stays g c honest =
+pub returns-else-not-has_header-clause-stays : goal.returns-else-not-has_header-clause-stays
+returns-else-not-has_header-clause-stays g c honest =
     let old = g.D.LogDisk.disk c.args.device.now in
     let mid = g.D.LogDisk.disk c.find.new.device in
     let new = g.D.LogDisk.disk c.open.new.device in
     let same = c.find.ensures.unchanged honest in
     let found = rw c.in-Some.is at (c.in_ok-live.ensures.live honest) in
     begins_after old mid new c.args.header.now c.args.zero.now same (λ s. ap contents (same s))
-    (c.open.ensures.stays honest (found_after old mid same c.in-Some.live c.in-Some.file.entries.items c.in-Some.file.end c.in-Some.file.size found) c.args.zero.now)
+    (c.open.ensures.stays honest (found_after old mid same c.in-Some.live c.in-Some.file.entries.items c.in-Some.file.end c.in-Some.file.size found) c.args.header.now c.args.zero.now)
 
-pub returns-in-Some-clause-wrong : goal.returns-in-Some-clause-wrong
-returns-in-Some-clause-wrong g c honest e =
+-- another's store
+pub returns-then-not-has_header-clause-stays : goal.returns-then-not-has_header-clause-stays
+returns-then-not-has_header-clause-stays g c honest =
+    begins_same (g.D.LogDisk.disk c.args.device.now) (g.D.LogDisk.disk c.find.new.device) c.args.header.now c.args.zero.now (c.find.ensures.unchanged honest)
+
+pub returns-then-not-has_header-clause-room : goal.returns-then-not-has_header-clause-room
+returns-then-not-has_header-clause-room g c honest = within_same max_base (g.D.LogDisk.disk c.args.device.now) (g.D.LogDisk.disk c.find.new.device) (c.find.ensures.unchanged honest)
+
+pub returns-then-not-has_header-clause-wrong : goal.returns-then-not-has_header-clause-wrong
+returns-then-not-has_header-clause-wrong g c honest e =
     let old = g.D.LogDisk.disk c.args.device.now in
-    let found = rw c.in-Some.is at (c.in_ok-live.ensures.live honest) in (
-      (c.in-Some.file.entries.items, found_is_live old c.in-Some.live c.in-Some.file.entries.items c.in-Some.file.end c.in-Some.file.size found, c.open.ensures.wrong e),
-      λ s. c.open.ensures.wrong_stays honest e s ∙ c.find.ensures.unchanged honest s,
+    let found = rw c.in-Some.is at (c.in_ok-live.ensures.live honest) in
+    let other : HasHeader c.in-Some.file.entries.items c.args.header.now → ⊥ = λ own. search rules in (
+      (c.in-Some.file.entries.items, found_is_live old c.in-Some.live c.in-Some.file.entries.items c.in-Some.file.end c.in-Some.file.size found, other),
+      c.find.ensures.unchanged honest,
     )
+
+pub returns-then-not-has_header-clause-metered : goal.returns-then-not-has_header-clause-metered
+returns-then-not-has_header-clause-metered g c metered honest = (0, c.in_ok-live.ensures.metered metered honest)
 
 pub returns-in-None-clause-opens : goal.returns-in-None-clause-opens
 returns-in-None-clause-opens g c honest =
@@ -72,8 +88,8 @@ returns-in-None-clause-stays g c honest =
 pub returns-in_err-live-clause-room : goal.returns-in_err-live-clause-room
 returns-in_err-live-clause-room g c honest = within_same max_base (g.D.LogDisk.disk c.args.device.now) (g.D.LogDisk.disk c.find.new.device) (c.find.ensures.unchanged honest)
 
-pub returns-in-Some-clause-room : goal.returns-in-Some-clause-room
-returns-in-Some-clause-room g c honest =
+pub returns-else-not-has_header-clause-room : goal.returns-else-not-has_header-clause-room
+returns-else-not-has_header-clause-room g c honest =
     let old = g.D.LogDisk.disk c.args.device.now in
     let mid = g.D.LogDisk.disk c.find.new.device in
     let new = g.D.LogDisk.disk c.open.new.device in
@@ -87,8 +103,8 @@ returns-in-None-clause-room g c honest =
 
 -- ---- which calls were made
 
-pub returns-in-Some-clause-metered : goal.returns-in-Some-clause-metered
-returns-in-Some-clause-metered g c metered honest =
+pub returns-else-not-has_header-clause-metered : goal.returns-else-not-has_header-clause-metered
+returns-else-not-has_header-clause-metered g c metered honest =
     let old = g.D.LogDisk.disk c.args.device.now in
     let mid = g.D.LogDisk.disk c.find.new.device in
     let found = rw c.in-Some.is at (c.in_ok-live.ensures.live honest) in

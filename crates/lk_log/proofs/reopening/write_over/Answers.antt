@@ -1,7 +1,6 @@
 use Rattle.std.proofs.Common.{◌∙◌, rules}
 use Rattle.lk_log.proofs.BeginLaws.{over_short, over_append, over_all, over_whole, over_done}
-use Rattle.lk_log.proofs.Metering.{refused}
-use Rattle.lk_log.specs.declared.fault.StoreFault.TheVariants.{Device}
+use Rattle.lk_log.proofs.Metering.{broken}
 use Rattle.lk_log.proofs.reopening.write_over.Goals as goal
 use Rattle.lk_disk.proofs.Devices.{passes_on, breaks_on, call_passes, call_breaks}
 
@@ -32,16 +31,16 @@ returns-clause-any g c honest =
 -- ---- which calls were made
 
 pub returns-in_err-cut-clause-metered : goal.returns-in_err-cut-clause-metered
-returns-in_err-cut-clause-metered g c metered honest = refused _ _ 3 _ Device c.from_residual.ensures.1 (call_breaks _ _ (c.in_err-cut.ensures.metered honest metered (search rules)))
+returns-in_err-cut-clause-metered g c metered honest = broken _ _ 3 _ _ c.from_residual.ensures.1 (call_breaks _ _ (c.in_err-cut.ensures.metered honest metered (search rules)))
 
 pub returns-in_err-append-clause-metered : goal.returns-in_err-append-clause-metered
 returns-in_err-append-clause-metered g c metered honest =
-    refused _ _ 3 _ Device c.from_residual-in_err-append.ensures.1
+    broken _ _ 3 _ _ c.from_residual-in_err-append.ensures.1
     (breaks_on 1 (call_passes _ _ (c.in_ok-cut.ensures.metered honest metered (search rules))) (call_breaks _ _ (c.in_err-append.ensures.metered metered)))
 
 pub returns-in_err-sync-clause-metered : goal.returns-in_err-sync-clause-metered
 returns-in_err-sync-clause-metered g c metered honest =
-    refused _ _ 3 _ Device c.from_residual-in_err-sync.ensures.1
+    broken _ _ 3 _ _ c.from_residual-in_err-sync.ensures.1
     (breaks_on 2
     (passes_on 1 (call_passes _ _ (c.in_ok-cut.ensures.metered honest metered (search rules))) 1 (call_passes _ _ (c.in_ok-append.ensures.metered metered)))
     (call_breaks _ _ (c.in_err-sync.ensures.metered metered)))

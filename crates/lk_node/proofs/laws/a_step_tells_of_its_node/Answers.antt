@@ -1,4 +1,4 @@
-use Rattle.lk_node.proofs.ToldRules.{step_told}
+use Rattle.lk_node.proofs.ToldLaws.{step_told}
 use Rattle.lk_node.proofs.laws.a_step_tells_of_its_node.Goals as goal
 
 pub returns : goal.returns

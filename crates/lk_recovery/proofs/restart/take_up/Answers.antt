@@ -1,23 +1,23 @@
 use Rattle.std.proofs.Common.{◌≡◌, List, ℕ, [], inl, inr, Err, ◌∙◌, ap, subst, sym, refl, arith}
 use Rattle.lk_types.specs.Geneses.{IsGenesis}
 use Rattle.lk_disk.specs.Meters.{Passes, start}
-use Rattle.lk_recovery.specs.Faults.{fault_number, RefusedAfter, IsNumberOfRevival}
+use Rattle.lk_step.specs.Faults.{fault_number, RefusedAfter, IsNumberOfRevival}
 use Rattle.lk_entries.specs.Values.{HeaderValue}
 use Rattle.lk_log.specs.Images.{seen}
 use Rattle.lk_log.specs.StoreValue.{disks}
 use Rattle.lk_log.specs.Stores.{Opens}
 use Rattle.lk_state.specs.Meanings.{Meaning, KeepsTexts}
-use Rattle.lk_recovery.specs.declared.fault.ReplicaFault.{ReplicaFault}
+use Rattle.lk_step.specs.declared.fault.ReplicaFault.{ReplicaFault}
 use Rattle.lk_node.specs.Histories.{Genesis}
 use Rattle.lk_node.specs.Leavings.{DisksFit, AllCover}
 use Rattle.lk_node.specs.NodeValue.{NodeValue}
 use Rattle.lk_recovery.specs.Revivals.{Restores}
 use Rattle.lk_node.specs.Served.{text}
-use Rattle.lk_recovery.proofs.Revivals.{revived_goes, revived_remembers, began, own_header, opened, opening_fits_as, opening_covers_as, given_fit, given_cover, given_room, restored_number, store_number, never_damaged, never_wrong, wrong_only, damaged_only}
+use Rattle.lk_recovery.proofs.Revivals.{revived_goes, revived_remembers, began, own_header, opened, opening_fits_as, opening_covers_as, given_fit, given_cover, given_room, restored_number, open_number, never_damaged, never_wrong, wrong_only, damaged_only}
 use Rattle.lk_recovery.proofs.restart.take_up.Goals as goal
 use Rattle.lk_log.specs.Stores.{IsWrong, NarrowsOrBegins}
 use Rattle.lk_log.proofs.StoreLaws.{found_sound}
-use Rattle.lk_recovery.proofs.Spared.{given_narrow, damage_only, failed_only, not_wrong, not_failed}
+use Rattle.lk_recovery.proofs.Spared.{given_narrow, damage_only, open_not_failed, not_wrong, not_failed}
 
 pub returns-in-Ok-restored-clause-fits : goal.returns-in-Ok-restored-clause-fits
 returns-in-Ok-restored-clause-fits g c honest h n is lawful before =
@@ -88,8 +88,8 @@ returns-clause-fits g c honest h n is lawful before =
     let e = c.in-Err.ensures in
     let number : IsNumberOfRevival (fault_number c.from.result) =
     subst IsNumberOfRevival (sym (ap fault_number c.from.ensures))
-    (store_number c.in-Err.e.fault (λ damaged. never_damaged m h n old before (e.damaged honest damaged).0)
-    (λ wrong. never_wrong m h n old before (subst (IsWrong (seen old)) is (e.wrong honest wrong).0)) e.failed) in
+    (open_number c.in-Err.e.fault (λ damaged. never_damaged m h n old before (e.damaged honest damaged).0)
+    (λ wrong. never_wrong m h n old before (subst (IsWrong (seen old)) is (e.wrong honest wrong).0))) in
     (number, opening_fits_as m h n c.args.header.now c.as_slice.result.now is begins old (g.D.LogDisk.disk c.in-Err.e.device) (e.stays honest) before)
 
 pub returns-clause-covers : goal.returns-clause-covers
@@ -206,8 +206,8 @@ returns-clause-refused g c honest =
     record {
       damaged = λ nine. inl (e.damaged honest (damage_only f (is ∙ nine))).0;
       wrong = λ ten. (e.wrong honest (wrong_only f (is ∙ ten))).0;
-      last = λ eleven. absurd (e.failed (failed_only f (is ∙ eleven)));
-      last_revives = λ eleven. absurd (e.failed (failed_only f (is ∙ eleven)));
+      last = λ eleven. absurd (open_not_failed f (is ∙ eleven));
+      last_revives = λ eleven. absurd (open_not_failed f (is ∙ eleven));
       damaged_stays = λ damaged nine. (e.damaged honest (damage_only f (is ∙ nine))).1;
       wrong_stays = λ ten. (e.wrong honest (wrong_only f (is ∙ ten))).1;
     }

@@ -6,7 +6,7 @@ use Rattle.lk_node.specs.Histories.{Genesis}
 use Rattle.lk_node.specs.Leavings.{AllCover}
 use Rattle.lk_replica.specs.Groups.{GroupValue, MakesRoom, as_sent, Recalls, GroupFits, GroupGoes, GroupStays}
 use Rattle.lk_disk.proofs.Devices.{passes_on}
-use Rattle.lk_recovery.specs.declared.fault.ReplicaFault.TheVariants as fault
+use Rattle.lk_step.specs.declared.fault.ReplicaFault.TheVariants as fault
 use Rattle.lk_recovery.proofs.Recoveries.{err_as, refused_on, grown_base, grown_then, spared_all, second_after}
 use Rattle.lk_replica.proofs.Grouped.{says_more}
 use Rattle.lk_replica.proofs.grouping.gather_on.Goals as goal

@@ -13,7 +13,7 @@ use Rattle.lk_replica.specs.Groups.{waits_after, GroupGoes, GroupStays}
 use Rattle.lk_replica.proofs.Behind.{still_keeps, still_remembers, sent_is_covered, stepped_fits}
 use Rattle.lk_replica.proofs.Grouped.{gather_goes, group_leaves, group_stays, gather_recalls, gather_syncs, gather_covers, gather_still_covers, gathered_put, gathered_base, settled_rebases, settled_keeps, settled_fits, settled_covers, settle_leaves, settle_covers, begin_recalls, based_cover, based_goes, based_stays}
 use Rattle.lk_disk.specs.Meters.{start}
-use Rattle.lk_recovery.specs.declared.fault.ReplicaFault.TheVariants as fault
+use Rattle.lk_step.specs.declared.fault.ReplicaFault.TheVariants as fault
 use Rattle.lk_recovery.proofs.Recoveries.{err_as, refused_after, refused_on, put_refused, grown_none, grown_base, grown_put, grown_less, spared_all, not_failed_so, kept_then}
 use Rattle.lk_replica.proofs.Refusals.{store_told, store_only, store_awake}
 use Rattle.lk_replica.proofs.grouping.step_to_file.Goals as goal

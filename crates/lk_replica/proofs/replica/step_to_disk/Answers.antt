@@ -15,7 +15,7 @@ use Rattle.lk_replica.proofs.Going.{put_leaves, put_goes, remembered, step_keeps
 use Rattle.lk_replica.proofs.replica.step_to_disk.Goals as goal
 use Rattle.lk_node.proofs.Nodes.{few_entries, step_told}
 use Rattle.lk_disk.specs.Meters.{start}
-use Rattle.lk_recovery.specs.declared.fault.ReplicaFault.TheVariants as fault
+use Rattle.lk_step.specs.declared.fault.ReplicaFault.TheVariants as fault
 use Rattle.lk_recovery.proofs.Recoveries.{err_as, refused_after, put_refused, grown_none, grown_base, grown_put, grown_less, put_spares, not_failed_so}
 use Rattle.lk_replica.proofs.Refusals.{store_told, store_only, store_awake}
 

@@ -2,7 +2,7 @@ use Rattle.std.proofs.Common.{rules, []}
 use Rattle.lk_script.specs.Scripts.{table, world}
 use Rattle.lk_script.specs.Scripts.Takes.{begins, opens}
 use Rattle.lk_script.specs.Worlds.{new_world}
-use Rattle.lk_script.proofs.ScriptLemmas.{no_first}
+use Rattle.lk_script.proofs.ScriptLaws.{no_first}
 use Rattle.lk_script.proofs.script.begin.Goals as goal
 
 pub returns-in-Ok-clause-ok : goal.returns-in-Ok-clause-ok

@@ -1,6 +1,6 @@
 use Rattle.std.proofs.Common.{IfSome, List, ℕ, ◌≤◌, ◌*◌}
 use Rattle.lk_script.specs.TableServers.{done_in}
-use Rattle.lk_script.proofs.ScriptLemmas.{SoFar}
+use Rattle.lk_script.proofs.ScriptLaws.{SoFar}
 use Rattle.lk_script.proofs.script.run_script.Given as goal
 
 abbrev pub invariant-loop-number : goal.invariant-loop-number

@@ -1,7 +1,7 @@
 use Rattle.std.proofs.Common.{rules, subst}
 use Rattle.lk_script.specs.TableServers.{Fits}
-use Rattle.lk_script.proofs.ScriptLemmas.{some_line, none_line, world_line, world_refusal, no_begin, no_bytes, no_order}
-use Rattle.lk_script.proofs.PrintLemmas.{done_is}
+use Rattle.lk_script.proofs.ScriptLaws.{some_line, none_line, world_line, world_refusal, no_begin, no_bytes, no_order}
+use Rattle.lk_script.proofs.PrintLaws.{done_is}
 use Rattle.lk_script.proofs.script.take_line.Goals as goal
 
 pub returns-in_ok-mode-in-Begun-clause-ok : goal.returns-in_ok-mode-in-Begun-clause-ok

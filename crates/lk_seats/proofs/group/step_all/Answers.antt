@@ -1,10 +1,10 @@
 use Rattle.std.proofs.Common.{rules, ◌≡◌, map, sym, subst}
-use Rattle.lk_disk.specs.Memory.{Memory, disk_of}
+use Rattle.lk_simulated_disk.specs.Memory.{Memory, disk_of}
 use Rattle.lk_node.specs.Calls.{heard_by}
 use Rattle.lk_node.specs.Leavings.{DisksFit}
 use Rattle.lk_replica.specs.Behaviours.{disks_by}
 use Rattle.lk_replica.specs.Together.{GoesAll, parts_of}
-use Rattle.lk_recovery.specs.Faults.{fault_number, RefusedAfter}
+use Rattle.lk_step.specs.Faults.{fault_number, RefusedAfter}
 use Rattle.lk_seats.specs.Ends.{BreaksTogether}
 use Rattle.lk_seats.specs.Outcomes.{HasWanted}
 use Rattle.lk_seats.specs.Rooms.{AreShort}

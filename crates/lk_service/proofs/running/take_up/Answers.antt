@@ -4,7 +4,7 @@ use Rattle.lk_disk.specs.declared.device.Side.{Side}
 use Rattle.lk_log.specs.Rooms.{StaysWithin}
 use Rattle.lk_log.specs.StoreValue.{disks}
 use Rattle.lk_node.specs.Leavings.{DisksFit}
-use Rattle.lk_recovery.specs.Faults.{fault_number}
+use Rattle.lk_step.specs.Faults.{fault_number}
 use Rattle.lk_service.proofs.Turning.{if_err_is, refused_as, down_as}
 use Rattle.lk_service.proofs.running.take_up.Goals as goal
 

@@ -1,8 +1,8 @@
 use Rattle.std.proofs.Common.{Bool, List, sym, subst}
 use Rattle.std.specs.Prelude.{◌↔◌, IsTrue}
 use Rattle.lk_probe.specs.declared.probe.Report.{Report}
+use Rattle.lk_health.specs.Verdicts.{IsServed}
 use Rattle.lk_status.specs.Outcomes.{Shows}
-use Rattle.lk_status.specs.Verdicts.{IsServed}
 use Rattle.lk_status.proofs.Showing.{shows}
 use Rattle.lk_status.proofs.status.ask_and_print.Goals as goal
 

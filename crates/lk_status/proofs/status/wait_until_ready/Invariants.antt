@@ -1,5 +1,5 @@
 use Rattle.std.proofs.Common.{◌≡◌, false}
-use Rattle.lk_status.specs.Rounds.{AreHeard}
+use Rattle.lk_health.specs.Rounds.{AreHeard}
 use Rattle.lk_status.proofs.status.wait_until_ready.Given as goal
 
 -- the last round has reports of its own, and does not show yet what is waited for

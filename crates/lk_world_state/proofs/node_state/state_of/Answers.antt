@@ -1,6 +1,6 @@
 use Rattle.std.proofs.Common.{◌≡◌, ◌∙◌, refl, ap, length}
 use Rattle.lk_disk.specs.Disk.{Disk, contents}
-use Rattle.lk_disk.specs.Memory.{Memory}
+use Rattle.lk_simulated_disk.specs.Memory.{Memory}
 use Rattle.lk_disk.specs.declared.device.Side.TheVariants.{A, B}
 use Rattle.lk_world_state.proofs.Leaving.{synced_is_left}
 use Rattle.lk_world_state.proofs.node_state.state_of.Goals as goal

@@ -1,6 +1,6 @@
 use Rattle.std.proofs.Common.{◌≤◌, List, IsTrue, refl, sym, subst, ◌∙◌, ap, arith, rules}
 use Rattle.lk_types.specs.declared.vote.Vote.{Vote}
-use Rattle.lk_wire.specs.Values.{are_votes_from}
+use Rattle.lk_messages.specs.Values.{are_votes_from}
 use Rattle.lk_acceptor.specs.AcceptorValue.{AcceptorValue}
 use Rattle.lk_acceptor.specs.States.{IsOrdered}
 use Rattle.lk_acceptor.specs.VoteLists.{votes_from}

@@ -1,7 +1,7 @@
 use Rattle.std.proofs.Common.{rules, ◌≡◌, ◌∙◌, ◌≤◌, ap, sym, length}
 use Rattle.lk_disk.specs.Disk.{Disk, contents, cut_to}
 use Rattle.lk_disk.specs.Files.{whole, left_of}
-use Rattle.lk_disk.proofs.Keep.{cut_length}
+use Rattle.lk_disk.proofs.Devices.{cut_length}
 use Rattle.lk_disk.proofs.used_file.UsedFile.cut.Goals as goal
 
 pub end-requires : goal.end-requires

@@ -1,4 +1,4 @@
-use Rattle.std.proofs.Common.{refl, subst, Bool}
+use Rattle.std.proofs.Common.{subst, Bool}
 use Rattle.lk_events.specs.Quiets.{TurnsQuiet}
 use Rattle.lk_events.proofs.watch.Watch.put_times.Goals as goal
 
@@ -12,5 +12,5 @@ returns c = record {
   mid = c.put_some.new.self.all;
   first = c.put_some.ensures;
   second = c.put_some-2.ensures;
-  story = refl;
+  story = c.forget.ensures;
 }

@@ -1,6 +1,6 @@
 -- What is served fits into a message.
 use Rattle.std.proofs.Common.{◌≡◌, ◌∙◌, ℕ, ◌≤◌, List, ap, subst, arith, IsTrue, IfSome}
-use Rattle.lk_wire.specs.Values.{are_commands_from}
+use Rattle.lk_messages.specs.Values.{are_commands_from}
 use Rattle.lk_learner.specs.Learners.{Command, LearnerValue, IsLearner, executed, news_from}
 use Rattle.lk_learner.proofs.LearnerLaws.{news_fit, some_is}
 use Rattle.lk_learner.proofs.learner.Learner.serve.Goals as goal

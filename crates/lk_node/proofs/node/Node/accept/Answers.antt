@@ -2,8 +2,8 @@ use Rattle.std.proofs.Common.{ap, sym, subst}
 use Rattle.lk_acceptor.specs.States.{IsOrdered}
 use Rattle.lk_acceptor.specs.AcceptorValue.{AcceptorValue}
 use Rattle.lk_node.specs.NodeValue.{NodeValue}
-use Rattle.lk_node.proofs.AcceptorRules.{accept_goes_on}
-use Rattle.lk_node.proofs.LevelRules.{seen_goes_on}
+use Rattle.lk_node.proofs.AcceptorLaws.{accept_goes_on}
+use Rattle.lk_node.proofs.LevelLaws.{seen_goes_on}
 use Rattle.lk_node.proofs.node.Node.accept.Goals as goal
 
 pub returns-clause-goes_on : goal.returns-clause-goes_on

@@ -3,7 +3,7 @@ use Rattle.lk_acceptor.specs.Answers.{AnswersAccept}
 use Rattle.lk_node.specs.Answering.{Responds}
 use Rattle.lk_node.specs.NodeValue.{NodeValue}
 use Rattle.lk_state.specs.States.{WholeValue}
-use Rattle.lk_node.proofs.NearRules.{accept_near}
+use Rattle.lk_node.proofs.NearLaws.{accept_near}
 use Rattle.lk_node.proofs.node.Node.answer_accept.Goals as goal
 
 pub invariant_of-self-2 : goal.invariant_of-self-2

@@ -1,5 +1,5 @@
 use Rattle.std.proofs.Common.{rules}
-use Rattle.lk_node.proofs.NearRules.{prepare_near}
+use Rattle.lk_node.proofs.NearLaws.{prepare_near}
 use Rattle.lk_node.proofs.node.Node.answer_prepare.Goals as goal
 
 pub invariant_of-self-2 : goal.invariant_of-self-2

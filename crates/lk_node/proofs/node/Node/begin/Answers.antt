@@ -1,6 +1,6 @@
 use Rattle.std.proofs.Common.{rules}
-use Rattle.lk_node.proofs.BallotRules.{starts_goes_on}
-use Rattle.lk_node.proofs.NearRules.{own_near}
+use Rattle.lk_node.proofs.BallotLaws.{starts_goes_on}
+use Rattle.lk_node.proofs.NearLaws.{own_near}
 use Rattle.lk_node.proofs.node.Node.begin.Goals as goal
 
 pub invariant_of-self : goal.invariant_of-self

@@ -5,7 +5,7 @@ use Rattle.lk_step.specs.Outboxes.{OutboxValue, with_note}
 use Rattle.lk_step.specs.declared.note.Note.TheVariants as note
 use Rattle.lk_node.specs.Learning.{Learns}
 use Rattle.lk_node.specs.Serving.{GoesOn}
-use Rattle.lk_node.proofs.DecidingRules.{decides_goes_on}
+use Rattle.lk_node.proofs.DecidingLaws.{decides_goes_on}
 use Rattle.lk_node.proofs.node.Node.decide.Goals as goal
 
 pub returns-clause-goes_on : goal.returns-clause-goes_on

@@ -1,7 +1,7 @@
 use Rattle.std.proofs.Common.{rules, subst, true}
 use Rattle.lk_learner.specs.Learners.{IsLearner}
 use Rattle.lk_node.specs.NodeValue.{NodeValue}
-use Rattle.lk_node.proofs.ExecutionRules.{one_goes_on}
+use Rattle.lk_node.proofs.ExecutionLaws.{one_goes_on}
 use Rattle.lk_node.proofs.node.Node.execute_one.Goals as goal
 
 pub returns-clause-goes_on : goal.returns-clause-goes_on

@@ -5,7 +5,7 @@ use Rattle.lk_node.specs.Installing.{Gathers}
 use Rattle.lk_node.specs.Learning.{with_learner}
 use Rattle.lk_node.specs.Nearness.{AreNear}
 use Rattle.lk_node.specs.NodeValue.{NodeValue}
-use Rattle.lk_node.proofs.InstallRules.{hearing_near, gathered_near}
+use Rattle.lk_node.proofs.InstallLaws.{hearing_near, gathered_near}
 use Rattle.lk_node.proofs.node.Node.gather.Goals as goal
 
 pub invariant_of-self-in_err-went : goal.invariant_of-self-in_err-went

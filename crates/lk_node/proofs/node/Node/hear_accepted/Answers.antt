@@ -1,12 +1,12 @@
 use Rattle.std.proofs.Common.{sym, subst}
-use Rattle.lk_wire.specs.declared.message.NodeMessage.TheVariants as kinds
+use Rattle.lk_messages.specs.declared.message.NodeMessage.TheVariants as kinds
 use Rattle.lk_state.specs.Meanings.{Meaning}
 use Rattle.lk_agreement.specs.Chosen.{ChosenAt}
 use Rattle.lk_agreement.specs.Datagrams.{HasSent}
 use Rattle.lk_step.specs.Outboxes.{OutboxValue, nothing}
 use Rattle.lk_node.specs.Deciding.{Decides}
 use Rattle.lk_node.specs.Serving.{GoesOn}
-use Rattle.lk_node.proofs.DecidingRules.{only_heard_goes_on, are_members, accepted_goes_on, hears_accepted}
+use Rattle.lk_node.proofs.DecidingLaws.{only_heard_goes_on, are_members, accepted_goes_on, hears_accepted}
 use Rattle.lk_node.proofs.node.Node.hear_accepted.Goals as goal
 
 pub returns-in_default-clause-goes_on : goal.returns-in_default-clause-goes_on

@@ -1,12 +1,12 @@
 use Rattle.std.proofs.Common.{◌≡◌, ◌∙◌, ℕ, ◌+◌, List, length, ap, sym, subst, arith}
 use Rattle.lk_types.specs.declared.command.Command.{Command}
-use Rattle.lk_wire.specs.declared.message.NodeMessage.TheVariants as kinds
+use Rattle.lk_messages.specs.declared.message.NodeMessage.TheVariants as kinds
 use Rattle.lk_state.specs.Meanings.{Meaning}
 use Rattle.lk_agreement.specs.Datagrams.{HasSent}
 use Rattle.lk_step.specs.Outboxes.{OutboxValue, nothing}
 use Rattle.lk_node.specs.DecidedPairs.{TakesFirst, TakesPairs, none_yet}
 use Rattle.lk_node.specs.Serving.{GoesOn}
-use Rattle.lk_node.proofs.LearnerRules.{told_goes_on, takes_more, walked, not_walked}
+use Rattle.lk_node.proofs.LearnerLaws.{told_goes_on, takes_more, walked, not_walked}
 use Rattle.lk_node.proofs.Serving.{rests_here}
 use Rattle.lk_node.proofs.node.Node.hear_decided.Goals as goal
 

@@ -1,5 +1,5 @@
 use Rattle.std.proofs.Common.{◌≡◌, ℕ, drop}
-use Rattle.lk_wire.specs.declared.message.NodeMessage.TheVariants as kinds
+use Rattle.lk_messages.specs.declared.message.NodeMessage.TheVariants as kinds
 use Rattle.lk_agreement.specs.Datagrams.{HasSent}
 use Rattle.lk_step.specs.Outboxes.{nothing}
 use Rattle.lk_node.specs.DecidedPairs.{TakesPairs}

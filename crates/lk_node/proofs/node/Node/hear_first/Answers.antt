@@ -1,6 +1,6 @@
 use Rattle.std.proofs.Common.{rules}
 use Rattle.lk_learner.specs.Learners.{IsWanted}
-use Rattle.lk_node.proofs.LearnerRules.{stepped_over}
+use Rattle.lk_node.proofs.LearnerLaws.{stepped_over}
 use Rattle.lk_node.proofs.node.Node.hear_first.Goals as goal
 
 pub returns-then-not-is_wanted-clause-some : goal.returns-then-not-is_wanted-clause-some

@@ -1,4 +1,4 @@
-use Rattle.lk_node.proofs.LevelRules.{lead_goes_on}
+use Rattle.lk_node.proofs.LevelLaws.{lead_goes_on}
 use Rattle.lk_node.proofs.node.Node.hear_lead.Goals as goal
 
 pub returns-clause-goes_on : goal.returns-clause-goes_on

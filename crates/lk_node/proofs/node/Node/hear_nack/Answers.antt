@@ -1,5 +1,5 @@
 use Rattle.std.proofs.Common.{rules}
-use Rattle.lk_node.proofs.LevelRules.{nack_goes_on}
+use Rattle.lk_node.proofs.LevelLaws.{nack_goes_on}
 use Rattle.lk_node.proofs.node.Node.hear_nack.Goals as goal
 
 pub returns-clause-goes_on : goal.returns-clause-goes_on

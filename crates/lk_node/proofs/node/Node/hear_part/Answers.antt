@@ -1,13 +1,13 @@
 use Rattle.std.proofs.Common.{◌∙◌, ap, sym, subst}
-use Rattle.lk_wire.specs.declared.message.NodeMessage.TheVariants as kinds
+use Rattle.lk_messages.specs.declared.message.NodeMessage.TheVariants as kinds
 use Rattle.lk_agreement.specs.Datagrams.{HasSent}
 use Rattle.lk_state.specs.Meanings.{Meaning, KeepsTexts}
 use Rattle.lk_step.specs.Outboxes.{OutboxValue, nothing}
 use Rattle.lk_node.specs.Histories.{History}
 use Rattle.lk_node.specs.NodeValue.{NodeValue}
 use Rattle.lk_node.specs.Serving.{GoesOn}
-use Rattle.lk_node.proofs.InstallRules.{BeganWell, began_well, gathers_goes_on}
-use Rattle.lk_node.proofs.LearnerRules.{unheard}
+use Rattle.lk_node.proofs.InstallLaws.{BeganWell, began_well, gathers_goes_on}
+use Rattle.lk_node.proofs.LearnerLaws.{unheard}
 use Rattle.lk_node.proofs.Serving.{then_goes_on}
 use Rattle.lk_node.proofs.node.Node.hear_part.Goals as goal
 

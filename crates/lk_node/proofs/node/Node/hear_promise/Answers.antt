@@ -1,5 +1,5 @@
 -- What goes on after a promise.
-use Rattle.lk_node.proofs.TermRules.{promise_goes_on}
+use Rattle.lk_node.proofs.TermLaws.{promise_goes_on}
 use Rattle.lk_node.proofs.node.Node.hear_promise.Goals as goal
 
 pub returns-clause-goes_on : goal.returns-clause-goes_on

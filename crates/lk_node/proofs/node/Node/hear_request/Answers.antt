@@ -1,4 +1,4 @@
-use Rattle.lk_node.proofs.AskingRules.{request_goes_on}
+use Rattle.lk_node.proofs.AskingLaws.{request_goes_on}
 use Rattle.lk_node.proofs.node.Node.hear_request.Goals as goal
 
 pub returns-clause-goes_on : goal.returns-clause-goes_on

@@ -1,7 +1,7 @@
 -- The leader's answer is one or the other.
 use Rattle.std.proofs.Common.{ap, ◌∙◌}
 use Rattle.lk_state.specs.States.{WholeValue}
-use Rattle.lk_node.proofs.TermRules.{kept_or_dropped, report_promised}
+use Rattle.lk_node.proofs.TermLaws.{kept_or_dropped, report_promised}
 use Rattle.lk_node.proofs.node.Node.keep_promise.Goals as goal
 
 pub invariant_of-self-2 : goal.invariant_of-self-2

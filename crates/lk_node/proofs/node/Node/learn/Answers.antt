@@ -1,6 +1,6 @@
 use Rattle.std.proofs.Common.{rules}
-use Rattle.lk_node.proofs.LearnerRules.{learns_goes_on}
-use Rattle.lk_node.proofs.NearRules.{decided_near}
+use Rattle.lk_node.proofs.LearnerLaws.{learns_goes_on}
+use Rattle.lk_node.proofs.NearLaws.{decided_near}
 use Rattle.lk_node.proofs.node.Node.learn.Goals as goal
 
 pub invariant_of-self : goal.invariant_of-self

@@ -3,8 +3,8 @@ use Rattle.lk_state.specs.Meanings.{Meaning}
 use Rattle.lk_node.specs.Executing.{RunsNext}
 use Rattle.lk_node.specs.Learning.{with_learner}
 use Rattle.lk_node.specs.NodeValue.{NodeValue}
-use Rattle.lk_node.proofs.ExecutionRules.{none_next, is_served, some_next}
-use Rattle.lk_node.proofs.NearRules.{runs_near}
+use Rattle.lk_node.proofs.ExecutionLaws.{none_next, is_served, some_next}
+use Rattle.lk_node.proofs.NearLaws.{runs_near}
 use Rattle.lk_node.proofs.node.Node.run_next.Goals as goal
 
 pub returns-in_default : goal.returns-in_default

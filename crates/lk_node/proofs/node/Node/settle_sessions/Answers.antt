@@ -5,7 +5,7 @@ use Rattle.lk_state.specs.declared.session.Session.{Session}
 use Rattle.lk_learner.specs.Learners.{LearnerValue}
 use Rattle.lk_node.specs.Installing.{none_settled, one_settled}
 use Rattle.lk_node.specs.NodeValue.{NodeValue}
-use Rattle.lk_node.proofs.LearnerRules.{element}
+use Rattle.lk_node.proofs.LearnerLaws.{element}
 use Rattle.lk_node.proofs.node.Node.settle_sessions.Goals as goal
 
 pub sessions-init : goal.sessions-init

@@ -1,6 +1,6 @@
 use Rattle.std.proofs.Common.{rules, ◌∙◌, ap}
 use Rattle.lk_state.specs.States.{WholeValue}
-use Rattle.lk_node.proofs.NearRules.{here_near}
+use Rattle.lk_node.proofs.NearLaws.{here_near}
 use Rattle.lk_node.proofs.node.Node.stand_here.Goals as goal
 
 pub invariant_of-self : goal.invariant_of-self

@@ -3,7 +3,7 @@ use Rattle.lk_entries.specs.Values.{StandingValue}
 use Rattle.lk_log.specs.Stores.{MayBegin}
 use Rattle.lk_node.specs.NodeValue.{NodeValue}
 use Rattle.lk_node.specs.Packing.{standing_of}
-use Rattle.lk_node.proofs.NearRules.{may_begin}
+use Rattle.lk_node.proofs.NearLaws.{may_begin}
 use Rattle.lk_node.proofs.node.Node.standing.Goals as goal
 
 pub returns-clause-may : goal.returns-clause-may

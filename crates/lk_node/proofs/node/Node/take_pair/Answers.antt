@@ -1,4 +1,4 @@
-use Rattle.lk_node.proofs.LearnerRules.{pair_goes_on}
+use Rattle.lk_node.proofs.LearnerLaws.{pair_goes_on}
 use Rattle.lk_node.proofs.node.Node.take_pair.Goals as goal
 
 pub returns-clause-goes_on : goal.returns-clause-goes_on

@@ -1,9 +1,9 @@
 use Rattle.std.proofs.Common.{ℕ, ◌≡◌, ◌∙◌, ◌∷◌, [], ◌++◌, List, length, map, Contains, refl, sym, ap, subst, inl, inr, append_assoc, append-nil, arith}
 use Rattle.std.specs.Vec.Iter.{into_iter_items}
 use Rattle.std.proofs.lemmas.List.Elements.{Contains-push_cases}
-use Rattle.lk_wire.specs.Grammar.{IsMessage}
-use Rattle.lk_wire.specs.Values.{PartValue}
-use Rattle.lk_wire.specs.declared.message.NodeMessage.TheVariants as kinds
+use Rattle.lk_messages.specs.Grammar.{IsMessage}
+use Rattle.lk_messages.specs.Values.{PartValue}
+use Rattle.lk_messages.specs.declared.message.NodeMessage.TheVariants as kinds
 use Rattle.lk_step.specs.Letters.{LetterValue}
 use Rattle.lk_step.specs.Outboxes.{nothing, with_letter, with_letters}
 use Rattle.lk_step.specs.Saying.{saying}

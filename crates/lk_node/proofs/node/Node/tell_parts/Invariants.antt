@@ -1,9 +1,9 @@
 -- The letters of the parts so far.
 use Rattle.std.proofs.Common.{◌≡◌, ◌++◌, length, Contains}
 use Rattle.std.specs.Vec.Iter.{into_iter_items, into_iter_len}
-use Rattle.lk_wire.specs.Grammar.{IsMessage}
-use Rattle.lk_wire.specs.Values.{PartValue}
-use Rattle.lk_wire.specs.declared.message.NodeMessage.TheVariants as kinds
+use Rattle.lk_messages.specs.Grammar.{IsMessage}
+use Rattle.lk_messages.specs.Values.{PartValue}
+use Rattle.lk_messages.specs.declared.message.NodeMessage.TheVariants as kinds
 use Rattle.lk_step.specs.Outboxes.{nothing}
 use Rattle.lk_step.specs.Saying.{saying}
 use Rattle.lk_node.specs.CatchingUp.{sending_parts}

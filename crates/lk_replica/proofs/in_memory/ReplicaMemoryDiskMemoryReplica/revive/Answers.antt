@@ -3,7 +3,7 @@ use Rattle.std.specs.Prelude.{IfErr}
 use Rattle.lk_entries.specs.Values.{HeaderValue}
 use Rattle.lk_log.specs.Rooms.{StaysWithin}
 use Rattle.lk_disk.specs.Disk.{Disk}
-use Rattle.lk_disk.specs.Memory.{Memory, disk_of}
+use Rattle.lk_simulated_disk.specs.Memory.{Memory, disk_of}
 use Rattle.lk_disk.specs.Meters.{Passes}
 use Rattle.lk_disk.specs.declared.device.Side.{Side}
 use Rattle.lk_disk.specs.declared.meter.Meter.{Meter}
@@ -11,7 +11,7 @@ use Rattle.lk_state.specs.Meanings.{Meaning}
 use Rattle.lk_node.specs.Calls.{Goes}
 use Rattle.lk_node.specs.Keeping.{Stands}
 use Rattle.lk_node.specs.Leavings.{AllCover}
-use Rattle.lk_recovery.specs.Faults.{fault_number, failures_by, RefusedAfter}
+use Rattle.lk_step.specs.Faults.{fault_number, failures_by, RefusedAfter}
 use Rattle.lk_recovery.specs.Revivals.{IsRefusedFor, CallsOfRevival}
 use Rattle.lk_replica.specs.Revived.{IsNotRevived}
 use Rattle.lk_replica.proofs.OnDevices.{on_device}

@@ -1,15 +1,15 @@
 use Rattle.std.proofs.Common.{◌≡◌, ◌∙◌, List, ◌++◌, Result, Ok, Err, OnErr, Contains, refl, ap, sym, subst}
 use Rattle.std.specs.Prelude.{⊤}
 use Rattle.lk_entries.specs.Values.{HeaderValue}
-use Rattle.lk_log.specs.StoreValue.{device_of}
-use Rattle.lk_disk.specs.Memory.{disk_of}
+use Rattle.lk_replica.specs.ReplicaValue.{device_of}
+use Rattle.lk_simulated_disk.specs.Memory.{disk_of}
 use Rattle.lk_state.specs.Meanings.{Meaning}
 use Rattle.lk_step.specs.Letters.{batch_of}
 use Rattle.lk_node.specs.Calls.{NodeFits, Goes}
 use Rattle.lk_node.specs.Histories.{Datagram}
 use Rattle.lk_node.specs.Keeping.{Stands}
 use Rattle.lk_node.specs.Leavings.{DisksFit, AllCover}
-use Rattle.lk_recovery.specs.Faults.{fault_number, IsNumberOfCalls}
+use Rattle.lk_step.specs.Faults.{fault_number, IsNumberOfCalls}
 use Rattle.lk_replica.specs.Posts.{CollectedValue}
 use Rattle.lk_replica.specs.Taking.{IsOfLast, IsRefused}
 use Rattle.lk_recovery.proofs.Recoveries.{err_as}

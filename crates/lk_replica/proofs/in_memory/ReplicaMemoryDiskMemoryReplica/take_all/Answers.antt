@@ -2,10 +2,10 @@ use Rattle.std.proofs.Common.{◌≡◌, ℕ, Bool, ◌+◌, ◌-◌, length, �
 use Rattle.std.specs.Prelude.{⊤}
 use Rattle.std.proofs.lemmas.List.{nil_from_length}
 use Rattle.std.specs.List.{AllByRecursion}
-use Rattle.lk_log.specs.StoreValue.{disks, device_of}
+use Rattle.lk_log.specs.StoreValue.{disks}
 use Rattle.lk_log.specs.Rooms.{StaysWithin}
 use Rattle.lk_log.proofs.Room.{within_first, within_still}
-use Rattle.lk_disk.specs.Memory.{disk_of}
+use Rattle.lk_simulated_disk.specs.Memory.{disk_of}
 use Rattle.lk_disk.specs.Meters.{Passes}
 use Rattle.lk_disk.proofs.Devices.{passes_on}
 use Rattle.lk_disk.specs.declared.meter.Meter.{Meter}
@@ -14,9 +14,9 @@ use Rattle.lk_step.specs.declared.input.Input.{Input}
 use Rattle.lk_node.specs.Calls.{heard_by, InputFits, NodeFits}
 use Rattle.lk_node.specs.Keeping.{Stands}
 use Rattle.lk_node.specs.Leavings.{DisksFit, AllCover}
-use Rattle.lk_recovery.specs.Faults.{fault_number, RefusedAfter, IsNumberOfCalls}
+use Rattle.lk_step.specs.Faults.{fault_number, RefusedAfter, IsNumberOfCalls}
 use Rattle.lk_replica.specs.Groups.{GroupValue, IsSettled, LeavesInGroup, gather_calls, settle_calls}
-use Rattle.lk_replica.specs.ReplicaValue.{ReplicaValue}
+use Rattle.lk_replica.specs.ReplicaValue.{ReplicaValue, device_of}
 use Rattle.lk_replica.specs.Together.{IsTogetherRefused}
 use Rattle.lk_replica.specs.declared.taken.Step.{Step}
 use Rattle.lk_recovery.proofs.Recoveries.{err_as}

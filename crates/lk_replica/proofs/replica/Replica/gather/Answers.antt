@@ -1,7 +1,7 @@
 use Rattle.std.proofs.Common.{◌≡◌, inl, inr, true, false, refl, sym, ap, subst, ◌∙◌, arith}
 use Rattle.std.specs.Prelude.{IfErr}
 use Rattle.lk_disk.specs.Meters.{start}
-use Rattle.lk_recovery.specs.Faults.{fault_number}
+use Rattle.lk_step.specs.Faults.{fault_number}
 use Rattle.lk_log.specs.StoreValue.{disks}
 use Rattle.lk_log.proofs.Room.{within_same}
 use Rattle.lk_step.specs.Letters.{batch_of}

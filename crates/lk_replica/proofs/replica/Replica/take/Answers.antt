@@ -17,7 +17,7 @@ use Rattle.lk_log.proofs.Room.{within_same}
 use Rattle.lk_replica.proofs.replica.Replica.take.Goals as goal
 use Rattle.lk_disk.specs.Meters.{start}
 use Rattle.lk_recovery.specs.Remembering.{Remembers}
-use Rattle.lk_recovery.specs.Faults.{fault_number}
+use Rattle.lk_step.specs.Faults.{fault_number}
 
 pub returns-then-self-clause-gives : goal.returns-then-self-clause-gives
 returns-then-self-clause-gives g c = record {

@@ -1,6 +1,6 @@
 use Rattle.std.proofs.Common.{rules, ◌≡◌, ◌∙◌, ap, [], ◌∷◌}
 use Rattle.lk_types.specs.declared.member.Member.{Member}
-use Rattle.lk_script.proofs.TableServerLemmas.{begins, nothing_executed}
+use Rattle.lk_script.proofs.TableServerLaws.{begins, nothing_executed}
 use Rattle.lk_script.proofs.table_server.TableServer.new.Goals as goal
 
 pub returns-clause-empty : goal.returns-clause-empty

@@ -1,6 +1,6 @@
 use Rattle.std.proofs.Common.{rules}
 use Rattle.lk_script.specs.TableMode.Prints.{others, unreadable}
-use Rattle.lk_script.proofs.PrintLemmas.{on_ok}
+use Rattle.lk_script.proofs.PrintLaws.{on_ok}
 use Rattle.lk_script.proofs.table_server.TableServer.print.Goals as goal
 
 pub returns-in-Err-clause-ok : goal.returns-in-Err-clause-ok

@@ -1,12 +1,12 @@
 use Rattle.std.proofs.Common.{◌≡◌, ◌∙◌, sym, ap, subst, List, ℕ}
 use Rattle.hex.specs.Hex.{encode_lower}
-use Rattle.lk_wire.specs.Grammar.{spelling}
-use Rattle.lk_wire.specs.declared.message.Message.{Message}
-use Rattle.lk_wire.specs.declared.message.Content.TheVariants.{Node}
+use Rattle.lk_messages.specs.Grammar.{spelling}
+use Rattle.lk_messages.specs.declared.message.Message.{Message}
+use Rattle.lk_messages.specs.declared.message.Content.TheVariants.{Node}
 use Rattle.lk_script.specs.Replies.{with_request}
 use Rattle.lk_script.specs.TableMode.{from_node, Prints}
 use Rattle.lk_script.specs.TableMode.Prints.{not_here, replied}
-use Rattle.lk_script.proofs.PrintLemmas.{on_ok}
+use Rattle.lk_script.proofs.PrintLaws.{on_ok}
 use Rattle.lk_script.proofs.table_server.TableServer.print_request.Goals as goal
 
 pub returns-then-not-is_for_table-clause-ok : goal.returns-then-not-is_for_table-clause-ok

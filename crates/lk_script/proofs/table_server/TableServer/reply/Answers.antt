@@ -1,6 +1,6 @@
 use Rattle.std.proofs.Common.{◌∙◌, sym, ap}
 use Rattle.lk_step.specs.KeptReplies.{kept_reply}
-use Rattle.lk_script.proofs.TableServerLemmas.{kept}
+use Rattle.lk_script.proofs.TableServerLaws.{kept}
 use Rattle.lk_script.proofs.table_server.TableServer.reply.Goals as goal
 
 pub returns-in-Some-clause-ok : goal.returns-in-Some-clause-ok

@@ -1,5 +1,5 @@
 use Rattle.std.proofs.Common.{rules, refl}
-use Rattle.lk_script.proofs.TableServerLemmas.{runs}
+use Rattle.lk_script.proofs.TableServerLaws.{runs}
 use Rattle.lk_script.proofs.table_server.TableServer.run.Goals as goal
 
 pub returns-clause-ok : goal.returns-clause-ok

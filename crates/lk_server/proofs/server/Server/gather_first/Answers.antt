@@ -1,5 +1,5 @@
 use Rattle.std.proofs.Common.{◌≡◌, ◌∙◌, sym, ap}
-use Rattle.lk_server.specs.declared.found.Found.TheVariants.{Beside, Something}
+use Rattle.lk_pace.specs.declared.found.Found.TheVariants.{Beside, Something}
 use Rattle.lk_transport.specs.Addresses.{circle_of}
 use Rattle.lk_server.specs.Servers.{ServerValue}
 use Rattle.lk_server.proofs.Apart.{not_beside}

@@ -17,7 +17,7 @@ returns-clause-takes g c = λ yes.
       (c.in-Some.from, c.in-Some.frame.now),
       c.in-Some.ensures.some,
       apart,
-      heard_one g.R.NodeReplica.Gathers (c.in-Some.from, c.in-Some.frame.now) (c.in-Some.from, c.open-datagram.result.now) c.args.group.now c.gather_counted.new.group c.args.self.now c.hear-came.new.self c.gather_counted.new.self
+      heard_one g.R.NodeReplica.Gathers (c.in-Some.from, c.in-Some.frame.now) (c.in-Some.from, c.of-viewed.result) c.args.group.now c.gather_counted.new.group c.args.self.now c.hear-came.new.self c.gather_counted.new.self
           (search rules) apart (search rules) (search rules) (search rules) (search rules) (search rules) (search rules) c.in_ok-gather_counted.ensures.takes,
     )
 
@@ -30,7 +30,7 @@ returns-in_err-gather_counted-clause-ends g c =
       (c.in-Some.from, c.in-Some.frame.now),
       c.in-Some.ensures.some,
       apart,
-      ends_heard g.R.NodeReplica.Says g.R.NodeReplica.Gathers (c.in-Some.from, c.in-Some.frame.now) (c.in-Some.from, c.open-datagram.result.now) c.args.group.now c.args.self.now c.hear-came.new.self c.gather_counted.new.self
+      ends_heard g.R.NodeReplica.Says g.R.NodeReplica.Gathers (c.in-Some.from, c.in-Some.frame.now) (c.in-Some.from, c.of-viewed.result) c.args.group.now c.args.self.now c.hear-came.new.self c.gather_counted.new.self
           (search rules) apart (search rules) (search rules) (search rules) (search rules) (search rules) (search rules) c.in_err-gather_counted.ensures.ends,
     )
 

@@ -1,7 +1,7 @@
 use Rattle.std.proofs.Common.{arith}
 use Rattle.lk_fields.specs.FieldReading.{read_request}
 use Rattle.lk_fields.proofs.Spellings.{request_reads}
-use Rattle.lk_wire.proofs.Walks.{cut, stepped}
+use Rattle.lk_messages.proofs.Spellings.{cut, stepped}
 use Rattle.lk_wire.proofs.viewing.command.RequestRef.of.Goals as goal
 
 pub invariant_of-result : goal.invariant_of-result

@@ -1,0 +1,3 @@
+mod Serving
+mod Gathered
+mod Measuring

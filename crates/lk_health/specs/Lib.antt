@@ -1,0 +1,4 @@
+pub mod Verdicts
+pub mod Rounds
+pub mod Measures
+pub mod Targets

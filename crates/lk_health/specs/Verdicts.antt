@@ -1,0 +1,69 @@
+-- When the reports of nodes show a cluster that is served.
+use Rattle.std.specs.Prelude.{◌≡◌, ◌⊎◌, ℕ, suc, ◌*◌, ◌<◌, Bool, true, false, nat_eq, nat_lt, nat_le, ◌==◌, not, ◌&&◌, ◌||◌, if◌then◌else◌, Option, Some, None, List, [], ◌∷◌, length}
+use Rattle.std.specs.Cmp.Lexicographic.{pointwise}
+use Rattle.std.specs.List.{AllByRecursion}
+use Rattle.lk_types.specs.declared.member.Member.{Member}
+use Rattle.lk_probe.specs.declared.probe.Report.{Report}
+
+-- it is one of the reports
+abbrev pub IsAmong : Report → List Report → Type 0
+IsAmong r [] = ⊥
+IsAmong r (other ∷ rs) = (r ≡ other) ⊎ IsAmong r rs
+
+-- it does not lead, the ballot that it has promised is its own, and it counts no tick without a leader: it has a term
+abbrev pub seeks_votes : Report → Bool
+seeks_votes r = not r.status.leadership.leads && r.status.leadership.promised.node == r.node && r.status.leadership.silence == 0
+
+-- that node is among those that report
+abbrev pub has_answered : ℕ → List Report → Bool
+has_answered node [] = false
+has_answered node (r ∷ rs) = r.node == node || has_answered node rs
+
+-- how many of the members report
+abbrev pub up : List Member → List Report → ℕ
+up [] rs = 0
+up (m ∷ ms) rs = if has_answered m.node rs then suc (up ms rs) else up ms rs
+
+-- a majority of the members of the next position report, as this one knows them
+abbrev pub has_majority : Report → List Report → Bool
+has_majority r rs = nat_lt (length r.status.members) (2 * up r.status.members rs)
+
+-- the cluster is served: somebody leads, a majority of the members of its next position report, and nobody tells
+-- another genesis
+pub record IsServed (rs : List Report) : Type 0 where
+  pub leader : Report
+  pub is_there : IsAmong leader rs
+  pub leads : leader.status.leadership.leads ≡ true
+  pub majority : length leader.status.members < 2 * up leader.status.members rs
+  pub one_genesis : AllByRecursion (λ (r : Report). r.status.identity.genesis ≡ leader.status.identity.genesis) rs
+
+-- ---- the same as a test
+
+abbrev pub some_leads : List Report → List Report → Bool
+some_leads [] rs = false
+some_leads (r ∷ leaders) rs = r.status.leadership.leads && has_majority r rs || some_leads leaders rs
+
+abbrev pub tells : List ℕ → List Report → Bool
+tells genesis [] = true
+tells genesis (r ∷ rs) = pointwise nat_eq r.status.identity.genesis genesis && tells genesis rs
+
+abbrev pub one_genesis : List Report → Bool
+one_genesis [] = true
+one_genesis (r ∷ rs) = tells r.status.identity.genesis (r ∷ rs)
+
+abbrev pub is_served : List Report → Bool
+is_served rs = some_leads rs rs && one_genesis rs
+
+-- each has executed so many positions
+abbrev pub all_have : ℕ → List Report → Bool
+all_have executed [] = true
+all_have executed (r ∷ rs) = nat_le executed r.status.progress.executed && all_have executed rs
+
+-- the cluster is served, as many nodes report as were asked, and each has executed so many positions
+abbrev pub is_ready : ℕ → ℕ → List Report → Bool
+is_ready asked executed rs = length rs == asked && (all_have executed rs && is_served rs)
+
+-- so with the positions that were the goal, where there is one
+abbrev pub is_at : Option ℕ → ℕ → List Report → Bool
+is_at None asked rs = false
+is_at (Some executed) asked rs = is_ready asked executed rs

@@ -1,0 +1,137 @@
+//! A socket in memory, for tests: its contract reveals what is sent and what arrives.
+
+ghost use Rattle.std.specs.Prelude.{◌≡◌, ◌++◌, ◌∷◌, [], min, take, OnOk, OnErr};
+ghost use Rattle.lk_memory_socket.specs.Sockets.{sent_in, coming_in};
+
+use lk_step::SendFault;
+use lk_transport::socket::DatagramSocket;
+use lk_types::NoMemory;
+use std::alloc::Global;
+use std::collections::VecDeque;
+use std::net::SocketAddr;
+use std::time::Duration;
+use std::{io, mem};
+
+/// A datagram of a socket in memory, with its source or destination.
+#[derive(Drop)]
+pub struct Told {
+    pub place: SocketAddr,
+    pub bytes: Vec<u8>,
+}
+
+/// Datagrams still to arrive, in order, and those that were sent.
+#[derive(Drop)]
+pub struct MemorySocket {
+    alloc: Global,
+    port: u16,
+    coming: VecDeque<Told>,
+    sent: Vec<Told>,
+    failures: u64,
+}
+
+// How many of these bytes a receive returns.
+fn cut(length: usize) -> usize
+    ensures { result ≡ min length 8229 }
+{
+    if length <= 8229 { length } else { 8229 }
+}
+
+impl MemorySocket {
+    /// The socket of a port, with nothing to receive and nothing sent.
+    pub fn new(alloc: Global, port: u16) -> MemorySocket
+        ensures coming { coming_in result.coming.items ≡ [] }
+        ensures sent { result.sent.items ≡ [] }
+    {
+        MemorySocket {
+            alloc,
+            port,
+            coming: VecDeque::new(alloc),
+            sent: Vec::new(alloc),
+            failures: 0,
+        }
+    }
+
+    /// Adds a datagram to receive. Bytes beyond 8,229 are cut off.
+    pub fn comes(&mut self, from: SocketAddr, bytes: &[u8]) -> Result<(), NoMemory>
+        ensures ok { OnOk result (coming_in self.new.coming.items ≡ coming_in self.old.coming.items ++ (from, take 8229 bytes.now) ∷ []) }
+        ensures err { OnErr result (coming_in self.new.coming.items ≡ coming_in self.old.coming.items) }
+        ensures others { self.new ≡ record self.old { coming = self.new.coming } }
+    {
+        let kept = bytes.to_vec(self.alloc)?;
+        self.coming.push_back(Told {
+            place: from,
+            bytes: kept,
+        })?;
+        Ok(())
+    }
+
+    /// Removes and returns what was sent, in order.
+    pub fn take_sent(&mut self) -> Vec<Told>
+        ensures taken { result.items ≡ self.old.sent.items }
+        ensures rest { self.new ≡ record self.old { sent = self.new.sent } }
+        ensures left { self.new.sent.items ≡ [] }
+    {
+        mem::replace(&mut self.sent, Vec::new(self.alloc))
+    }
+
+    // Keeps what is sent, unless it is out of memory.
+    fn keep(&mut self, to: SocketAddr, bytes: &[u8]) -> Result<(), NoMemory>
+        ensures ok { OnOk result (sent_in self.new.sent.items ≡ sent_in self.old.sent.items ++ (to, bytes.now) ∷ []) }
+        ensures err { OnErr result (sent_in self.new.sent.items ≡ sent_in self.old.sent.items) }
+        ensures failures { self.new.failures ≡ self.old.failures }
+        ensures coming { self.new.coming ≡ self.old.coming }
+    {
+        let kept = bytes.to_vec(self.alloc)?;
+        self.sent.push(Told {
+            place: to,
+            bytes: kept,
+        })?;
+        Ok(())
+    }
+}
+
+impl DatagramSocket for MemorySocket {
+    ghost use Rattle.std.specs.Prelude.{⊤};
+
+    ghost sent = { λ s. sent_in s.sent.items };
+
+    ghost coming = { λ s. coming_in s.coming.items };
+
+    ghost failures = { λ s. s.failures };
+
+    ghost is_telling = { ⊤ };
+
+    fn send_to(&mut self, to: SocketAddr, bytes: &[u8]) -> Result<(), SendFault> {
+        match self.keep(to, bytes) {
+            Ok(()) => Ok(()),
+            Err(NoMemory) => {
+                self.failures = self.failures.saturating_add(1);
+                Err(SendFault)
+            }
+        }
+    }
+
+    fn wait_for(&mut self, _time: Duration) {}
+
+    fn receive(&mut self, buffer: &mut [u8]) -> Option<(usize, SocketAddr)> {
+        let Some(told) = self.coming.pop_front() else {
+            return None;
+        };
+        let Told { place, bytes } = told;
+        let length = cut(bytes.len());
+        buffer[..length].copy_from_slice(&bytes[..length]);
+        Some((length, place))
+    }
+
+    fn receive_waiting(&mut self, buffer: &mut [u8]) -> Option<(usize, SocketAddr)> {
+        self.receive(buffer)
+    }
+
+    fn cause(&self) -> Option<io::Error> {
+        None
+    }
+
+    fn port(&self) -> Option<u16> {
+        Some(self.port)
+    }
+}

@@ -1,0 +1,5 @@
+mod Walks
+mod MessageLaws
+mod DatagramLaws
+mod Lengths
+pub mod Spellings

@@ -1,0 +1,6 @@
+pub mod Sayings
+pub mod Groups
+pub mod Showing
+pub mod Statuses
+pub mod TableVersions
+pub mod Refusals

@@ -1,0 +1,2 @@
+pub mod Metronomes
+pub mod Paces

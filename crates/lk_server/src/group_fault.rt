@@ -1,0 +1,54 @@
+//! Why a group ended a replica.
+
+ghost use Rattle.std.specs.Prelude.{◌≡◌};
+ghost use Rattle.lk_transport.specs.Faults.{replica_fault};
+ghost use Rattle.lk_server.specs.GroupFaults.{service_fault};
+ghost use Rattle.lk_node_replica.specs.Refusals.{IsOfGroups};
+
+use lk_step::ReplicaFault;
+use lk_transport::fault::ServiceFault;
+
+/// Why a group ended a replica. Nothing of it is sent.
+#[derive(Clone, Copy, Debug)]
+pub enum GroupFault {
+    /// Fault 7: a call of the device failed.
+    Device,
+    /// Fault 8: the store is out of memory.
+    NoMemory,
+    /// Fault 11: the replica failed earlier.
+    Failed,
+    /// Fault 14: a step is out of memory.
+    Halted,
+}
+
+impl GroupFault {
+    /// The fault that reports why a replica refused a call of a group.
+    pub fn of(fault: &ReplicaFault) -> GroupFault
+        requires { IsOfGroups fault.now }
+        ensures { service_fault result ≡ replica_fault fault.now }
+    {
+        match fault {
+            ReplicaFault::Device => GroupFault::Device,
+            ReplicaFault::NoMemory => GroupFault::NoMemory,
+            ReplicaFault::Failed => GroupFault::Failed,
+            ReplicaFault::Halted => GroupFault::Halted,
+            ReplicaFault::Damaged | ReplicaFault::WrongStore | ReplicaFault::Send(_) =>
+                unreachable!(),
+        }
+    }
+}
+
+impl From<GroupFault> for ServiceFault {
+    ghost use Rattle.lk_server.specs.GroupFaults.{service_fault as told_as};
+
+    ghost from_gives = { λ f e. e ≡ told_as f };
+
+    fn from(fault: GroupFault) -> ServiceFault {
+        match fault {
+            GroupFault::Device => ServiceFault::Device,
+            GroupFault::NoMemory => ServiceFault::NoMemory,
+            GroupFault::Failed => ServiceFault::Failed,
+            GroupFault::Halted => ServiceFault::Halted,
+        }
+    }
+}

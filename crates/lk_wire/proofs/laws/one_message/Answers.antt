@@ -1,5 +1,0 @@
-use Rattle.lk_wire.proofs.DatagramLaws.{one_message as law}
-use Rattle.lk_wire.proofs.laws.one_message.Goals as goal
-
-pub returns : goal.returns
-returns c = law

@@ -1,9 +1,0 @@
--- One tactic for each goal that a wrong body breaks.
-use Rattle.std.proofs.Common.{rules}
-use Rattle.lk_wire.proofs.message.Passed.of.Goals as goal
-
-pub invariant_of-result : goal.invariant_of-result
-invariant_of-result c = search rules
-
-pub returns-clause-some : goal.returns-clause-some
-returns-clause-some c = search rules

@@ -1,0 +1,61 @@
+ghost use Rattle.std.specs.Prelude.{◌≡◌, IfOk, IsOkAnd};
+ghost use Rattle.lk_messages.specs.declared.message.Message.{Message};
+ghost use Rattle.lk_messages.specs.Grammar.{Spells};
+ghost use Rattle.lk_wire.specs.Shown.{shown, LieAtTheirPlaces};
+
+use crate::fault::Bad;
+use crate::viewing::message::MessageRef;
+use crate::viewing::view;
+use std::marker::Model;
+
+/// The bytes of a datagram, and what `view` returns of them: so they are viewed once, where they arrive. A contract
+/// sees the bytes.
+#[derive(Drop)]
+pub struct Datagram<'a> {
+    bytes: &'a [u8],
+    viewed: Result<MessageRef<'a>, Bad>,
+}
+
+impl<'a> Model for Datagram<'a> {
+    ghost use Rattle.std.specs.Prelude.{List, ℕ};
+    ghost use Rattle.lk_wire.specs.Datagrams.{IsViewOf};
+
+    ghost Value = { List ℕ };
+
+    ghost view = { λ d. d.bytes.now };
+
+    ghost invariant = { λ d. IsViewOf d.viewed d.bytes.now };
+}
+
+impl<'a> Datagram<'a> {
+    /// A datagram of these bytes, which may be any.
+    pub fn of(bytes: &'a [u8]) -> Datagram<'a>
+        ensures { result ≡ bytes.now }
+    {
+        let viewed = view(bytes);
+        Datagram { bytes, viewed }
+    }
+
+    /// Its bytes.
+    pub fn bytes(&self) -> &'a [u8]
+        ensures { result.now ≡ self.now }
+    {
+        self.bytes
+    }
+
+    /// The message that the bytes spell, in place, as `view` returns it. The bytes are bad exactly if they spell no
+    /// message.
+    pub fn message(&self) -> Result<&MessageRef<'a>, Bad>
+        // What is viewed is spelled there.
+        ensures found { IfOk result (λ m. Spells (shown m.now) self.now) }
+        // What is spelled there is viewed.
+        ensures only { (m : Message) → Spells m self.now → IsOkAnd result (λ r. shown r.now ≡ m) }
+        // Each slice is at its place in the bytes.
+        ensures places { IfOk result (λ m. LieAtTheirPlaces (shown m.now).content self.now) }
+    {
+        match &self.viewed {
+            Ok(message) => Ok(message),
+            Err(_) => Err(Bad),
+        }
+    }
+}
