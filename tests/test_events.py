@@ -18,6 +18,9 @@ LINE = re.compile(r"\[(INFO |WARN ) locks\] (\d{4}-\d\d-\d\dT\d\d:\d\d:\d\d\.\d{
 
 # Node 1 leads in its first ballot and has executed one position, which is a no-op.
 LEAD = "4c4b010d 0000000000000005 00000001 0000000000000001 00000001 0000000000000001"
+# The same in its ninth round, and in another cluster.
+LATER = "4c4b010d 0000000000000005 00000001 0000000000000009 00000001 0000000000000001"
+FOREIGN = "4c4b010d 0000000000000006 00000001 0000000000000001 00000001 0000000000000001"
 DECIDED = "4c4b0106 0000000000000005 00000001 0000000000000001 01 00"
 
 
@@ -163,11 +166,11 @@ class LagTest(unittest.TestCase):
         self.node = self.enterContext(Node(PROGRAM, self.enterContext(tempfile.TemporaryDirectory())))
         self.node.words = ("--events",)
 
-    def leads(self, seconds):
+    def leads(self, seconds, lead=LEAD):
         """Node 1 leads for so many seconds, and answers nothing."""
         end = time.monotonic() + seconds
         while time.monotonic() < end:
-            self.node.send(self.node.bytes_of(LEAD))
+            self.node.send(self.node.bytes_of(lead))
             time.sleep(0.05)
 
     def test_a_node_is_behind_until_it_has_caught_up(self):
@@ -178,6 +181,24 @@ class LagTest(unittest.TestCase):
         self.node.process.kill()
         told = re.findall(r"node 2 (is behind.*|has caught up.*)", self.node.process.stderr.read())
         self.assertEqual(told, ["is behind, asks node 1", "has caught up, 1 positions"])
+
+    def test_a_leader_is_followed_again_after_a_silence(self):
+        self.node.start()
+        self.leads(0.5)
+        time.sleep(3.0)
+        self.leads(0.5, LATER)
+        self.node.process.kill()
+        told = re.findall(r"node 2 (follows node 1|has heard of no leader)", self.node.process.stderr.read())
+        self.assertEqual(told, ["follows node 1", "has heard of no leader", "follows node 1"])
+
+    def test_datagrams_of_another_cluster_are_told_each_time_that_they_double(self):
+        self.node.start()
+        for _ in range(5):
+            self.node.send(self.node.bytes_of(FOREIGN))
+            time.sleep(1.1)
+        self.node.process.kill()
+        told = re.findall(r"node 2 (heard \d+ datagrams of another cluster)", self.node.process.stderr.read())
+        self.assertEqual(told, [f"heard {count} datagrams of another cluster" for count in (1, 2, 4)])
 
 
 if __name__ == "__main__":

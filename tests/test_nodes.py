@@ -7,6 +7,7 @@ import tempfile
 import time
 import unittest
 
+from harness import frames
 from harness.by_bytes import bytes_of
 from harness.cluster import free_ports
 from harness.relay import Forward
@@ -14,8 +15,8 @@ from locks_client import Client, Free, milliseconds
 
 PROGRAM = os.environ.get("LOCKS_PROGRAM")
 
-# The probe of node 1 to itself.
-PROBE = bytes_of("4c500109 0000000000000005 00000001 0000 0000000000000001").ljust(174, b"\0")
+# The probe of node 1 to itself, up to the digest of its genesis.
+ASKS = bytes_of("4c500109 0000000000000005 00000001 0000 0000000000000001")
 
 # Client 9 asks with number 1 who holds `db`, and is told that nobody does.
 ASK = bytes_of("4c4b0109 0000000000000005 00000000 0009 0000000000000001 00 04 03026462")
@@ -35,6 +36,11 @@ class NodesTest(unittest.TestCase):
         self.addCleanup(node.communicate)
         self.addCleanup(node.kill)
         return node
+
+    def probe(self, *others):
+        """The probe of node 1 to itself, if the genesis names nodes at these other ports too."""
+        digest = frames.genesis_digest(5, 8, dict(enumerate((self.ports[0], *others), 1)))
+        return (ASKS + digest).ljust(174, b"\0")
 
     def bound(self, port):
         """A socket at a port."""
@@ -108,16 +114,17 @@ class NodesTest(unittest.TestCase):
 
     def test_a_node_that_a_relay_carries_its_probe_to_says_nothing(self):
         with Forward(self.ports[0], self.ports[1]) as relay:
-            node = self.start(self.ports[1], f",2:{free_ports(1)[0]}")
-            self.assertEqual(self.carried(relay), [PROBE])
+            [other] = free_ports(1)
+            node = self.start(self.ports[1], f",2:{other}")
+            self.assertEqual(self.carried(relay), [self.probe(other)])
             self.assertFalse(self.ticks_until_it_says(node, "warning"))
-            self.assertEqual(relay.carried, [PROBE])
+            self.assertEqual(relay.carried, [self.probe(other)])
 
     def test_with_a_key_the_probe_is_sealed(self):
         options = self.key()
         with Forward(self.ports[0], self.ports[1]) as relay:
             node = self.start(self.ports[1], options=options)
-            self.assertEqual([(data[:2], data[36:]) for data in self.carried(relay)], [(b"LS", PROBE)])
+            self.assertEqual([(data[:2], data[36:]) for data in self.carried(relay)], [(b"LS", self.probe())])
             self.assertTrue(self.is_silent(node, 0.5))
             node.kill()
             node.wait()
@@ -127,8 +134,8 @@ class NodesTest(unittest.TestCase):
         named = self.bound(self.ports[0])
         node = self.start(self.ports[1])
         data, sender = named.recvfrom(9000)
-        self.assertEqual((data, sender), (PROBE, ("127.0.0.1", self.ports[1])))
-        for other in (PROBE[:-1], PROBE + b"\0", PROBE[:25] + b"\2" + PROBE[26:], b"LP\1\x0a" + PROBE[4:], b""):
+        self.assertEqual((data, sender), (self.probe(), ("127.0.0.1", self.ports[1])))
+        for other in (data[:-1], data + b"\0", data[:25] + b"\2" + data[26:], data[:58].ljust(174, b"\1"), b"LP\1\x0a" + data[4:], b""):
             named.sendto(other, sender)
         self.assertIn("warning: the genesis names node 1", node.stderr.readline())
         named.settimeout(0.5)

@@ -88,7 +88,8 @@ class ProbesTest(unittest.TestCase):
 
     def test_what_is_no_probe_of_the_cluster_is_passed_over(self):
         self.awaited(1, probe())
-        for datagram in (probe(cluster=6), probe()[:-1], probe() + b"\0", probe()[:-1] + b"\1", b"LP", b"LP\x01\x0a" + probe()[4:]):
+        of_nobody = probe()[:57] + b"\1" + bytes(116)  # a digest without a node
+        for datagram in (probe(cluster=6), probe()[:-1], probe() + b"\0", probe()[:-1] + b"\1", of_nobody, b"LP", b"LP\x01\x0a" + probe()[4:]):
             self.assertIsNone(self.report(1, datagram, 0.2), datagram)
         self.assertIsNotNone(self.report(1, probe()))
 

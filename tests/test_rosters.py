@@ -155,6 +155,7 @@ class MajorityTest(unittest.TestCase):
             self.node.send(self.node.bytes_of("4c4b0104 0000000000000005", sender, vote))
             self.barrier(executed)
             self.is_told(told)
+        self.barrier(executed)  # of a later turn: a turn is logged after its letters
         self.assertEqual(self.logged(), ["counted 3", "ran 3", "counted 4", "ran 4"])
 
     def logged(self):

@@ -9,14 +9,11 @@ import unittest
 from harness import frames
 from harness.by_bytes import PROBE, Node, bytes_of
 from harness.cluster import Cluster, free_ports
-from locks_client import Client, Held
+from locks_client import Client, Held, milliseconds
 
 PROGRAM = os.environ.get("LOCKS_PROGRAM")
 KEY = bytes([0x11]) * 32
 OTHER = bytes([0x33]) * 32  # the digest of another genesis
-
-# Node 2 asks the node at an address which genesis it has: its number is the token too.
-QUESTION = bytes_of("4c500109 0000000000000005 00000002 0000 0000000000000002").ljust(174, b"\0")
 
 # Node 1 asks node 2 for promises in its first and its ninth ballot, and gets them.
 PREPARE = "4c4b0101 0000000000000005 00000001 0000000000000001 00000001 0000000000000001"
@@ -44,11 +41,19 @@ OTHER_ACQUIRE = ACQUIRE[:17] + b"\x08" + ACQUIRE[18:]
 # Whoever is nobody asks what a node counts.
 QUERY = bytes_of("4c500109 0000000000000005 00000000 0000 0000000000000001").ljust(174, b"\0")
 
+REPORT = b"LP\1\x0a"  # what a report begins with
+
 # What nodes send each other.
 PREPARES, PROMISES, ACCEPTS, ACCEPTEDS, ANSWERS, LEADS = 1, 2, 3, 4, 10, 13
 
 # What a report tells after the digest: program, format and table, counts that are 0, and one member.
 REST = bytes_of("000100 02 01") + bytes(68) + bytes_of("01 00000001 1b59")
+
+
+def asks(node, genesis):
+    """The question of a node of that genesis which genesis the node at an address has: its number is the token too."""
+    front = bytes_of("4c500109 0000000000000005") + node.to_bytes(4, "big") + bytes(2) + node.to_bytes(8, "big")
+    return (front + genesis).ljust(174, b"\0")
 
 
 def report(node, genesis, question):
@@ -75,6 +80,7 @@ class QuestionsTest(unittest.TestCase):
     def setUp(self):
         self.node = self.enterContext(Node(PROGRAM, self.enterContext(tempfile.TemporaryDirectory())))
         self.genesis = frames.genesis_digest(5, 1, dict(enumerate(self.node.ports, 1)))
+        self.question = asks(2, self.genesis)
 
     def start(self, *texts):
         """Starts it, on such a file if one is given."""
@@ -97,21 +103,21 @@ class QuestionsTest(unittest.TestCase):
     def questions(self, it, seconds):
         """How many questions come to a socket within so many seconds."""
         found = [data for data in self.came(it, seconds) if data.startswith(PROBE)]
-        self.assertEqual(set(found) - {QUESTION}, set())
+        self.assertEqual(set(found) - {self.question}, set())
         return len(found)
 
     def led(self):
         """Node 1 asks for a promise, gets it, and is asked a question after that."""
         self.node.send(self.node.bytes_of(PREPARE))
         self.assertEqual(self.node.socket.recv(9000).hex(), self.node.bytes_of(PROMISE).hex())
-        self.assertEqual(self.node.socket.recv(9000).hex(), QUESTION.hex())
+        self.assertEqual(self.node.socket.recv(9000).hex(), self.question.hex())
 
     def third_tells_another(self):
         """Node 3, which does not lead, is asked a question after what it wanted, and tells another genesis."""
         self.from_third(self.node.bytes_of(WANT))
         self.assertEqual(self.node.third.recv(9000).hex(), self.node.bytes_of(DECIDED).hex())
-        self.assertEqual(self.node.third.recv(9000).hex(), QUESTION.hex())
-        self.from_third(report(3, OTHER, QUESTION))
+        self.assertEqual(self.node.third.recv(9000).hex(), self.question.hex())
+        self.from_third(report(3, OTHER, self.question))
 
     def from_third(self, data):
         """Sends it a datagram from the address of node 3."""
@@ -149,7 +155,7 @@ class QuestionsTest(unittest.TestCase):
     def test_who_has_the_same_genesis_is_asked_once(self):
         self.start()
         self.led()
-        self.node.send(report(1, self.genesis, QUESTION))
+        self.node.send(report(1, self.genesis, self.question))
         self.assertEqual(self.questions(self.node.socket, 1.0), 0)
         self.node.send(self.node.bytes_of(NEXT_PREPARE))
         self.assertIn(self.node.bytes_of(NEXT_PROMISE), self.came(self.node.socket, 0.5))
@@ -157,7 +163,7 @@ class QuestionsTest(unittest.TestCase):
     def test_a_node_ends_that_was_led_by_another_genesis(self):
         self.start()
         self.led()
-        self.node.send(report(1, OTHER, QUESTION))
+        self.node.send(report(1, OTHER, self.question))
         told = self.node.process.communicate(timeout=30)[1].splitlines()
         self.assertEqual((told[-1], self.node.process.returncode), (ended(2, self.genesis, 1, OTHER), 1))
 
@@ -165,8 +171,8 @@ class QuestionsTest(unittest.TestCase):
         self.start()
         self.led()
         stranger = self.enterContext(self.node.bound(0))
-        whole = report(1, OTHER, QUESTION)
-        for data in (report(1, OTHER, QUESTION[:25] + b"\3"), whole[:-1], whole + b"\0"):
+        whole = report(1, OTHER, self.question)
+        for data in (report(1, OTHER, self.question[:25] + b"\3"), whole[:-1], whole + b"\0"):
             self.node.send(data)
         stranger.sendto(whole, ("127.0.0.1", self.node.ports[1]))
         self.is_asked_once_more()
@@ -192,24 +198,42 @@ class QuestionsTest(unittest.TestCase):
             for _ in range(128):
                 it.sendto(b"?", ("127.0.0.1", self.node.ports[1]))
 
-    def test_a_stranger_that_writes_a_minute_later_is_asked_again_and_heard_if_it_was_started_anew(self):
+    def third_gets(self, data):
+        """How often node 3 is asked a question, gets a report, and gets what it wanted, by a datagram that it sends."""
+        self.from_third(data)
+        found = self.came(self.node.third, 0.5)
+        return found.count(self.question), sum(it.startswith(REPORT) for it in found), found.count(self.node.bytes_of(DECIDED))
+
+    def test_a_stranger_is_never_asked_again_and_heard_once_it_asks_with_the_right_genesis(self):
         self.node.words = ("--events",)
         self.start(BEGUN, NO_OP)
         self.third_tells_another()
-        self.a_minute_passes()
-        self.assertNotIn(QUESTION, self.came(self.node.third, 0.5))
-        for told in (OTHER, self.genesis):
-            self.from_third(self.node.bytes_of(WANT))
-            found = self.came(self.node.third, 0.5)
-            self.assertEqual((found.count(QUESTION), self.node.bytes_of(DECIDED) in found), (1, False))
-            self.from_third(report(3, told, QUESTION))
-            if told == OTHER:
-                self.a_minute_passes()
-                self.came(self.node.third, 0.5)
-        self.from_third(self.node.bytes_of(WANT))
-        self.assertIn(self.node.bytes_of(DECIDED), self.came(self.node.third, 0.5))
+        want = self.node.bytes_of(WANT)
+        for genesis in (OTHER, bytes(32)):
+            self.assertEqual(self.third_gets(want), (0, 0, 0))
+            self.a_minute_passes()
+            self.came(self.node.third, 0.5)
+            self.assertEqual([self.third_gets(data) for data in (want, asks(3, genesis), want)], [(0, 0, 0), (0, 1, 0), (0, 0, 0)])
+        self.from_third(asks(3, self.genesis))
+        while self.node.third.recv(9000) != self.question:
+            pass
+        self.from_third(report(3, self.genesis, self.question))
+        self.assertEqual([self.third_gets(data) for data in (want, asks(3, self.genesis), want)], [(0, 0, 1), (0, 1, 0), (0, 0, 1)])
         self.node.process.kill()
         self.assertEqual(self.node.process.stderr.read().count("node 2 hears node 3 of another genesis\n"), 3)
+
+    def test_a_node_that_is_started_anew_with_the_right_genesis_is_heard_without_a_restart_of_others(self):
+        self.start(BEGUN, NO_OP)
+        self.third_tells_another()
+        self.node.third.close()
+        folder = self.enterContext(tempfile.TemporaryDirectory())
+        words = ["--genesis", self.node.genesis, "--number", "3", "--port", str(self.node.ports[2]), "--dir", folder]
+        third = subprocess.Popen([PROGRAM, "node", *words], stdin=subprocess.DEVNULL, stderr=subprocess.DEVNULL)
+        self.addCleanup(third.wait)
+        self.addCleanup(third.kill)
+        with Client(5, 9, self.node.ports[1:], first=milliseconds(), patience=30.0) as client:
+            self.assertEqual(client.acquire("db"), 1)  # nodes 2 and 3 are a majority
+        self.assertEqual((self.node.process.poll(), third.poll()), (None, None))
 
     def test_what_comes_from_the_address_of_a_stranger_changes_nothing(self):
         self.start(BEGUN, NO_OP)
