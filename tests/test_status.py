@@ -115,8 +115,8 @@ class StatusTest(unittest.TestCase):
         tail = "promised 3.1, snapshot 4, members 1 2 3, a change takes effect in 1 positions, 2 requests wait, 6 sends failed"
         self.assertEqual(lines, [
             f"node 1, port a: leads, executed 12, {tail}",
-            f"node 2, port b: follows 1, heard 1 ticks ago, executed 10 (2 behind), {tail}",
-            f"node 3, port c: follows 1, heard 1 ticks ago, executed 12, {tail}",
+            f"node 2, port b: follows 1, heard 1 tick ago, executed 10 (2 behind), {tail}",
+            f"node 3, port c: follows 1, heard 1 tick ago, executed 12, {tail}",
             "majority: 3 of 3 up",
         ])
 
@@ -138,7 +138,7 @@ class StatusTest(unittest.TestCase):
         self.tells([node(1, leads=1), node(1, leads=1), node(1, leads=1)], 1, "majority: 1 of 3 up")
 
     def test_nobody_leads(self):
-        self.tells([node(1, leader=0), node(2, leader=0)], 1, "knows no leader for 1 ticks", "why: nobody leads")
+        self.tells([node(1, leader=0), node(2, leader=0)], 1, "knows no leader for 1 tick", "why: nobody leads")
 
     def test_who_is_followed_and_does_not_lead_is_named(self):
         answers = [node(1, leader=3), node(2, leader=3), node(3, leader=0, silence=0)]

@@ -27,7 +27,7 @@ A fault, which the last line of standard error names; for
 no node has answered.
 .TP
 .B 2
-The command line is not understood.
+The command line is invalid.
 .SH SEE ALSO
 .I docs/OPERATING.md
 describes how to run a cluster and what each fault means,

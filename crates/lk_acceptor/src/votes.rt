@@ -57,6 +57,7 @@ pub fn lie_below(votes: &[Vote], end: u64) -> bool
     }
 }
 
+// Whether the kept vote is this one.
 fn is_same(kept: &Vote, vote: &Vote) -> bool
     ensures { IsTrue result ↔ (kept.now ≡ vote.now) }
 {
@@ -74,6 +75,7 @@ pub fn holds(votes: &[Vote], vote: &Vote) -> bool
     }
 }
 
+// Whether the kept vote, if it is of the same position and ballot, has the same command.
 fn agrees(kept: &Vote, vote: &Vote) -> bool
     ensures { IsTrue result ↔ Agrees kept.now vote.now }
 {

@@ -128,7 +128,7 @@ fn in_hex(digits: &[u8]) -> Option<Op>
 }
 
 // What the words after a verb ask for.
-fn asked(verb: Verb, words: &[u8]) -> Option<Op>
+fn op_of(verb: Verb, words: &[u8]) -> Option<Op>
     ensures some { IfSome result (Asks verb words.now) }
     ensures none { IsNone result → (o : OpValue) → Asks verb words.now o → ⊥ }
 {
@@ -158,5 +158,5 @@ pub fn read_operation(text: &[u8]) -> Option<Op>
 {
     let (word, words) = split_word(text)?;
     let verb = Verb::of(word)?;
-    asked(verb, words)
+    op_of(verb, words)
 }

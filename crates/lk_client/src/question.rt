@@ -80,7 +80,7 @@ pub fn next_reply<S: DatagramSocket>(
     ensures spares { S.failures socket.new ≡ S.failures socket.old }
 {
     buffer.receive(socket);
-    let Some((bytes, _)) = buffer.heard() else {
+    let Some((bytes, _)) = buffer.latest() else {
         return Heard::Nothing;
     };
     match read_reply(
@@ -97,7 +97,7 @@ pub fn next_reply<S: DatagramSocket>(
 }
 
 // The bytes to send for the request: its frame, if there is a key. Fails if it is out of memory.
-fn asked(alloc: Global, question: &Question) -> Result<Vec<u8>, ServiceFault>
+fn bytes_to_send(alloc: Global, question: &Question) -> Result<Vec<u8>, ServiceFault>
     ensures asks { IfOk result (λ bytes. IsAsked question.now bytes.items) }
     ensures only { IfErr result (λ f. f ≡ ServiceFault.NoMemory) }
 {
@@ -193,7 +193,7 @@ fn exchange_in_turn<S: DatagramSocket>(
     ensures unchanged { OnErr result (socket.new ≡ socket.old) }
     ensures only { IfErr result (λ f. f ≡ ServiceFault.NoMemory) }
 {
-    let bytes = asked(alloc, question)?;
+    let bytes = bytes_to_send(alloc, question)?;
     let (mut buffer, mut followed) = (ReceiveBuffer::new(), 0);
     'ports: for port in ports {
         let reply = ask_port(
@@ -283,8 +283,8 @@ fn ask_and_write<S: DatagramSocket, W: Write>(
     }
 }
 
-/// Asks the question's port, or these ports in turn where there are some, and prints what is replied. The status is 0;
-/// 1 where nothing was, which is printed as `no answer`, and where a fault is told on standard error.
+/// Asks the question's port, or these ports in turn if there are any, and prints the reply. Returns status 0, or 1
+/// after printing `no answer` or writing a fault to standard error.
 pub fn ask<S: DatagramSocket, W: Write, E: Write>(
     alloc: Global,
     socket: &mut S,
@@ -302,6 +302,6 @@ pub fn ask<S: DatagramSocket, W: Write, E: Write>(
     match ask_and_write(alloc, socket, question, turns, out) {
         Ok(true) => 0,
         Ok(false) => 1,
-        Err(fault) => fault.tell(err),
+        Err(fault) => fault.write_to(err),
     }
 }

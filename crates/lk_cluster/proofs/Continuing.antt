@@ -10,17 +10,17 @@ use Rattle.lk_step.specs.Letters.{LetterValue, batch_of, datagram_of}
 use Rattle.lk_step.specs.declared.note.Note.{Note}
 use Rattle.lk_node.specs.Histories.{Genesis, Datagram}
 use Rattle.lk_replica.specs.ReplicaValue.{ReplicaValue}
-use Rattle.lk_server.specs.Beside.{ActsBeside}
-use Rattle.lk_node_replica.specs.Showing.{IsShown}
+use Rattle.lk_server.specs.ProbeHandling.{HandlesProbes}
+use Rattle.lk_served_replica.specs.Showing.{IsShown}
 use Rattle.lk_server.specs.Servers.{ServerValue, Turn, LastTurn, IsIdle}
 use Rattle.lk_probe.specs.declared.reported.Reported.{Reported}
 use Rattle.lk_transport.specs.declared.asked.Asked.{Asked}
 use Rattle.lk_transport.specs.Chains.{Chain}
 use Rattle.lk_service.specs.Turns.{TakesTurn as ServerTurn, TakesTurnWith, GoesOn, TellsFailure, letters_in}
 use Rattle.lk_sim.specs.Networks.{Rests, RestsBy, Stops, nothing}
-use Rattle.lk_seats.specs.Seats.{At}
-use Rattle.lk_seats.specs.declared.seat.Life.{Life}
-use Rattle.lk_seats.specs.declared.seat.Life.TheVariants.{Up, Down}
+use Rattle.lk_world_nodes.specs.Seats.{At}
+use Rattle.lk_world_nodes.specs.declared.seat.Life.{Life}
+use Rattle.lk_world_nodes.specs.declared.seat.Life.TheVariants.{Up, Down}
 use Rattle.lk_sim.proofs.Networks.{at_set_here, set_twice}
 use Rattle.lk_cluster.specs.Clusters.{Node, Cluster, Network, Says, steps_of, IsBegun, server_disks, Starts, TakesTurn, Idles, EndsByTurn, Happens, HappenAll, IsReachable}
 use Rattle.lk_cluster.specs.Continuing.{node_of, HasNode, Continues, letters_of, MayAllCome}
@@ -113,7 +113,7 @@ module _ (May : Network) (Metered tells : Type 0) where
 
   -- an idle turn, or what is done beside the protocol
   rest_comes : (genesis : Genesis) (old : Cluster) → IsReachable May Metered tells genesis old → (place n : ℕ) (server after : ServerValue ReplicaValue) → HasNode old place n (Up server)
-      → ((frames : List (SocketAddr × List ℕ)) × IsIdle tells frames server after) ⊎ ((asked : Option Asked) × (reported : Option Reported) × ActsBeside IsShown tells asked reported server after)
+      → ((frames : List (SocketAddr × List ℕ)) × IsIdle tells frames server after) ⊎ ((asked : Option Asked) × (reported : Option Reported) × HandlesProbes IsShown tells asked reported server after)
       → IsReachable May Metered tells genesis (continued old place n (Up after) [] [])
   rest_comes genesis old all place n server after at idle =
       let new = continued old place n (Up after) [] [] in
@@ -258,7 +258,7 @@ module _ (May : Network) (Metered tells : Type 0) where
     -- turns, one after another, of a replica that says so
     module _ (S : ReplicaValue → List (Option (List ℕ)) → List LetterValue → ReplicaValue → Type 0) (so : (old : ReplicaValue) (given : List (Option (List ℕ))) (letters : List LetterValue) (new : ReplicaValue) → S old given letters new → Says Metered old given letters new) where
       -- whether a call has ended the replica is told before what is done beside the protocol as after it
-      mid_failure : (mid next : ServerValue ReplicaValue) (asked : Option Asked) (reported : Option Reported) → ActsBeside IsShown tells asked reported mid next → TellsFailure next → TellsFailure mid
+      mid_failure : (mid next : ServerValue ReplicaValue) (asked : Option Asked) (reported : Option Reported) → HandlesProbes IsShown tells asked reported mid next → TellsFailure next → TellsFailure mid
       mid_failure mid next asked reported acts failure =
           let as_was : next ≡ record mid { addresses = next.addresses; sent = next.sent; socket_failures = next.socket_failures; coming = next.coming } = acts.same in
           sym (ap (λ (s : ServerValue ReplicaValue). s.failed) as_was) ∙ failure ∙ ap (λ (s : ServerValue ReplicaValue). s.replica.failed) as_was

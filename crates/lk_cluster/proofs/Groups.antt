@@ -26,17 +26,17 @@ use Rattle.lk_replica.specs.Posts.{AreOf}
 use Rattle.lk_recovery.specs.Remembering.{Remembers}
 use Rattle.lk_replica.specs.ReplicaValue.{ReplicaValue, device_of}
 use Rattle.lk_recovery.specs.Rooms.{max_after}
-use Rattle.lk_node_replica.specs.Sayings.{SaysByGroup, IsSilenced, SaysOf}
+use Rattle.lk_served_replica.specs.Sayings.{SaysByGroup, IsSilenced, SaysOf}
 use Rattle.lk_server.specs.Servers.{ServerValue}
 use Rattle.lk_sim.specs.Events.{Turns}
 use Rattle.lk_sim.specs.Networks.{MayCome, AreAsking, MayHear, TellsOf, GoesBy, GoesOn}
-use Rattle.lk_seats.specs.Rooms.{AreShort}
+use Rattle.lk_world_nodes.specs.Rooms.{AreShort}
 use Rattle.lk_sim.specs.Scenes.{Scene}
-use Rattle.lk_seats.specs.Seats.{At}
+use Rattle.lk_world_nodes.specs.Seats.{At}
 use Rattle.lk_sim.specs.Traces.{asked_by, asked_in, asked_note, happened}
 use Rattle.lk_sim.specs.Worlds.{Holds}
-use Rattle.lk_seats.specs.declared.seat.Life.{Life}
-use Rattle.lk_seats.specs.declared.seat.Life.TheVariants.{Up, Down}
+use Rattle.lk_world_nodes.specs.declared.seat.Life.{Life}
+use Rattle.lk_world_nodes.specs.declared.seat.Life.TheVariants.{Up, Down}
 use Rattle.lk_sim.proofs.Networks.{step_holds, heard, asked_maybe, at_set_here, set_twice, went_down}
 use Rattle.lk_cluster.specs.Clusters.{Node, ServerStands, server_disks, JoinsByStep, Joins, steps_of}
 use Rattle.lk_cluster.proofs.Mapped.{on_device}

@@ -18,8 +18,8 @@ use Rattle.lk_replica.specs.ReplicaValue.{ReplicaValue, device_of}
 use Rattle.lk_transport.specs.Addresses.{AddressBook}
 use Rattle.lk_transport.specs.Posts.{Tray, Becomes}
 use Rattle.lk_pace.specs.Paces.{ticks_after, MayFollow}
-use Rattle.lk_server.specs.Beside.{ActsBeside}
-use Rattle.lk_node_replica.specs.Showing.{IsShown}
+use Rattle.lk_server.specs.ProbeHandling.{HandlesProbes}
+use Rattle.lk_served_replica.specs.Showing.{IsShown}
 use Rattle.lk_probe.specs.declared.reported.Reported.{Reported}
 use Rattle.lk_transport.specs.declared.asked.Asked.{Asked}
 use Rattle.lk_server.specs.Servers.{ServerValue, HandsOn, Given, IsIdle, one_more, inputs, all_inputs, datagrams_in, IsFront, tray_at}
@@ -27,11 +27,11 @@ use Rattle.lk_pace.specs.declared.pace.Pace.{Pace}
 use Rattle.lk_pace.specs.declared.pace.Pace.TheVariants.{Datagrams, Clock}
 use Rattle.lk_sim.specs.Events.{Turns, Adds}
 use Rattle.lk_sim.specs.Networks.{MayCome, Steps, Appears, Rests, Stops, nothing}
-use Rattle.lk_seats.specs.Rooms.{AreShort}
-use Rattle.lk_seats.specs.Seats.{At, UpFits}
+use Rattle.lk_world_nodes.specs.Rooms.{AreShort}
+use Rattle.lk_world_nodes.specs.Seats.{At, UpFits}
 use Rattle.lk_sim.specs.Traces.{happened}
 use Rattle.lk_sim.specs.Worlds.{Holds}
-use Rattle.lk_seats.specs.declared.seat.Life.TheVariants.{Up, Down}
+use Rattle.lk_world_nodes.specs.declared.seat.Life.TheVariants.{Up, Down}
 use Rattle.lk_sim.proofs.Networks.{step_holds, at_set, at_set_here, at_push, nothing_holds, set_twice, went_down}
 use Rattle.lk_cluster.specs.Clusters.{Node, Cluster, Network, ForgesNothing, ServerStands, server_disks, Says, Starts, TakesTurn, Idles, EndsByTurn, Happens, HappenAll, IsReachable}
 use Rattle.lk_cluster.proofs.Groups.{AllMay, group_leaves}
@@ -196,7 +196,7 @@ at_rest server after = record after { addresses = server.addresses; coming = ser
 
 -- by an idle turn and beside the protocol nothing else changes
 at_rest_by : {tells : Type 0} (server after : ServerValue ReplicaValue)
-    → ((frames : List (SocketAddr × List ℕ)) × IsIdle tells frames server after) ⊎ ((asked : Option Asked) × (reported : Option Reported) × ActsBeside IsShown tells asked reported server after) → at_rest server after ≡ server
+    → ((frames : List (SocketAddr × List ℕ)) × IsIdle tells frames server after) ⊎ ((asked : Option Asked) × (reported : Option Reported) × HandlesProbes IsShown tells asked reported server after) → at_rest server after ≡ server
 at_rest_by server after (inl i) = ap (λ (s : ServerValue ReplicaValue). record s { addresses = server.addresses; sent = server.sent; socket_failures = server.socket_failures }) i.1.same
 at_rest_by server after (inr a) = ap (λ (s : ServerValue ReplicaValue). at_rest server s) a.2.same
 

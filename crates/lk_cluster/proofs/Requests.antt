@@ -16,7 +16,7 @@ use Rattle.lk_agreement.proofs.Histories.{contains_more}
 use Rattle.lk_step.specs.declared.note.Note.{Note}
 use Rattle.lk_node.specs.Histories.{Datagram, RequestValue}
 use Rattle.lk_sim.specs.Networks.{IsRequestIn, AreAsking, TellsOf}
-use Rattle.lk_seats.specs.Told.{told_by}
+use Rattle.lk_world_nodes.specs.Told.{told_by}
 
 -- ---- what can be decided
 

@@ -18,7 +18,7 @@ use Rattle.lk_transport.specs.Chains.{Chain}
 use Rattle.lk_service.specs.Revivals.{IsBegun as IsTakenUp, IsRefusedWith, StaysDown}
 use Rattle.lk_service.specs.Turns.{TakesTurn, LeavesOff, Serves, EndsEarly, LeavesEarly, letters_in}
 use Rattle.lk_sim.specs.Networks.{RestsBy}
-use Rattle.lk_seats.specs.declared.seat.Life.TheVariants.{Up, Down}
+use Rattle.lk_world_nodes.specs.declared.seat.Life.TheVariants.{Up, Down}
 use Rattle.lk_sim.proofs.Networks.{at_set_here}
 use Rattle.lk_cluster.specs.Clusters.{Cluster, Network, Says, IsBegun, server_disks, IsReachable}
 use Rattle.lk_cluster.specs.Continuing.{node_of, HasNode, Continues, letters_of, MayAllCome}

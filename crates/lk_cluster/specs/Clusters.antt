@@ -19,9 +19,9 @@ use Rattle.lk_node.specs.Holdings.{Holding}
 use Rattle.lk_node.specs.Keeping.{Stands}
 use Rattle.lk_replica.specs.Groups.{StepSaid}
 use Rattle.lk_replica.specs.ReplicaValue.{ReplicaValue}
-use Rattle.lk_node_replica.specs.Sayings.{SaysByGroup, IsSilenced, SaysOf}
-use Rattle.lk_server.specs.Beside.{ActsBeside}
-use Rattle.lk_node_replica.specs.Showing.{IsShown}
+use Rattle.lk_served_replica.specs.Sayings.{SaysByGroup, IsSilenced, SaysOf}
+use Rattle.lk_server.specs.ProbeHandling.{HandlesProbes}
+use Rattle.lk_served_replica.specs.Showing.{IsShown}
 use Rattle.lk_server.specs.Servers.{ServerValue, Turn, LastTurn, IsIdle}
 use Rattle.lk_probe.specs.declared.reported.Reported.{Reported}
 use Rattle.lk_transport.specs.declared.asked.Asked.{Asked}
@@ -29,9 +29,9 @@ use Rattle.lk_sim.specs.Events.{Turns, Adds}
 use Rattle.lk_sim.specs.Networks.{MayCome, AreAsking, TellsOf, RisesBy, Appears, Rises, Rests, Stops, nothing}
 use Rattle.lk_sim.specs.Scenes.{Scene}
 use Rattle.lk_sim.specs.Traces.{asked_note}
-use Rattle.lk_seats.specs.declared.seat.Life.{Life}
-use Rattle.lk_seats.specs.declared.seat.Life.TheVariants.{Up, Down}
-use Rattle.lk_seats.specs.declared.seat.Seat.{Seat}
+use Rattle.lk_world_nodes.specs.declared.seat.Life.{Life}
+use Rattle.lk_world_nodes.specs.declared.seat.Life.TheVariants.{Up, Down}
+use Rattle.lk_world_nodes.specs.declared.seat.Seat.{Seat}
 
 -- a node: its number, and that it is up as a server, or down with its disks
 abbrev pub Node : Type 0
@@ -117,7 +117,7 @@ pub record Starts (old new : Cluster) : Type 0 where
   pub own : rises.replica.own ≡ []
   pub alive : rises.replica.replica.failed ≡ false
 
--- a node that is up takes an idle turn, or acts beside the protocol: its replica is given nothing, and nothing is given
+-- a node that is up takes an idle turn, or handles probes: its replica is given nothing, and nothing is given
 -- to be sent as a datagram of the node. Only what it knows of the nodes at other addresses, what is to come to its
 -- socket, what that has sent, and how many of its sends have failed may be another. `tells` says that the sockets tell
 -- that
@@ -129,7 +129,7 @@ pub record Idles (tells : Type 0) (old new : Cluster) : Type 0 where
   pub was : node.life ≡ Up server
   pub after : ServerValue ReplicaValue
   pub up : next.life ≡ Up after
-  pub idle : ((frames : List (SocketAddr × List ℕ)) × IsIdle tells frames server after) ⊎ ((asked : Option Asked) × (reported : Option Reported) × ActsBeside IsShown tells asked reported server after)
+  pub idle : ((frames : List (SocketAddr × List ℕ)) × IsIdle tells frames server after) ⊎ ((asked : Option Asked) × (reported : Option Reported) × HandlesProbes IsShown tells asked reported server after)
   pub adds : Adds old new [] []
 
 -- `May` says what the network may bring, `Metered` that the devices count their calls, and `tells` that the sockets
@@ -173,8 +173,8 @@ module _ (May : Network) (Metered tells : Type 0) where
     pub joins : Joins node.number turn.given (steps_of Metered turn.hands_on.says.comes) trace
     pub adds : Adds old new trace (batch_of node.number turn.hands_on.letters)
 
-  -- a node appears, with empty disks; it starts, or does not; it takes a turn, or an idle one, or acts beside the
-  -- protocol, or ends by a turn; or it stops, up or down, and its disks have what a stop may leave
+  -- a node appears, with empty disks; it starts, or does not; it takes a turn, or an idle one, or handles
+  -- probes, or ends by a turn; or it stops, up or down, and its disks have what a stop may leave
   abbrev pub Happens : Cluster → Cluster → Type 0
   Happens old new =
       Appears old new ⊎ Starts old new ⊎ Rests table_meaning old new ⊎ TakesTurn old new ⊎ Idles tells old new ⊎ EndsByTurn old new ⊎ Stops server_disks old new

@@ -6,8 +6,8 @@ use Rattle.lk_replica.specs.ReplicaValue.{ReplicaValue}
 use Rattle.lk_server.specs.Servers.{ServerValue}
 use Rattle.lk_transport.specs.Chains.{Chain}
 use Rattle.lk_service.specs.Turns.{TakesTurn as ServerTurn, letters_in}
-use Rattle.lk_seats.specs.Seats.{At}
-use Rattle.lk_seats.specs.declared.seat.Life.{Life}
+use Rattle.lk_world_nodes.specs.Seats.{At}
+use Rattle.lk_world_nodes.specs.declared.seat.Life.{Life}
 use Rattle.lk_step.specs.Letters.{LetterValue, batch_of}
 use Rattle.lk_cluster.specs.Clusters.{Node, Cluster, Network, IsReachable}
 

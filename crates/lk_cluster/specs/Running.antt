@@ -13,7 +13,7 @@ use Rattle.lk_seal.specs.declared.seals.Seals.{Seals}
 use Rattle.lk_transport.specs.declared.fault.ServiceFault.{ServiceFault}
 use Rattle.lk_service.specs.Revivals.{IsBegun as IsTakenUp, IsRefusedWith}
 use Rattle.lk_service.specs.Turns.{Serves, EndsEarly, LeavesEarly, letters_in}
-use Rattle.lk_seats.specs.declared.seat.Life.TheVariants.{Up, Down}
+use Rattle.lk_world_nodes.specs.declared.seat.Life.TheVariants.{Up, Down}
 use Rattle.lk_cluster.specs.Clusters.{Cluster, ForgesNothing, server_disks}
 use Rattle.lk_cluster.specs.Continuing.{HasNode, Continues, MayAllCome, letters_of}
 

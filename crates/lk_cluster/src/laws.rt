@@ -22,7 +22,7 @@ ghost use Rattle.lk_transport.specs.Chains.{Repeats};
 ghost use Rattle.lk_service.specs.Revivals.{IsBegun as IsTakenUp, IsNotTakenUp, IsRefusedWith};
 ghost use Rattle.lk_service.specs.Turns.{EndsEarly, Serves, TakesTurn};
 ghost use Rattle.lk_sim.specs.Networks.{MayCome};
-ghost use Rattle.lk_seats.specs.declared.seat.Life.TheVariants.{Up, Down};
+ghost use Rattle.lk_world_nodes.specs.declared.seat.Life.TheVariants.{Up, Down};
 ghost use Rattle.lk_promise.specs.ComingBack.{IsExcused};
 ghost use Rattle.lk_promise.specs.Converging.{Converges};
 ghost use Rattle.lk_promise.specs.ExactlyOnce.{AreServedOnce};
@@ -35,11 +35,11 @@ ghost use Rattle.lk_cluster.specs.Sealing.{IsSealed, OnlyNodesSeal, OnlyNodesSea
 
 use lk_disk::LogDisk;
 use lk_locks::LockTable;
-use lk_node_replica::NodeReplica;
 use lk_promise::laws::{
     nodes_converge, operations_take_effect_exactly_once, worlds_are_linearizable,
 };
 use lk_replica::Replica;
+use lk_served_replica::ServedReplica;
 use lk_server::laws::is_told_by_a_node;
 use lk_transport::socket::DatagramSocket;
 
@@ -132,8 +132,8 @@ pub fn a_turn_continues_a_cluster<D: LogDisk, S: DatagramSocket>()
         → Continues ForgesNothing D.is_metered S.is_telling genesis cluster place n (Up after) turn.hands_on.letters }
 {}
 
-/// A turn of a server that has the key of the nodes continues its cluster whatever frames came in it. `turning::turn`
-/// ensures such a turn, or an idle one.
+/// A turn of a server that has the key of the nodes continues its cluster whatever frames came in it.
+/// `turning::serve_turn` ensures such a turn, or an idle one.
 pub fn a_sealed_turn_continues_a_cluster<D: LogDisk, S: DatagramSocket>()
     ensures { (genesis : GenesisValue) (cluster : Cluster) → IsReachable IsSealed D.is_metered S.is_telling genesis cluster
         → (place n : ℕ) (server after : ServerValue ReplicaValue) → HasNode cluster place n (Up server)
@@ -167,10 +167,10 @@ pub fn a_last_turn_continues_a_cluster<D: LogDisk, S: DatagramSocket>()
 pub fn turns_continue_a_cluster<D: LogDisk + Drop, S: DatagramSocket>()
     ensures { D.is_honest → (genesis : GenesisValue) (cluster : Cluster) → IsReachable ForgesNothing D.is_metered S.is_telling genesis cluster
         → (place n count : ℕ) (first last : ServerValue ReplicaValue) → HasNode cluster place n (Up first)
-        → (turns : Repeats (TakesTurn ⟦<Replica<LockTable, D> as NodeReplica>⟧.Says S.is_telling) count first last)
-        → MayAllCome ⟦<Replica<LockTable, D> as NodeReplica>⟧.Says S.is_telling ForgesNothing cluster.genesis n cluster.sent first turns.states last turns.chain
+        → (turns : Repeats (TakesTurn ⟦<Replica<LockTable, D> as ServedReplica>⟧.Says S.is_telling) count first last)
+        → MayAllCome ⟦<Replica<LockTable, D> as ServedReplica>⟧.Says S.is_telling ForgesNothing cluster.genesis n cluster.sent first turns.states last turns.chain
         → Continues ForgesNothing D.is_metered S.is_telling genesis cluster place n (Up last)
-        (letters_of ⟦<Replica<LockTable, D> as NodeReplica>⟧.Says S.is_telling first turns.states last turns.chain) }
+        (letters_of ⟦<Replica<LockTable, D> as ServedReplica>⟧.Says S.is_telling first turns.states last turns.chain) }
 {}
 
 /// A node that serves continues its cluster, from its start to its last turn. The contract of the program ensures such
@@ -179,10 +179,10 @@ pub fn a_service_continues_a_cluster<D: LogDisk + Drop, S: DatagramSocket>()
     ensures { D.is_honest → (genesis : GenesisValue) (cluster : Cluster) → IsReachable ForgesNothing D.is_metered S.is_telling genesis cluster
         → (place n count : ℕ) (device : Memory) → HasNode cluster place n (Down device)
         → (disks : Side → Disk) → ((s : Side) → disk_of device s ≡ disks s)
-        → (seals : Seals) (served : Serves (IsTakenUp table_meaning D.is_honest disks (header_of cluster.genesis n)) (header_of cluster.genesis n) seals ⟦<Replica<LockTable, D> as NodeReplica>⟧.Says S.is_telling count)
-        → MayAllCome ⟦<Replica<LockTable, D> as NodeReplica>⟧.Says S.is_telling ForgesNothing cluster.genesis n cluster.sent served.begun served.turns.states served.ended served.turns.chain
+        → (seals : Seals) (served : Serves (IsTakenUp table_meaning D.is_honest disks (header_of cluster.genesis n)) (header_of cluster.genesis n) seals ⟦<Replica<LockTable, D> as ServedReplica>⟧.Says S.is_telling count)
+        → MayAllCome ⟦<Replica<LockTable, D> as ServedReplica>⟧.Says S.is_telling ForgesNothing cluster.genesis n cluster.sent served.begun served.turns.states served.ended served.turns.chain
         → Continues ForgesNothing D.is_metered S.is_telling genesis cluster place n (Up served.ended)
-        (letters_of ⟦<Replica<LockTable, D> as NodeReplica>⟧.Says S.is_telling served.begun served.turns.states served.ended served.turns.chain) }
+        (letters_of ⟦<Replica<LockTable, D> as ServedReplica>⟧.Says S.is_telling served.begun served.turns.states served.ended served.turns.chain) }
 {}
 
 /// A node whose service breaks off continues its cluster: its last turn ends it, and it is down with the disks that
@@ -191,13 +191,13 @@ pub fn a_service_that_breaks_off_continues_a_cluster<D: LogDisk + Drop, S: Datag
     ensures { D.is_honest → (genesis : GenesisValue) (cluster : Cluster) → IsReachable ForgesNothing D.is_metered S.is_telling genesis cluster
         → (place n most : ℕ) (device : Memory) → HasNode cluster place n (Down device)
         → (disks : Side → Disk) → ((s : Side) → disk_of device s ≡ disks s)
-        → (seals : Seals) (served : EndsEarly (IsTakenUp table_meaning D.is_honest disks (header_of cluster.genesis n)) (header_of cluster.genesis n) seals ⟦<Replica<LockTable, D> as NodeReplica>⟧.Says S.is_telling most)
-        → MayAllCome ⟦<Replica<LockTable, D> as NodeReplica>⟧.Says S.is_telling ForgesNothing cluster.genesis n cluster.sent served.begun served.breaks.turns.states served.breaks.last served.breaks.turns.chain
+        → (seals : Seals) (served : EndsEarly (IsTakenUp table_meaning D.is_honest disks (header_of cluster.genesis n)) (header_of cluster.genesis n) seals ⟦<Replica<LockTable, D> as ServedReplica>⟧.Says S.is_telling most)
+        → MayAllCome ⟦<Replica<LockTable, D> as ServedReplica>⟧.Says S.is_telling ForgesNothing cluster.genesis n cluster.sent served.begun served.breaks.turns.states served.breaks.last served.breaks.turns.chain
         → ForgesNothing cluster.genesis
-        (cluster.sent ++ batch_of n (letters_of ⟦<Replica<LockTable, D> as NodeReplica>⟧.Says S.is_telling served.begun served.breaks.turns.states served.breaks.last served.breaks.turns.chain)) served.breaks.last served.breaks.ends.came
+        (cluster.sent ++ batch_of n (letters_of ⟦<Replica<LockTable, D> as ServedReplica>⟧.Says S.is_telling served.begun served.breaks.turns.states served.breaks.last served.breaks.turns.chain)) served.breaks.last served.breaks.ends.came
         → (left : Memory) → ((s : Side) → disk_of left s ≡ server_disks served.ended s)
         → Continues ForgesNothing D.is_metered S.is_telling genesis cluster place n (Down left)
-        (letters_of ⟦<Replica<LockTable, D> as NodeReplica>⟧.Says S.is_telling served.begun served.breaks.turns.states served.breaks.last served.breaks.turns.chain ++ served.breaks.ends.turn.hands_on.letters) }
+        (letters_of ⟦<Replica<LockTable, D> as ServedReplica>⟧.Says S.is_telling served.begun served.breaks.turns.states served.breaks.last served.breaks.turns.chain ++ served.breaks.ends.turn.hands_on.letters) }
 {}
 
 /// A node that serves with the nodes' key continues its cluster whatever frames arrive. The contract of the program
@@ -206,11 +206,11 @@ pub fn a_sealed_service_continues_a_cluster<D: LogDisk + Drop, S: DatagramSocket
     ensures { D.is_honest → (genesis : GenesisValue) (cluster : Cluster) → IsReachable IsSealed D.is_metered S.is_telling genesis cluster
         → (place n count : ℕ) (device : Memory) → HasNode cluster place n (Down device)
         → (disks : Side → Disk) → ((s : Side) → disk_of device s ≡ disks s)
-        → (seals : Seals) (served : Serves (IsTakenUp table_meaning D.is_honest disks (header_of cluster.genesis n)) (header_of cluster.genesis n) seals ⟦<Replica<LockTable, D> as NodeReplica>⟧.Says S.is_telling count)
+        → (seals : Seals) (served : Serves (IsTakenUp table_meaning D.is_honest disks (header_of cluster.genesis n)) (header_of cluster.genesis n) seals ⟦<Replica<LockTable, D> as ServedReplica>⟧.Says S.is_telling count)
         → key_list seals.nodes ≢ []
-        → OnlyNodesSealAll ⟦<Replica<LockTable, D> as NodeReplica>⟧.Says S.is_telling seals n cluster.sent served.begun served.turns.states served.ended served.turns.chain
+        → OnlyNodesSealAll ⟦<Replica<LockTable, D> as ServedReplica>⟧.Says S.is_telling seals n cluster.sent served.begun served.turns.states served.ended served.turns.chain
         → Continues IsSealed D.is_metered S.is_telling genesis cluster place n (Up served.ended)
-        (letters_of ⟦<Replica<LockTable, D> as NodeReplica>⟧.Says S.is_telling served.begun served.turns.states served.ended served.turns.chain) }
+        (letters_of ⟦<Replica<LockTable, D> as ServedReplica>⟧.Says S.is_telling served.begun served.turns.states served.ended served.turns.chain) }
 {
     is_told_by_a_node();
 }
@@ -220,14 +220,14 @@ pub fn a_sealed_service_that_breaks_off_continues_a_cluster<D: LogDisk + Drop, S
     ensures { D.is_honest → (genesis : GenesisValue) (cluster : Cluster) → IsReachable IsSealed D.is_metered S.is_telling genesis cluster
         → (place n most : ℕ) (device : Memory) → HasNode cluster place n (Down device)
         → (disks : Side → Disk) → ((s : Side) → disk_of device s ≡ disks s)
-        → (seals : Seals) (served : EndsEarly (IsTakenUp table_meaning D.is_honest disks (header_of cluster.genesis n)) (header_of cluster.genesis n) seals ⟦<Replica<LockTable, D> as NodeReplica>⟧.Says S.is_telling most)
+        → (seals : Seals) (served : EndsEarly (IsTakenUp table_meaning D.is_honest disks (header_of cluster.genesis n)) (header_of cluster.genesis n) seals ⟦<Replica<LockTable, D> as ServedReplica>⟧.Says S.is_telling most)
         → key_list seals.nodes ≢ []
-        → OnlyNodesSealAll ⟦<Replica<LockTable, D> as NodeReplica>⟧.Says S.is_telling seals n cluster.sent served.begun served.breaks.turns.states served.breaks.last served.breaks.turns.chain
+        → OnlyNodesSealAll ⟦<Replica<LockTable, D> as ServedReplica>⟧.Says S.is_telling seals n cluster.sent served.begun served.breaks.turns.states served.breaks.last served.breaks.turns.chain
         → OnlyNodesSealWhatComes
-        (cluster.sent ++ batch_of n (letters_of ⟦<Replica<LockTable, D> as NodeReplica>⟧.Says S.is_telling served.begun served.breaks.turns.states served.breaks.last served.breaks.turns.chain)) seals served.breaks.ends.frames
+        (cluster.sent ++ batch_of n (letters_of ⟦<Replica<LockTable, D> as ServedReplica>⟧.Says S.is_telling served.begun served.breaks.turns.states served.breaks.last served.breaks.turns.chain)) seals served.breaks.ends.frames
         → (left : Memory) → ((s : Side) → disk_of left s ≡ server_disks served.ended s)
         → Continues IsSealed D.is_metered S.is_telling genesis cluster place n (Down left)
-        (letters_of ⟦<Replica<LockTable, D> as NodeReplica>⟧.Says S.is_telling served.begun served.breaks.turns.states served.breaks.last served.breaks.turns.chain ++ served.breaks.ends.turn.hands_on.letters) }
+        (letters_of ⟦<Replica<LockTable, D> as ServedReplica>⟧.Says S.is_telling served.begun served.breaks.turns.states served.breaks.last served.breaks.turns.chain ++ served.breaks.ends.turn.hands_on.letters) }
 {
     is_told_by_a_node();
 }

@@ -10,8 +10,8 @@ use lk_disk::LogDisk;
 use lk_events::line::Observer;
 use lk_folder::causes::FailureCause;
 use lk_locks::LockTable;
-use lk_node_replica::NodeReplica;
 use lk_replica::Replica;
+use lk_served_replica::ServedReplica;
 use lk_service::resources::{NodePlan, Resources};
 use lk_service::running::run_node;
 use lk_transport::socket::DatagramSocket;
@@ -41,12 +41,12 @@ pub fn run<
     requires { AreSealsOf plan.now.header resources.network.seals }
     ensures served { D.is_honest → result ≡ 0 → (genesis : GenesisValue) (cluster : Cluster) → IsReachable ForgesNothing D.is_metered S.is_telling genesis cluster
         → (place n : ℕ) → plan.now.header ≡ header_of cluster.genesis n → IsDownOn cluster place n (D.disk resources.device)
-        → ServesIn D.is_metered S.is_telling D.is_honest ⟦<Replica<LockTable, D> as NodeReplica>⟧.Says genesis cluster place n (D.disk resources.device) resources.network.seals (2 ^ 48) }
+        → ServesIn D.is_metered S.is_telling D.is_honest ⟦<Replica<LockTable, D> as ServedReplica>⟧.Says genesis cluster place n (D.disk resources.device) resources.network.seals (2 ^ 48) }
     ensures broken { D.is_honest → result ≡ 1 → (genesis : GenesisValue) (cluster : Cluster) → IsReachable ForgesNothing D.is_metered S.is_telling genesis cluster
         → (place n : ℕ) → plan.now.header ≡ header_of cluster.genesis n → IsDownOn cluster place n (D.disk resources.device)
-        → RestsIn D.is_metered S.is_telling D.is_honest ⟦<Replica<LockTable, D> as NodeReplica>⟧.Says genesis cluster place n (D.disk resources.device) resources.network.seals
-        ⊎ EndsIn D.is_metered S.is_telling D.is_honest ⟦<Replica<LockTable, D> as NodeReplica>⟧.Says genesis cluster place n (D.disk resources.device) resources.network.seals (2 ^ 48)
-        ⊎ LeavesIn D.is_metered S.is_telling D.is_honest ⟦<Replica<LockTable, D> as NodeReplica>⟧.Says genesis cluster place n (D.disk resources.device) resources.network.seals (2 ^ 48) }
+        → RestsIn D.is_metered S.is_telling D.is_honest ⟦<Replica<LockTable, D> as ServedReplica>⟧.Says genesis cluster place n (D.disk resources.device) resources.network.seals
+        ⊎ EndsIn D.is_metered S.is_telling D.is_honest ⟦<Replica<LockTable, D> as ServedReplica>⟧.Says genesis cluster place n (D.disk resources.device) resources.network.seals (2 ^ 48)
+        ⊎ LeavesIn D.is_metered S.is_telling D.is_honest ⟦<Replica<LockTable, D> as ServedReplica>⟧.Says genesis cluster place n (D.disk resources.device) resources.network.seals (2 ^ 48) }
     ensures status { result ≤ 1 }
 {
     run_node::<LockTable, D, S, C, L, O, E>(clock, alloc, plan, resources, log, observer, err)

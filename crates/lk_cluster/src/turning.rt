@@ -27,7 +27,7 @@ use std::time::Clock;
 
 /// One turn of a server of the lock table, on any honest device and any socket. It takes what arrives, out of its
 /// frames if the nodes have a key.
-pub fn turn<D: LogDisk + Drop, S: DatagramSocket + Drop, C: Clock, L: Log>(
+pub fn serve_turn<D: LogDisk + Drop, S: DatagramSocket + Drop, C: Clock, L: Log>(
     server: &mut Server<Replica<LockTable, D>, S>,
     buffer: &mut ReceiveBuffer,
     metronome: &mut Metronome<C>,

@@ -44,8 +44,8 @@ impl<F> SystemFile<F> {
         FileFault
     }
 
-    // Records a failed call.
-    fn told(&mut self, made: io::Result<()>) -> Result<(), FileFault>
+    // The result of a call of the system. Keeps the cause of a failed one.
+    fn keep_cause(&mut self, made: io::Result<()>) -> Result<(), FileFault>
         ensures { HasCause self.old.failures self.new.failures result }
     {
         match made {
@@ -75,12 +75,12 @@ impl<F: OpenFile + Read + Write + Seek> AppendFile for SystemFile<F> {
 
     fn read_into(&mut self, offset: usize, buffer: &mut [u8]) -> Result<(), FileFault> {
         let read = read_at(&mut self.file, offset, buffer);
-        self.told(read)
+        self.keep_cause(read)
     }
 
     fn append(&mut self, piece: &[u8]) -> Result<(), FileFault> {
         let made = self.file.write_all(piece);
-        self.told(made)
+        self.keep_cause(made)
     }
 
     fn flush(&mut self) -> Result<(), FileFault> {
@@ -89,12 +89,12 @@ impl<F: OpenFile + Read + Write + Seek> AppendFile for SystemFile<F> {
 
     fn sync(&mut self) -> Result<(), FileFault> {
         let made = self.file.sync_data();
-        self.told(made)
+        self.keep_cause(made)
     }
 
     fn shorten(&mut self, len: usize) -> Result<(), FileFault> {
         let made = self.file.set_len(len as u64);
-        self.told(made)
+        self.keep_cause(made)
     }
 }
 

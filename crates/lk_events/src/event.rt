@@ -1,4 +1,4 @@
-//! What may happen to a node that an operator wants to know of.
+//! The events of a node that an operator wants to know.
 
 ghost use Rattle.std.specs.Prelude.{◌≡◌, ◌<◌};
 ghost use Rattle.lk_events.specs.Kinds.{kind_of, kinds, is_warning};
@@ -6,52 +6,52 @@ ghost use Rattle.lk_events.specs.Kinds.{kind_of, kinds, is_warning};
 use lk_types::{Executed, Members, NodeNo, RealBallot};
 use std::fmt;
 
-/// How many kinds of events there are.
+/// The number of kinds of events.
 pub const KINDS: usize = 15;
 
-/// Why a node leads no more.
+/// Why a node no longer leads.
 #[derive(Clone, Copy, Debug)]
 pub enum Why {
     /// It has promised a greater ballot, which this node began.
     Promised(NodeNo),
     /// It is no member of the next position.
     NoMember,
-    /// It was told of a greater ballot.
+    /// It has heard of a greater ballot.
     Told,
 }
 
 /// What has happened to a node.
 #[derive(Debug, Drop)]
 pub enum Event {
-    /// It came up with a store in which nothing stands.
+    /// It started with an empty store.
     Begun,
-    /// It came up with the store that it had, by which it has executed so many positions.
+    /// It started with its store, by which it has executed this many positions.
     Found(Executed),
     /// A majority has promised its ballot.
     Leads(RealBallot),
-    /// It led in this ballot, and leads in it no more.
+    /// It no longer leads in this ballot.
     Ended(RealBallot, Why),
-    /// It hears that this node leads.
+    /// It follows this node.
     Follows(NodeNo),
-    /// For so many seconds it has neither led nor heard of a leader.
+    /// It has neither led nor heard of a leader for this many seconds.
     Leaderless(u64),
-    /// This node is a member of the next position, whose members these are.
+    /// This node has joined: these are the members of the next position.
     Joined(NodeNo, Members),
-    /// This node is a member no more.
+    /// This node has left: these are the members of the next position.
     Left(NodeNo, Members),
-    /// It wrote a snapshot of so many positions.
+    /// It wrote a snapshot of this many positions.
     Wrote(Executed),
-    /// It installed a snapshot of so many positions, whose last part this node sent.
+    /// It installed a snapshot of this many positions, whose last part this node sent.
     Installed(Executed, NodeNo),
     /// A datagram to this node could not be sent.
     Unsent(NodeNo),
-    /// For a second it has asked this node for what it has missed.
+    /// It has asked this node for a second for what it missed.
     Behind(NodeNo),
-    /// It has asked nobody for a second.
+    /// It was behind, and has asked nobody for a second.
     CaughtUp(Executed),
     /// This node was started with another genesis.
     OtherGenesis(NodeNo),
-    /// So many datagrams of another cluster have come.
+    /// This many datagrams of another cluster have come.
     OtherCluster(u64),
 }
 
@@ -80,7 +80,7 @@ impl Event {
         }
     }
 
-    /// Whether somebody has to look at it.
+    /// Whether an operator should look at it.
     pub fn is_warning(&self) -> bool
         ensures { result ≡ is_warning self.now }
     {

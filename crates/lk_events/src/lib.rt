@@ -1,5 +1,5 @@
-//! What an operator is told of a node: which changes from turn to turn are events, how many lines of them are told,
-//! and the line of each.
+//! The events of a node, for an operator: which changes between turns are events, how many of them are logged, and the
+//! line of each.
 #![tactic(auto)]
 
 pub mod event;

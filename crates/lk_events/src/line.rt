@@ -14,19 +14,19 @@ use log::{Log, info, warn};
 use std::fmt;
 use std::time::{Clock, SystemTime};
 
-/// Who is told what is seen of a node, turn by turn.
+/// Observes a node, turn by turn.
 pub trait Observer {
-    /// Whether it is told anything.
+    /// Whether it needs views of the node.
     fn is_on(&self) -> bool;
 
-    /// The node has come up, with an empty store or with one in which something stands.
+    /// The node has started, with an empty store or one that holds entries.
     fn begin(&mut self, is_empty: bool, view: View);
 
-    /// A turn has passed.
-    fn turn(&mut self, view: View);
+    /// Observes the node after a turn.
+    fn observe(&mut self, view: View);
 }
 
-/// Nobody is told anything.
+/// Observes nothing.
 #[derive(Clone, Copy)]
 pub struct Unobserved;
 
@@ -37,10 +37,10 @@ impl Observer for Unobserved {
 
     fn begin(&mut self, _is_empty: bool, _view: View) {}
 
-    fn turn(&mut self, _view: View) {}
+    fn observe(&mut self, _view: View) {}
 }
 
-/// A log that is told the events of a node.
+/// Writes the events of a node to a log.
 #[derive(Drop)]
 pub struct Events<C: Clock + Drop, L: Log + Drop> {
     clock: C,
@@ -60,7 +60,7 @@ impl fmt::Display for Line {
 }
 
 impl<C: Clock + Drop, L: Log + Drop> Events<C, L> {
-    /// The events of that node, which a log is told with the time of a clock.
+    /// Events of that node, which go to the log with the time of the clock.
     pub fn new(clock: C, log: L, node: NodeNo) -> Events<C, L>
         ensures node { result.node ≡ node }
         ensures watch { result.watch ≡ None }
@@ -84,8 +84,8 @@ impl<C: Clock + Drop, L: Log + Drop> Events<C, L> {
         }
     }
 
-    // Logs a line, with its time.
-    fn tell(&self, line: &Line) {
+    // Logs a line with its time and node, as a warning if its event is one.
+    fn log_line(&self, line: &Line) {
         let node = self.node.get();
         let time = i64::try_from(line.time).unwrap_or(0);
         let Ok(time) = Timestamp::from_millisecond(time) else {
@@ -98,13 +98,13 @@ impl<C: Clock + Drop, L: Log + Drop> Events<C, L> {
         }
     }
 
-    // Logs what waits, where it may be told.
-    fn tell_due(&self, watch: &mut Watch, now: u64)
+    // Logs the line of each kind for which one is due.
+    fn log_due(&self, watch: &mut Watch, now: u64)
         ensures { watch.new ≡ record watch.old { slots = watch.new.slots } }
     {
         'kinds: for kind in 0..KINDS {
             if let Some(line) = watch.take(kind, now) {
-                self.tell(&line);
+                self.log_line(&line);
             }
         }
     }
@@ -131,19 +131,19 @@ impl<C: Clock + Drop, L: Log + Drop> Observer for Events<C, L> {
                 Event::Found(executed)
             },
         );
-        self.tell_due(&mut watch, now);
+        self.log_due(&mut watch, now);
         self.watch = Some(watch);
     }
 
-    fn turn(&mut self, view: View)
+    fn observe(&mut self, view: View)
         ensures { WatchesOn view self.old.watch self.new.watch }
     {
         let now = self.now();
         let Some(mut watch) = self.watch.take() else {
             return;
         };
-        watch.turn(now, view);
-        self.tell_due(&mut watch, now);
+        watch.observe(now, view);
+        self.log_due(&mut watch, now);
         self.watch = Some(watch);
     }
 }

@@ -1,4 +1,4 @@
-//! What is told as time passes: that there is no leader, and that a node is behind. Times are milliseconds since 1970.
+//! Events that come with time: that there is no leader, and that a node is behind. Times are milliseconds since 1970.
 
 ghost use Rattle.std.specs.Prelude.{◌≡◌, ◌⊎◌, Some, None, true, false, IfSome, IsSome, IsNone};
 ghost use Rattle.lk_events.specs.Quiets.{first_time, first_asked, no_lag, IsQuietNews, IsBehind, IsOver, HasRested, IsLagNews, BecomesLag};
@@ -11,7 +11,7 @@ use lk_types::{Executed, NodeNo};
 // The milliseconds of a second.
 const SECOND: u64 = 1000;
 
-// The seconds without a leader that are told first: an election takes less.
+// The seconds without a leader after which it is first reported: an election takes less.
 const FIRST: u64 = 2;
 
 /// How long a node has had no leader.
@@ -19,7 +19,7 @@ const FIRST: u64 = 2;
 pub struct Quiet {
     /// Since when.
     pub since: Option<u64>,
-    /// How many seconds were told, 0 where none were.
+    /// How many seconds were last reported, 0 if none were.
     pub told: u64,
 }
 
@@ -28,7 +28,7 @@ pub struct Quiet {
 pub struct Lag {
     /// When it first asked, and when it asked last.
     pub asked: Option<(u64, u64)>,
-    /// Whether it was told to be behind.
+    /// Whether it was reported to be behind.
     pub told: bool,
 }
 
@@ -39,8 +39,8 @@ impl Quiet {
         told: 0,
     };
 
-    // It has none now. After two seconds that is news, and again each time that they have doubled.
-    fn last(&mut self, now: u64) -> Option<Event>
+    // Reports two seconds without a leader, and again each time that they have doubled.
+    fn report_leaderless(&mut self, now: u64) -> Option<Event>
         ensures some { IfSome result (IsQuietNews self.old now) }
         ensures none { IsNone result → (e : EventValue) → IsQuietNews self.old now e → ⊥ }
         ensures told { IfSome result (λ e. e ≡ Leaderless self.new.told) }
@@ -59,10 +59,10 @@ impl Quiet {
         Some(Event::Leaderless(seconds))
     }
 
-    /// A turn has passed.
-    pub fn turn(&mut self, now: u64, has_leader: bool) -> Option<Event>
+    /// Observes after a turn whether the node has a leader.
+    pub fn observe(&mut self, now: u64, has_leader: bool) -> Option<Event>
         ensures some { IfSome result (λ e. (has_leader ≡ false) × IsQuietNews self.old now e) }
-        // What is news is told.
+        // What is news is reported.
         ensures none { IsNone result → (has_leader ≡ true) ⊎ ((e : EventValue) → IsQuietNews self.old now e → ⊥) }
         ensures leader { has_leader ≡ true → self.new ≡ record { since = None; told = 0 } }
         ensures since { has_leader ≡ false → self.new.since ≡ Some (first_time self.old.since now) }
@@ -73,7 +73,7 @@ impl Quiet {
             *self = Quiet::NONE;
             return None;
         }
-        self.last(now)
+        self.report_leaderless(now)
     }
 }
 
@@ -84,8 +84,8 @@ impl Lag {
         told: false,
     };
 
-    // It has asked that node. Where it has done so for a second it is behind.
-    fn ask(&mut self, now: u64, node: NodeNo) -> Option<Event>
+    // Reports that the node is behind, once it has asked for a second for what it missed.
+    fn report_behind(&mut self, now: u64, node: NodeNo) -> Option<Event>
         ensures some { IfSome result (λ e. (e ≡ Behind node) × IsBehind self.old now) }
         ensures none { IsNone result → IsBehind self.old now → ⊥ }
         ensures told { IsSome result → self.new.told ≡ true }
@@ -104,8 +104,8 @@ impl Lag {
         Some(Event::Behind(node))
     }
 
-    // It has asked nobody. Where it has done so for a second it is not behind any more.
-    fn rest(&mut self, now: u64, executed: Executed) -> Option<Event>
+    // Reports that the node has caught up, once it has asked nobody for a second.
+    fn report_caught_up(&mut self, now: u64, executed: Executed) -> Option<Event>
         ensures some { IfSome result (λ e. (e ≡ CaughtUp executed) × HasRested self.old now) }
         ensures none { IsNone result → HasRested self.old now → ⊥ }
         ensures over { IsOver self.old now → self.new ≡ no_lag }
@@ -125,16 +125,16 @@ impl Lag {
         Some(Event::CaughtUp(executed))
     }
 
-    /// A turn has passed, in which it asked that node, or nobody.
-    pub fn turn(&mut self, now: u64, wanted: Option<NodeNo>, executed: Executed) -> Option<Event>
+    /// Observes after a turn which node it asked for what it missed, if it asked any.
+    pub fn observe(&mut self, now: u64, wanted: Option<NodeNo>, executed: Executed) -> Option<Event>
         ensures some { IfSome result (IsLagNews self.old now wanted executed) }
-        // What is news is told.
+        // What is news is reported.
         ensures none { IsNone result → (e : EventValue) → IsLagNews self.old now wanted executed e → ⊥ }
         ensures becomes { BecomesLag self.old now wanted result self.new }
     {
         match wanted {
-            Some(node) => self.ask(now, node),
-            None => self.rest(now, executed),
+            Some(node) => self.report_behind(now, node),
+            None => self.report_caught_up(now, executed),
         }
     }
 }

@@ -1,4 +1,4 @@
-//! Events of one kind, of which a line a second is told.
+//! Events of one kind, of which at most one line a second is logged.
 
 ghost use Rattle.std.specs.Prelude.{◌≡◌, Some, None, IfSome, IsSome, IsNone};
 ghost use Rattle.lk_events.specs.Slots.{having_put, having_told, is_due, IsLineOf, Waits};
@@ -8,7 +8,7 @@ use crate::event::Event;
 // The milliseconds between two lines of one kind.
 const APART: u64 = 1000;
 
-/// An event that is told, when it happened, and how many others of its kind happened since the last one that was.
+/// An event to be logged, when it happened, and how many others of its kind have happened since the last line.
 #[derive(Drop)]
 pub struct Line {
     pub time: u64,
@@ -16,14 +16,14 @@ pub struct Line {
     pub others: u64,
 }
 
-/// What waits to be told of one kind. Times are milliseconds since 1970.
+/// What waits to be logged of one kind. Times are milliseconds since 1970.
 #[derive(Drop)]
 pub struct Slot {
     /// The newest event, and when it happened.
     pub newest: Option<(u64, Event)>,
     /// How many others it has taken the place of.
     pub others: u64,
-    /// When a line was told.
+    /// When the last line was logged.
     pub told: Option<u64>,
 }
 
@@ -45,7 +45,7 @@ impl Slot {
         self.newest = Some((now, event));
     }
 
-    // Whether a line may be told: none was, a second has passed since, or the clock was set back.
+    // Whether a line is due: none was logged, a second has passed since the last, or the clock was set back.
     fn is_due(&self, now: u64) -> bool
         ensures { result ≡ is_due self.now.told now }
     {
@@ -55,7 +55,7 @@ impl Slot {
         }
     }
 
-    /// Takes out what waits, where it may be told.
+    /// Takes out the line that waits, if one is due.
     pub fn take(&mut self, now: u64) -> Option<Line>
         ensures line { IfSome result (λ line. IsLineOf self.old now line) }
         ensures told { IsSome result → self.new ≡ having_told now }

@@ -1,4 +1,4 @@
-//! What waits to be told of a node, kind by kind.
+//! What waits to be logged of a node, by kind.
 
 ghost use Rattle.std.specs.Prelude.{◌≡◌, replicate, slice_get, Some, None, IfSome};
 ghost use Rattle.lk_events.specs.Kinds.{kinds};
@@ -41,7 +41,7 @@ impl Slots {
         }
     }
 
-    /// This has happened.
+    /// Puts an event.
     pub fn put(&mut self, now: u64, event: Event)
         ensures { Puts now event self.old.all self.new.all }
     {
@@ -49,7 +49,7 @@ impl Slots {
         self.all[kind].put(now, event);
     }
 
-    /// This has happened, if anything has.
+    /// Puts an event, if there is one.
     pub fn put_some(&mut self, now: u64, event: Option<Event>)
         ensures { PutsSome now event self.old.all self.new.all }
     {
@@ -58,7 +58,7 @@ impl Slots {
         }
     }
 
-    /// Takes out what waits of that kind, where it may be told.
+    /// Takes out the line that waits of that kind, if one is due.
     pub fn take(&mut self, kind: usize, now: u64) -> Option<Line>
         ensures line { IfSome result (λ line. TakesOut kind now line self.old.all self.new.all) }
         ensures none { result ≡ None → self.new ≡ self.old }

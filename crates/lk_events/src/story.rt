@@ -1,4 +1,4 @@
-//! What was told of a node, and what is news by that.
+//! What was reported of a node, and what is news compared with that.
 
 ghost use Rattle.std.specs.Prelude.{◌≡◌, true, false, IfSome, IsNone};
 ghost use Rattle.lk_events.specs.News.{Gives, ending, leading, following, joining, leaving, writing, installing, failing, meeting, straying, lead_topics, member_topics, work_topics, topics, story_of, forgetting, told_with, has_all, is_one_of};
@@ -9,7 +9,7 @@ use crate::slots::Slots;
 use crate::view::View;
 use lk_types::{Executed, Member, Members, NodeNo, RealBallot};
 
-/// What was told of a node.
+/// What was last reported of a node.
 #[derive(Drop)]
 pub struct Story {
     /// The ballot in which it leads, where it does.
@@ -43,7 +43,7 @@ fn missing(members: &Members, others: &Members) -> Option<NodeNo>
 }
 
 impl Story {
-    /// This is told already.
+    /// A story that begins with this view.
     pub fn of(view: View) -> Story
         ensures { result ≡ story_of view }
     {
@@ -62,7 +62,7 @@ impl Story {
         }
     }
 
-    /// The ballot in which it leads no more.
+    /// The ballot in which it no longer leads.
     pub fn ended(&self, view: &View) -> Option<Event>
         ensures { Gives ending self.now view.now result }
     {
@@ -95,7 +95,7 @@ impl Story {
         Some(Event::Follows(node))
     }
 
-    /// A node that is a member and was none.
+    /// A node that has become a member.
     pub fn joined(&self, view: &View) -> Option<Event>
         ensures { Gives joining self.now view.now result }
     {
@@ -103,7 +103,7 @@ impl Story {
         Some(Event::Joined(node, view.members.copy()))
     }
 
-    /// A node that was a member and is none.
+    /// A node that is no longer a member.
     pub fn left(&self, view: &View) -> Option<Event>
         ensures { Gives leaving self.now view.now result }
     {
@@ -111,7 +111,7 @@ impl Story {
         Some(Event::Left(node, view.members.copy()))
     }
 
-    /// Its further snapshot.
+    /// Its own new snapshot.
     pub fn wrote(&self, view: &View) -> Option<Event>
         ensures { Gives writing self.now view.now result }
     {
@@ -137,7 +137,7 @@ impl Story {
         Some(Event::Unsent(node))
     }
 
-    /// A node of another genesis that it heard.
+    /// A node of another genesis from which it received.
     pub fn stranger(&self, view: &View) -> Option<Event>
         ensures { Gives meeting self.now view.now result }
     {
@@ -145,7 +145,7 @@ impl Story {
         Some(Event::OtherGenesis(node))
     }
 
-    /// The datagrams of another cluster that it heard.
+    /// The datagrams that it received from another cluster.
     pub fn foreign(&self, view: &View) -> Option<Event>
         ensures { Gives straying self.now view.now result }
     {
@@ -153,7 +153,7 @@ impl Story {
         Some(Event::OtherCluster(count))
     }
 
-    // What is news of who leads.
+    // Puts news of the leader.
     fn put_leads(&self, now: u64, view: &View, slots: &mut Slots)
         ensures { PutsNews now self.now view.now lead_topics slots.old.all slots.new.all }
     {
@@ -162,7 +162,7 @@ impl Story {
         slots.put_some(now, self.follows(view));
     }
 
-    // What is news of who is a member.
+    // Puts news of the members.
     fn put_members(&self, now: u64, view: &View, slots: &mut Slots)
         ensures { PutsNews now self.now view.now member_topics slots.old.all slots.new.all }
     {
@@ -170,7 +170,7 @@ impl Story {
         slots.put_some(now, self.left(view));
     }
 
-    // What is news of its snapshots, of what it sent and of whom it heard.
+    // Puts news of its snapshots, of failed sends and of strangers.
     fn put_work(&self, now: u64, view: &View, slots: &mut Slots)
         ensures { PutsNews now self.now view.now work_topics slots.old.all slots.new.all }
     {
@@ -181,7 +181,7 @@ impl Story {
         slots.put_some(now, self.foreign(view));
     }
 
-    // What is news.
+    // Puts all news.
     fn put_all(&self, now: u64, view: &View, slots: &mut Slots)
         ensures { PutsNews now self.now view.now topics slots.old.all slots.new.all }
     {
@@ -190,7 +190,7 @@ impl Story {
         self.put_work(now, view, slots);
     }
 
-    /// Where it is told that nobody leads, it is news again whom the node follows, also if that is the same node.
+    /// Forgets whom the node follows if no leader is reported: then any leader is news, even the same one.
     pub fn forget(&mut self, leaderless: &Option<Event>)
         ensures { self.new ≡ forgetting leaderless.now self.old }
     {
@@ -199,7 +199,7 @@ impl Story {
         }
     }
 
-    // This is told now.
+    // Remembers a view as reported.
     fn become_told(&mut self, view: View)
         ensures { self.new ≡ told_with view self.old }
     {
@@ -216,8 +216,8 @@ impl Story {
         self.snapshot = snapshot;
     }
 
-    /// This is seen after a turn: what is news of it waits to be told.
-    pub fn turn(&mut self, now: u64, view: View, slots: &mut Slots)
+    /// Observes the node after a turn, and puts what is news into the slots.
+    pub fn observe(&mut self, now: u64, view: View, slots: &mut Slots)
         ensures news { PutsNews now self.old view topics slots.old.all slots.new.all }
         ensures told { self.new ≡ told_with view self.old }
     {

@@ -6,12 +6,12 @@ ghost use Rattle.lk_events.specs.Views.{why_of, has_leader};
 use crate::event::Why;
 use lk_types::{Ballot, Executed, Members, NodeNo, RealBallot};
 
-/// What is seen of a node after a turn, and what became of what it sent in it.
+/// What is seen of a node after a turn, and of what it sent in that turn.
 #[derive(Drop)]
 pub struct View {
     /// The ballot in which it leads, where it does.
     pub leads: Option<RealBallot>,
-    /// The other node that it hears to lead.
+    /// The other node that it follows.
     pub follows: Option<NodeNo>,
     /// The ballot that it has promised.
     pub promised: Ballot,
@@ -29,9 +29,9 @@ pub struct View {
     pub wanted: Option<NodeNo>,
     /// The last node to which a send failed.
     pub unsent: Option<NodeNo>,
-    /// The node of another genesis that it heard in the turn, if that is to be told.
+    /// The node of another genesis from which it received in the turn, if that is to be reported.
     pub stranger: Option<NodeNo>,
-    /// How many datagrams of another cluster have come, if that is to be told.
+    /// How many datagrams of another cluster have come, if that is to be reported.
     pub foreign: Option<u64>,
 }
 

@@ -1,4 +1,4 @@
-//! What is told of a node, from turn to turn.
+//! Finds the events of a node, turn by turn.
 
 ghost use Rattle.std.specs.Prelude.{◌≡◌, replicate, slice_get, Some, None, IfSome};
 ghost use Rattle.lk_events.specs.Kinds.{kinds};
@@ -15,7 +15,7 @@ use crate::slots::Slots;
 use crate::story::Story;
 use crate::view::View;
 
-/// What was told of a node, and what waits to be told. Times are milliseconds since 1970.
+/// What was reported of a node, and what waits to be logged. Times are milliseconds since 1970.
 #[derive(Drop)]
 pub struct Watch {
     pub story: Story,
@@ -25,7 +25,7 @@ pub struct Watch {
 }
 
 impl Watch {
-    /// Nothing but this was seen of the node, and nothing waits.
+    /// A watch that begins with this view. Nothing waits.
     pub fn new(view: View) -> Watch
         ensures story { result.story ≡ story_of view }
         ensures quiet { result.quiet ≡ record { since = None; told = 0 } }
@@ -40,7 +40,7 @@ impl Watch {
         }
     }
 
-    /// This has happened.
+    /// Puts an event.
     pub fn put(&mut self, now: u64, event: Event)
         ensures puts { Puts now event self.old.slots.all self.new.slots.all }
         ensures others { self.new ≡ record self.old { slots = self.new.slots } }
@@ -48,26 +48,26 @@ impl Watch {
         self.slots.put(now, event);
     }
 
-    // What is news by the time that has passed.
+    // Puts the events that come with time.
     fn put_times(&mut self, now: u64, view: &View)
         ensures { TurnsTimes now view.now self.old self.new }
     {
-        let leaderless = self.quiet.turn(now, view.has_leader());
+        let leaderless = self.quiet.observe(now, view.has_leader());
         self.story.forget(&leaderless);
         self.slots.put_some(now, leaderless);
-        let lag = self.lag.turn(now, view.wanted, view.executed);
+        let lag = self.lag.observe(now, view.wanted, view.executed);
         self.slots.put_some(now, lag);
     }
 
-    /// A turn has passed, after which this is seen.
-    pub fn turn(&mut self, now: u64, view: View)
+    /// Observes the node after a turn.
+    pub fn observe(&mut self, now: u64, view: View)
         ensures { Turns now view self.old self.new }
     {
         self.put_times(now, &view);
-        self.story.turn(now, view, &mut self.slots);
+        self.story.observe(now, view, &mut self.slots);
     }
 
-    /// Takes out what waits of that kind, where it may be told.
+    /// Takes out the line that waits of that kind, if one is due.
     pub fn take(&mut self, kind: usize, now: u64) -> Option<Line>
         ensures line { IfSome result (λ line. TakesOut kind now line self.old.slots.all self.new.slots.all) }
         ensures others { self.new ≡ record self.old { slots = self.new.slots } }

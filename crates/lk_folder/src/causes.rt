@@ -16,7 +16,7 @@ use std::net::{Net, SocketAddr};
 use std::path::Path;
 
 /// Writes a line that says what does not open, and why: `NAME: TEXT`.
-pub fn tell_cause<N: Display + Drop, T: Display + Drop, E: Write>(
+pub fn write_cause<N: Display + Drop, T: Display + Drop, E: Write>(
     name: N,
     text: T,
     err: &mut E,
@@ -50,7 +50,7 @@ pub fn open_socket_at<R: Net, E: Write>(
 {
     match LocalSocket::open_at(rt, place) {
         Ok(socket) => Ok(socket),
-        Err(error) => Err(tell_cause(place, error, err)),
+        Err(error) => Err(write_cause(place, error, err)),
     }
 }
 
@@ -69,12 +69,12 @@ pub fn open_file<R: Files, E: Write>(
     let path = Path::new(folder).join(alloc, name)?;
     match how.open(rt, path.as_path()) {
         Ok(file) => Ok(file),
-        Err(error) => Err(tell_cause(path.as_path().display(), error, err)),
+        Err(error) => Err(write_cause(path.as_path().display(), error, err)),
     }
 }
 
 /// Writes why the files of a folder do not open, for the first one that does not.
-pub fn tell_closed<R: Files, E: Write>(
+pub fn write_open_error<R: Files, E: Write>(
     rt: &R,
     alloc: Global,
     how: &OpenOptions,
@@ -110,7 +110,7 @@ impl FailureCause for MemoryDisk {
 }
 
 /// Writes a line for each file of a folder with a failed call, if the device caused the fault.
-pub fn tell_device<D: FailureCause, E: Write>(
+pub fn write_failed_calls<D: FailureCause, E: Write>(
     fault: ServiceFault,
     device: &D,
     folder: &str,

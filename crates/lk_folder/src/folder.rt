@@ -3,7 +3,7 @@
 ghost use Rattle.std.specs.Prelude.{◌≡◌, IfOk, IfErr};
 ghost use Rattle.lk_folder.specs.Openings.{IsClosed};
 
-use crate::causes::{open_file, tell_cause, tell_closed};
+use crate::causes::{open_file, write_cause, write_open_error};
 use lk_disk::{FileDisk, SystemDisk};
 use lk_transport::fault::ServiceFault;
 use std::alloc::Global;
@@ -40,9 +40,9 @@ impl FolderLock {
         match file.try_lock() {
             Ok(()) => Ok(FolderLock { _file: file }),
             Err(TryLockError::WouldBlock) => {
-                Err(tell_cause(folder, "another process serves from it", err))
+                Err(write_cause(folder, "in use by another process", err))
             }
-            Err(TryLockError::Error(error)) => Err(tell_cause(folder, error, err)),
+            Err(TryLockError::Error(error)) => Err(write_cause(folder, error, err)),
         }
     }
 }
@@ -60,7 +60,7 @@ pub fn open_device<R: Files, E: Write>(
 {
     match FileDisk::open(rt, alloc, folder) {
         Ok(device) => Ok(device),
-        Err(_) => Err(tell_closed(rt, alloc, &to_write(), folder, err)),
+        Err(_) => Err(write_open_error(rt, alloc, &to_write(), folder, err)),
     }
 }
 
@@ -79,7 +79,7 @@ pub fn look_at_device<R: Files, E: Write>(
         Err(_) => {
             let mut how = OpenOptions::new();
             how.read(true);
-            Err(tell_closed(rt, alloc, &how, folder, err))
+            Err(write_open_error(rt, alloc, &how, folder, err))
         }
     }
 }

@@ -1,4 +1,4 @@
-//! The folder of a node: how its files open, why they do not, and what is told of a store that does not come up.
+//! The folder of a node: opens its files, and explains why a file or a store does not open.
 #![tactic(auto)]
 
 pub mod causes;

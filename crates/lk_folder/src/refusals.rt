@@ -1,11 +1,11 @@
-//! What is told of a store that is not taken up: what was found, and what to do.
+//! Explains why a store does not open: what was found, and what to do.
 
 ghost use Rattle.std.specs.Prelude.{◌≡◌, ◌≢◌, ◌≤◌, length, IfSome, IsTrue};
 ghost use Rattle.lk_disk.specs.Disk.{contents};
 ghost use Rattle.lk_disk.specs.declared.device.Side.{Side as SideValue};
 ghost use Rattle.lk_folder.specs.Ends.{EndsAt};
 
-use crate::causes::{FailureCause, tell_device};
+use crate::causes::{FailureCause, write_failed_calls};
 use lk_disk::{LogDisk, Side};
 use lk_entries::{Header, Stored, Unread, first_entry};
 use lk_transport::fault::ServiceFault;
@@ -52,8 +52,9 @@ fn extent_of<D: LogDisk>(alloc: Global, device: &mut D, side: Side) -> Option<(u
     Some((end, bytes.len()))
 }
 
-// Writes at which byte of a file no entry reads, if there is one. Returns whether all of it reads as entries.
-fn tell_end<D: LogDisk, E: Write>(
+// Writes at which byte of a file there is no valid entry. Returns whether all of the file is entries; then it writes
+// nothing.
+fn write_bad_entry<D: LogDisk, E: Write>(
     alloc: Global,
     device: &mut D,
     side: Side,
@@ -73,21 +74,21 @@ fn tell_end<D: LogDisk, E: Write>(
     let (folder, name) = path;
     let _ = writeln!(
         err,
-        "{folder}/{name}: no entry reads at byte {end} of {size}"
+        "{folder}/{name}: no valid entry at byte {end} of {size}"
     );
     false
 }
 
 // Writes where a store is damaged.
-fn tell_damage<D: LogDisk, E: Write>(alloc: Global, device: &mut D, folder: &str, err: &mut E)
+fn write_damage<D: LogDisk, E: Write>(alloc: Global, device: &mut D, folder: &str, err: &mut E)
     ensures { D.is_honest → (s : SideValue) → D.disk device.new s ≡ D.disk device.old s }
 {
     let mut are_whole = true;
     'files: for (side, name) in FILES {
-        are_whole &= tell_end(alloc, device, side, (folder, name), err);
+        are_whole &= write_bad_entry(alloc, device, side, (folder, name), err);
     }
     if are_whole {
-        let _ = writeln!(err, "{folder}: the entries read, and do not fit together");
+        let _ = writeln!(err, "{folder}: the entries are readable, but inconsistent");
     }
     let _ = writeln!(
         err,
@@ -105,35 +106,35 @@ fn write_genesis<E: Write>(header: &Header, err: &mut E) -> io::Result<()> {
     writeln!(err)
 }
 
-// Tells whose store a file is.
-fn tell_header<E: Write>(header: &Header, folder: &str, name: &str, err: &mut E) {
+// Writes the node and the genesis of a header.
+fn write_header<E: Write>(header: &Header, folder: &str, name: &str, err: &mut E) {
     let node = header.node().get();
     let _ = write!(err, "{folder}/{name}: the store of node {node} of genesis ");
     let _ = write_genesis(header, err);
 }
 
 // Writes whose store a file is, if it begins with a Base.
-fn tell_base<E: Write>(alloc: Global, bytes: &[u8], folder: &str, name: &str, err: &mut E) {
+fn write_base<E: Write>(alloc: Global, bytes: &[u8], folder: &str, name: &str, err: &mut E) {
     if let Ok((Stored::Base(base), _)) = first_entry(alloc, bytes) {
-        tell_header(&base.header, folder, name, err);
+        write_header(&base.header, folder, name, err);
     }
 }
 
-// Writes whose store stands in a folder.
-fn tell_owner<D: LogDisk, E: Write>(alloc: Global, device: &mut D, folder: &str, err: &mut E)
+// Writes whose store a folder holds.
+fn write_owner<D: LogDisk, E: Write>(alloc: Global, device: &mut D, folder: &str, err: &mut E)
     ensures { D.is_honest → (s : SideValue) → D.disk device.new s ≡ D.disk device.old s }
 {
     'files: for (side, name) in FILES {
         if let Some(bytes) = bytes_of(alloc, device, side) {
-            tell_base(alloc, &bytes, folder, name, err);
+            write_base(alloc, &bytes, folder, name, err);
         }
     }
     let _ = writeln!(err, "{folder}: check --dir, --number and --genesis");
 }
 
-/// Writes in lines why the store of a folder is not taken up, and what to do: where the files failed, where it is
-/// damaged, and whose it is. It reads the files, and changes none.
-pub fn tell_refusal<D: LogDisk + FailureCause, E: Write>(
+/// Writes why the store of a folder does not open and what to do: which calls failed, where it is damaged, or whose it
+/// is. It reads the files and changes none.
+pub fn write_refusal<D: LogDisk + FailureCause, E: Write>(
     alloc: Global,
     fault: ServiceFault,
     device: &mut D,
@@ -145,9 +146,9 @@ pub fn tell_refusal<D: LogDisk + FailureCause, E: Write>(
     ensures quiet { fault ≢ ServiceFault.Damaged → fault ≢ ServiceFault.WrongStore → fault ≢ ServiceFault.Device → err.new ≡ err.old }
 {
     match fault {
-        ServiceFault::Damaged => tell_damage(alloc, device, folder, err),
-        ServiceFault::WrongStore => tell_owner(alloc, device, folder, err),
+        ServiceFault::Damaged => write_damage(alloc, device, folder, err),
+        ServiceFault::WrongStore => write_owner(alloc, device, folder, err),
         _ => {}
     }
-    tell_device(fault, device, folder, err)
+    write_failed_calls(fault, device, folder, err)
 }

@@ -33,7 +33,7 @@ fn send_probe<S: DatagramSocket>(
 }
 
 // Sends the probe with that token to a target, unless a report has the token.
-fn ask_target<S: DatagramSocket>(
+fn probe_target<S: DatagramSocket>(
     socket: &mut S,
     inquiry: &Inquiry,
     target: &Target,
@@ -64,7 +64,7 @@ fn send_probes<S: DatagramSocket>(
     let mut token = first;
     let targets = inquiry.targets.as_slice();
     'targets: for target in targets {
-        ask_target(socket, inquiry, target, token, reports, &mut frame)?;
+        probe_target(socket, inquiry, target, token, reports, &mut frame)?;
         token = token.wrapping_add(1);
     }
     Ok(())
@@ -127,7 +127,7 @@ fn add(
     Ok(())
 }
 
-// Receives what comes next.
+// Receives the next datagram, if one comes in time.
 #[tactic(auto, using(crate::proofs::Gathered::received))]
 fn receive<S: DatagramSocket>(socket: &mut S, buffer: &mut ReceiveBuffer)
     ensures receives { S.is_telling → Receives S.sent S.coming S.failures socket.old socket.new }
@@ -136,9 +136,9 @@ fn receive<S: DatagramSocket>(socket: &mut S, buffer: &mut ReceiveBuffer)
     buffer.receive(socket);
 }
 
-// Hears what comes next, and adds it if it is a report that is awaited. Whether anything came.
+// Receives the next datagram, and adds it if it is an awaited report. Returns whether one came.
 #[tactic(auto, using(crate::proofs::Gathered::hears_none, crate::proofs::Gathered::hears_some))]
-fn hear<S: DatagramSocket>(
+fn receive_report<S: DatagramSocket>(
     socket: &mut S,
     buffer: &mut ReceiveBuffer,
     inquiry: &Inquiry,
@@ -151,16 +151,16 @@ fn hear<S: DatagramSocket>(
     ensures of_round { OnOk result (AreOfRound inquiry.now first reports.old.items → AreOfRound inquiry.now first reports.new.items) }
 {
     receive(socket, buffer);
-    let Some((bytes, _)) = buffer.heard() else {
+    let Some((bytes, _)) = buffer.latest() else {
         return Ok(false);
     };
     add(inquiry, first, reports, bytes)?;
     Ok(true)
 }
 
-// Hears what comes next. Where nothing came, that is counted, and whoever is silent is asked again.
+// Receives the next datagram. If none came, it counts that, and probes the silent targets again.
 #[tactic(auto, using(crate::proofs::Gathered::hears_some_one, crate::proofs::Gathered::hears_no_one))]
-fn hear_or_ask<S: DatagramSocket>(
+fn receive_or_probe<S: DatagramSocket>(
     alloc: Global,
     socket: &mut S,
     buffer: &mut ReceiveBuffer,
@@ -175,14 +175,14 @@ fn hear_or_ask<S: DatagramSocket>(
         (record { socket = socket.new; reports = reports.new.items; silences = silences.new })) }
     ensures of_round { OnOk result (AreOfRound inquiry.now first reports.old.items → AreOfRound inquiry.now first reports.new.items) }
 {
-    if !hear(socket, buffer, inquiry, first, reports)? {
+    if !receive_report(socket, buffer, inquiry, first, reports)? {
         *silences += 1;
         send_probes(alloc, socket, inquiry, first, reports)?;
     }
     Ok(())
 }
 
-// Whether each target has reported, or nothing came as often as the inquiry has patience.
+// Whether each target has reported, or nothing came as often as the inquiry allows.
 fn is_over(inquiry: &Inquiry, reports: &[Report], silences: u32) -> bool
     ensures over { IsTrue result ↔ IsOver inquiry.now reports.now silences }
     ensures goes_on { result ≡ false → GoesOn inquiry.now reports.now silences }
@@ -191,9 +191,9 @@ fn is_over(inquiry: &Inquiry, reports: &[Report], silences: u32) -> bool
     reports.len() >= inquiry.targets.len() || silences >= inquiry.patience
 }
 
-// Hears until each target has reported, or nothing came as often as the inquiry has patience. How often that was is
-// added to `silences`.
-fn gather<S: DatagramSocket>(
+// Receives until each target has reported, or nothing came as often as the inquiry allows. Adds how often that was to
+// `silences`.
+fn collect_reports<S: DatagramSocket>(
     alloc: Global,
     socket: &mut S,
     inquiry: &Inquiry,
@@ -211,7 +211,7 @@ fn gather<S: DatagramSocket>(
         if is_over(inquiry, reports, *silences) {
             return Ok(());
         }
-        hear_or_ask(
+        receive_or_probe(
             alloc,
             socket,
             &mut buffer,
@@ -224,9 +224,9 @@ fn gather<S: DatagramSocket>(
     Ok(())
 }
 
-/// Asks all targets, and hears what they report: until each has, or nothing came as often as the inquiry has patience.
-/// Whoever is silent is asked again whenever nothing came. How often that was is added to `idle`.
-pub fn ask_all<S: DatagramSocket>(
+/// Probes all targets and collects their reports, until each has reported or nothing came as often as the inquiry
+/// allows. Whenever nothing came, it probes the silent targets again. Adds how often that was to `idle`.
+pub fn probe_all<S: DatagramSocket>(
     alloc: Global,
     socket: &mut S,
     inquiry: &Inquiry,
@@ -238,7 +238,7 @@ pub fn ask_all<S: DatagramSocket>(
 {
     let (mut reports, mut silences) = (Vec::new(alloc), 0u32);
     send_probes(alloc, socket, inquiry, first, &reports)?;
-    gather(alloc, socket, inquiry, first, &mut reports, &mut silences)?;
+    collect_reports(alloc, socket, inquiry, first, &mut reports, &mut silences)?;
     *idle = idle.saturating_add(silences);
     Ok(reports)
 }

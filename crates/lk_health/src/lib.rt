@@ -1,5 +1,4 @@
-//! Whether a cluster is healthy: several nodes are asked at once what they tell of themselves, and what that comes to
-//! is judged.
+//! Whether a cluster is healthy: probes several nodes at once, collects their reports and judges them.
 #![tactic(auto)]
 
 pub mod asking;

@@ -7,14 +7,14 @@ ghost use Rattle.lk_health.specs.Measures.{has_genesis, is_told_by, is_last_to_t
 use lk_probe::{DIGEST, Report};
 use lk_types::NodeNo;
 
-// Whether a report tells that genesis.
+// Whether a report names that genesis.
 fn has_genesis(genesis: &[u8; DIGEST], report: &Report) -> bool
     ensures { result ≡ has_genesis genesis.now report.now }
 {
     report.status.identity.genesis == *genesis
 }
 
-// Whether a report of that node tells that genesis.
+// Whether a report of that node names that genesis.
 fn is_told_by(genesis: &[u8; DIGEST], node: NodeNo, reports: &[Report]) -> bool
     ensures { result ≡ is_told_by genesis.now node reports.now }
 {
@@ -26,14 +26,14 @@ fn is_told_by(genesis: &[u8; DIGEST], node: NodeNo, reports: &[Report]) -> bool
     false
 }
 
-// Whether a report tells that genesis, and no other report of its node among these does.
+// Whether a report names that genesis, and no other report of its node among these does.
 fn is_last_to_tell(genesis: &[u8; DIGEST], report: &Report, others: &[Report]) -> bool
     ensures { result ≡ is_last_to_tell genesis.now report.now others.now }
 {
     has_genesis(genesis, report) && !is_told_by(genesis, report.node, others)
 }
 
-// How many nodes tell that genesis.
+// How many nodes name that genesis.
 fn tellers(genesis: &[u8; DIGEST], reports: &[Report]) -> usize
     ensures value { result ≡ tellers genesis.now reports.now }
     ensures most { result ≤ length reports.now }
@@ -47,7 +47,7 @@ fn tellers(genesis: &[u8; DIGEST], reports: &[Report]) -> usize
     count
 }
 
-// Which of two reports is believed where as many nodes tell the genesis of either: one that leads, by the greater
+// Which of two reports is believed if as many nodes name the genesis of either: one that leads, by the greater
 // ballot where both do, or else that of the smaller node.
 fn wins_tie(report: &Report, other: &Report) -> bool
     ensures { result ≡ wins_tie report.now other.now }
@@ -60,7 +60,7 @@ fn wins_tie(report: &Report, other: &Report) -> bool
     }
 }
 
-// Whether more nodes tell its genesis than that of the other, or as many, and it wins the tie.
+// Whether more nodes name its genesis than that of the other, or as many, and it wins the tie.
 fn outweighs(report: &Report, other: &Report, reports: &[Report]) -> bool
     ensures { result ≡ outweighs reports.now report.now other.now }
 {
@@ -94,7 +94,7 @@ fn more_told<'a>(
     }
 }
 
-// The report of a node whose genesis most nodes tell.
+// The report of a node whose genesis most nodes name.
 fn most_told_in<'a>(reports: &'a [Report]) -> Option<&'a Report>
     ensures { IsMostToldOf reports.now (option_copied result) }
 {
@@ -132,7 +132,7 @@ fn furthest_in<'a>(genesis: &[u8; DIGEST], reports: &'a [Report]) -> Option<&'a 
     furthest
 }
 
-/// The report by which the others are measured. Of the nodes whose genesis most tell it is that of the leader, or of
+/// The report by which the others are measured. Of the nodes whose genesis most name it is that of the leader, or of
 /// who has executed most where nobody leads.
 #[tactic(auto, using(crate::proofs::Measuring::by_leader))]
 pub fn measure_in<'a>(reports: &'a [Report]) -> Option<&'a Report>

@@ -61,7 +61,7 @@ fn some_leads(leaders: &[Report], reports: &[Report]) -> bool
     false
 }
 
-// Whether all of these tell that genesis.
+// Whether all of these name that genesis.
 fn tells(genesis: &[u8; DIGEST], reports: &[Report]) -> bool
     ensures { result ≡ tells genesis.now reports.now }
 {
@@ -73,7 +73,7 @@ fn tells(genesis: &[u8; DIGEST], reports: &[Report]) -> bool
     true
 }
 
-/// Whether all tell one genesis.
+/// Whether all name one genesis.
 pub fn has_one_genesis(reports: &[Report]) -> bool
     ensures { result ≡ one_genesis reports.now }
 {
@@ -90,7 +90,7 @@ fn passes(reports: &[Report]) -> bool
     some_leads(reports, reports) && has_one_genesis(reports)
 }
 
-/// Whether one of them leads, a majority of the members of its next position report, and all tell one genesis.
+/// Whether one of them leads, a majority of the members of its next position report, and all name one genesis.
 pub fn is_served(reports: &[Report]) -> bool
     ensures value { result ≡ is_served reports.now }
     ensures served { IsTrue result ↔ IsServed reports.now }
@@ -98,7 +98,7 @@ pub fn is_served(reports: &[Report]) -> bool
     passes(reports)
 }
 
-// Whether each has executed so many positions.
+// Whether each has executed at least this many positions.
 fn all_have(executed: u64, reports: &[Report]) -> bool
     ensures { result ≡ all_have executed reports.now }
 {
@@ -110,7 +110,7 @@ fn all_have(executed: u64, reports: &[Report]) -> bool
     true
 }
 
-/// Whether the cluster is served, as many nodes report as were asked, and each has executed so many positions.
+/// Whether the cluster is served, all nodes that were asked report, and each has executed at least this many positions.
 pub fn is_ready(asked: usize, executed: u64, reports: &[Report]) -> bool
     ensures { result ≡ is_ready asked executed reports.now }
 {

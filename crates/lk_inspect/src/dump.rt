@@ -8,7 +8,7 @@ ghost use Rattle.lk_inspect.specs.Dumps.{number_line, promised_line, live_text, 
 
 use lk_disk::LogDisk;
 use lk_folder::folder::look_at_device;
-use lk_folder::refusals::tell_refusal;
+use lk_folder::refusals::write_refusal;
 use lk_log::{LiveFile, look};
 use lk_transport::fault::ServiceFault;
 use lk_types::Ballot;
@@ -95,7 +95,7 @@ fn dump_folder<R: Files, W: Write, E: Write>(
     let mut device = look_at_device(rt, alloc, folder, err)?;
     match dump_device(alloc, &mut device, out) {
         Ok(is_store) => Ok(is_store),
-        Err(fault) => Err(tell_refusal(alloc, fault, &mut device, folder, err)),
+        Err(fault) => Err(write_refusal(alloc, fault, &mut device, folder, err)),
     }
 }
 
@@ -113,6 +113,6 @@ pub fn dump<R: Files, W: Write, E: Write>(
     match dump_folder(rt, alloc, folder, out, err) {
         Ok(true) => 0,
         Ok(false) => 1,
-        Err(fault) => fault.tell(err),
+        Err(fault) => fault.write_to(err),
     }
 }

@@ -9,7 +9,7 @@ use crate::inspection::{Inspection, inspected};
 use crate::lines::write_inspection;
 use lk_disk::LogDisk;
 use lk_folder::folder::look_at_device;
-use lk_folder::refusals::tell_refusal;
+use lk_folder::refusals::write_refusal;
 use lk_log::look;
 use lk_transport::fault::ServiceFault;
 use std::alloc::Global;
@@ -55,7 +55,7 @@ fn inspection_in<R: Files, E: Write>(
     let mut device = look_at_device(rt, alloc, folder, err)?;
     match inspect_device(alloc, &mut device) {
         Ok(found) => Ok(found),
-        Err(fault) => Err(tell_refusal(alloc, fault, &mut device, folder, err)),
+        Err(fault) => Err(write_refusal(alloc, fault, &mut device, folder, err)),
     }
 }
 
@@ -85,6 +85,6 @@ pub fn inspect<R: Files, W: Write, E: Write>(
     match inspect_folder(rt, alloc, folder, out, err) {
         Ok(true) => 0,
         Ok(false) => 1,
-        Err(fault) => fault.tell(err),
+        Err(fault) => fault.write_to(err),
     }
 }

@@ -7,7 +7,7 @@ use Rattle.lk_types.specs.Ballots.{IsBelow}
 use Rattle.lk_types.specs.declared.member.Member.{Member}
 use Rattle.lk_types.specs.declared.vote.Vote.{Vote}
 use Rattle.lk_leader.specs.Terms.{Report}
-use Rattle.lk_leader.specs.Values.{Told, IsNotAbove, IsBest, told_by, told_at, speaks_at, reports_at}
+use Rattle.lk_leader.specs.Values.{ReportedVote, IsNotAbove, IsBest, told_by, told_at, speaks_at, reports_at}
 use Rattle.lk_leader.proofs.MemberLaws.{map-push, filter-more, filter-same}
 
 below-trans : (a b c : BallotValue) → IsBelow a b → IsBelow b c → IsBelow a c
@@ -16,37 +16,37 @@ below-trans a b c (inl h) (inr k) = inl (omega (arith, k.0))
 below-trans a b c (inr h) (inl k) = inl (omega (arith, h.0))
 below-trans a b c (inr h) (inr k) = inr (h.0 ∙ k.0, omega (arith, h.1, k.1))
 
-not_above-trans : (u t x : Told) → IsNotAbove u t → IsNotAbove t x → IsNotAbove u x
+not_above-trans : (u t x : ReportedVote) → IsNotAbove u t → IsNotAbove t x → IsNotAbove u x
 not_above-trans u t x (inl h) (inl k) = inl (below-trans u.vote.ballot t.vote.ballot x.vote.ballot h k)
 not_above-trans u t x (inl h) (inr k) = inl (subst (IsBelow u.vote.ballot) k.0 h)
 not_above-trans u t x (inr h) (inl k) = inl (subst (λ (b : BallotValue). IsBelow b x.vote.ballot) (sym h.0) k)
 not_above-trans u t x (inr h) (inr k) = inr (h.0 ∙ k.0, omega (arith, h.1, k.1))
 
-module _ (ts : List Told) (x : Told) where
+module _ (ts : List ReportedVote) (x : ReportedVote) where
   pub best-first : IsBest ts None → IsBest (ts ++ x ∷ []) (Some x)
   best-first none = record {
     among = Contains-push ts x;
     above = λ u h. elim (Contains-push_cases ts x u h) [
       | inl old ↦ absurd (omega (arith, old.1, ap length none))
-      | inr is ↦ subst (λ (v : Told). IsNotAbove v x) is (inr (refl, omega arith))
+      | inr is ↦ subst (λ (v : ReportedVote). IsNotAbove v x) is (inr (refl, omega arith))
     ];
   }
 
-  pub best-kept : (t : Told) → IsBest ts (Some t) → IsNotAbove x t → IsBest (ts ++ x ∷ []) (Some t)
+  pub best-kept : (t : ReportedVote) → IsBest ts (Some t) → IsNotAbove x t → IsBest (ts ++ x ∷ []) (Some t)
   best-kept t best below = record {
     among = Contains-append_left ts (x ∷ []) t best.among;
     above = λ u h. elim (Contains-push_cases ts x u h) [
       | inl old ↦ best.above u old
-      | inr is ↦ subst (λ (v : Told). IsNotAbove v t) is below
+      | inr is ↦ subst (λ (v : ReportedVote). IsNotAbove v t) is below
     ];
   }
 
-  pub best-raised : (t : Told) → IsBest ts (Some t) → IsNotAbove t x → IsBest (ts ++ x ∷ []) (Some x)
+  pub best-raised : (t : ReportedVote) → IsBest ts (Some t) → IsNotAbove t x → IsBest (ts ++ x ∷ []) (Some x)
   best-raised t best below = record {
     among = Contains-push ts x;
     above = λ u h. elim (Contains-push_cases ts x u h) [
       | inl old ↦ not_above-trans u t x (best.above u old) below
-      | inr is ↦ subst (λ (v : Told). IsNotAbove v x) is (inr (refl, omega arith))
+      | inr is ↦ subst (λ (v : ReportedVote). IsNotAbove v x) is (inr (refl, omega arith))
     ];
   }
 
@@ -58,13 +58,13 @@ module _ (i : ℕ) (r : Report) (k : ℕ) (x : Vote) (in' : k < length r.votes) 
   -- one vote more, where it is for the position
   pub told-more : eqb x.position i ≡ true → told_by i (telling r (take (k + 1) r.votes)) ≡ told_by i (telling r (take k r.votes)) ++ record { node = r.node; vote = x } ∷ []
   told-more t =
-      let make : Vote → Told = λ (y : Vote). record { node = r.node; vote = y } in
+      let make : Vote → ReportedVote = λ (y : Vote). record { node = r.node; vote = y } in
       ap (map make) (filter-more (λ (y : Vote). eqb y.position i) r.votes k x in' is t)
       ∙ map-push make (filter (λ (y : Vote). eqb y.position i) (take k r.votes)) (x ∷ [])
 
   pub told-same : eqb x.position i ≡ false → told_by i (telling r (take (k + 1) r.votes)) ≡ told_by i (telling r (take k r.votes))
   told-same f =
-      let make : Vote → Told = λ (y : Vote). record { node = r.node; vote = y } in
+      let make : Vote → ReportedVote = λ (y : Vote). record { node = r.node; vote = y } in
       ap (map make) (filter-same (λ (y : Vote). eqb y.position i) r.votes k x in' is f)
 
 told-single : (i : ℕ) (r : Report) → told_at i (r ∷ []) ≡ told_by i r

@@ -17,7 +17,7 @@ use Rattle.lk_agreement.specs.Nodes.{Term, new_term, Acceptance}
 use Rattle.lk_agreement.specs.Changes.{MayPropose, with_report, with_proposal, with_acceptance}
 use Rattle.lk_leader.specs.Terms as terms
 use Rattle.lk_leader.specs.Terms.{Report, ProposalValue, TermValue, proposal_at, in_window, with_proposals, begun}
-use Rattle.lk_leader.specs.Values.{Told, IsNotAbove, told_by, told_at, speaks_at, reports_at, IsLeadersValue, highest, first_new, fills}
+use Rattle.lk_leader.specs.Values.{ReportedVote, IsNotAbove, told_by, told_at, speaks_at, reports_at, IsLeadersValue, highest, first_new, fills}
 use Rattle.lk_leader.specs.Proposing.{promisers, IsNext, AreMembersAt, Proposes, proposed}
 use Rattle.lk_leader.specs.Acceptances.{members_among, heard, heard_at, IsVoteFor, GainsMajority}
 use Rattle.lk_leader.specs.Standing.{LeadsTerm}
@@ -28,7 +28,7 @@ use Rattle.lk_leader.proofs.Elements.{cons_cases, contains_more, filter_has, fil
 told_has : (i : ℕ) (rs : List Report) (r : Report) (x : Vote) → Contains rs r → Contains r.votes x → x.position ≡ i → Contains (told_at i rs) (record { node = r.node; vote = x })
 told_has i [] r x h k at = absurd (omega (arith, h.1))
 told_has i (q ∷ rs) r x h k at =
-    let make : Report → Vote → Told = λ (p : Report) (y : Vote). record { node = p.node; vote = y } in
+    let make : Report → Vote → ReportedVote = λ (p : Report) (y : Vote). record { node = p.node; vote = y } in
     elim (cons_cases q rs r h) [
       | inl is ↦ Contains-append_left (told_by i q) (told_at i rs) (make r x)
           (subst (λ (p : Report). Contains (told_by i p) (make r x)) (sym is)
@@ -36,14 +36,14 @@ told_has i (q ∷ rs) r x h k at =
       | inr in' ↦ Contains-append_right (told_by i q) (told_at i rs) (make r x) (told_has i rs r x in' k at)
     ]
 
-told_from : (i : ℕ) (rs : List Report) (h : Told) → Contains (told_at i rs) h → IsReported rs h.vote × (h.vote.position ≡ i)
+told_from : (i : ℕ) (rs : List Report) (h : ReportedVote) → Contains (told_at i rs) h → IsReported rs h.vote × (h.vote.position ≡ i)
 told_from i [] h in' = absurd (omega (arith, in'.1))
 told_from i (q ∷ rs) h in' =
     elim (Contains-append_cases (told_by i q) (told_at i rs) h in') [
       | inl a ↦
-          (let make : Vote → Told = λ (y : Vote). record { node = q.node; vote = y } in
+          (let make : Vote → ReportedVote = λ (y : Vote). record { node = q.node; vote = y } in
           let from = map_from make (filter (λ (y : Vote). y.position == i) q.votes) h a in
-          let same : from.0 ≡ h.vote = ap (λ (t : Told). t.vote) from.2 in
+          let same : from.0 ≡ h.vote = ap (λ (t : ReportedVote). t.vote) from.2 in
           let there : Contains q.votes from.0 = filter_from (λ (y : Vote). y.position == i) q.votes from.0 from.1 in
           let at : from.0.position ≡ i = eqb-true from.0.position i (filter_passes_at (λ (y : Vote). y.position == i) q.votes from.0 from.1) in
           ((q, (0, omega arith, refl), subst (λ (x : Vote). Contains q.votes x) same there), subst (λ (x : Vote). x.position ≡ i) same at))

@@ -7,7 +7,7 @@ use Rattle.lk_members.specs.Effects.{Command, RequestValue, Noop, Request}
 use Rattle.lk_members.specs.Rosters.{is_member}
 use Rattle.lk_members.specs.Windows.{RosterValue}
 use Rattle.lk_leader.specs.Terms.{Report, ProposalValue, TermValue}
-pub use Rattle.lk_leader.specs.declared.told.Told.{Told}
+pub use Rattle.lk_leader.specs.declared.reported_vote.ReportedVote.{ReportedVote}
 
 -- a promise speaks for a position of this set: a member gave it, from the position or one before it on
 abbrev pub speaks_at : List Member → ℕ → Report → Bool
@@ -18,24 +18,24 @@ abbrev pub reports_at : List Member → ℕ → List Report → List Report
 reports_at set i reports = filter (speaks_at set i) reports
 
 -- what a promise reports of the position
-abbrev pub told_by : ℕ → Report → List Told
+abbrev pub told_by : ℕ → Report → List ReportedVote
 told_by i r = map (λ x. record { node = r.node; vote = x }) (filter (λ x. x.position == i) r.votes)
 
 -- what these promises report of it
-abbrev pub told_at : ℕ → List Report → List Told
+abbrev pub told_at : ℕ → List Report → List ReportedVote
 told_at i reports = flat_map (told_by i) reports
 
 -- the second counts at least as much: a greater ballot, or the same one reported by a node that is not greater
-abbrev pub IsNotAbove : Told → Told → Type 0
+abbrev pub IsNotAbove : ReportedVote → ReportedVote → Type 0
 IsNotAbove u t = IsBelow u.vote.ballot t.vote.ballot ⊎ ((u.vote.ballot ≡ t.vote.ballot) × (t.node ≤ u.node))
 
 -- one of them, and none is above it
-pub record IsHighest (ts : List Told) (t : Told) : Type 0 where
+pub record IsHighest (ts : List ReportedVote) (t : ReportedVote) : Type 0 where
   pub among : Contains ts t
-  pub above : (u : Told) → Contains ts u → IsNotAbove u t
+  pub above : (u : ReportedVote) → Contains ts u → IsNotAbove u t
 
 -- the highest of them, or none if there are none
-abbrev pub IsBest : List Told → Option Told → Type 0
+abbrev pub IsBest : List ReportedVote → Option ReportedVote → Type 0
 IsBest ts None = ts ≡ []
 IsBest ts (Some t) = IsHighest ts t
 
@@ -66,7 +66,7 @@ is_changing_at roster i = nat_lt 0 roster.changed && nat_le i (roster.changed + 
 -- the command that a term proposes at a position of this set, in three cases
 pub data IsLeadersValue (t : TermValue) (waiting : List RequestValue) (roster : RosterValue) (set : List Member) (i : ℕ) : Command → Type 0 where
   -- the highest vote that a member's promise reports for the position
-  highest : (h : Told) → IsHighest (told_at i (reports_at set i t.reports)) h → IsLeadersValue t waiting roster set i h.vote.command
+  highest : (h : ReportedVote) → IsHighest (told_at i (reports_at set i t.reports)) h → IsLeadersValue t waiting roster set i h.vote.command
   -- if none is reported, the first waiting request that is not under way
   first_new : (q : RequestValue) → told_at i (reports_at set i t.reports) ≡ [] → IsFirstNew roster.executed t.proposals waiting q
       → IsLeadersValue t waiting roster set i (Request q)

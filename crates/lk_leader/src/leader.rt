@@ -60,7 +60,7 @@ impl Leader {
         ensures err { OnErr result (self.new ≡ self.old) }
         ensures memory { OnErr result (waiting_of client self.old.waiting ≡ None) }
     {
-        self.waiting.ask(client, number, op)?;
+        self.waiting.add(client, number, op)?;
         Ok(())
     }
 
@@ -148,7 +148,7 @@ impl Leader {
         if term.ballot() != ballot {
             return false;
         }
-        term.hear(node, position, command, set)
+        term.record_accepted(node, position, command, set)
     }
 
     /// Records a ballot. If it is above the term's, the term ends and what waits is forgotten.

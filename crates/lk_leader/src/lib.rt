@@ -7,8 +7,8 @@ pub mod laws;
 mod leader;
 mod proposal;
 mod report;
+mod reported_vote;
 mod term;
-mod told;
 mod waiting;
 
 pub use leader::{Leader, Open};

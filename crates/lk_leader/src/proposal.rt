@@ -85,7 +85,7 @@ impl Proposal {
 
     // Records that the node accepted this command; another command changes nothing. Returns whether a majority of the
     // set has accepted now, and had not before.
-    pub(crate) fn hear(&mut self, node: NodeNo, command: &Command, set: &Members) -> bool
+    pub(crate) fn record_accepted(&mut self, node: NodeNo, command: &Command, set: &Members) -> bool
         ensures same { self.old.command ≡ command.now → (self.new ≡ heard set.now node self.old) × (IsTrue result ↔ GainsMajority set.now node self.old) }
         ensures position { self.new.position ≡ self.old.position }
         ensures other { (self.old.command ≡ command.now → ⊥) → (self.new ≡ self.old) × (result ≡ false) }

@@ -1,9 +1,9 @@
 ghost use Rattle.std.specs.Prelude.{◌≡◌, ◌≤◌, ◌==◌, ◌++◌, ◌∷◌, ◌&&◌, [], nat_le, IfOk, IsTrue, Some, List, Option};
 ghost use Rattle.std.specs.List.{list_any};
 ghost use Rattle.lk_members.specs.Rosters.{is_member};
-ghost use Rattle.lk_leader.specs.Values.{Told as ToldValue, IsBest, told_by};
+ghost use Rattle.lk_leader.specs.Values.{ReportedVote as ReportedVoteValue, IsBest, told_by};
 
-use crate::told::{Told, better};
+use crate::reported_vote::{ReportedVote, better};
 use lk_messages::Votes;
 use lk_types::{Members, NoMemory, NodeNo, Position, Vote};
 use std::alloc::Global;
@@ -40,8 +40,12 @@ impl Report {
     }
 
     // The best so far, or what it reports of the position if that counts for more.
-    pub(crate) fn tell(&self, position: Position, best: Option<Told>) -> Option<Told>
-        ensures { (ts : List ToldValue) → IsBest ts best → IsBest (ts ++ told_by position self.now) result }
+    pub(crate) fn best_vote(
+        &self,
+        position: Position,
+        best: Option<ReportedVote>,
+    ) -> Option<ReportedVote>
+        ensures { (ts : List ReportedVoteValue) → IsBest ts best → IsBest (ts ++ told_by position self.now) result }
     {
         let mut best = best;
         for vote in &self.votes {

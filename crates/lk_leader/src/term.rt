@@ -9,7 +9,7 @@ ghost use Rattle.lk_members.specs.Majorities.{IsMajority};
 
 use crate::proposal::Proposal;
 use crate::report::Report;
-use crate::told::Told;
+use crate::reported_vote::ReportedVote;
 use crate::waiting::Waiting;
 use arrayvec::ArrayVec;
 use lk_members::{Roster, is_majority};
@@ -124,13 +124,13 @@ impl Term {
     }
 
     // The highest vote that a member's promise reports for the position.
-    fn highest(&self, position: Position, set: &Members) -> Option<Told>
+    fn highest(&self, position: Position, set: &Members) -> Option<ReportedVote>
         ensures { IsBest (told_at position (reports_at set.now position self.now.reports)) result }
     {
         let mut best = None;
         for report in &self.reports {
             if report.speaks_for(position, set) {
-                best = report.tell(position, best);
+                best = report.best_vote(position, best);
             }
         }
         best
@@ -160,8 +160,8 @@ impl Term {
     ) -> Option<Command>
         ensures { MatchOption result ((v : CommandValue) → IsLeadersValue self.now waiting.now roster.now set.now position v → ⊥) (λ v. IsLeadersValue self.now waiting.now roster.now set.now position v) }
     {
-        if let Some(told) = self.highest(position, set) {
-            return Some(told.vote.command.copy());
+        if let Some(reported) = self.highest(position, set) {
+            return Some(reported.vote.command.copy());
         }
         if let Some(request) = waiting.first_new(self.proposals.as_slice(), roster.executed()) {
             return Some(Command::Request(request));
@@ -204,7 +204,7 @@ impl Term {
 
     // Records that the node accepted the command at the position; nothing changes if another is proposed there, or
     // none. Returns whether a majority has accepted now, and had not before.
-    pub(crate) fn hear(
+    pub(crate) fn record_accepted(
         &mut self,
         node: NodeNo,
         position: Position,
@@ -220,7 +220,7 @@ impl Term {
             return false;
         };
         let proposal = &mut self.proposals[index];
-        proposal.hear(node, command, set)
+        proposal.record_accepted(node, command, set)
     }
 }
 

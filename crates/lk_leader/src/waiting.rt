@@ -54,7 +54,7 @@ impl Waiting {
     }
 
     // A request waits: a greater number replaces its client's waiting one, any other is dropped.
-    pub(crate) fn ask(
+    pub(crate) fn add(
         &mut self,
         client: ClientNo,
         number: RequestNumber,

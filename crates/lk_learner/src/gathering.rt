@@ -33,7 +33,7 @@ fn join(gathered: &mut Option<Gathered>, part: &PartRef<'_>) -> Result<(), NoMem
 /// at a greater position than that of the gathered text starts gathering afresh. Any other part is appended if it is
 /// of the same snapshot and continues the text, and dropped otherwise. So at most one text is gathered. It needs
 /// memory for appended bytes; a failed call changes nothing.
-pub fn gather(
+pub fn add_part(
     alloc: Global,
     executed: Executed,
     gathered: &mut Option<Gathered>,

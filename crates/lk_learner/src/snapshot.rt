@@ -7,7 +7,7 @@ ghost use Rattle.lk_learner.specs.Parts.{start_of, AreParts};
 ghost use Rattle.lk_learner.specs.Gathering.{is_taken};
 ghost use Rattle.lk_learner.specs.Installing.{hearing, HasWhole, MayInstall, pairs_above, installed, Installs};
 
-use crate::gathering::gather;
+use crate::gathering::add_part;
 use crate::learner::Learner;
 use crate::pair::Pair;
 use crate::parts::parts_from;
@@ -46,13 +46,13 @@ impl<M: Machine> Learner<M> {
     /// than that of the gathered text starts gathering afresh; any other part is appended if it is of the same
     /// snapshot and continues the text, and dropped otherwise. It needs memory for appended bytes; a failed call
     /// changes nothing.
-    pub fn part(&mut self, part: &PartRef<'_>) -> Result<(), NoMemory>
+    pub fn add_part(&mut self, part: &PartRef<'_>) -> Result<(), NoMemory>
         ensures ok { OnOk result (self.new ≡ hearing part.now self.old) }
         ensures err { OnErr result (self.new ≡ self.old) }
         ensures memory { OnErr result (IsTrue (is_taken (executed self.old) self.old.gathered part.now)) }
     {
         let executed = self.whole.executed();
-        gather(self.alloc, executed, &mut self.gathered, part)?;
+        add_part(self.alloc, executed, &mut self.gathered, part)?;
         Ok(())
     }
 

@@ -24,7 +24,7 @@ fn numbers_of(words: &[u8]) -> Option<(u64, u64, &[u8])>
     Some((cluster, alpha, words))
 }
 
-// The genesis that words tell, or `None` where they tell none or one that is refused.
+// The genesis that words spell, or `None` if they spell none or one that is refused.
 fn genesis_of(words: &[u8]) -> Option<Genesis>
     ensures some { IfSome result (λ g. SpellsGenesis words.now g.cluster g.alpha g.members × (genesis_fault g.alpha g.members ≡ None)) }
     ensures none { IsNone result → (cluster alpha : ℕ) (ms : List MemberValue) → SpellsGenesis words.now cluster alpha ms → genesis_fault alpha ms ≡ None → ⊥ }
@@ -48,7 +48,7 @@ fn is_genesis(word: &[u8]) -> bool
     }
 }
 
-/// The genesis that a line tells, whose first word is `genesis`. One that is refused is not understood.
+/// The genesis that a line spells, whose first word is `genesis`. One that is refused is not understood.
 pub fn read_genesis(line: &[u8]) -> Result<Genesis, LineFault>
     ensures ok { IfOk result (λ g. IsGenesisLine line.now g.cluster g.alpha g.members) }
     ensures not_understood { IsErrOf result LineFault.NotUnderstood → (cluster alpha : ℕ) (ms : List MemberValue) → IsGenesisLine line.now cluster alpha ms → ⊥ }

@@ -36,6 +36,7 @@ fn node_of(word: &[u8]) -> Option<NodeNo>
     Some(NodeNo::of(number as u32).unwrap())
 }
 
+// The order `start N`.
 fn to_start(words: &[u8]) -> Option<Order>
     ensures some { IfSome result (AsksToStart words.now) }
     ensures none { IsNone result → (o : OrderValue) → AsksToStart words.now o → ⊥ }
@@ -46,6 +47,7 @@ fn to_start(words: &[u8]) -> Option<Order>
     Some(Order::Once(Event::Start(node)))
 }
 
+// The order `restart N`.
 fn to_restart(words: &[u8]) -> Option<Order>
     ensures some { IfSome result (AsksToRestart words.now) }
     ensures none { IsNone result → (o : OrderValue) → AsksToRestart words.now o → ⊥ }
@@ -69,6 +71,7 @@ fn ticks(words: &[u8]) -> Option<(u64, u64)>
     Some((number, 1))
 }
 
+// The order `tick N` or `tick N TIMES`.
 fn to_tick(words: &[u8]) -> Option<Order>
     ensures some { IfSome result (AsksForTicks words.now) }
     ensures none { IsNone result → (o : OrderValue) → AsksForTicks words.now o → ⊥ }
@@ -78,6 +81,7 @@ fn to_tick(words: &[u8]) -> Option<Order>
     Some(Order::Ticks(node, times as u16))
 }
 
+// The order `compact N`.
 fn to_compact(words: &[u8]) -> Option<Order>
     ensures some { IfSome result (AsksToCompact words.now) }
     ensures none { IsNone result → (o : OrderValue) → AsksToCompact words.now o → ⊥ }
@@ -88,6 +92,7 @@ fn to_compact(words: &[u8]) -> Option<Order>
     Some(Order::Once(Event::Compact(node)))
 }
 
+// The order `deliver K`.
 fn to_deliver(words: &[u8]) -> Option<Order>
     ensures some { IfSome result (AsksToDeliver words.now) }
     ensures none { IsNone result → (o : OrderValue) → AsksToDeliver words.now o → ⊥ }
@@ -111,6 +116,7 @@ fn request(words: &[u8]) -> Option<Request>
     Some(Request { client, number, op })
 }
 
+// The order `client N C NUMBER OP`.
 fn to_ask(words: &[u8]) -> Option<Order>
     ensures some { IfSome result (AsksOfClient words.now) }
     ensures none { IsNone result → (o : OrderValue) → AsksOfClient words.now o → ⊥ }
@@ -123,6 +129,7 @@ fn to_ask(words: &[u8]) -> Option<Order>
     Some(Order::Once(Event::Client(node, request)))
 }
 
+// The order `stop N X Y`.
 fn to_stop(words: &[u8]) -> Option<Order>
     ensures some { IfSome result (AsksToStop words.now) }
     ensures none { IsNone result → (o : OrderValue) → AsksToStop words.now o → ⊥ }
@@ -134,6 +141,7 @@ fn to_stop(words: &[u8]) -> Option<Order>
     Some(Order::Once(Event::Stop(node, x as usize, y as usize)))
 }
 
+// The order `fail N COUNT`.
 fn to_fail(words: &[u8]) -> Option<Order>
     ensures some { IfSome result (AsksToFail words.now) }
     ensures none { IsNone result → (o : OrderValue) → AsksToFail words.now o → ⊥ }
@@ -144,6 +152,7 @@ fn to_fail(words: &[u8]) -> Option<Order>
     Some(Order::Once(Event::FailAt(node, count)))
 }
 
+// The order `arm N COUNT BYTES`.
 fn to_arm(words: &[u8]) -> Option<Order>
     ensures some { IfSome result (AsksToArm words.now) }
     ensures none { IsNone result → (o : OrderValue) → AsksToArm words.now o → ⊥ }
@@ -168,6 +177,7 @@ fn in_hex(alloc: Global, digits: &[u8]) -> Result<Vec<u8>, LineFault>
     }
 }
 
+// The order `inject N HEX`.
 fn to_inject(alloc: Global, words: &[u8]) -> Result<Order, LineFault>
     ensures ok { IfOk result (AsksToInject words.now) }
     ensures not_understood { IsErrOf result LineFault.NotUnderstood → (o : OrderValue) → AsksToInject words.now o → ⊥ }
@@ -180,6 +190,7 @@ fn to_inject(alloc: Global, words: &[u8]) -> Result<Order, LineFault>
     Ok(Order::Once(Event::Inject(node, bytes)))
 }
 
+// The order `group N WORD ..`.
 fn to_group(alloc: Global, words: &[u8]) -> Result<Order, LineFault>
     ensures ok { IfOk result (AsksForGroup words.now) }
     ensures not_understood { IsErrOf result LineFault.NotUnderstood → (o : OrderValue) → AsksForGroup words.now o → ⊥ }
@@ -201,7 +212,7 @@ fn understood(order: Option<Order>) -> Result<Order, LineFault>
 }
 
 // What the words after a verb ask for.
-fn asked(alloc: Global, verb: EventVerb, words: &[u8]) -> Result<Order, LineFault>
+fn order_of(alloc: Global, verb: EventVerb, words: &[u8]) -> Result<Order, LineFault>
     ensures ok { IfOk result (Asks verb words.now) }
     ensures not_understood { IsErrOf result LineFault.NotUnderstood → (o : OrderValue) → Asks verb words.now o → ⊥ }
 {
@@ -229,7 +240,7 @@ pub fn read_order(alloc: Global, line: &[u8]) -> Result<Order, LineFault>
         return Err(LineFault::NotUnderstood);
     };
     match EventVerb::of(word) {
-        Some(verb) => asked(alloc, verb, words),
+        Some(verb) => order_of(alloc, verb, words),
         None => Err(LineFault::NotUnderstood),
     }
 }

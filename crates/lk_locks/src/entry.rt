@@ -38,6 +38,7 @@ fn read_holder(bytes: &[u8]) -> Option<(Holders, &[u8])>
     Some((Holders::Alone(client), rest))
 }
 
+// Appends a client to a list that is not full.
 fn push(clients: &mut ArrayVec<ClientNo, 8>, client: ClientNo)
     requires { length clients.old.items < max_sharers }
     ensures { clients.new.items ≡ clients.old.items ++ client ∷ [] }
@@ -45,6 +46,7 @@ fn push(clients: &mut ArrayVec<ClientNo, 8>, client: ClientNo)
     clients.push(client);
 }
 
+// This many clients from the start of the bytes.
 fn many_clients(count: u8, bytes: &[u8]) -> Option<(ArrayVec<ClientNo, 8>, &[u8])>
     requires { count ≤ max_sharers }
     ensures read { Finds (λ x. (x.0.items, x.1.now)) result (many read_client count bytes.now) }
@@ -62,6 +64,7 @@ fn many_clients(count: u8, bytes: &[u8]) -> Option<(ArrayVec<ClientNo, 8>, &[u8]
     Some((clients, rest))
 }
 
+// Sharers, after a byte for their number.
 #[tactic(auto, unfolding(crate::specs::Packed::read_sharers))]
 fn read_sharers(bytes: &[u8]) -> Option<(Sharers, &[u8])>
     ensures { Finds (λ x. (x.0, x.1.now)) result (read_sharers bytes.now) }
@@ -104,6 +107,7 @@ fn read_mode(bytes: &[u8]) -> Option<(Holders, &[u8])>
     }
 }
 
+// Who holds a name, in the format of a raised table or of one that is not.
 fn read_holders(raised: bool, bytes: &[u8]) -> Option<(Holders, &[u8])>
     ensures read { Finds (λ x. (x.0, x.1.now)) result (read_holders raised bytes.now) }
     ensures kept { IfSome result (λ x. is_kept raised x.0 ≡ true) }
@@ -115,6 +119,7 @@ fn read_holders(raised: bool, bytes: &[u8]) -> Option<(Holders, &[u8])>
     }
 }
 
+// The last fence of a name, and who holds it.
 #[tactic(auto, unfolding(crate::specs::Packed::read_slot))]
 fn read_slot(raised: bool, bytes: &[u8]) -> Option<(Slot, &[u8])>
     ensures read { Finds (λ x. (x.0, x.1.now)) result (read_slot raised bytes.now) }
@@ -144,6 +149,7 @@ pub fn read_entry(raised: bool, bytes: &[u8]) -> Option<(Name, Slot, &[u8])>
     Some((name, slot, rest))
 }
 
+// The length of a name in a byte, and its bytes.
 #[tactic(auto, using(lk_fields::proofs::Spellings::keeps_same, lk_fields::proofs::Spellings::keeps_behind))]
 fn put_name(out: &mut BytesMut, name: &Name) -> Result<(), AllocError>
     ensures ok { OnOk result (out.new.items ≡ out.old.items ++ lock_name name.now) }
@@ -169,6 +175,7 @@ fn put_holder(out: &mut BytesMut, value: &Holders) -> Result<(), AllocError>
     Ok(())
 }
 
+// The number of the sharers in a byte, and each of them.
 #[tactic(auto, using(lk_fields::proofs::Spellings::keeps_same, lk_fields::proofs::Spellings::keeps_behind))]
 fn put_sharers(out: &mut BytesMut, value: &Sharers) -> Result<(), AllocError>
     ensures ok { OnOk result (out.new.items ≡ out.old.items ++ sharers value.now) }
@@ -202,6 +209,7 @@ fn put_mode(out: &mut BytesMut, value: &Holders) -> Result<(), AllocError>
     Ok(())
 }
 
+// Who holds a name, in the format of a raised table or of one that is not.
 fn put_holders(out: &mut BytesMut, raised: bool, value: &Holders) -> Result<(), AllocError>
     ensures ok { OnOk result (out.new.items ≡ out.old.items ++ holders raised value.now) }
     ensures err { OnErr result (Keeps out.old.items out.new.items) }
@@ -213,6 +221,7 @@ fn put_holders(out: &mut BytesMut, raised: bool, value: &Holders) -> Result<(), 
     }
 }
 
+// The last fence of a name, and who holds it.
 #[tactic(auto, using(lk_fields::proofs::Spellings::keeps_same, lk_fields::proofs::Spellings::keeps_behind))]
 fn put_slot(out: &mut BytesMut, raised: bool, value: &Slot) -> Result<(), AllocError>
     ensures ok { OnOk result (out.new.items ≡ out.old.items ++ slot raised value.now) }

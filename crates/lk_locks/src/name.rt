@@ -26,12 +26,14 @@ impl Model for Name {
     ghost inverse = { λ xs. record { bytes = record { items = xs } } };
 }
 
+// Whether a name may contain this byte.
 fn may_stand(byte: u8) -> bool
     ensures { result ≡ is_name_byte byte }
 {
     matches!(byte, b'a'..=b'z' | b'0'..=b'9' | b'-' | b'.' | b'/')
 }
 
+// Whether a name may contain each of these bytes.
 fn all_may_stand(bytes: &[u8]) -> bool
     ensures { result ≡ list_all is_name_byte bytes.now }
 {

@@ -11,6 +11,7 @@ use crate::slot::{Holders, Slot};
 use lk_types::limits::MAX_NAMES;
 use lk_types::{Answer, ClientNo, Fence, LastFence};
 
+// An answer that leaves the slot as it is.
 fn unchanged(answer: Answer) -> Row
     ensures { result ≡ unchanged answer }
 {
@@ -18,6 +19,7 @@ fn unchanged(answer: Answer) -> Row
     Row { answer, change }
 }
 
+// An answer, and the slot after it.
 fn changed(answer: Answer, fence: Fence, holders: Holders) -> Row
     ensures { result ≡ record { answer = answer; change = Some (record { fence = fence; holders = holders }) } }
 {
@@ -42,6 +44,7 @@ fn first_fence(names: usize) -> Result<Fence, Answer>
     Ok(Fence::default())
 }
 
+// The result when a client acquires a name. A holder gets `Busy` too.
 fn acquire(client: ClientNo, slot: Option<Slot>, names: usize) -> Row
     ensures { result ≡ acquired client slot names }
 {
@@ -87,6 +90,7 @@ fn begin(client: ClientNo, fence: Result<Fence, Answer>) -> Row
     }
 }
 
+// The result when a client shares a name.
 fn share(client: ClientNo, slot: Option<Slot>, names: usize) -> Row
     ensures { result ≡ shared client slot names }
 {
@@ -100,6 +104,7 @@ fn share(client: ClientNo, slot: Option<Slot>, names: usize) -> Row
     }
 }
 
+// The result when a client releases a name at a fence.
 fn release(client: ClientNo, fence: Fence, slot: Option<Slot>) -> Row
     ensures { result ≡ released client fence slot }
 {
@@ -115,6 +120,7 @@ fn release(client: ClientNo, fence: Fence, slot: Option<Slot>) -> Row
     }
 }
 
+// Whether somebody holds a name at that fence.
 fn is_held_at(fence: Fence, slot: &Option<Slot>) -> bool
     ensures { result ≡ is_held_at fence slot.now }
 {
@@ -124,6 +130,7 @@ fn is_held_at(fence: Fence, slot: &Option<Slot>) -> bool
     }
 }
 
+// The result when a name is freed of all who hold it at a fence.
 fn break_up(fence: Fence, slot: Option<Slot>) -> Row
     ensures { result ≡ broken fence slot }
 {
@@ -133,6 +140,7 @@ fn break_up(fence: Fence, slot: Option<Slot>) -> Row
     changed(Answer::Broken, fence, Holders::Nobody)
 }
 
+// The answer to who holds a name.
 fn ask(slot: Option<Slot>) -> Answer
     ensures { result ≡ asked slot }
 {
@@ -146,6 +154,7 @@ fn ask(slot: Option<Slot>) -> Answer
     }
 }
 
+// The answer to whether a fence is still held.
 fn check(fence: Fence, slot: Option<Slot>) -> Answer
     ensures { result ≡ checked fence slot }
 {

@@ -80,6 +80,7 @@ impl LockTable {
         let _ = &self.slots;
     }
 
+    // The slot of a name, if the table has it.
     fn slot(&self, name: &Name) -> Option<Slot>
         ensures { result ≡ map.get self.now.names name.now }
     {

@@ -1,5 +1,5 @@
 -- What holds of disks that were read before, and of what a call answered.
-use Rattle.std.proofs.Common.{◌≡◌, inl, inr, ℕ, false, List, length, Result, Ok, Err, IfOk, sym, ap, subst, ◌∙◌}
+use Rattle.std.proofs.Common.{◌≡◌, ◌↔◌, IsTrue, inl, inr, ℕ, Bool, true, false, List, length, Result, Ok, Err, IfOk, sym, ap, subst, ◌∙◌}
 use Rattle.lk_disk.specs.Disk.{Disk, other, contents}
 use Rattle.lk_disk.specs.declared.device.Side.{Side}
 use Rattle.lk_entries.specs.Files.{IsFile}
@@ -14,6 +14,13 @@ use Rattle.lk_log.proofs.ImageLaws.{means_same}
 pub ok_then : {T E : Type 0} (r : Result T E) (P Q : T → Type 0) → ((x : T) → P x → Q x) → IfOk r P → IfOk r Q
 ok_then (Ok x) P Q then_so h = then_so x h
 ok_then (Err e) P Q then_so h = tt
+
+-- what is true and what holds, and what is false and what does not
+pub both : {b : Bool} {P : Type 0} → b ≡ true → P → IsTrue b ↔ P
+both is p = (λ t. p, λ q. is)
+
+pub neither : {b : Bool} {P : Type 0} → (P → ⊥) → b ≡ false → IsTrue b ↔ P
+neither not is = (λ t. absurd (cc (t, is)), λ q. absurd (not q))
 
 -- the disks are as they were
 module _ (old mid : Side → Disk) (same : (s : Side) → mid s ≡ old s) where

@@ -17,6 +17,7 @@ use crate::verdict::Verdict;
 use lk_disk::{DeviceFault, LogDisk, Side};
 use std::alloc::Global;
 
+// The verdict, or `Damaged` if the file that decides is damaged.
 fn unless_damaged(is_damaged: bool, verdict: Verdict) -> Verdict
     ensures { result ≡ unless_damaged is_damaged verdict }
 {
@@ -69,7 +70,7 @@ pub fn find<D: LogDisk>(alloc: Global, device: &mut D) -> Result<Option<(Side, F
 }
 
 // Cuts off what follows the entries, without a call if nothing does.
-fn cut_off<D: LogDisk>(
+fn cut_torn_end<D: LogDisk>(
     device: &mut D,
     live: Side,
     end: usize,
@@ -93,7 +94,7 @@ fn cut_off<D: LogDisk>(
 }
 
 /// Cuts the torn end off the live file, and syncs the file.
-pub fn settle<D: LogDisk>(
+pub fn cut_and_sync<D: LogDisk>(
     device: &mut D,
     live: Side,
     end: usize,
@@ -108,7 +109,7 @@ pub fn settle<D: LogDisk>(
     ensures metered { D.is_metered → D.is_honest → (es : List Stored) → FoundLive (D.disk device.old) live es end size
         → ComesBy (D.meter device.old) (D.meter device.new) (cut_calls end size + 1) result }
 {
-    cut_off(device, live, end, size)?;
+    cut_torn_end(device, live, end, size)?;
     device.sync(live)?;
     Ok(())
 }

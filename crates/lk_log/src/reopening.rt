@@ -1,5 +1,5 @@
 // Opening a store, and looking at one.
-ghost use Rattle.std.specs.Prelude.{◌≡◌, ◌≤◌, ◌<◌, ◌+◌, ◌-◌, ◌^◌, ◌↔◌, List, ℕ, [], false, length, IsTrue, IfOk, IfErr, IfSome, OnOk, IsErrOf, MatchResult, Ok};
+ghost use Rattle.std.specs.Prelude.{◌≡◌, ◌≤◌, ◌<◌, ◌+◌, ◌-◌, ◌^◌, ◌↔◌, List, ℕ, [], true, false, length, IsTrue, IfOk, IfErr, IfSome, OnOk, IsErrOf, MatchResult, Ok};
 ghost use Rattle.lk_disk.specs.Disk.{other, HasCause};
 ghost use Rattle.lk_disk.specs.Meters.{Passes};
 ghost use Rattle.lk_disk.specs.declared.device.Side.{Side};
@@ -19,8 +19,8 @@ ghost use Rattle.lk_log.specs.Stores.{first_base, cut_calls, OpensBy, FoundLive,
 
 use crate::fault::{OpenFault, ReopenFault};
 use crate::file::{File, generation_of};
-use crate::gathering::gather;
-use crate::opening::{find, settle};
+use crate::opening::{cut_and_sync, find};
+use crate::replaying::replay;
 use crate::store::Store;
 use lk_disk::{DeviceFault, LogDisk, Side};
 use lk_entries::{Base, Header, Standing, Stored, format_of, spelled_base};
@@ -34,6 +34,16 @@ struct Opened {
     generation: u64,
     format: u8,
     standing: Standing,
+    is_new: bool,
+}
+
+/// An open store, and what it stands for.
+#[derive(Drop)]
+pub struct Reopened<D: LogDisk + Drop> {
+    pub store: Store<D>,
+    pub standing: Standing,
+    /// Whether there was none, and this one is new.
+    pub is_new: bool,
 }
 
 // Replaces a file with these bytes, and syncs it.
@@ -90,6 +100,7 @@ fn begin<D: LogDisk>(
     ensures stays { D.is_honest → IsEmpty (seen (D.disk device.old)) → NarrowsOrBegins (D.disk device.old) (D.disk device.new) header.now zero.now }
     ensures room { D.is_honest → StaysWithin max_base (D.disk device.old) (D.disk device.new) }
     ensures in_a { IfOk result (λ o. o.live ≡ A) }
+    ensures is_new { IfOk result (λ o. o.is_new ≡ true) }
     ensures stands { IfOk result (λ o. StandsForSome o.standing) }
     ensures cause { IsCaused (D.failures device.old) (D.failures device.new) result }
     ensures metered { D.is_metered → D.is_honest → IsMetered (D.meter device.old) (D.meter device.new) 3 result }
@@ -108,6 +119,7 @@ fn begin<D: LogDisk>(
         generation,
         format,
         standing,
+        is_new: true,
     })
 }
 
@@ -134,6 +146,7 @@ fn open<D: LogDisk>(
     ensures stays { D.is_honest → FoundLive (D.disk device.old) live file.entries.items file.end file.size → (whose : HeaderValue) (zero : List ℕ)
         → NarrowsOrBegins (D.disk device.old) (D.disk device.new) whose zero }
     ensures room { D.is_honest → StaysWithin 0 (D.disk device.old) (D.disk device.new) }
+    ensures is_old { IfOk result (λ o. o.is_new ≡ false) }
     ensures stands { IfOk result (λ o. StandsForSome o.standing) }
     ensures cause { IsCaused (D.failures device.old) (D.failures device.new) result }
     ensures metered { D.is_metered → D.is_honest → FoundLive (D.disk device.old) live file.entries.items file.end file.size
@@ -145,15 +158,16 @@ fn open<D: LogDisk>(
         size,
         ..
     } = file;
-    settle(device, live, end, size)?;
+    cut_and_sync(device, live, end, size)?;
     let generation = generation_of(&entries);
     let format = format_of(&entries);
-    let standing = gather(alloc, entries)?;
+    let standing = replay(alloc, entries)?;
     Ok(Opened {
         live,
         generation,
         format,
         standing,
+        is_new: false,
     })
 }
 
@@ -171,6 +185,7 @@ fn recover<D: LogDisk>(
     ensures stays { D.is_honest → NarrowsOrBegins (D.disk device.old) (D.disk device.new) header.now zero.now }
     ensures room { D.is_honest → StaysWithin max_base (D.disk device.old) (D.disk device.new) }
     ensures begun { D.is_honest → IsEmpty (seen (D.disk device.old)) → IfOk result (λ o. o.live ≡ A) }
+    ensures is_new { D.is_honest → IfOk result (λ o. IsTrue o.is_new ↔ IsEmpty (seen (D.disk device.old))) }
     ensures stands { IfOk result (λ o. StandsForSome o.standing) }
     ensures damaged { D.is_honest → IsErrOf result OpenFault.Damaged → StaysDamaged (D.disk device.old) (D.disk device.new) }
     ensures wrong { D.is_honest → IsErrOf result OpenFault.WrongStore → StaysWrong (D.disk device.old) (D.disk device.new) header.now }
@@ -200,27 +215,28 @@ pub fn reopen<D: LogDisk + Drop>(
     device: D,
     header: &Header,
     zero: &[u8],
-) -> Result<(Store<D>, Standing), ReopenFault<D>>
+) -> Result<Reopened<D>, ReopenFault<D>>
     requires some { 1 ≤ length zero.now }
     requires room { length zero.now ≤ 49054 }
     // The standing is that of the whole entries of the live file, or of a new store, and all of it is synced.
-    ensures ok { D.is_honest → IfOk result (λ r. Opens (seen (D.disk device)) header.now zero.now r.0 r.1) }
-    ensures open { IfOk result (λ r. IsOpened header.now r.0 r.1) }
+    ensures ok { D.is_honest → IfOk result (λ r. Opens (seen (D.disk device)) header.now zero.now r.store r.standing) }
+    ensures open { IfOk result (λ r. IsOpened header.now r.store r.standing) }
     // However it ends, each image amounts to what an image before it did, or to a new store.
     ensures stays { D.is_honest → MatchResult result
-        (λ r. NarrowsOrBegins (D.disk device) (disks r.0) header.now zero.now)
+        (λ r. NarrowsOrBegins (D.disk device) (disks r.store) header.now zero.now)
         (λ e. NarrowsOrBegins (D.disk device) (D.disk e.device) header.now zero.now) }
     // However it ends, neither file has grown, except up to the size of a Base.
-    ensures room { D.is_honest → MatchResult result (λ r. StaysWithin max_base (D.disk device) (disks r.0)) (λ e. StaysWithin max_base (D.disk device) (D.disk e.device)) }
-    // A new store begins in A.
-    ensures begun { D.is_honest → IsEmpty (seen (D.disk device)) → IfOk result (λ r. r.0.live ≡ A) }
+    ensures room { D.is_honest → MatchResult result (λ r. StaysWithin max_base (D.disk device) (disks r.store)) (λ e. StaysWithin max_base (D.disk device) (D.disk e.device)) }
+    // A store is new exactly if there was no Base, and then begins in A.
+    ensures begun { D.is_honest → IsEmpty (seen (D.disk device)) → IfOk result (λ r. r.store.live ≡ A) }
+    ensures is_new { D.is_honest → IfOk result (λ r. IsTrue r.is_new ↔ IsEmpty (seen (D.disk device))) }
     // A damaged store and another's are unchanged.
     ensures damaged { D.is_honest → IfErr result (λ e. e.fault ≡ OpenFault.Damaged → StaysDamaged (D.disk device) (D.disk e.device)) }
     ensures wrong { D.is_honest → IfErr result (λ e. e.fault ≡ OpenFault.WrongStore → StaysWrong (D.disk device) (D.disk e.device) header.now) }
-    ensures cause { MatchResult result (λ r. r.0.failures ≡ D.failures device) (λ e. D.failures e.device ≡ failures_after e.fault (D.failures device)) }
+    ensures cause { MatchResult result (λ r. r.store.failures ≡ D.failures device) (λ e. D.failures e.device ≡ failures_after e.fault (D.failures device)) }
     // For a metered device it says which of its calls were made.
     ensures metered { D.is_metered → D.is_honest → MatchResult result
-        (λ r. (k : ℕ) × OpensBy (seen (D.disk device)) k × Passes (D.meter device) r.0.meter k)
+        (λ r. (k : ℕ) × OpensBy (seen (D.disk device)) k × Passes (D.meter device) r.store.meter k)
         (λ e. IsRefusedBy (D.meter device) (D.meter e.device) e.fault) }
 {
     let mut device = device;
@@ -231,6 +247,7 @@ pub fn reopen<D: LogDisk + Drop>(
                 generation,
                 format,
                 standing,
+                is_new,
             } = opened;
             let store = Store {
                 alloc,
@@ -241,7 +258,11 @@ pub fn reopen<D: LogDisk + Drop>(
                 header: header.copy(),
                 failed: false,
             };
-            Ok((store, standing))
+            Ok(Reopened {
+                store,
+                standing,
+                is_new,
+            })
         }
         Err(fault) => Err(ReopenFault { fault, device }),
     }
@@ -275,7 +296,7 @@ pub fn look<D: LogDisk>(alloc: Global, device: &mut D) -> Result<Option<LiveFile
     let File { entries, .. } = file;
     let generation = generation_of(&entries);
     let format = format_of(&entries);
-    let standing = gather(alloc, entries)?;
+    let standing = replay(alloc, entries)?;
     Ok(Some(LiveFile {
         generation,
         format,

@@ -13,7 +13,7 @@ use std::process::ExitCode;
 use std::rt::Env;
 use std::time::Clock;
 use std::{env, io};
-use words::{run_words, tell_start};
+use words::{run_words, write_start_error};
 
 // The words of the command line as texts. The usage text begins with the first, the program's name, and not with its
 // path.
@@ -54,7 +54,7 @@ fn main(rt: HostRuntime) -> ExitCode {
     let mut err = rt.stderr();
     let status = match run(&rt, &mut err) {
         Ok(status) => status,
-        Err(error) => tell_start(&error, &mut err),
+        Err(error) => write_start_error(&error, &mut err),
     };
     ExitCode::from(status)
 }

@@ -4,9 +4,9 @@ use clap::ArgMatches;
 use lk_arguments::command_line::operation_of;
 use lk_client::question::Question;
 use lk_entries::Header;
+use lk_options::argument_error::{ArgumentError, invalid_argument};
 use lk_options::asking::{question_of, turns_of};
-use lk_options::misread::{Misread, misread_argument};
-use lk_options::operation::misread_operation;
+use lk_options::operation::invalid_operation;
 use lk_options::values::{address_in, client_in, genesis_in, node_in, number_in, port_in, word};
 use lk_pace::pace::Pace;
 use lk_schedules::fuzzing::MAX_EVENTS;
@@ -21,7 +21,7 @@ fn options_in<'a>(
     matches: &ArgMatches<'a>,
     name: &'a str,
     key: Option<&'a str>,
-) -> Result<NetworkOptions<'a>, Misread<'a>> {
+) -> Result<NetworkOptions<'a>, ArgumentError<'a>> {
     Ok(NetworkOptions {
         hosts: matches.get_str("hosts"),
         bind: address_in(matches, name)?,
@@ -31,24 +31,24 @@ fn options_in<'a>(
 }
 
 /// The options of a client's command line about other machines.
-pub fn ask_options<'a>(matches: &ArgMatches<'a>) -> Result<NetworkOptions<'a>, Misread<'a>> {
+pub fn ask_options<'a>(matches: &ArgMatches<'a>) -> Result<NetworkOptions<'a>, ArgumentError<'a>> {
     options_in(matches, "address", None)
 }
 
 // What the ticks of a node go by: where the nodes have a key it is the clock, and nothing else may be asked for.
-fn pace_in<'a>(matches: &ArgMatches<'a>) -> Result<Pace, Misread<'a>> {
+fn pace_in<'a>(matches: &ArgMatches<'a>) -> Result<Pace, ArgumentError<'a>> {
     let has_key = matches.get_str("key").is_some();
     match matches.get_str("ticks") {
         None if has_key => Ok(Pace::Clock),
         None => Ok(Pace::Datagrams),
         Some("clock") => Ok(Pace::Clock),
         Some("datagrams") if !has_key => Ok(Pace::Datagrams),
-        Some(_) => Err(misread_argument(matches, "ticks")),
+        Some(_) => Err(invalid_argument(matches, "ticks")),
     }
 }
 
 /// The node that `locks node` is to run.
-pub fn node_plan<'a>(matches: &ArgMatches<'a>) -> Result<NodePlan<'a>, Misread<'a>> {
+pub fn node_plan<'a>(matches: &ArgMatches<'a>) -> Result<NodePlan<'a>, ArgumentError<'a>> {
     let genesis = genesis_in(matches)?;
     let node = node_in(matches)?;
     Ok(NodePlan {
@@ -61,7 +61,7 @@ pub fn node_plan<'a>(matches: &ArgMatches<'a>) -> Result<NodePlan<'a>, Misread<'
 }
 
 /// The schedule that `locks fuzz` is to run.
-pub fn fuzz_plan<'a>(matches: &ArgMatches<'a>) -> Result<Plan, Misread<'a>> {
+pub fn fuzz_plan<'a>(matches: &ArgMatches<'a>) -> Result<Plan, ArgumentError<'a>> {
     let start = number_in(matches, "start", u64::MAX)?;
     let events = number_in(matches, "events", MAX_EVENTS)?;
     Ok(Plan {
@@ -72,11 +72,13 @@ pub fn fuzz_plan<'a>(matches: &ArgMatches<'a>) -> Result<Plan, Misread<'a>> {
 }
 
 /// The file of the masters, and the client whose key `locks client-key` is to print.
-pub fn client_key_plan<'a>(matches: &ArgMatches<'a>) -> Result<(&'a str, ClientNo), Misread<'a>> {
+pub fn client_key_plan<'a>(
+    matches: &ArgMatches<'a>,
+) -> Result<(&'a str, ClientNo), ArgumentError<'a>> {
     Ok((word(matches, "master"), client_in(matches)?))
 }
 
-/// What `locks ask` is to ask, the ports that it asks in turn, and what it is told of the machines outside.
+/// What `locks ask` is to ask, the ports that it asks in turn, and its options about other machines.
 #[derive(Drop)]
 pub struct AskPlan<'a> {
     pub question: Question,
@@ -89,7 +91,7 @@ fn ask_plan_of<'a>(
     matches: &ArgMatches<'a>,
     op: Op,
     turns: Vec<Port>,
-) -> Result<AskPlan<'a>, Misread<'a>> {
+) -> Result<AskPlan<'a>, ArgumentError<'a>> {
     let options = ask_options(matches)?;
     let question = question_of(matches, op)?;
     Ok(AskPlan {
@@ -103,14 +105,14 @@ fn ask_plan_of<'a>(
 pub fn ask_plan<'a>(
     alloc: Global,
     matches: &ArgMatches<'a>,
-) -> Result<Result<AskPlan<'a>, Misread<'a>>, AllocError> {
+) -> Result<Result<AskPlan<'a>, ArgumentError<'a>>, AllocError> {
     let words = matches.get_strs("op").unwrap_or(&[]);
     let Some(op) = operation_of(alloc, words)? else {
         let first = matches.get_str("op").unwrap_or("");
-        return Ok(Err(misread_operation(first)));
+        return Ok(Err(invalid_operation(first)));
     };
     match turns_of(alloc, matches)? {
         Ok(turns) => Ok(ask_plan_of(matches, op, turns)),
-        Err(misread) => Ok(Err(misread)),
+        Err(error) => Ok(Err(error)),
     }
 }

@@ -8,18 +8,19 @@ use clap::error::ErrorKind;
 use clap::{ArgMatches, Error};
 use lk_client::question::ask;
 use lk_events::line::{Events, Observer, Unobserved};
+use lk_final_disks::node_state::run_to_state;
 use lk_folder::causes::open_socket_at;
 use lk_inspect::dump::dump;
 use lk_inspect::inspect::inspect;
 use lk_lines::fault::ScriptFault;
 use lk_locks::LockTable;
+use lk_options::argument_error::ArgumentError;
 use lk_options::commands::program;
-use lk_options::misread::Misread;
 use lk_options::operation::warn_of_name;
 use lk_options::status_plan::status_plan;
 use lk_replica::Replica;
 use lk_schedules::fuzzing::{print_script, run_fuzz};
-use lk_script::ending::{end, tell};
+use lk_script::ending::{end, write_fault};
 use lk_script::script::run_to_end;
 use lk_service::client_key::client_key;
 use lk_service::demo::demo;
@@ -29,7 +30,6 @@ use lk_service::running::run_node;
 use lk_simulated_disk::MemoryDisk;
 use lk_status::status::status;
 use lk_transport::fault::ServiceFault;
-use lk_world_state::node_state::run_to_state;
 use log::sink::{Console, Discard};
 use log::{Level, Log, Logged};
 use std::alloc::Global;
@@ -42,12 +42,12 @@ use std::time::Clock;
 // The nodes of world mode.
 type Nodes = Replica<LockTable, MemoryDisk>;
 
-// Tells which word of a subcommand is not understood, and what is wrong with it. The status is 2.
-fn refuse_words<E: Write>(misread: &Misread<'_>, err: &mut E) -> u8
+// Writes which argument of a subcommand is invalid, and why. Returns status 2.
+fn write_argument_error<E: Write>(error: &ArgumentError<'_>, err: &mut E) -> u8
     ensures { result ≤ 2 }
 {
-    let _ = writeln!(err, "{misread}");
-    let _ = writeln!(err, "error: the words are not understood");
+    let _ = writeln!(err, "{error}");
+    let _ = writeln!(err, "error: invalid arguments; try --help");
     2
 }
 
@@ -79,11 +79,11 @@ fn run_plan<R: Files<File = File> + Net + Clock, L: Log, O: Observer, E: Write>(
         Ok((resources, _lock)) => run_node::<LockTable, _, _, _, _, _, _>(
             rt, alloc, plan, resources, log, observer, err,
         ),
-        Err(fault) => fault.tell(err),
+        Err(fault) => fault.write_to(err),
     }
 }
 
-// The same, and tells its events where that is asked for.
+// The same, and logs its events if `--events` asks for that.
 fn run_observed<R: Files<File = File> + Net + Eprint + Clock, L: Log, E: Write>(
     rt: &R,
     alloc: Global,
@@ -113,7 +113,7 @@ fn run_node_words<R: Files<File = File> + Net + Eprint + Clock, E: Write>(
 {
     let plan = match node_plan(matches) {
         Ok(plan) => plan,
-        Err(misread) => return refuse_words(&misread, err),
+        Err(error) => return write_argument_error(&error, err),
     };
     let events = matches.get_flag("events");
     match level_of(matches) {
@@ -151,16 +151,16 @@ fn run_ask<R: Files<File = File> + Net, W: Write, E: Write>(
     } = plan;
     question.destination = match destination_of(rt, alloc, question.cluster, &options, err) {
         Ok(destination) => destination,
-        Err(fault) => return fault.tell(err),
+        Err(fault) => return fault.write_to(err),
     };
     match open_socket_at(rt, SocketAddr::from((own_address(&options), 0)), err) {
         Ok(mut socket) => ask(alloc, &mut socket, &question, &turns, out, err),
-        Err(fault) => fault.tell(err),
+        Err(fault) => fault.write_to(err),
     }
 }
 
 // Sends one request to a node.
-fn ask_words<R: Files<File = File> + Net, W: Write, E: Write>(
+fn run_ask_words<R: Files<File = File> + Net, W: Write, E: Write>(
     rt: &R,
     alloc: Global,
     matches: &ArgMatches<'_>,
@@ -171,15 +171,15 @@ fn ask_words<R: Files<File = File> + Net, W: Write, E: Write>(
 {
     let plan = match ask_plan(alloc, matches) {
         Ok(Ok(plan)) => plan,
-        Ok(Err(misread)) => return refuse_words(&misread, err),
-        Err(_) => return ServiceFault::NoMemory.tell(err),
+        Ok(Err(error)) => return write_argument_error(&error, err),
+        Err(_) => return ServiceFault::NoMemory.write_to(err),
     };
     warn_of_name(matches.get_strs("op").unwrap_or(&[]), err);
     run_ask(rt, alloc, plan, out, err)
 }
 
-// Asks nodes how the cluster stands.
-fn status_words<R: Files<File = File> + Net, W: Write, E: Write>(
+// Asks nodes for their status.
+fn run_status_words<R: Files<File = File> + Net, W: Write, E: Write>(
     rt: &R,
     alloc: Global,
     matches: &ArgMatches<'_>,
@@ -190,12 +190,12 @@ fn status_words<R: Files<File = File> + Net, W: Write, E: Write>(
 {
     let mut plan = match status_plan(alloc, matches) {
         Ok(Ok(plan)) => plan,
-        Ok(Err(misread)) => return refuse_words(&misread, err),
-        Err(fault) => return fault.tell(err),
+        Ok(Err(error)) => return write_argument_error(&error, err),
+        Err(fault) => return fault.write_to(err),
     };
     let options = match ask_options(matches) {
         Ok(options) => options,
-        Err(misread) => return refuse_words(&misread, err),
+        Err(error) => return write_argument_error(&error, err),
     };
     plan.inquiry.destination = match destination_of(
         rt,
@@ -205,16 +205,16 @@ fn status_words<R: Files<File = File> + Net, W: Write, E: Write>(
         err,
     ) {
         Ok(destination) => destination,
-        Err(fault) => return fault.tell(err),
+        Err(fault) => return fault.write_to(err),
     };
     match open_socket_at(rt, SocketAddr::from((plan.inquiry.own_address(), 0)), err) {
         Ok(mut socket) => status(alloc, &mut socket, &plan, out, err),
-        Err(fault) => fault.tell(err),
+        Err(fault) => fault.write_to(err),
     }
 }
 
 // Prints the key of a client.
-fn client_key_words<R: Files<File = File>, W: Write, E: Write>(
+fn run_client_key_words<R: Files<File = File>, W: Write, E: Write>(
     rt: &R,
     alloc: Global,
     matches: &ArgMatches<'_>,
@@ -225,12 +225,12 @@ fn client_key_words<R: Files<File = File>, W: Write, E: Write>(
 {
     match client_key_plan(matches) {
         Ok((master, client)) => client_key(rt, alloc, master, client, out, err),
-        Err(misread) => refuse_words(&misread, err),
+        Err(error) => write_argument_error(&error, err),
     }
 }
 
 // Runs a script.
-fn sim_words<R: BufRead, W: Write, E: Write>(
+fn run_sim_words<R: BufRead, W: Write, E: Write>(
     alloc: Global,
     matches: &ArgMatches<'_>,
     reader: &mut R,
@@ -246,7 +246,7 @@ fn sim_words<R: BufRead, W: Write, E: Write>(
 }
 
 // Runs a random schedule.
-fn fuzz_words<W: Write, E: Write>(
+fn run_fuzz_words<W: Write, E: Write>(
     alloc: Global,
     matches: &ArgMatches<'_>,
     out: &mut W,
@@ -256,7 +256,7 @@ fn fuzz_words<W: Write, E: Write>(
 {
     let plan = match fuzz_plan(matches) {
         Ok(plan) => plan,
-        Err(misread) => return refuse_words(&misread, err),
+        Err(error) => return write_argument_error(&error, err),
     };
     if matches.get_flag("script") {
         return print_script::<Nodes, W, E>(alloc, plan, out, err);
@@ -277,14 +277,14 @@ fn run_subcommand<H: Files<File = File> + Net + Eprint + Clock, R: BufRead, W: W
     ensures { result ≤ 2 }
 {
     match subcommand {
-        Subcommand::Sim => sim_words(alloc, matches, reader, out, err),
-        Subcommand::Fuzz => fuzz_words(alloc, matches, out, err),
+        Subcommand::Sim => run_sim_words(alloc, matches, reader, out, err),
+        Subcommand::Fuzz => run_fuzz_words(alloc, matches, out, err),
         Subcommand::Node => run_node_words(rt, alloc, matches, err),
-        Subcommand::Ask => ask_words(rt, alloc, matches, out, err),
+        Subcommand::Ask => run_ask_words(rt, alloc, matches, out, err),
         Subcommand::Demo => demo::<LockTable, H, W, E>(rt, alloc, out, err),
         Subcommand::Dump => dump(rt, alloc, folder_in(matches), out, err),
-        Subcommand::Status => status_words(rt, alloc, matches, out, err),
-        Subcommand::ClientKey => client_key_words(rt, alloc, matches, out, err),
+        Subcommand::Status => run_status_words(rt, alloc, matches, out, err),
+        Subcommand::ClientKey => run_client_key_words(rt, alloc, matches, out, err),
         Subcommand::Inspect => inspect(rt, alloc, folder_in(matches), out, err),
     }
 }
@@ -316,11 +316,11 @@ fn write_help<W: Write>(help: &Error, out: &mut W) -> Result<(), ScriptFault> {
 
 // Reports why the command line was rejected: help goes to standard output with status 0, out of memory has status 1,
 // anything else status 2.
-fn refuse<W: Write, E: Write>(error: &Error, out: &mut W, err: &mut E) -> u8
+fn refuse_command_line<W: Write, E: Write>(error: &Error, out: &mut W, err: &mut E) -> u8
     ensures { result ≤ 2 }
 {
     if error.kind() == ErrorKind::OutOfMemory {
-        return tell(ScriptFault::ScriptMemory, err);
+        return write_fault(ScriptFault::ScriptMemory, err);
     }
     if error.use_stderr() {
         let _ = write!(err, "{error}");
@@ -344,22 +344,22 @@ pub fn run_words<'a, H: Files<File = File> + Net + Eprint + Clock, R: BufRead, W
     ensures { result ≤ 2 }
 {
     let Ok(command) = program(alloc) else {
-        return tell(ScriptFault::ScriptMemory, err);
+        return write_fault(ScriptFault::ScriptMemory, err);
     };
     match command.try_get_matches_from(words) {
         Ok(matches) => run_matches(rt, alloc, &matches, reader, out, err),
-        Err(error) => refuse(&error, out, err),
+        Err(error) => refuse_command_line(&error, out, err),
     }
 }
 
-/// Reports why no command line could be read: a word that is not valid text has status 2, as any invalid command line,
-/// and running out of memory has status 1.
-pub fn tell_start<E: Write>(error: &io::Error, err: &mut E) -> u8
+/// Writes why no command line could be read. Returns status 2 for an argument that is not valid UTF-8, or 1 if it is
+/// out of memory.
+pub fn write_start_error<E: Write>(error: &io::Error, err: &mut E) -> u8
     ensures { result ≤ 2 }
 {
     if error.kind() == io::ErrorKind::InvalidData {
-        let _ = writeln!(err, "error: a word of the command line is no text");
+        let _ = writeln!(err, "error: an argument is not valid UTF-8");
         return 2;
     }
-    tell(ScriptFault::ScriptMemory, err)
+    write_fault(ScriptFault::ScriptMemory, err)
 }

@@ -1,14 +1,14 @@
 -- What a socket in memory has sent, and what is to arrive.
 use Rattle.std.specs.Prelude.{ℕ, List, take, map}
 use Rattle.std.specs.declared.net.socket_addr.SocketAddr.{SocketAddr}
-use Rattle.lk_memory_socket.specs.declared.memory_socket.Told.{Told}
+use Rattle.lk_memory_socket.specs.declared.memory_socket.MemoryDatagram.{MemoryDatagram}
 
-abbrev pub datagram : Told → SocketAddr × List ℕ
+abbrev pub datagram : MemoryDatagram → SocketAddr × List ℕ
 datagram t = (t.place, t.bytes.items)
 
-abbrev pub sent_in : List Told → List (SocketAddr × List ℕ)
+abbrev pub sent_in : List MemoryDatagram → List (SocketAddr × List ℕ)
 sent_in ts = map datagram ts
 
 -- each of them; only the first bytes of one that is too long
-abbrev pub coming_in : List Told → List (SocketAddr × List ℕ)
-coming_in ts = map (λ (t : Told). (t.place, take 8229 t.bytes.items)) ts
+abbrev pub coming_in : List MemoryDatagram → List (SocketAddr × List ℕ)
+coming_in ts = map (λ (t : MemoryDatagram). (t.place, take 8229 t.bytes.items)) ts

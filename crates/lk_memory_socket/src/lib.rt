@@ -3,4 +3,4 @@
 
 mod memory_socket;
 
-pub use memory_socket::{MemorySocket, Told};
+pub use memory_socket::{MemoryDatagram, MemorySocket};

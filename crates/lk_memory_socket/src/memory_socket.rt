@@ -14,7 +14,7 @@ use std::{io, mem};
 
 /// A datagram of a socket in memory, with its source or destination.
 #[derive(Drop)]
-pub struct Told {
+pub struct MemoryDatagram {
     pub place: SocketAddr,
     pub bytes: Vec<u8>,
 }
@@ -24,13 +24,13 @@ pub struct Told {
 pub struct MemorySocket {
     alloc: Global,
     port: u16,
-    coming: VecDeque<Told>,
-    sent: Vec<Told>,
+    coming: VecDeque<MemoryDatagram>,
+    sent: Vec<MemoryDatagram>,
     failures: u64,
 }
 
 // How many of these bytes a receive returns.
-fn cut(length: usize) -> usize
+fn cut_length(length: usize) -> usize
     ensures { result ≡ min length 8229 }
 {
     if length <= 8229 { length } else { 8229 }
@@ -52,13 +52,13 @@ impl MemorySocket {
     }
 
     /// Adds a datagram to receive. Bytes beyond 8,229 are cut off.
-    pub fn comes(&mut self, from: SocketAddr, bytes: &[u8]) -> Result<(), NoMemory>
+    pub fn add_incoming(&mut self, from: SocketAddr, bytes: &[u8]) -> Result<(), NoMemory>
         ensures ok { OnOk result (coming_in self.new.coming.items ≡ coming_in self.old.coming.items ++ (from, take 8229 bytes.now) ∷ []) }
         ensures err { OnErr result (coming_in self.new.coming.items ≡ coming_in self.old.coming.items) }
         ensures others { self.new ≡ record self.old { coming = self.new.coming } }
     {
         let kept = bytes.to_vec(self.alloc)?;
-        self.coming.push_back(Told {
+        self.coming.push_back(MemoryDatagram {
             place: from,
             bytes: kept,
         })?;
@@ -66,7 +66,7 @@ impl MemorySocket {
     }
 
     /// Removes and returns what was sent, in order.
-    pub fn take_sent(&mut self) -> Vec<Told>
+    pub fn take_sent(&mut self) -> Vec<MemoryDatagram>
         ensures taken { result.items ≡ self.old.sent.items }
         ensures rest { self.new ≡ record self.old { sent = self.new.sent } }
         ensures left { self.new.sent.items ≡ [] }
@@ -75,14 +75,14 @@ impl MemorySocket {
     }
 
     // Keeps what is sent, unless it is out of memory.
-    fn keep(&mut self, to: SocketAddr, bytes: &[u8]) -> Result<(), NoMemory>
+    fn keep_sent(&mut self, to: SocketAddr, bytes: &[u8]) -> Result<(), NoMemory>
         ensures ok { OnOk result (sent_in self.new.sent.items ≡ sent_in self.old.sent.items ++ (to, bytes.now) ∷ []) }
         ensures err { OnErr result (sent_in self.new.sent.items ≡ sent_in self.old.sent.items) }
         ensures failures { self.new.failures ≡ self.old.failures }
         ensures coming { self.new.coming ≡ self.old.coming }
     {
         let kept = bytes.to_vec(self.alloc)?;
-        self.sent.push(Told {
+        self.sent.push(MemoryDatagram {
             place: to,
             bytes: kept,
         })?;
@@ -102,7 +102,7 @@ impl DatagramSocket for MemorySocket {
     ghost is_telling = { ⊤ };
 
     fn send_to(&mut self, to: SocketAddr, bytes: &[u8]) -> Result<(), SendFault> {
-        match self.keep(to, bytes) {
+        match self.keep_sent(to, bytes) {
             Ok(()) => Ok(()),
             Err(NoMemory) => {
                 self.failures = self.failures.saturating_add(1);
@@ -111,14 +111,14 @@ impl DatagramSocket for MemorySocket {
         }
     }
 
-    fn wait_for(&mut self, _time: Duration) {}
+    fn set_timeout(&mut self, _time: Duration) {}
 
     fn receive(&mut self, buffer: &mut [u8]) -> Option<(usize, SocketAddr)> {
         let Some(told) = self.coming.pop_front() else {
             return None;
         };
-        let Told { place, bytes } = told;
-        let length = cut(bytes.len());
+        let MemoryDatagram { place, bytes } = told;
+        let length = cut_length(bytes.len());
         buffer[..length].copy_from_slice(&bytes[..length]);
         Some((length, place))
     }

@@ -28,7 +28,7 @@ use Rattle.lk_learner.specs.Following.{Follows}
 use Rattle.lk_learner.specs.Learners.{LearnerValue, IsLearner, executed, IsNext, advanced, IsServed}
 use Rattle.lk_learner.specs.Pairs.{without}
 use Rattle.lk_learner.proofs.Learnerships.{ran_moves, advanced_follows, next_stands, running_changes, served_stands}
-use Rattle.lk_step.specs.KeptReplies.{told, session_by}
+use Rattle.lk_step.specs.KeptReplies.{session_reply, session_by}
 use Rattle.lk_step.specs.Outboxes.{OutboxValue, with_note, with_letter}
 use Rattle.lk_step.specs.Saying.{saying}
 use Rattle.lk_step.specs.declared.note.Note.TheVariants as note
@@ -266,7 +266,7 @@ up_to number (Some q) k e =
 
 -- what is told is the reply, or a number that is passed by one that has a reply
 pub tells_client : (m : Meaning) (Heard : History → Type 0) (node : NodeValue) (out : OutboxValue) (s : Session) (number : ℕ) → number ≤ s.number
-    → session_of s.client node.learner.whole.sessions ≡ Some s → IsMessage (saying node.header (told s number))
+    → session_of s.client node.learner.whole.sessions ≡ Some s → IsMessage (saying node.header (session_reply s number))
     → GoesOn m Heard node node out (with_told node.header s (Some number) out)
 tells_client m Heard node out s number le at fits = by_test (nat_lt number s.number) refl fits
   where
@@ -298,7 +298,7 @@ settles_goes_on m Heard s old before new after at k =
     (settled_goes_on m Heard old before s)
     (by_number (waiting_number s old) (up_to s.number (waiting_of s.client old.leader.waiting)) k.fits))
   where
-    by_number : (o : Option ℕ) → ((number : ℕ) → o ≡ Some number → number ≤ s.number) → ((number : ℕ) → o ≡ Some number → IsMessage (saying old.header (told s number)))
+    by_number : (o : Option ℕ) → ((number : ℕ) → o ≡ Some number → number ≤ s.number) → ((number : ℕ) → o ≡ Some number → IsMessage (saying old.header (session_reply s number)))
         → GoesOn m Heard (settled s old) (settled s old) before (with_told old.header s o before)
     by_number None le fits = rests_here m Heard (settled s old) before
     by_number (Some number) le fits = tells_client m Heard (settled s old) before s number (le number refl) at (fits number refl)

@@ -11,7 +11,7 @@ use Rattle.lk_state.specs.declared.whole.Ran.{Ran}
 use Rattle.lk_leader.specs.Terms.{has_term}
 use Rattle.lk_leader.specs.Waits.{waiting_of, number_up_to, left_by}
 use Rattle.lk_learner.specs.Learners.{executed, IsNext, advanced}
-use Rattle.lk_step.specs.KeptReplies.{told, session_by}
+use Rattle.lk_step.specs.KeptReplies.{session_reply, session_by}
 use Rattle.lk_step.specs.Outboxes.{OutboxValue, with_letter, with_note}
 use Rattle.lk_step.specs.Saying.{saying}
 use Rattle.lk_step.specs.declared.note.Note.TheVariants as note
@@ -29,7 +29,7 @@ waiting_number s node = number_up_to s.number (waiting_of s.client node.leader.w
 -- with a letter to the client, if its request of this number waits
 abbrev pub with_told : HeaderValue → Session → Option ℕ → OutboxValue → OutboxValue
 with_told whose s None out = out
-with_told whose s (Some number) out = with_letter (record { to = to.Client s.client; bytes = spelling (saying whose (told s number)) }) out
+with_told whose s (Some number) out = with_letter (record { to = to.Client s.client; bytes = spelling (saying whose (session_reply s number)) }) out
 
 -- the client's requests up to the session's wait no longer
 abbrev pub settled : Session → NodeValue → NodeValue
@@ -40,7 +40,7 @@ settled s node = record node { leader = record { term = node.leader.term; waitin
 pub record Settles (s : Session) (old : NodeValue) (before : OutboxValue) (new : NodeValue) (after : OutboxValue) : Type 0 where
   pub becomes : new ≡ settled s old
   pub comes_to : after ≡ with_told old.header s (waiting_number s old) before
-  pub fits : (number : ℕ) → waiting_number s old ≡ Some number → IsMessage (saying old.header (told s number))
+  pub fits : (number : ℕ) → waiting_number s old ≡ Some number → IsMessage (saying old.header (session_reply s number))
 
 -- the session, if there is one, is settled, and otherwise nothing changes
 abbrev pub SettlesAny : Option Session → NodeValue → OutboxValue → NodeValue → OutboxValue → Type 0

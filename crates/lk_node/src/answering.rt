@@ -29,7 +29,7 @@ impl<M: Machine> Node<M> {
         if let Some(entry) = entry {
             out.write(entry)?;
         }
-        self.tell(from, reply, &mut out)?;
+        self.send_to_node(from, reply, &mut out)?;
         if granted {
             self.ticks.reset();
         }
@@ -38,6 +38,7 @@ impl<M: Machine> Node<M> {
         Ok(out)
     }
 
+    // Replies to a Prepare.
     fn answer_prepare(
         &mut self,
         from: NodeNo,
@@ -52,6 +53,7 @@ impl<M: Machine> Node<M> {
         self.respond(from, response)
     }
 
+    // Replies to an Accept.
     fn answer_accept(&mut self, from: NodeNo, vote: Vote) -> Result<Outbox, NoMemory>
         ensures { IfOk result (λ o. Responds self.old from (AnswersAccept self.old.acceptor self.old.learner.whole.roster.executed vote) self.new o) }
     {
@@ -62,7 +64,7 @@ impl<M: Machine> Node<M> {
 
     // Handles a Prepare.
     #[tactic(auto, using(crate::proofs::AcceptorLaws::prepare_goes_on))]
-    pub(crate) fn prepare(
+    pub(crate) fn handle_prepare(
         &mut self,
         from: NodeNo,
         ballot: RealBallot,
@@ -76,7 +78,7 @@ impl<M: Machine> Node<M> {
     }
 
     // Handles an Accept, and records its ballot's round.
-    pub(crate) fn accept(&mut self, from: NodeNo, vote: Vote) -> Result<Outbox, NoMemory>
+    pub(crate) fn handle_accept(&mut self, from: NodeNo, vote: Vote) -> Result<Outbox, NoMemory>
         ensures exact { IfOk result (λ o. Responds (with_round vote.ballot self.old) from (AnswersAccept self.old.acceptor self.old.learner.whole.roster.executed vote) self.new o) }
         ensures goes_on { IfOk result (λ o. GoesOn M.meaning (λ h. HasSent h.genesis h.sent from (kinds.Accept vote)) self.old self.new nothing o) }
     {

@@ -20,8 +20,8 @@ impl<M: Machine> Node<M> {
         Some(Member { node, port })
     }
 
-    // Sends the client to the known leader, if the window names it.
-    fn point(&self, request: &Request) -> Result<Outbox, NoMemory>
+    // Redirects the client to the known leader, if the window names it.
+    fn redirect(&self, request: &Request) -> Result<Outbox, NoMemory>
         ensures { IfOk result (λ o. PointsTo (leader_in self.now.known self.now.learner.whole.roster.sets) self.now request.now self.now o) }
     {
         let Some(member) = self.known_leader() else {
@@ -33,7 +33,7 @@ impl<M: Machine> Node<M> {
             number,
             member,
         };
-        let out = self.say_alone(To::Client(client), NodeMessage::Elsewhere(news))?;
+        let out = self.send_one(To::Client(client), NodeMessage::Elsewhere(news))?;
         Ok(out)
     }
 
@@ -42,7 +42,7 @@ impl<M: Machine> Node<M> {
         ensures { IfOk result (λ o. TakesNew self.old.leader.term self.old request.now self.new o) }
     {
         if self.leader.ballot().is_none() {
-            return self.point(request);
+            return self.redirect(request);
         }
         self.leader
             .ask(request.client, request.number, &request.op)?;
@@ -58,12 +58,12 @@ impl<M: Machine> Node<M> {
         let Some(reply) = kept_reply(client, number, seen) else {
             return self.take_new(request);
         };
-        let out = self.say_alone(To::Client(client), reply)?;
+        let out = self.send_one(To::Client(client), reply)?;
         Ok(out)
     }
 
-    // A client's request.
-    pub(crate) fn hear_request(&mut self, request: &Request) -> Result<Outbox, NoMemory>
+    // Handles a client's request.
+    pub(crate) fn handle_request(&mut self, request: &Request) -> Result<Outbox, NoMemory>
         ensures exact { IfOk result (λ o. HearsRequest self.old request.now self.new o) }
         ensures goes_on { IfOk result (λ o. GoesOn M.meaning (λ h. Contains h.asked request.now) self.old self.new nothing o) }
     {

@@ -24,7 +24,7 @@ impl<M: Machine> Node<M> {
         out.write(self.acceptor.own(ballot))?;
         self.leader.begin(ballot);
         if let Some(first) = Position::of(self.learner.whole().executed().get() + 1) {
-            self.tell_all(&nodes, NodeMessage::Prepare(ballot, first), &mut out)?;
+            self.send_to_all(&nodes, NodeMessage::Prepare(ballot, first), &mut out)?;
         }
         Ok(out)
     }

@@ -18,13 +18,13 @@ use lk_wire::{Nack, NodeMessage, Part, Want};
 
 impl<M: Machine> Node<M> {
     // Sends these parts to the other node, in order.
-    fn tell_parts(&self, other: NodeNo, parts: Vec<Part>) -> Result<Outbox, NoMemory>
+    fn send_parts(&self, other: NodeNo, parts: Vec<Part>) -> Result<Outbox, NoMemory>
         ensures said { IfOk result (λ o. o ≡ sending_parts self.now other parts.items nothing) }
         ensures fits { OnOk result ((p : PartValue) → Contains parts.items p → IsMessage (saying self.now.header (kinds.Part p))) }
     {
         let mut out = Outbox::new(self.alloc);
         'parts: for part in parts {
-            self.tell(other, NodeMessage::Part(part), &mut out)?;
+            self.send_to_node(other, NodeMessage::Part(part), &mut out)?;
         }
         Ok(out)
     }
@@ -35,7 +35,7 @@ impl<M: Machine> Node<M> {
         ensures none { self.now.learner.snapshot_position < first → IfOk result (λ o. o ≡ nothing) }
     {
         let parts = self.learner.parts(first, offset)?;
-        let out = self.tell_parts(other, parts)?;
+        let out = self.send_parts(other, parts)?;
         Ok(out)
     }
 
@@ -46,28 +46,28 @@ impl<M: Machine> Node<M> {
         let Some(decided) = self.learner.serve(first)? else {
             return self.feed_parts(other, first, offset);
         };
-        let out = self.tell_alone(other, NodeMessage::Decided(decided))?;
+        let out = self.send_one_to_node(other, NodeMessage::Decided(decided))?;
         Ok(out)
     }
 
-    // Asks the other node for what follows the executed positions.
-    fn ask_on(&self, other: NodeNo) -> Result<Outbox, NoMemory>
+    // Sends the other node a Want for what follows the executed positions.
+    fn send_want(&self, other: NodeNo) -> Result<Outbox, NoMemory>
         ensures { IfOk result (λ o. AsksOn self.now other o) }
     {
         let Some(want) = self.learner.want() else {
             return Ok(Outbox::new(self.alloc));
         };
-        let out = self.tell_alone(other, NodeMessage::Want(want))?;
+        let out = self.send_one_to_node(other, NodeMessage::Want(want))?;
         Ok(out)
     }
 
-    // The other node has executed this many positions: asks it if that is more, and feeds it if that is less.
+    // The other node has executed this many positions: sends it a Want if that is more, and feeds it if that is less.
     fn level(&self, other: NodeNo, theirs: Executed) -> Result<Outbox, NoMemory>
         ensures { IfOk result (λ o. Levels self.now other theirs o) }
     {
         let executed = self.learner.whole().executed().get();
         if theirs.get() > executed {
-            return self.ask_on(other);
+            return self.send_want(other);
         }
         match Position::of(theirs.get() + 1) {
             Some(first) if theirs.get() < executed => self.feed(other, first, 0),
@@ -76,7 +76,7 @@ impl<M: Machine> Node<M> {
     }
 
     // Handles a Want for commands, or for a snapshot.
-    pub(crate) fn hear_want(&mut self, from: NodeNo, want: &Want) -> Result<Outbox, NoMemory>
+    pub(crate) fn handle_want(&mut self, from: NodeNo, want: &Want) -> Result<Outbox, NoMemory>
         ensures exact { IfOk result (λ o. HearsWant self.old from want.now self.new o) }
         ensures goes_on { IfOk result (λ o. GoesOn M.meaning (λ h. Unit {0}) self.old self.new nothing o) }
     {
@@ -85,7 +85,7 @@ impl<M: Machine> Node<M> {
     }
 
     // Handles the rejection of a ballot: records both ballots.
-    pub(crate) fn hear_nack(&mut self, from: NodeNo, nack: &Nack) -> Result<Outbox, NoMemory>
+    pub(crate) fn handle_nack(&mut self, from: NodeNo, nack: &Nack) -> Result<Outbox, NoMemory>
         ensures exact { IfOk result (λ o. HearsNack self.old from nack.now self.new o) }
         ensures goes_on { IfOk result (λ o. GoesOn M.meaning (λ h. Unit {0}) self.old self.new nothing o) }
     {
@@ -95,19 +95,19 @@ impl<M: Machine> Node<M> {
         Ok(out)
     }
 
-    // Asks the other node if it has executed more.
-    fn ask_where_more(&self, other: NodeNo, theirs: Executed) -> Result<Outbox, NoMemory>
+    // Sends the other node a Want if it has executed more.
+    fn send_want_if_behind(&self, other: NodeNo, theirs: Executed) -> Result<Outbox, NoMemory>
         ensures { IfOk result (λ o. AsksWhereMore self.now other theirs o) }
     {
         if theirs.get() <= self.learner.whole().executed().get() {
             return Ok(Outbox::new(self.alloc));
         }
-        let out = self.ask_on(other)?;
+        let out = self.send_want(other)?;
         Ok(out)
     }
 
-    // Rejects a ballot below the promised one.
-    fn refuse(&self, other: NodeNo, ballot: RealBallot) -> Result<Outbox, NoMemory>
+    // Rejects a ballot below the promised one, with a Nack.
+    fn send_nack(&self, other: NodeNo, ballot: RealBallot) -> Result<Outbox, NoMemory>
         ensures { IfOk result (λ o. SaysAlone self.now (to_node self.now other) (kinds.Nack (refusal ballot self.now)) o) }
     {
         let nack = Nack {
@@ -115,7 +115,7 @@ impl<M: Machine> Node<M> {
             promised: self.acceptor.promised(),
             executed: self.learner.whole().executed(),
         };
-        let out = self.tell_alone(other, NodeMessage::Nack(nack))?;
+        let out = self.send_one_to_node(other, NodeMessage::Nack(nack))?;
         Ok(out)
     }
 
@@ -137,18 +137,18 @@ impl<M: Machine> Node<M> {
         ensures { IfOk result (λ o. HearsLead self.old from ballot executed self.new o) }
     {
         if ballot.get().is_below(self.acceptor.promised()) {
-            let out = self.refuse(from, ballot)?;
+            let out = self.send_nack(from, ballot)?;
             self.see(ballot.get());
             return Ok(out);
         }
-        let out = self.ask_where_more(from, executed)?;
+        let out = self.send_want_if_behind(from, executed)?;
         self.see(ballot.get());
         self.follow(ballot);
         Ok(out)
     }
 
     // Handles a leader's notice: its node leads in this ballot, and has executed this many positions.
-    pub(crate) fn hear_lead(
+    pub(crate) fn handle_lead(
         &mut self,
         from: NodeNo,
         ballot: RealBallot,

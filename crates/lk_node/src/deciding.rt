@@ -14,8 +14,8 @@ use lk_step::{Letter, Note, Outbox, letters_to, news_of};
 use lk_types::{Command, Members, NoMemory, NodeNo, Position, Vote};
 
 impl<M: Machine> Node<M> {
-    // A node has voted. Returns the members of the position, if this vote gives it a majority of them.
-    fn hear_vote(&mut self, from: NodeNo, vote: &Vote) -> Option<Members>
+    // Counts a node's vote. Returns the members of the position, if the vote gives it a majority of them.
+    fn count_vote(&mut self, from: NodeNo, vote: &Vote) -> Option<Members>
         ensures { HearsVote from vote.now self.old self.new result }
     {
         let roster = self.learner.whole().roster();
@@ -61,12 +61,12 @@ impl<M: Machine> Node<M> {
     }
 
     // Handles an Accepted.
-    pub(crate) fn hear_accepted(&mut self, from: NodeNo, vote: &Vote) -> Result<Outbox, NoMemory>
+    pub(crate) fn handle_accepted(&mut self, from: NodeNo, vote: &Vote) -> Result<Outbox, NoMemory>
         ensures exact { IfOk result (λ o. HearsAccepted M.meaning from vote.now self.old self.new o) }
         ensures goes_on { IfOk result (λ o. GoesOn M.meaning (λ h. HasSent h.genesis h.sent from (kinds.Accepted vote.now)) self.old self.new nothing o) }
     {
         let mut out = Outbox::new(self.alloc);
-        let Some(members) = self.hear_vote(from, vote) else {
+        let Some(members) = self.count_vote(from, vote) else {
             return Ok(out);
         };
         self.decide(members, vote.position, &vote.command, &mut out)?;

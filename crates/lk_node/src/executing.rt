@@ -5,29 +5,41 @@ ghost use Rattle.lk_node.specs.Serving.{GoesOn};
 
 use crate::node::Node;
 use lk_state::{Machine, Ran, Session};
-use lk_step::{Note, Outbox, To, session_of, told};
+use lk_step::{Note, Outbox, To, session_of, session_reply};
 use lk_types::{Command, NoMemory};
 
 impl<M: Machine> Node<M> {
-    // The session has become its client's last: answers the waiting request up to it, which waits no longer.
-    pub(crate) fn settle(&mut self, session: Session, out: &mut Outbox) -> Result<(), NoMemory>
+    // The session has become its client's last: replies to the waiting request up to it, which waits no longer.
+    pub(crate) fn reply_to_waiting(
+        &mut self,
+        session: Session,
+        out: &mut Outbox,
+    ) -> Result<(), NoMemory>
         ensures { OnOk result (Settles session self.old out.old self.new out.new) }
     {
         let Some(number) = self.leader.ran(session.client, session.number) else {
             return Ok(());
         };
-        self.say(To::Client(session.client), told(session, number), out)?;
+        self.send(
+            To::Client(session.client),
+            session_reply(session, number),
+            out,
+        )?;
         Ok(())
     }
 
-    // Settles the session that has become its client's last, if one has.
-    fn settle_ran(&mut self, session: Option<Session>, out: &mut Outbox) -> Result<(), NoMemory>
+    // Replies to the waiting request up to the session that has become its client's last, if one has.
+    fn reply_if_answered(
+        &mut self,
+        session: Option<Session>,
+        out: &mut Outbox,
+    ) -> Result<(), NoMemory>
         ensures { OnOk result (SettlesAny session self.old out.old self.new out.new) }
     {
         let Some(session) = session else {
             return Ok(());
         };
-        self.settle(session, out)?;
+        self.reply_to_waiting(session, out)?;
         Ok(())
     }
 
@@ -72,7 +84,7 @@ impl<M: Machine> Node<M> {
         };
         let session = session_of(&command, ran.answer);
         out.note(Note::Ran(self.header.node(), ran.position, command))?;
-        self.settle_ran(session, out)?;
+        self.reply_if_answered(session, out)?;
         self.leave_outside();
         Ok(true)
     }

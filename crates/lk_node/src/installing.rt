@@ -13,23 +13,24 @@ use lk_types::NoMemory;
 use lk_wire::PartRef;
 
 impl<M: Machine> Node<M> {
-    // Gathers the part, and installs the text if that completes it and it is a state's. Returns whether it did.
-    fn gather(&mut self, part: &PartRef<'_>) -> Result<bool, NoMemory>
+    // Adds the part to the gathered text, and installs the text if it is complete and a state's. Returns whether it
+    // installed one.
+    fn add_part(&mut self, part: &PartRef<'_>) -> Result<bool, NoMemory>
         ensures { IfOk result (λ went. Gathers M.IsText went part.now self.old self.new) }
     {
-        self.learner.part(part)?;
+        self.learner.add_part(part)?;
         let went = self.learner.install()?;
         Ok(went)
     }
 
-    // Settles the sessions of the learner's state, in rising order of clients.
-    fn settle_sessions(&mut self, out: &mut Outbox) -> Result<(), NoMemory>
+    // Replies to the waiting requests up to the sessions of the learner's state, in rising order of clients.
+    fn reply_to_all_waiting(&mut self, out: &mut Outbox) -> Result<(), NoMemory>
         ensures { OnOk result (SettlesAll self.old.learner.whole.sessions self.old out.old self.new out.new) }
     {
         let count = self.learner.whole().sessions().len();
         'sessions: for index in 0..count {
             let session = self.learner.whole().sessions()[index];
-            self.settle(session, out)?;
+            self.reply_to_waiting(session, out)?;
         }
         Ok(())
     }
@@ -42,19 +43,19 @@ impl<M: Machine> Node<M> {
         self.learner.whole().facts();
         let mut out = Outbox::new(self.alloc);
         out.rebase_store();
-        self.settle_sessions(&mut out)?;
+        self.reply_to_all_waiting(&mut out)?;
         self.leave_outside();
         self.execute(&mut out)?;
         Ok(out)
     }
 
     // Handles a part of another node's snapshot.
-    pub(crate) fn hear_part(&mut self, part: &PartRef<'_>) -> Result<Outbox, NoMemory>
+    pub(crate) fn handle_part(&mut self, part: &PartRef<'_>) -> Result<Outbox, NoMemory>
         ensures exact { IfOk result (λ o. HearsPart M.meaning M.IsText self.old part.now self.new o) }
         ensures goes_on { (from : ℕ) → IfOk result (λ o. GoesOn M.meaning (λ h. HasSent h.genesis h.sent from (kinds.Part part.now)) self.old self.new nothing o) }
     {
         self.header.genesis().facts();
-        if !self.gather(part)? {
+        if !self.add_part(part)? {
             return Ok(Outbox::new(self.alloc));
         }
         let out = self.take_up()?;

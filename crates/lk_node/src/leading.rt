@@ -34,7 +34,7 @@ impl<M: Machine> Node<M> {
 
     // Handles a Promise.
     #[tactic(auto, using(crate::proofs::TermLaws::promise_goes_on))]
-    pub(crate) fn hear_promise(
+    pub(crate) fn handle_promise(
         &mut self,
         from: NodeNo,
         promise: &PromiseRef<'_>,
@@ -73,8 +73,8 @@ impl<M: Machine> Node<M> {
         })
     }
 
-    // Tells the members of the vote's position, in rising order, that it is proposed.
-    fn tell_members(&self, vote: Vote, out: &mut Outbox) -> Result<(), NoMemory>
+    // Sends Accept to the members of the vote's position, in rising order.
+    fn send_accepts(&self, vote: Vote, out: &mut Outbox) -> Result<(), NoMemory>
         ensures said { (set : List MemberValue) → AreMembersAt self.now.learner.whole.roster vote.position set → OnOk result (out.new ≡ telling self.now (nodes_of set) (kinds.Accept vote) out.old) }
         ensures fits { (set : List MemberValue) → AreMembersAt self.now.learner.whole.roster vote.position set → OnOk result (IsMessage (saying self.now.header (kinds.Accept vote))) }
     {
@@ -82,11 +82,11 @@ impl<M: Machine> Node<M> {
             return Ok(());
         };
         let nodes = nodes_of(self.alloc, set)?;
-        self.tell_all(&nodes, NodeMessage::Accept(vote), out)?;
+        self.send_to_all(&nodes, NodeMessage::Accept(vote), out)?;
         Ok(())
     }
 
-    // Proposes what comes next, and tells the members of its position. Returns whether there was anything.
+    // Proposes what comes next to the members of its position. Returns whether there was anything.
     fn propose_next(&mut self, out: &mut Outbox) -> Result<bool, NoMemory>
         ensures exact { IfOk result (λ more. ProposesNext more self.old self.new out.old out.new) }
         ensures goes_on { OnOk result (GoesOn M.meaning (λ h. Unit {0}) self.old self.new out.old out.new) }
@@ -95,11 +95,11 @@ impl<M: Machine> Node<M> {
         let Some(vote) = self.next_vote() else {
             return Ok(false);
         };
-        self.tell_members(vote, out)?;
+        self.send_accepts(vote, out)?;
         Ok(true)
     }
 
-    // Proposes everything that is open, at rising positions, and tells each to the members of its position.
+    // Proposes everything that is open, at rising positions, each to the members of its position.
     pub(crate) fn propose(&mut self, out: &mut Outbox) -> Result<(), NoMemory>
         ensures exact { OnOk result (ProposesOpen self.old self.new out.old out.new) }
         ensures done { OnOk result (NothingOpen self.new) }

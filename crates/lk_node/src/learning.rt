@@ -49,7 +49,7 @@ impl<M: Machine> Node<M> {
 
     // Decides the first of these commands at the position; the others are still to come. Reads it if it is wanted, and
     // skips it otherwise.
-    fn hear_first<'a>(
+    fn take_first<'a>(
         &mut self,
         position: Position,
         told: &Commands<'a>,
@@ -70,7 +70,7 @@ impl<M: Machine> Node<M> {
     }
 
     // Handles Decided: takes its commands in order.
-    pub(crate) fn hear_decided(&mut self, decided: &DecidedRef<'_>) -> Result<Outbox, NoMemory>
+    pub(crate) fn handle_decided(&mut self, decided: &DecidedRef<'_>) -> Result<Outbox, NoMemory>
         ensures exact { IfOk result (λ o. TakesPairs M.meaning decided.now.first decided.now.commands self.old nothing (length decided.now.commands) self.new o) }
         ensures goes_on { (from : ℕ) → IfOk result (λ o. GoesOn M.meaning (λ h. HasSent h.genesis h.sent from (kinds.Decided decided.now)) self.old self.new nothing o) }
     {
@@ -79,7 +79,7 @@ impl<M: Machine> Node<M> {
         let mut rest = decided.commands().copy();
         'pairs: for index in 0..decided.commands().len() {
             let position = position_behind(decided.first(), index);
-            let Some(others) = self.hear_first(position, &rest, &mut out)? else {
+            let Some(others) = self.take_first(position, &rest, &mut out)? else {
                 return Ok(out);
             };
             rest = others;

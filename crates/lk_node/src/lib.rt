@@ -16,9 +16,9 @@ mod node;
 mod packing;
 mod reminding;
 mod replying;
+mod sending;
 mod showing;
 mod step;
-mod telling;
 mod ticking;
 mod yielding;
 

@@ -86,7 +86,12 @@ impl<M: Machine> Node<M> {
     }
 
     // Sends a message to a node or a client.
-    pub(crate) fn say(&self, to: To, message: NodeMessage, out: &mut Outbox) -> Result<(), NoMemory>
+    pub(crate) fn send(
+        &self,
+        to: To,
+        message: NodeMessage,
+        out: &mut Outbox,
+    ) -> Result<(), NoMemory>
         ensures said { OnOk result (out.new ≡ with_letter (record { to = to; bytes = spelling (saying self.now.header message) }) out.old) }
         ensures fits { OnOk result (IsMessage (saying self.now.header message)) }
     {
@@ -96,7 +101,7 @@ impl<M: Machine> Node<M> {
     }
 
     // Sends a message to a node, at its port in the window.
-    pub(crate) fn tell(
+    pub(crate) fn send_to_node(
         &self,
         node: NodeNo,
         message: NodeMessage,
@@ -106,7 +111,7 @@ impl<M: Machine> Node<M> {
         ensures fits { OnOk result (IsMessage (saying self.now.header message)) }
     {
         let to = To::Node(node, self.roster().port_number_of(node));
-        self.say(to, message, out)?;
+        self.send(to, message, out)?;
         Ok(())
     }
 }

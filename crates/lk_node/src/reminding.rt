@@ -13,31 +13,31 @@ use lk_types::{NoMemory, Position, RealBallot, Vote};
 use lk_wire::NodeMessage;
 
 impl<M: Machine> Node<M> {
-    // Asks the nodes of the window again for the promises that the term does not have.
-    fn ask_silent(&self, ballot: RealBallot, out: &mut Outbox) -> Result<(), NoMemory>
+    // Sends Prepare again to the nodes of the window whose promise the term does not have.
+    fn resend_prepares(&self, ballot: RealBallot, out: &mut Outbox) -> Result<(), NoMemory>
         ensures { OnOk result (AsksAgain self.now ballot out.old out.new) }
     {
         let Some(first) = Position::of(self.learner.whole().executed().get() + 1) else {
             return Ok(());
         };
         let nodes = self.leader.silent_among(self.window_nodes()?);
-        self.tell_all(&nodes, NodeMessage::Prepare(ballot, first), out)?;
+        self.send_to_all(&nodes, NodeMessage::Prepare(ballot, first), out)?;
         Ok(())
     }
 
     // The same, for the term's ballot.
-    fn ask_again(&self, ballot: RealBallot, out: &mut Outbox) -> Result<(), NoMemory>
+    fn resend_prepares_of_term(&self, ballot: RealBallot, out: &mut Outbox) -> Result<(), NoMemory>
         requires { IsTermOf ballot self.now.leader }
         ensures exact { OnOk result (AsksAgain self.now ballot out.old out.new) }
         ensures goes_on { OnOk result (GoesOn M.meaning (λ h. Unit {0}) self.now self.now out.old out.new) }
     {
         self.facts();
-        self.ask_silent(ballot, out)?;
+        self.resend_prepares(ballot, out)?;
         Ok(())
     }
 
-    // Repeats what is open at the position to its members that have not been heard to accept it.
-    fn offer(
+    // Sends Accept again for what is open at the position, to its members that have not been heard to accept it.
+    fn resend_accept(
         &self,
         ballot: RealBallot,
         position: Position,
@@ -58,12 +58,12 @@ impl<M: Machine> Node<M> {
             ballot,
             command,
         };
-        self.tell_all(&nodes, NodeMessage::Accept(vote), out)?;
+        self.send_to_all(&nodes, NodeMessage::Accept(vote), out)?;
         Ok(())
     }
 
     // The same, for the term's ballot.
-    fn offer_again(
+    fn resend_accept_of_term(
         &self,
         ballot: RealBallot,
         position: Position,
@@ -74,12 +74,12 @@ impl<M: Machine> Node<M> {
         ensures goes_on { OnOk result (GoesOn M.meaning (λ h. Unit {0}) self.now self.now out.old out.new) }
     {
         self.facts();
-        self.offer(ballot, position, out)?;
+        self.resend_accept(ballot, position, out)?;
         Ok(())
     }
 
-    // Repeats what is open at the positions of the window, in order.
-    fn offer_all(&self, ballot: RealBallot, out: &mut Outbox) -> Result<(), NoMemory>
+    // Sends Accept again for what is open at the positions of the window, in order.
+    fn resend_accepts(&self, ballot: RealBallot, out: &mut Outbox) -> Result<(), NoMemory>
         requires { IsTermOf ballot self.now.leader }
         ensures exact { OnOk result (OffersAll self.now ballot out.old out.new) }
         ensures goes_on { OnOk result (GoesOn M.meaning (λ h. Unit {0}) self.now self.now out.old out.new) }
@@ -87,20 +87,20 @@ impl<M: Machine> Node<M> {
         let next = self.learner.whole().executed().get() + 1;
         'ahead: for ahead in 0..self.roster().alpha() {
             if let Some(position) = Position::of(next + u64::from(ahead)) {
-                self.offer_again(ballot, position, out)?;
+                self.resend_accept_of_term(ballot, position, out)?;
             }
         }
         Ok(())
     }
 
-    // Tells the other nodes of the window who leads.
-    pub(crate) fn tell_lead(&self, ballot: RealBallot, out: &mut Outbox) -> Result<(), NoMemory>
+    // Sends Lead to the other nodes of the window.
+    pub(crate) fn send_lead(&self, ballot: RealBallot, out: &mut Outbox) -> Result<(), NoMemory>
         ensures exact { OnOk result (TellsLead self.now ballot out.old out.new) }
         ensures goes_on { OnOk result (GoesOn M.meaning (λ h. Unit {0}) self.now self.now out.old out.new) }
     {
         let nodes = self.others()?;
         let executed = self.learner.whole().executed();
-        self.tell_all(&nodes, NodeMessage::Lead(ballot, executed), out)?;
+        self.send_to_all(&nodes, NodeMessage::Lead(ballot, executed), out)?;
         Ok(())
     }
 
@@ -112,10 +112,10 @@ impl<M: Machine> Node<M> {
         ensures goes_on { IfOk result (λ o. GoesOn M.meaning (λ h. Unit {0}) self.old self.new nothing o) }
     {
         let mut out = Outbox::new(self.alloc);
-        self.ask_again(ballot, &mut out)?;
-        self.offer_all(ballot, &mut out)?;
+        self.resend_prepares_of_term(ballot, &mut out)?;
+        self.resend_accepts(ballot, &mut out)?;
         self.propose(&mut out)?;
-        self.tell_lead(ballot, &mut out)?;
+        self.send_lead(ballot, &mut out)?;
         Ok(out)
     }
 }

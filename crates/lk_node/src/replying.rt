@@ -10,21 +10,25 @@ use lk_types::{NoMemory, NodeNo};
 use lk_wire::NodeMessage;
 
 impl<M: Machine> Node<M> {
-    // One message to a node or a client, and nothing else.
-    pub(crate) fn say_alone(&self, to: To, message: NodeMessage) -> Result<Outbox, NoMemory>
+    // An outbox with one message, to a node or a client.
+    pub(crate) fn send_one(&self, to: To, message: NodeMessage) -> Result<Outbox, NoMemory>
         ensures { IfOk result (λ o. SaysAlone self.now to message o) }
     {
         let mut out = Outbox::new(self.alloc);
-        self.say(to, message, &mut out)?;
+        self.send(to, message, &mut out)?;
         Ok(out)
     }
 
-    // One message to a node at its port in the window, and nothing else.
-    pub(crate) fn tell_alone(&self, node: NodeNo, message: NodeMessage) -> Result<Outbox, NoMemory>
+    // An outbox with one message, to a node at its port in the window.
+    pub(crate) fn send_one_to_node(
+        &self,
+        node: NodeNo,
+        message: NodeMessage,
+    ) -> Result<Outbox, NoMemory>
         ensures { IfOk result (λ o. SaysAlone self.now (to_node self.now node) message o) }
     {
         let mut out = Outbox::new(self.alloc);
-        self.tell(node, message, &mut out)?;
+        self.send_to_node(node, message, &mut out)?;
         Ok(out)
     }
 }

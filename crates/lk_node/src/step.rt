@@ -19,33 +19,37 @@ use lk_wire::{ContentRef, Datagram, NodeMessageRef};
 impl<M: Machine> Node<M> {
     #[tactic(auto, using(crate::proofs::Serving::rests_here))]
     // Dispatches a node's message.
-    fn hear_node(&mut self, from: NodeNo, message: &NodeMessageRef<'_>) -> Result<Outbox, NoMemory>
+    fn handle_node_message(
+        &mut self,
+        from: NodeNo,
+        message: &NodeMessageRef<'_>,
+    ) -> Result<Outbox, NoMemory>
         ensures exact { IfOk result (λ o. HearsNode M.meaning M.IsText self.old from (shown_node message.now) self.new o) }
         ensures goes_on { IfOk result (λ o. GoesOn M.meaning (λ h. HasSent h.genesis h.sent from (shown_node message.now)) self.old self.new nothing o) }
     {
         match message {
-            NodeMessageRef::Prepare(ballot, first) => self.prepare(from, *ballot, *first),
-            NodeMessageRef::Accept(vote) => self.accept(from, vote.vote()),
-            NodeMessageRef::Promise(promise) => self.hear_promise(from, promise),
-            NodeMessageRef::Accepted(vote) => self.hear_accepted(from, &vote.vote()),
-            NodeMessageRef::Decided(decided) => self.hear_decided(decided),
-            NodeMessageRef::Nack(nack) => self.hear_nack(from, nack),
-            NodeMessageRef::Want(want) => self.hear_want(from, want),
-            NodeMessageRef::Part(part) => self.hear_part(part),
-            NodeMessageRef::Lead(ballot, executed) => self.hear_lead(from, *ballot, *executed),
+            NodeMessageRef::Prepare(ballot, first) => self.handle_prepare(from, *ballot, *first),
+            NodeMessageRef::Accept(vote) => self.handle_accept(from, vote.vote()),
+            NodeMessageRef::Promise(promise) => self.handle_promise(from, promise),
+            NodeMessageRef::Accepted(vote) => self.handle_accepted(from, &vote.vote()),
+            NodeMessageRef::Decided(decided) => self.handle_decided(decided),
+            NodeMessageRef::Nack(nack) => self.handle_nack(from, nack),
+            NodeMessageRef::Want(want) => self.handle_want(from, want),
+            NodeMessageRef::Part(part) => self.handle_part(part),
+            NodeMessageRef::Lead(ballot, executed) => self.handle_lead(from, *ballot, *executed),
             _ => Ok(Outbox::new(self.alloc)),
         }
     }
 
     #[tactic(auto, using(crate::proofs::Serving::rests_here))]
     // Dispatches a message of the cluster.
-    fn hear(&mut self, content: &ContentRef<'_>) -> Result<Outbox, NoMemory>
+    fn handle_message(&mut self, content: &ContentRef<'_>) -> Result<Outbox, NoMemory>
         ensures exact { IfOk result (λ o. Hears M.meaning M.IsText self.old (shown_content content.now) self.new o) }
         ensures goes_on { IfOk result (λ o. GoesOn M.meaning (λ h. WasHeard h (shown_content content.now)) self.old self.new nothing o) }
     {
         match content {
-            ContentRef::Request(request) => self.hear_request(&request.request()),
-            ContentRef::Node(from, message) => self.hear_node(*from, message),
+            ContentRef::Request(request) => self.handle_request(&request.request()),
+            ContentRef::Node(from, message) => self.handle_node_message(*from, message),
         }
     }
 
@@ -61,7 +65,7 @@ impl<M: Machine> Node<M> {
         if message.cluster != self.header.genesis().cluster {
             return Ok(Outbox::new(self.alloc));
         }
-        let out = self.hear(&message.content)?;
+        let out = self.handle_message(&message.content)?;
         Ok(out)
     }
 
@@ -77,7 +81,8 @@ impl<M: Machine> Node<M> {
     }
 
     #[tactic(auto, using(crate::proofs::Serving::rests_here))]
-    fn serve(&mut self, input: Input) -> Result<Outbox, NoMemory>
+    // Dispatches an input.
+    fn handle_input(&mut self, input: Input) -> Result<Outbox, NoMemory>
         ensures exact { IfOk result (λ o. Steps M.meaning M.IsText self.old input.entry self.new o) }
         ensures goes_on { IfOk result (λ o. GoesOn M.meaning (λ h. InputFits h input.entry) self.old self.new nothing o) }
     {
@@ -104,7 +109,7 @@ impl<M: Machine> Node<M> {
         if self.halted {
             return Err(Halted);
         }
-        match self.serve(input) {
+        match self.handle_input(input) {
             Ok(outbox) => Ok(outbox),
             Err(NoMemory) => {
                 self.halted = true;

@@ -22,7 +22,7 @@ impl<M: Machine> Node<M> {
 
     #[tactic(auto, using(crate::proofs::Serving::rests_here))]
     // Begins a ballot if it has waited long enough.
-    fn begin_where_due(&mut self) -> Result<Outbox, NoMemory>
+    fn begin_if_due(&mut self) -> Result<Outbox, NoMemory>
         ensures exact { IfOk result (λ o. BeginsWhereDue self.old self.new o) }
         ensures goes_on { IfOk result (λ o. GoesOn M.meaning (λ h. Unit {0}) self.old self.new nothing o) }
     {
@@ -44,7 +44,7 @@ impl<M: Machine> Node<M> {
         ensures goes_on { IfOk result (λ o. GoesOn M.meaning (λ h. Unit {0}) self.old self.new nothing o) }
     {
         self.ticks.rise();
-        let out = self.begin_where_due()?;
+        let out = self.begin_if_due()?;
         Ok(out)
     }
 

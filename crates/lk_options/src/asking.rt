@@ -1,6 +1,6 @@
 //! What `locks ask` is to send, and to which ports.
 
-use crate::misread::Misread;
+use crate::argument_error::ArgumentError;
 use crate::values::{client_in, number_in, port_in, read_port, request_in};
 use clap::ArgMatches;
 use lk_client::destination::Destination;
@@ -9,7 +9,7 @@ use lk_types::{Op, Port, Request};
 use std::alloc::{AllocError, Global};
 
 /// The question of an operation that `locks ask` is to send.
-pub fn question_of<'a>(matches: &ArgMatches<'a>, op: Op) -> Result<Question, Misread<'a>> {
+pub fn question_of<'a>(matches: &ArgMatches<'a>, op: Op) -> Result<Question, ArgumentError<'a>> {
     let cluster = number_in(matches, "cluster", u64::MAX)?;
     let port = port_in(matches)?;
     let client = client_in(matches)?;
@@ -29,11 +29,11 @@ const ROUNDS: u32 = 3;
 fn add_ports<'a>(
     words: &[&'a str],
     turns: &mut Vec<Port>,
-) -> Result<Result<(), Misread<'a>>, AllocError> {
+) -> Result<Result<(), ArgumentError<'a>>, AllocError> {
     for word in words {
         match read_port(word) {
             Ok(port) => turns.push(port)?,
-            Err(misread) => return Ok(Err(misread)),
+            Err(error) => return Ok(Err(error)),
         }
     }
     Ok(Ok(()))
@@ -43,15 +43,15 @@ fn add_ports<'a>(
 pub fn turns_of<'a>(
     alloc: Global,
     matches: &ArgMatches<'a>,
-) -> Result<Result<Vec<Port>, Misread<'a>>, AllocError> {
+) -> Result<Result<Vec<Port>, ArgumentError<'a>>, AllocError> {
     let words = matches.get_strs("port").unwrap_or(&[]);
     let mut turns = Vec::new(alloc);
     if words.len() < 2 {
         return Ok(Ok(turns));
     }
     for _ in 0..ROUNDS {
-        if let Err(misread) = add_ports(words, &mut turns)? {
-            return Ok(Err(misread));
+        if let Err(error) = add_ports(words, &mut turns)? {
+            return Ok(Err(error));
         }
     }
     Ok(Ok(turns))

@@ -43,13 +43,13 @@ const SUBCOMMANDS: &[Usage] = &[
         (Kind::Flag, "groups", "nodes also take several datagrams as one group"),
         (Kind::Flag, "script", "prints a script of what happens, for sim"),
     ]),
-    ("node", "runs a node on the files of a folder and a port of 127.0.0.1", &[
+    ("node", "runs a node on the files of a folder and a UDP port", &[
         (Kind::Word, "genesis", "CLUSTER,ALPHA,NODE:PORT,.."),
         (Kind::Word, "number", "the number of the node"),
-        (Kind::Word, "port", "the port of the node"),
+        (Kind::Word, "port", "the UDP port of the node"),
         (Kind::Word, "dir", "the folder of its files"),
         (Kind::Given, "hosts", "a file of lines NODE ADDRESS: where each node lives"),
-        (Kind::Given, "bind", "the address at which the node listens"),
+        (Kind::Given, "bind", "the address at which the node listens; by default that of its line in the hosts, or 127.0.0.1"),
         (Kind::Given, "key", "the file of the key that the nodes share"),
         (Kind::Given, "client-key", "the file of the master from which the clients' keys are derived"),
         (Kind::Given, "ticks", "what ticks go by: datagrams, or clock (each 100 ms; always with a key)"),

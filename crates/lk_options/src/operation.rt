@@ -1,22 +1,22 @@
-//! The operations that `locks ask` puts, and what is wrong with words that are none.
+//! The operations of `locks ask`, and what the words of each have to be.
 
-use crate::misread::Misread;
+use crate::argument_error::ArgumentError;
 use lk_locks::Name;
 use std::io::Write;
 
 // The operations, by their first word, and whether the second is a name.
 #[rattlefmt::skip]
 const FORMS: [(&str, &str, bool); 10] = [
-    ("acquire", "it is acquire NAME", true),
-    ("release", "it is release NAME FENCE, a fence of 0 to 281474976710656", true),
-    ("ask", "it is ask NAME", true),
-    ("check", "it is check NAME FENCE, a fence of 0 to 281474976710656", true),
-    ("share", "it is share NAME", true),
-    ("break", "it is break NAME FENCE, a fence of 0 to 281474976710656", true),
-    ("join", "it is join NODE PORT, of 1 to 2147483648 and 1 to 65535", false),
-    ("leave", "it is leave NODE, of 1 to 2147483648", false),
-    ("raise", "it is raise 2", false),
-    ("raw", "it is raw HEX, of 1 to 64 bytes", false),
+    ("acquire", "must be acquire NAME", true),
+    ("release", "must be release NAME FENCE, with FENCE from 0 to 281474976710656", true),
+    ("ask", "must be ask NAME", true),
+    ("check", "must be check NAME FENCE, with FENCE from 0 to 281474976710656", true),
+    ("share", "must be share NAME", true),
+    ("break", "must be break NAME FENCE, with FENCE from 0 to 281474976710656", true),
+    ("join", "must be join NODE PORT, with NODE from 1 to 2147483648 and PORT from 1 to 65535", false),
+    ("leave", "must be leave NODE, with NODE from 1 to 2147483648", false),
+    ("raise", "must be raise 2", false),
+    ("raw", "must be raw HEX, with HEX spelling 1 to 64 bytes", false),
 ];
 
 // What a name is.
@@ -29,12 +29,12 @@ fn form_of(first: &str) -> &'static str {
             return form;
         }
     }
-    "it is acquire, release, ask, check, share, break, join, leave, raise or raw"
+    "must be acquire, release, ask, check, share, break, join, leave, raise or raw"
 }
 
-/// An operation that is not understood, by its first word.
-pub fn misread_operation<'a>(first: &'a str) -> Misread<'a> {
-    Misread {
+/// The error of an invalid operation, with its first word.
+pub fn invalid_operation<'a>(first: &'a str) -> ArgumentError<'a> {
+    ArgumentError {
         argument: "op",
         value: first,
         wanted: form_of(first),

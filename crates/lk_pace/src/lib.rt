@@ -2,7 +2,7 @@
 //! knows no replica and no socket.
 #![tactic(auto)]
 
-pub mod found;
 pub mod metronome;
 pub mod pace;
 pub mod sync_pause;
+pub mod turn_input;

@@ -10,7 +10,7 @@ use std::{io, thread};
 // How long it is from one tick to the next, in milliseconds.
 const PERIOD: u64 = 100;
 
-/// A clock that stands still, for a turn without a clock.
+/// A clock that never advances, for a turn without a clock.
 #[derive(Clone, Copy)]
 pub struct Still;
 
@@ -87,8 +87,8 @@ impl<C: Clock> Metronome<C> {
         }
     }
 
-    /// The next 100 ms begin when it is asked of them again.
-    pub fn rest(&mut self)
+    /// Forgets when the 100 ms began: the next ones begin when it is asked of them.
+    pub fn reset(&mut self)
         ensures { self.new ≡ record self.old { began = None } }
     {
         self.began = None;

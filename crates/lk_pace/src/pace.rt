@@ -3,8 +3,8 @@
 ghost use Rattle.std.specs.Prelude.{◌≡◌, true, false};
 ghost use Rattle.lk_pace.specs.Paces.{ticks_after};
 
-use crate::found::Found;
 use crate::metronome::Metronome;
+use crate::turn_input::TurnInput;
 use std::time::Clock;
 
 // So many datagrams bring a tick, however fast they come, where ticks go by them.
@@ -31,18 +31,18 @@ impl Pace {
     }
 
     /// Whether a tick is due in a turn in which this was found. The next one is then 100 ms away.
-    pub fn is_due<C: Clock>(self, found: Found, metronome: &mut Metronome<C>) -> bool
+    pub fn is_due<C: Clock>(self, found: TurnInput, metronome: &mut Metronome<C>) -> bool
         // By datagrams it is due where nothing came, and not where its replica was given something.
-        ensures none { self ≡ Pace.Datagrams → found ≡ Found.Nothing → result ≡ true }
-        ensures given { self ≡ Pace.Datagrams → found ≡ Found.Something → result ≡ false }
+        ensures none { self ≡ Pace.Datagrams → found ≡ TurnInput.Nothing → result ≡ true }
+        ensures given { self ≡ Pace.Datagrams → found ≡ TurnInput.Something → result ≡ false }
     {
         match (self, found) {
-            (Pace::Datagrams, Found::Nothing) => {
-                metronome.rest();
+            (Pace::Datagrams, TurnInput::Nothing) => {
+                metronome.reset();
                 true
             }
-            (Pace::Datagrams, Found::Something) => {
-                metronome.rest();
+            (Pace::Datagrams, TurnInput::Something) => {
+                metronome.reset();
                 false
             }
             _ => metronome.has_passed(),

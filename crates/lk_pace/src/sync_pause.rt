@@ -15,16 +15,13 @@ const SHORTEST: u64 = 50;
 // A longer sync counts as this many microseconds: no pause is longer than 2 ms.
 const LONGEST: u64 = 32_000;
 
-// Several letters waited for a sync: as many syncs later pauses are still due.
-const REMEMBERED: u8 = 16;
-
 /// What a server remembers of its syncs.
 #[derive(Clone, Copy)]
 pub struct SyncPause {
     /// The longest one in microseconds, an eighth shorter at each that followed.
     pub longest: u64,
-    /// How many syncs from now on are paused for.
-    pub crowded: u8,
+    /// The most letters that waited for one, one less at each that followed.
+    pub fullest: usize,
     /// How many pauses the group may still have.
     pub left: u8,
 }
@@ -43,36 +40,31 @@ impl SyncPause {
     /// No sync yet.
     pub const NONE: SyncPause = SyncPause {
         longest: 0,
-        crowded: 0,
+        fullest: 0,
         left: PART,
     };
 
     /// A group has ended with a sync, for which this many letters waited.
     pub fn note(&mut self, took: Duration, letters: usize)
         ensures longest { self.new.longest ≡ max (min (as_nanos took / 1000) 32000) (self.old.longest - self.old.longest / 8) }
-        ensures several { 2 ≤ letters → self.new.crowded ≡ 16 }
-        ensures few { letters < 2 → self.new.crowded ≡ self.old.crowded - 1 }
+        ensures fullest { self.new.fullest ≡ max letters (self.old.fullest - 1) }
         ensures left { self.new.left ≡ 16 }
     {
         let faded = self.longest - self.longest / 8;
         self.longest = micros_of(took).max(faded);
-        self.crowded = if letters < 2 {
-            self.crowded.saturating_sub(1)
-        } else {
-            REMEMBERED
-        };
+        self.fullest = letters.max(self.fullest.saturating_sub(1));
         self.left = PART;
     }
 
-    /// The next pause of a group, if one is due: several letters waited for one of the last 16 syncs, it is not too
-    /// short, and the group has had fewer than 16.
-    pub fn next_pause(&mut self) -> Option<Duration>
-        ensures some { IfSome result (λ d. (as_nanos d ≡ self.old.longest / 16 * 1000) × (50 ≤ self.old.longest / 16) × (1 ≤ self.old.crowded) × (self.new.left + 1 ≡ self.old.left)) }
-        ensures none { IsNone result → (self.new ≡ self.old) × ((self.old.longest / 16 < 50) ⊎ (self.old.crowded ≡ 0) ⊎ (self.old.left ≡ 0)) }
+    /// The next pause of a group that has this many letters, if one is due: more letters waited for an earlier sync,
+    /// the pause is not too short, and the group has had fewer than 16.
+    pub fn next_pause(&mut self, letters: usize) -> Option<Duration>
+        ensures some { IfSome result (λ d. (as_nanos d ≡ self.old.longest / 16 * 1000) × (50 ≤ self.old.longest / 16) × (letters < self.old.fullest) × (self.new.left + 1 ≡ self.old.left)) }
+        ensures none { IsNone result → (self.new ≡ self.old) × ((self.old.longest / 16 < 50) ⊎ (self.old.fullest ≤ letters) ⊎ (self.old.left ≡ 0)) }
         ensures others { self.new ≡ record self.old { left = self.new.left } }
     {
         let micros = self.longest / u64::from(PART);
-        if micros < SHORTEST || self.crowded == 0 || self.left == 0 {
+        if micros < SHORTEST || letters >= self.fullest || self.left == 0 {
             return None;
         }
         self.left -= 1;

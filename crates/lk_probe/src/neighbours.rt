@@ -25,9 +25,9 @@ pub struct Origin {
 pub enum Knowledge {
     /// It was never asked.
     Unknown,
-    /// It was asked once, at that count of ticks, and has not told.
+    /// It was asked once, at that count of ticks, and has not answered.
     Asked(u64),
-    /// It was asked twice, and has not told.
+    /// It was asked twice, and has not answered.
     AskedTwice,
     /// It is this node's.
     Same,
@@ -101,14 +101,14 @@ impl Knowledge {
         }
     }
 
-    // Whether it was asked and has not told.
+    // Whether it was asked and has not answered.
     fn is_open(self) -> bool
         ensures { result ≡ is_open self }
     {
         matches!(self, Knowledge::Asked(_) | Knowledge::AskedTwice)
     }
 
-    // What is known of a node that tells this, by one of that genesis.
+    // What is known of a node that reports this, by one of that genesis.
     fn having_told(own: &[u8; DIGEST], told: Origin) -> Knowledge
         ensures { result ≡ having_told own.now told }
     {
@@ -166,7 +166,7 @@ impl Neighbour {
     }
 
     /// The same where the node binds this one.
-    pub fn bound(&self) -> Option<Origin>
+    pub fn followed_stranger(&self) -> Option<Origin>
         ensures { result ≡ bound_by self.now }
     {
         if self.binds { self.other() } else { None }
@@ -178,7 +178,7 @@ fn bound_at(entry: &Option<Neighbour>) -> Option<Origin>
     ensures { result ≡ bound_at entry.now }
 {
     match entry {
-        Some(neighbour) => neighbour.bound(),
+        Some(neighbour) => neighbour.followed_stranger(),
         None => None,
     }
 }
@@ -262,7 +262,7 @@ impl Neighbours {
 
     /// The address of a node for which a probe is due at that count of ticks. From now on it was asked.
     #[tactic(auto, using(crate::proofs::Strangers::asked_strangers))]
-    pub fn ask(&mut self, now: u64) -> Option<SocketAddr>
+    pub fn next_to_probe(&mut self, now: u64) -> Option<SocketAddr>
         ensures some { IfSome result (λ place. Asks now place self.old self.new) }
         ensures none { IsNone result → (list_any (is_due_at now) self.old ≡ false) × (self.new ≡ self.old) }
         ensures strangers { is_stranger self.new ≡ is_stranger self.old }
@@ -293,8 +293,8 @@ impl Neighbours {
         }
     }
 
-    /// What is known of the node at an address that was asked and tells this. `None`, and nothing is changed, where it
-    /// was not asked or has told before.
+    /// What is known of the node at an address that was asked and reports this. `None`, and nothing is changed, if it
+    /// was not asked or has answered before.
     pub fn learn(
         &mut self,
         place: SocketAddr,
@@ -329,7 +329,7 @@ impl Neighbours {
     }
 
     /// The first node of another genesis that binds this one, if one does.
-    pub fn bound(&self) -> Option<Origin>
+    pub fn followed_stranger(&self) -> Option<Origin>
         ensures { result ≡ bound_in self.now }
     {
         bound_in(&self.entries)

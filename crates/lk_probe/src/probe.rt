@@ -7,7 +7,7 @@ use crate::status::{LENGTH, Status};
 use crate::writing::{write_probe, write_report};
 use lk_types::{ClientNo, NodeNo};
 
-/// A question to a node: what it tells of itself.
+/// A question to a node: what it reports of itself.
 #[derive(Clone, Copy)]
 pub struct Probe {
     pub cluster: u64,
@@ -89,7 +89,7 @@ impl Probe {
         write_probe(self)
     }
 
-    /// The report of a node that tells this of itself.
+    /// The report of a node with this status.
     pub fn answer(&self, node: NodeNo, status: Status) -> Report
         ensures answers { Answers self.now result }
         ensures node { result.node ≡ node }

@@ -7,7 +7,7 @@ use crate::neighbours::Origin;
 use crate::probe::{Probe, Report};
 use std::net::SocketAddr;
 
-/// What a report tells of the node at an address.
+/// What a report says of the node at an address.
 #[derive(Clone, Copy)]
 pub struct Reported {
     pub from: SocketAddr,
@@ -28,7 +28,7 @@ pub fn question(cluster: u64, asker: Origin) -> Probe
 }
 
 impl Reported {
-    /// What the datagram that came from there tells, if it is a report that answers the probe.
+    /// What the datagram that came from there says, if it is a report that answers the probe.
     pub fn by(probe: &Probe, from: SocketAddr, datagram: &[u8]) -> Option<Reported>
         ensures { IsReportedOf probe.now (from, datagram.now) result }
     {

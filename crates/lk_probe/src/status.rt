@@ -34,7 +34,7 @@ pub struct Identity {
     pub program: Version,
     /// The format of its store.
     pub format: u8,
-    /// The version of its lock table: 2 once that is raised, 1 before, 0 if the node does not tell it.
+    /// The version of its lock table: 2 once that is raised, 1 before, 0 if the node does not report it.
     pub table: u8,
 }
 
@@ -75,7 +75,7 @@ pub struct Traffic {
     pub ticks: u64,
 }
 
-/// What a node tells of itself.
+/// What a node reports of itself.
 #[derive(Drop)]
 pub struct Status {
     pub identity: Identity,

@@ -21,23 +21,23 @@ use Rattle.lk_replica.specs.ReplicaValue.{ReplicaValue, device_of}
 use Rattle.lk_replica.specs.Revived.{RevivesTo}
 use Rattle.lk_sim.specs.Events.{Turns, AreOwn, AreAllOwn, Adds, IsGiven, IsGivenTogether, ComesUp, IsCompacted, Brings, Does, IsHalted, LeftBy, LeftByGroup, LeftByRevival, LeftByPacking, Wants, IsRefused}
 use Rattle.lk_replica.specs.Together.{Said, sent_of, ComesToAll}
-use Rattle.lk_seats.specs.Sends.{cut_short, left_over}
+use Rattle.lk_world_nodes.specs.Sends.{cut_short, left_over}
 use Rattle.lk_sim.specs.Groups.{AreNotesOf, given_by}
 use Rattle.lk_sim.specs.Heard.{Asks}
 use Rattle.lk_sim.specs.Refusals.{datagram_at, May}
 use Rattle.lk_sim.specs.Scenes.{Scene}
-use Rattle.lk_seats.specs.Told.{told_by, Tells}
+use Rattle.lk_world_nodes.specs.Told.{told_by, Tells}
 use Rattle.lk_sim.specs.Traces.{asked_note}
 use Rattle.lk_sim.specs.declared.event.Event.{Event}
 use Rattle.lk_sim.specs.declared.event.Event.TheVariants as event
-use Rattle.lk_seats.specs.declared.refused.Refused.{Refused}
+use Rattle.lk_world_nodes.specs.declared.refused.Refused.{Refused}
 use Rattle.lk_sim.specs.Events.{GoesDown}
 use Rattle.lk_sim.specs.Runs.{Passes, StopsAt, Runs}
-use Rattle.lk_seats.specs.Seats.{stopped_on}
+use Rattle.lk_world_nodes.specs.Seats.{stopped_on}
 use Rattle.lk_sim.specs.declared.end.RunEnd.{RunEnd}
-use Rattle.lk_seats.specs.declared.seat.Seat.{Seat}
-use Rattle.lk_seats.specs.declared.seat.Life.{Life}
-use Rattle.lk_seats.specs.declared.seat.Life.TheVariants.{Up, Down}
+use Rattle.lk_world_nodes.specs.declared.seat.Seat.{Seat}
+use Rattle.lk_world_nodes.specs.declared.seat.Life.{Life}
+use Rattle.lk_world_nodes.specs.declared.seat.Life.TheVariants.{Up, Down}
 use Rattle.lk_promise.proofs.Falling.{leaves_down}
 use Rattle.lk_promise.proofs.Refusing.{none_started, has_cause, leaves_up, takes_as_told}
 use Rattle.lk_promise.proofs.Reviving.{same_seat, stands_at, restarts_as_told}

@@ -16,15 +16,15 @@ use Rattle.lk_locks.specs.Meaning.{table_meaning}
 use Rattle.lk_node.specs.Leavings.{header_of, acceptor_of, StandsAs}
 use Rattle.lk_node.specs.Served.{text}
 use Rattle.lk_replica.specs.ReplicaValue.{ReplicaValue, device_of}
-use Rattle.lk_seats.specs.Seats.{disks_of, At}
+use Rattle.lk_world_nodes.specs.Seats.{disks_of, At}
 use Rattle.lk_sim.specs.Kept.{EveryStanding, CoversAll, KeepsCommand, IsKeptBy}
 use Rattle.lk_sim.specs.Packed.{StandsPacked}
-use Rattle.lk_seats.specs.Rooms as lengths
+use Rattle.lk_world_nodes.specs.Rooms as lengths
 use Rattle.lk_sim.specs.Scenes.{Scene}
 use Rattle.lk_sim.specs.States.{IsPackedList, KeepsPacked, SumsUpChosen}
-use Rattle.lk_seats.specs.declared.seat.Seat.{Seat}
-use Rattle.lk_seats.specs.declared.seat.Life.{Life}
-use Rattle.lk_seats.specs.declared.seat.Life.TheVariants.{Up, Down}
+use Rattle.lk_world_nodes.specs.declared.seat.Seat.{Seat}
+use Rattle.lk_world_nodes.specs.declared.seat.Life.{Life}
+use Rattle.lk_world_nodes.specs.declared.seat.Life.TheVariants.{Up, Down}
 use Rattle.lk_promise.specs.Promise as promise
 use Rattle.lk_promise.specs.Disks.{IsSnapshot}
 use Rattle.lk_promise.specs.Promise.{device_in, IsShort, MayRemainOf, Remembers, EachImage, HasSnapshot, IsCovered, IsRemembered, Says, Begins}

@@ -13,7 +13,7 @@ use Rattle.lk_agreement.specs.Datagrams.{Datagram}
 use Rattle.lk_agreement.proofs.Histories.{cons_cases, contains_more}
 use Rattle.lk_step.specs.declared.note.Note.{Note}
 use Rattle.lk_step.specs.declared.note.Note.TheVariants as note
-use Rattle.lk_seats.specs.Told.{told_by}
+use Rattle.lk_world_nodes.specs.Told.{told_by}
 use Rattle.lk_promise.specs.Promise.{is_reply, AreReplies, nothing_more, an_answer, a_pass, no_reply, is_told, AreTold, Explains}
 use Rattle.lk_promise.specs.Replies.{ExplainsReplies}
 

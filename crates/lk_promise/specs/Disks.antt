@@ -21,9 +21,9 @@ use Rattle.lk_log.specs.Images.{IsLive, IsEmpty}
 use Rattle.lk_log.specs.Stores.{first_base}
 use Rattle.lk_agreement.specs.Datagrams.{Datagram}
 use Rattle.lk_replica.specs.ReplicaValue.{ReplicaValue, device_of}
-use Rattle.lk_seats.specs.declared.seat.Life.{Life}
-use Rattle.lk_seats.specs.declared.seat.Life.TheVariants.{Up, Down}
-use Rattle.lk_seats.specs.declared.seat.Seat.{Seat}
+use Rattle.lk_world_nodes.specs.declared.seat.Life.{Life}
+use Rattle.lk_world_nodes.specs.declared.seat.Life.TheVariants.{Up, Down}
+use Rattle.lk_world_nodes.specs.declared.seat.Seat.{Seat}
 use Rattle.lk_fields.specs.Fields as field
 use Rattle.lk_state.specs.declared.session.Session.{Session}
 use Rattle.lk_promise.specs.Chosen.{Says, IsChosen, Begins}

@@ -7,7 +7,7 @@
 -- All of that is stated here a second time, in words of its own. Of the crates below, these files import the values,
 -- the order of ballots, the grammar of bytes, bodies and files, the packed text of a lock table, and what a world
 -- shows (its genesis, its nodes, its datagrams, its trace). Of the definitions of lk_members, lk_agreement, lk_state,
--- lk_seats and lk_sim they import none but such values: so a definition that is weakened there breaks a proof of this
+-- lk_world_nodes and lk_sim they import none but such values: so a definition that is weakened there breaks a proof of this
 -- crate.
 --
 -- Not restated: what is named above, the contract of a replica (`ComesTo`), what a revival revives, and what a trap
@@ -31,8 +31,8 @@ use Rattle.lk_step.specs.declared.note.Note.{Note}
 use Rattle.lk_step.specs.declared.note.Note.TheVariants as note
 use Rattle.lk_replica.specs.ReplicaValue.{ReplicaValue}
 use Rattle.lk_sim.specs.Scenes.{Scene}
-use Rattle.lk_seats.specs.declared.seat.Life.TheVariants.{Up}
-use Rattle.lk_seats.specs.declared.seat.Seat.{Seat}
+use Rattle.lk_world_nodes.specs.declared.seat.Life.TheVariants.{Up}
+use Rattle.lk_world_nodes.specs.declared.seat.Seat.{Seat}
 use Rattle.lk_promise.specs.Plain.{at, members, IsAnswered, TakesEffectAt, Kept, IsKeptOf}
 pub use Rattle.lk_promise.specs.Chosen.{Says, IsAcceptedBy, IsChosen, Begins, Agree}
 pub use Rattle.lk_promise.specs.Disks.{members_text, session_text, kept_text, IsSnapshot, device_in, MayRemain, MayRemainOf, Remembers, EachImage, HasSnapshot, HaveSnapshots, HasVote, IsCovered, AreCovered, IsRemembered, IsKeptBy, AreKept, IsShort, AreShort}

@@ -73,7 +73,7 @@ pub fn is_due<M: Machine, D: LogDisk + Drop>(
 }
 
 /// Writes the node's Base if that is due.
-pub fn rebase_where_due<M: Machine, D: LogDisk + Drop>(
+pub fn rebase_if_due<M: Machine, D: LogDisk + Drop>(
     node: &mut Node<M>,
     store: &mut Store<D>,
 ) -> Result<(), ReplicaFault>

@@ -1,6 +1,7 @@
 // Restarting from what a stop has left.
-ghost use Rattle.std.specs.Prelude.{◌≡◌, ◌⊎◌, ℕ, ◌+◌, ◌*◌, ◌≤◌, [], length, nat_le, IfOk, IfErr, IsErrOf, MatchResult};
+ghost use Rattle.std.specs.Prelude.{◌≡◌, ◌⊎◌, ℕ, ◌+◌, ◌*◌, ◌≤◌, ◌↔◌, IsTrue, [], length, nat_le, IfOk, IfErr, IsErrOf, MatchResult};
 ghost use Rattle.std.specs.List.{list_all};
+ghost use Rattle.lk_log.specs.Images.{IsEmpty, seen};
 ghost use Rattle.lk_log.specs.Stores.{NarrowsOrBegins, StandsForSome};
 ghost use Rattle.lk_log.specs.StoreValue.{disks};
 ghost use Rattle.lk_log.specs.Rooms.{StaysWithin};
@@ -106,6 +107,8 @@ pub struct TakenUp<M: Machine, D: LogDisk + Drop> {
     pub node: Node<M>,
     pub store: Store<D>,
     pub notes: Vec<Note>,
+    /// Whether there was no store, and this one is new.
+    pub is_new: bool,
 }
 
 /// Restarts from what a stop has left on these disks, or begins a store if there is none. A file of format 1 keeps its
@@ -128,8 +131,9 @@ pub fn take_up<M: Machine, D: LogDisk + Drop>(
         → MatchResult result (λ r. AllCover M.meaning genesis n (disks r.store) x) (λ e. AllCover M.meaning genesis n (D.disk e.device) x) }
     // Its store keeps what its acceptor holds, whatever has happened to the disks.
     ensures remembers { D.is_honest → (genesis : GenesisValue) (n : ℕ) → header.now ≡ header_of genesis n → IfOk result (λ r. Remembers r.node r.store genesis n) }
-    // It restarts exactly what the disks stand for, and executes nothing else.
-    ensures exact { D.is_honest → IfOk result (λ r. TakesUp M.meaning M.IsText (D.disk device) header.now r.node r.store r.notes.items) }
+    // It restarts exactly what the disks stand for, and executes nothing else. The store is new exactly if there was no
+    // Base.
+    ensures exact { D.is_honest → IfOk result (λ r. TakesUp M.meaning M.IsText (D.disk device) header.now r.node r.store r.notes.items × (IsTrue r.is_new ↔ IsEmpty (seen (D.disk device)))) }
     // Nothing of it has failed, and it has executed what it can.
     ensures ready { IfOk result (λ r. IsTakenUp header.now r.node r.store) }
     // An error has its cause. A damaged store and another's are unchanged.
@@ -155,11 +159,16 @@ pub fn take_up<M: Machine, D: LogDisk + Drop>(
         });
     };
     match reopen(alloc, device, header, zero.as_slice()) {
-        Ok((store, standing)) => match restored(alloc, header, standing) {
-            Ok((node, notes)) => Ok(TakenUp { node, store, notes }),
+        Ok(opened) => match restored(alloc, header, opened.standing) {
+            Ok((node, notes)) => Ok(TakenUp {
+                node,
+                store: opened.store,
+                notes,
+                is_new: opened.is_new,
+            }),
             Err(fault) => Err(ReviveFault {
                 fault,
-                device: store.into_disks(),
+                device: opened.store.into_disks(),
             }),
         },
         Err(e) => Err(ReviveFault {

@@ -134,7 +134,10 @@ fn are_sent<P: Post>(letters: &[Letter], post: &mut P) -> bool
 }
 
 /// Syncs the live file if something waits for that, and otherwise gives what was written to the system.
-pub fn settle<D: LogDisk + Drop>(store: &mut Store<D>, waits: bool) -> Result<(), ReplicaFault>
+pub fn sync_if_waiting<D: LogDisk + Drop>(
+    store: &mut Store<D>,
+    waits: bool,
+) -> Result<(), ReplicaFault>
     requires { store.old.format ≡ 2 }
     ensures settles { D.is_honest → OnOk result (Settles waits store.old store.new) }
     // However it ends, every image that a stop may leave has everything that was synced, and a prefix of the rest.
@@ -190,7 +193,7 @@ fn step_to_file<M: Machine, D: LogDisk + Drop>(
 {
     let outbox = node.step(input)?;
     if outbox.rebase {
-        settle(store, waits)?;
+        sync_if_waiting(store, waits)?;
         write_base(node, store)?;
         return Ok(outbox);
     }
@@ -226,13 +229,13 @@ fn make_room<M: Machine, D: LogDisk + Drop>(
     if !due {
         return Ok(waits);
     }
-    settle(store, waits)?;
+    sync_if_waiting(store, waits)?;
     write_base(node, store)?;
     Ok(false)
 }
 
 // Takes one more step of a group: writes its entries, and keeps its notes and letters. Sends nothing.
-fn gather_on<M: Machine, D: LogDisk + Drop>(
+fn step_in_group<M: Machine, D: LogDisk + Drop>(
     node: &mut Node<M>,
     store: &mut Store<D>,
     input: Input,
@@ -258,8 +261,8 @@ fn gather_on<M: Machine, D: LogDisk + Drop>(
 }
 
 impl<M: Machine, D: LogDisk + Drop> Replica<M, D> {
-    /// Takes a tick or a datagram into a group: the step's entries are written, and nothing is synced or sent before
-    /// `release`.
+    /// Takes a tick or a datagram into a group. Nothing is sent before `release`, and the step's entries are synced
+    /// only there, unless a Base is written: before the step if a rebase is due, after it for an installed snapshot.
     ///
     /// It fails as `take` does, and after that every call fails with `Failed` (11): nothing of the group is sent.
     pub fn gather(&mut self, input: Input, group: &mut Group) -> Result<(), ReplicaFault>
@@ -269,13 +272,13 @@ impl<M: Machine, D: LogDisk + Drop> Replica<M, D> {
             → (h : History) (n : ℕ) → NodeFits M.meaning h n (Stands M.meaning self.old.node (as_sent group.old.waits self.old.store) h.genesis n) (disks (as_sent group.old.waits self.old.store)) → InputFits h input.entry
             → (sent : List LetterValue) → AreOf sent letters
             → Goes M.meaning h n (Stands M.meaning self.new.node (as_sent group.new.waits self.new.store) h.genesis n) (disks (as_sent group.new.waits self.new.store)) notes (batch_of n sent))) }
-        // What is on the disks after any exit, where nothing of the group is sent. Before each step it is looked
-        // whether a rebase is due: so neither file has grown above half of what a file may hold, and a step, nor by
-        // more than a step apart from a Base.
+        // What is on the disks after any exit, where nothing of the group is sent. Each step first writes a Base if one
+        // is due. So no file exceeds half of its maximum by more than a step and, except for a Base, none grows by more
+        // than a step.
         ensures disks { D.is_honest → LeavesInGroup M.meaning (λ h. InputFits h input.entry) max_after self.old.node self.old.store group.old.waits (disks self.new.store) }
         ensures grows { D.is_honest → GrowsFromBase (disks self.old.store) (disks self.new.store) }
-        // The group goes on where nothing of it is sent, and what it has said is covered once all is synced that waits
-        // for that.
+        // The group goes on if nothing of it is sent, and its letters are covered once everything that waits for a sync
+        // is synced.
         ensures keeps { D.is_honest → OnOk result (KeepsGroup M.meaning (λ h. InputFits h input.entry) self.old.node self.old.store group.old self.new.node self.new.store group.new) }
         // It has taken a step and written what that told, in the calls that this takes, and nothing else.
         ensures exact { D.is_honest → OnOk result (IsGathered M.meaning M.IsText D.is_metered self.old.node self.old.store group.old input.entry self.new.node self.new.store group.new) }
@@ -289,7 +292,7 @@ impl<M: Machine, D: LogDisk + Drop> Replica<M, D> {
             return Err(ReplicaFault::Failed);
         }
         self.failed = true;
-        gather_on(&mut self.node, &mut self.store, input, group)?;
+        step_in_group(&mut self.node, &mut self.store, input, group)?;
         self.failed = false;
         Ok(())
     }
@@ -319,7 +322,7 @@ impl<M: Machine, D: LogDisk + Drop> Replica<M, D> {
         ensures alive { OnOk result (self.new.failed ≡ false) }
         ensures cause { RaisesFailures self.old.store.failures self.new.store.failures result }
     {
-        self.end_group(group.waits())?;
+        self.sync_group(group.waits())?;
         let all = are_sent(group.letters(), post);
         Ok(all)
     }

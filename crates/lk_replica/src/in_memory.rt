@@ -88,7 +88,7 @@ impl<M: Machine> MemoryReplica for Replica<M, MemoryDisk> {
             let step = group.take_step(alloc, before);
             self.keep(&mut steps, step)?;
         }
-        self.end_group(group.waits())?;
+        self.sync_group(group.waits())?;
         match datagrams(alloc, node, group.into_letters()) {
             Ok(sent) => Ok(TakenAll { steps, sent }),
             Err(NoMemory) => Err(ReplicaFault::Send(Vec::new(alloc))),

@@ -33,6 +33,8 @@ use std::alloc::Global;
 pub struct Revived<R: Drop> {
     pub replica: R,
     pub notes: Vec<Note>,
+    /// Whether it had no store, and this one is new.
+    pub is_new: bool,
 }
 
 /// A replica with disks in memory, as a world of replicas runs it: the world rests on these clauses alone.

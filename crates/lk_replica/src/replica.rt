@@ -27,7 +27,7 @@ use crate::delivering::deliver;
 use lk_disk::{LogDisk, Trap, Trapped};
 use lk_log::Store;
 use lk_node::Node;
-use lk_recovery::{rebase_where_due, write_base};
+use lk_recovery::{rebase_if_due, write_base};
 use lk_state::Machine;
 use lk_step::{Input, Note, Outbox, Post, ReplicaFault, SendFault};
 use std::alloc::Global;
@@ -224,7 +224,7 @@ fn rebase_and_step<M: Machine, D: LogDisk + Drop>(
     ensures last { D.is_honest → max_count ≤ store.old.generation → IsDue node.old store.old → IsErrAnd result (λ e. WantsNoMemory (fault_number e)) }
     ensures cause { RaisesFailures store.old.failures store.new.failures result }
 {
-    rebase_where_due(node, store)?;
+    rebase_if_due(node, store)?;
     let outbox = step_to_disk(node, store, input)?;
     Ok(outbox)
 }

@@ -1,5 +1,6 @@
 // Restarting a replica from what a stop has left.
-ghost use Rattle.std.specs.Prelude.{◌≡◌, ℕ, ◌+◌, ◌≤◌, [], IfOk, IfErr, MatchResult};
+ghost use Rattle.std.specs.Prelude.{◌≡◌, ℕ, ◌+◌, ◌≤◌, ◌↔◌, IsTrue, [], IfOk, IfErr, MatchResult};
+ghost use Rattle.lk_log.specs.Images.{IsEmpty, seen};
 ghost use Rattle.lk_log.specs.StoreValue.{disks};
 ghost use Rattle.lk_log.specs.Rooms.{StaysWithin};
 ghost use Rattle.lk_types.specs.Limits.{max_base};
@@ -47,8 +48,8 @@ impl<M: Machine, D: LogDisk + Drop> Replica<M, D> {
         // Its store keeps what its acceptor holds, whatever has happened to the disks.
         ensures remembers { D.is_honest → (genesis : GenesisValue) (n : ℕ) → header.now ≡ header_of genesis n → IfOk result (λ r. Remembers r.replica.node r.replica.store genesis n) }
         // It restarts exactly what the disks stand for, and executes nothing else. A file of format 1 at generation
-        // 2^48 never restarts.
-        ensures exact { D.is_honest → IfOk result (λ r. Revives M.meaning M.IsText (D.disk device) header.now r.replica r.notes.items) }
+        // 2^48 never restarts. The store is new exactly if there was no Base.
+        ensures exact { D.is_honest → IfOk result (λ r. Revives M.meaning M.IsText (D.disk device) header.now r.replica r.notes.items × (IsTrue r.is_new ↔ IsEmpty (seen (D.disk device)))) }
         // Whatever the device does, it can take calls as the node of this header: nothing of it has failed, and it has
         // executed what it can.
         ensures ready { IfOk result (λ r. MayGoOn header.now r.replica) }
@@ -81,6 +82,7 @@ impl<M: Machine, D: LogDisk + Drop> Replica<M, D> {
                     failed: false,
                 },
                 notes: up.notes,
+                is_new: up.is_new,
             }),
             Err(fault) => Err(ReviveFault {
                 fault,

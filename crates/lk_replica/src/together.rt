@@ -5,7 +5,7 @@ ghost use Rattle.lk_step.specs.Faults.{RaisesFailures, fault_number};
 ghost use Rattle.lk_replica.specs.Groups.{IsRefusedInGroup, IsSettled, LeavesInGroup};
 ghost use Rattle.lk_replica.specs.Together.{IsNotKept};
 
-use crate::grouping::settle;
+use crate::grouping::sync_if_waiting;
 use crate::replica::Replica;
 use crate::taken::Step;
 use lk_disk::LogDisk;
@@ -29,7 +29,7 @@ impl<M: Machine, D: LogDisk + Drop> Replica<M, D> {
     }
 
     // Syncs the live file once, if something waits for that, or else flushes it. If that fails, the replica ends.
-    pub(crate) fn end_group(&mut self, waits: bool) -> Result<(), ReplicaFault>
+    pub(crate) fn sync_group(&mut self, waits: bool) -> Result<(), ReplicaFault>
         ensures exact { D.is_honest → OnOk result (IsSettled D.is_metered self.old waits self.new) }
         // What is on the disks after any exit, where nothing of the group is sent: neither file has grown.
         ensures disks { D.is_honest → LeavesInGroup M.meaning (λ h. ⊤) 0 self.old.node self.old.store waits (disks self.new.store) }
@@ -41,7 +41,7 @@ impl<M: Machine, D: LogDisk + Drop> Replica<M, D> {
             return Err(ReplicaFault::Failed);
         }
         self.failed = true;
-        settle(&mut self.store, waits)?;
+        sync_if_waiting(&mut self.store, waits)?;
         self.failed = false;
         Ok(())
     }

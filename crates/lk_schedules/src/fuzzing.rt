@@ -286,9 +286,9 @@ fn write_script<R: MemoryReplica, W: Write>(
     }
 }
 
-/// Runs the plan in a new world of three nodes, and writes `done N positions P`, P being the greatest position that a
-/// node has executed, or the refusal that ended the run. The status is 0, or 1 where an event was refused, or a fault
-/// was told on standard error.
+/// Runs the plan in a new world of three nodes. Writes `done N positions P`, P being the greatest position that a node
+/// has executed, or the refusal that ended the run. Returns status 0, or 1 after a refused event or after writing a
+/// fault to standard error.
 pub fn run_fuzz<R: MemoryReplica, W: Write, E: Write>(
     alloc: Global,
     plan: Plan,

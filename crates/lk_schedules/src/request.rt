@@ -13,8 +13,8 @@ fn name(draws: &mut Draws) -> Name {
     Name::of(&[letter]).unwrap()
 }
 
-// What is asked of the table in one of sixteen cases.
-fn asked(case: usize, name: Name, fence: Fence) -> Body {
+// The body of one of sixteen cases.
+fn body_of(case: usize, name: Name, fence: Fence) -> Body {
     match case {
         0..=5 => Body::Acquire(name),
         6..=8 => Body::Release(name, fence),
@@ -32,7 +32,7 @@ fn body(draws: &mut Draws, fences: usize) -> Payload
     let name = name(draws);
     let fence = Fence::of(1 + draws.below(fences) as u64).unwrap();
     let case = draws.below(16);
-    asked(case, name, fence).write()
+    body_of(case, name, fence).write()
 }
 
 // A body of any bytes.

@@ -3,7 +3,7 @@
 ghost use Rattle.std.specs.Prelude.{◌≡◌, ◌++◌, ◌∷◌, [], Err, OnOk};
 ghost use Rattle.lk_sim.specs.Events.{Does};
 ghost use Rattle.lk_sim.specs.Refusals.{MayNot};
-ghost use Rattle.lk_seats.specs.declared.refused.Refused.{Refused as RefusedValue};
+ghost use Rattle.lk_world_nodes.specs.declared.refused.Refused.{Refused as RefusedValue};
 ghost use Rattle.lk_schedules.specs.Schedules.{IsPassedBy};
 ghost use Rattle.lk_schedules.specs.Transcripts.{Adds, kept_lines};
 

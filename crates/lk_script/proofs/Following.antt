@@ -7,7 +7,7 @@ use Rattle.lk_sim.specs.Events.{Does, IsRefused}
 use Rattle.lk_sim.specs.Runs.{Passes}
 use Rattle.lk_sim.specs.Scenes.{Scene}
 use Rattle.lk_sim.specs.declared.event.Event.{Event}
-use Rattle.lk_seats.specs.declared.refused.Refused.{Refused}
+use Rattle.lk_world_nodes.specs.declared.refused.Refused.{Refused}
 use Rattle.lk_lines.specs.WorldLines.{SpellsOrder}
 use Rattle.lk_script.specs.Worlds.{events_of, Follows}
 use Rattle.lk_lines.specs.declared.order.Order.{Order}

@@ -40,7 +40,7 @@ impl Buffers {
         Ok(())
     }
 
-    /// Makes the text the datagram of the message in hex.
+    /// Replaces the text with the message's datagram, in hex.
     pub fn print_message(&mut self, message: &Message) -> Result<(), NoMemory>
         ensures ok { OnOk result (self.new.text.items ≡ encode_lower (spelling message.now)) }
     {
@@ -49,7 +49,7 @@ impl Buffers {
         self.print_reply()
     }
 
-    // Makes the text the reply in hex.
+    // Replaces the text with the reply, in hex.
     fn print_reply(&mut self) -> Result<(), NoMemory>
         ensures ok { OnOk result (self.new.text.items ≡ encode_lower self.old.reply.items) }
     {

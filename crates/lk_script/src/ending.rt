@@ -6,8 +6,8 @@ ghost use Rattle.std.specs.Io.KnownBytes.{Keeps};
 use lk_lines::fault::ScriptFault;
 use std::io::Write;
 
-/// Reports a fault in a line on standard error. Returns status 1.
-pub fn tell<E: Write>(fault: ScriptFault, err: &mut E) -> u8
+/// Writes the line of a fault. Returns status 1.
+pub fn write_fault<E: Write>(fault: ScriptFault, err: &mut E) -> u8
     ensures { result ≡ 1 }
 {
     let _ = writeln!(err, "{fault}");
@@ -26,14 +26,14 @@ pub fn end<W: Write, E: Write>(ran: Result<(), ScriptFault>, out: &mut W, err: &
     match (ran, out.flush()) {
         (Ok(()), Ok(())) => 0,
         (Err(ScriptFault::Ended(_)), Ok(())) => 1,
-        (Err(fault), Ok(())) => tell(fault, err),
-        (Ok(()) | Err(ScriptFault::Write | ScriptFault::Ended(_)), Err(_)) => tell(
+        (Err(fault), Ok(())) => write_fault(fault, err),
+        (Ok(()) | Err(ScriptFault::Write | ScriptFault::Ended(_)), Err(_)) => write_fault(
             ScriptFault::Write,
             err,
         ),
         (Err(fault), Err(_)) => {
-            tell(fault, err);
-            tell(ScriptFault::Write, err)
+            write_fault(fault, err);
+            write_fault(ScriptFault::Write, err)
         }
     }
 }

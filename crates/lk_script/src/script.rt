@@ -3,7 +3,7 @@
 ghost use Rattle.std.specs.Prelude.{◌≡◌, ◌≢◌, ◌+◌, ◌<◌, ◌≤◌, ◌⊎◌, List, [], ℕ, Some, None, Ok, Err, IfOk, IfErr, IfSome, OnOk, IsErrOf, string_bytes};
 ghost use Rattle.std.specs.Io.KnownBytes.{Appends};
 ghost use Rattle.lk_types.specs.Limits.{max_count};
-ghost use Rattle.lk_seats.specs.declared.refused.Refused.{Refused as RefusedValue};
+ghost use Rattle.lk_world_nodes.specs.declared.refused.Refused.{Refused as RefusedValue};
 ghost use Rattle.lk_script.specs.TableMode.{IsTableLine};
 ghost use Rattle.lk_script.specs.Worlds.{new_world, done_line};
 ghost use Rattle.lk_script.specs.Scripts.{Script, begun, table, world, IsFirstLine, IsUnderstood, Takes, Refuses, last_line};
@@ -194,9 +194,8 @@ pub fn run_script<M: MemoryReplica, R: BufRead, W: Write>(
     Err(ScriptFault::Read)
 }
 
-/// Runs the script that the reader gives to its end: what each line prints is written and flushed, and a fault is told
-/// on standard error. A refusal of the world stands in the output and not there. The status is 0, or 1 where a fault
-/// was told or an event refused.
+/// Runs a script to its end: writes and flushes what each line prints, and writes a fault to standard error. An event
+/// that the world refuses is in the output instead. Returns status 0, or 1 after a fault or a refused event.
 pub fn run_to_end<M: MemoryReplica, R: BufRead, W: Write, E: Write>(
     alloc: Global,
     reader: &mut R,

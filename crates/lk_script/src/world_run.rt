@@ -2,7 +2,7 @@
 ghost use Rattle.std.specs.Prelude.{◌≡◌, ◌+◌, ◌*◌, ◌<◌, ◌≤◌, ◌++◌, ℕ, List, replicate, Ok, Some, None, IfOk, IsErrOf};
 ghost use Rattle.lk_sim.specs.Events.{Does, IsRefused};
 ghost use Rattle.lk_sim.specs.declared.event.Event.TheVariants.{Tick};
-ghost use Rattle.lk_seats.specs.declared.refused.Refused.{Refused as RefusedValue};
+ghost use Rattle.lk_world_nodes.specs.declared.refused.Refused.{Refused as RefusedValue};
 ghost use Rattle.lk_types.specs.Limits.{max_count};
 ghost use Rattle.lk_lines.specs.declared.order.Order.{Order as OrderValue};
 ghost use Rattle.lk_lines.specs.WorldLines.{SpellsOrder};

@@ -1,14 +1,14 @@
--- What a server does beside the protocol, one thing after another.
+-- How a server handles probes and reports, one step after another.
 use Rattle.std.proofs.Common.{◌≡◌, ◌∙◌, ℕ, Option, Some, None, ap, subst, subst₂}
 use Rattle.lk_probe.specs.declared.reported.Reported.{Reported}
 use Rattle.lk_transport.specs.Addresses.{AddressBook, IsSameNetwork}
 use Rattle.lk_transport.specs.Inquiring.{AsksOne, LearnsKept, ReadmitsKept}
 use Rattle.lk_transport.specs.Posts.{Tray}
 use Rattle.lk_transport.specs.declared.asked.Asked.{Asked}
-use Rattle.lk_server.specs.Beside.{ActsBeside}
+use Rattle.lk_server.specs.ProbeHandling.{HandlesProbes}
 use Rattle.lk_server.specs.Probes.{AnswersKept}
 use Rattle.lk_server.specs.Servers.{ServerValue, tray_at}
-use Rattle.lk_node_replica.specs.declared.shown.Shown.{Shown}
+use Rattle.lk_served_replica.specs.declared.shown.Shown.{Shown}
 
 -- an answer leaves what is to come
 answer_still : {R : Type 0} (Shows : R → Shown → Type 0) (tells : Type 0) (asked : Option Asked) (old new : ServerValue R) → AnswersKept Shows tells asked old new → tells → new.coming ≡ old.coming
@@ -22,7 +22,7 @@ module _ {R : Type 0} (Shows : R → Shown → Type 0) (tells : Type 0) (asked :
       → LearnsKept reported readmitted.addresses learned.addresses → IsSameNetwork readmitted.addresses learned.addresses → learned ≡ record readmitted { addresses = learned.addresses }
       → AsksOne tells now learned.node learned.addresses new.addresses (tray_at learned.own learned) (tray_at new.own new) → IsSameNetwork learned.addresses new.addresses → (tells → new.coming ≡ learned.coming)
       → new ≡ record learned { addresses = new.addresses; sent = new.sent; socket_failures = new.socket_failures; coming = new.coming }
-      → ActsBeside Shows tells asked reported old new
+      → HandlesProbes Shows tells asked reported old new
   acted answers answered_so readmits heard readmitted_so learns known learned_so asks kept still new_so =
       let book : answered.addresses ≡ old.addresses = ap (λ (s : ServerValue R). s.addresses) answered_so in
       let again : learned ≡ record answered { addresses = learned.addresses } = learned_so ∙ ap (λ (s : ServerValue R). record s { addresses = learned.addresses }) readmitted_so in

@@ -7,8 +7,8 @@ use Rattle.lk_probe.specs.declared.probe.Report.{Report}
 use Rattle.lk_probe.specs.declared.reported.Reported.{Reported}
 use Rattle.lk_seal.specs.Seals.{heard}
 use Rattle.lk_seal.specs.declared.seals.Seals.{Seals}
-use Rattle.lk_pace.specs.declared.found.Found.{Found}
-use Rattle.lk_pace.specs.declared.found.Found.TheVariants.{Nothing, Beside, Something}
+use Rattle.lk_pace.specs.declared.turn_input.TurnInput.{TurnInput}
+use Rattle.lk_pace.specs.declared.turn_input.TurnInput.TheVariants.{Nothing, Beside, Something}
 use Rattle.lk_transport.specs.Askers.{IsKeptOf}
 use Rattle.lk_transport.specs.Hearing.{BufferValue, listed}
 use Rattle.lk_transport.specs.Inquiring.{IsToldBy}
@@ -135,7 +135,7 @@ keeps_strange n s d old is apart = record {
 }
 
 -- of what came last, where a replica is given nothing of it
-pub keeps_found : (n m : ℕ) (s t : Seals) (found : Found) (old mid new : BufferValue) → m ≡ n → t ≡ s → mid.asked ≡ old.asked → mid.reported ≡ old.reported → (found ≡ Nothing → mid.last ≡ None)
+pub keeps_found : (n m : ℕ) (s t : Seals) (found : TurnInput) (old mid new : BufferValue) → m ≡ n → t ≡ s → mid.asked ≡ old.asked → mid.reported ≡ old.reported → (found ≡ Nothing → mid.last ≡ None)
     → (found ≡ Beside → (d : SocketAddr × List ℕ) × (mid.last ≡ Some d)) → (found ≡ Beside → Keeps m t mid new) → ((found ≡ Beside → ⊥) → new ≡ mid) → (found ≡ Something → ⊥) → KeepsOf n s (listed mid.last) old new
 keeps_found n m s t Nothing old mid new node seals asked reported nothing beside kept rest apart =
     let same = rest (λ is. cc is) in

@@ -5,7 +5,7 @@ use Rattle.lk_step.specs.Letters.{LetterValue}
 use Rattle.lk_replica.specs.Groups.{GroupValue}
 use Rattle.lk_replica.specs.Posts.{CarriesAll, GivesLetters}
 use Rattle.lk_transport.specs.Addresses.{AddressBook}
-use Rattle.lk_node_replica.specs.Groups.{Sayings, Gatherings}
+use Rattle.lk_served_replica.specs.Groups.{Sayings, Gatherings}
 use Rattle.lk_server.specs.Gatherings.{HandsOnAll, SaysNothing}
 use Rattle.lk_transport.specs.Posts.{PostValue, Tray, Becomes, CarriesLetter, tray_of}
 use Rattle.lk_server.specs.Servers.{ServerValue, Grows, tray_at}

@@ -6,10 +6,10 @@ use Rattle.std.specs.declared.net.socket_addr.SocketAddr.{SocketAddr}
 use Rattle.lk_step.specs.Letters.{LetterValue}
 use Rattle.lk_replica.specs.Groups.{GroupValue}
 use Rattle.lk_transport.specs.Addresses.{AddressBook, Circle, circle_of, IsSameCircle}
-use Rattle.lk_node_replica.specs.Groups.{Sayings, Gatherings, GathersMore, SaysNoMore}
+use Rattle.lk_served_replica.specs.Groups.{Sayings, Gatherings, GathersMore, SaysNoMore}
 use Rattle.lk_server.specs.Gatherings.{TakesAll, EndsWithin, TakesOwn, EndsOwn, TakesHeard, EndsHeard, TakesSocket, EndsSocket, AreFound, Finds}
-use Rattle.lk_pace.specs.declared.found.Found.{Found}
-use Rattle.lk_pace.specs.declared.found.Found.TheVariants.{Nothing, Beside, Something}
+use Rattle.lk_pace.specs.declared.turn_input.TurnInput.{TurnInput}
+use Rattle.lk_pace.specs.declared.turn_input.TurnInput.TheVariants.{Nothing, Beside, Something}
 use Rattle.lk_transport.specs.Hearing.{listed}
 use Rattle.lk_transport.specs.Posts.{Hears, HearsAll, is_apart, opened_as, let_in, all_taken_as}
 use Rattle.lk_pace.specs.Paces.{ticks_after}
@@ -153,19 +153,19 @@ pub apart_as : {R : Type 0} (old mid : ServerValue R) (frame : SocketAddr × Lis
 apart_as {R} old mid frame others apart = subst (λ (s : Circle). is_apart s frame ≡ false) (ap (λ (s : ServerValue R). circle_of s.addresses) others) apart
 
 -- a replica is given nothing of what was found
-pub found_none : (s : Circle) (found : Found) (frames : List (SocketAddr × List ℕ)) → AreFound s found frames → all_taken_as s frames ≡ []
+pub found_none : (s : Circle) (found : TurnInput) (frames : List (SocketAddr × List ℕ)) → AreFound s found frames → all_taken_as s frames ≡ []
 found_none s Nothing frames none = ap (λ (l : List (SocketAddr × List ℕ)). all_taken_as s l) none
 found_none s Beside frames one = ap (λ (l : List (SocketAddr × List ℕ)). all_taken_as s l) one.1 ∙ taken_none s one.0 one.2
 found_none s Something frames never = absurd never
 
 -- it is one frame at most
-pub found_few : (s : Circle) (found : Found) (frames : List (SocketAddr × List ℕ)) → AreFound s found frames → length frames ≤ 64
+pub found_few : (s : Circle) (found : TurnInput) (frames : List (SocketAddr × List ℕ)) → AreFound s found frames → length frames ≤ 64
 found_few s Nothing frames none = omega (arith, ap length none)
 found_few s Beside frames one = omega (arith, ap length one.1)
 found_few s Something frames never = absurd never
 
 -- what was found at the socket, where a replica is given nothing of it
-pub finds : {R : Type 0} (tells : Type 0) (found : Found) (e : Option (SocketAddr × List ℕ)) (group now : GroupValue) (old mid new : ServerValue R)
+pub finds : {R : Type 0} (tells : Type 0) (found : TurnInput) (e : Option (SocketAddr × List ℕ)) (group now : GroupValue) (old mid new : ServerValue R)
     → (tells → old.coming ≡ listed e ++ mid.coming) → (tells → e ≡ None → old.coming ≡ []) → mid ≡ record old { coming = mid.coming }
     → (found ≡ Nothing → (e ≡ None) × (new ≡ mid) × (now ≡ group))
     → (found ≡ Beside → (frame : SocketAddr × List ℕ) × (e ≡ Some frame) × (is_apart (circle_of mid.addresses) frame ≡ true) × (new ≡ mid) × (now ≡ group))

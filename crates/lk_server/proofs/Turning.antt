@@ -5,14 +5,14 @@ use Rattle.std.specs.declared.net.socket_addr.SocketAddr.{SocketAddr}
 use Rattle.lk_step.specs.Letters.{LetterValue}
 use Rattle.lk_replica.specs.Groups.{GroupValue}
 use Rattle.lk_transport.specs.Addresses.{AddressBook, Circle, circle_of, IsSameCircle}
-use Rattle.lk_node_replica.specs.Groups.{Sayings, Gatherings, GathersMore, SaysNoMore}
+use Rattle.lk_served_replica.specs.Groups.{Sayings, Gatherings, GathersMore, SaysNoMore}
 use Rattle.lk_server.specs.Gatherings.{AreFound, Finds, TakesAll, EndsWithin, TakesOwn, EndsOwn, TakesSocket, EndsSocket, TakesWaiting, TakesGroup, EndsGroup, HandsOnAll, SaysNothing}
 use Rattle.lk_pace.specs.Paces.{MayFollow}
 use Rattle.lk_seal.specs.Seals.{heard}
 use Rattle.lk_transport.specs.Posts.{HearsAll, is_apart, all_taken_as}
 use Rattle.lk_server.specs.Servers.{ServerValue, HandsOn, HandsNothing, HasReceived, IsSameServer, Turn, LastTurn, IsIdle, Given, GivenFirst, TakesFirst, all_inputs, counted, datagrams_in}
-use Rattle.lk_pace.specs.declared.found.Found.{Found}
-use Rattle.lk_pace.specs.declared.found.Found.TheVariants.{Nothing, Beside, Something}
+use Rattle.lk_pace.specs.declared.turn_input.TurnInput.{TurnInput}
+use Rattle.lk_pace.specs.declared.turn_input.TurnInput.TheVariants.{Nothing, Beside, Something}
 use Rattle.lk_pace.specs.declared.pace.Pace.{Pace}
 use Rattle.lk_pace.specs.declared.pace.Pace.TheVariants.{Datagrams, Clock}
 use Rattle.lk_server.proofs.Gatherings.{takes_more, ends_more, long_as, taken_more, taken_first, found_none, found_few}
@@ -257,7 +257,7 @@ module _ {R : Type 0} (S : Sayings R) (G : Gatherings R) (tells : Type 0) where
     }
 
   -- it is alone: a replica is given nothing of what came in these frames
-  module _ (found : Found) (frames : List (SocketAddr × List ℕ)) (group one : GroupValue) (old mid new : ServerValue R) (own : old.own ≡ []) (f : Finds tells found frames old mid) (begun : one ≡ group)
+  module _ (found : TurnInput) (frames : List (SocketAddr × List ℕ)) (group one : GroupValue) (old mid new : ServerValue R) (own : old.own ≡ []) (f : Finds tells found frames old mid) (begun : one ≡ group)
       (same : new ≡ record mid { replica = new.replica; failed = new.failed }) where
     none_taken : all_taken_as (circle_of old.addresses) frames ≡ []
     none_taken = found_none (circle_of old.addresses) found frames f.are
@@ -318,7 +318,7 @@ module _ {R : Type 0} (S : Sayings R) (G : Gatherings R) (tells : Type 0) where
     }
 
   -- no tick is due, and nothing waits that a replica is given
-  by_clock : (s : Circle) (pace : Pace) (found : Found) (frames : List (SocketAddr × List ℕ)) (due : Bool) → due ≡ false → (pace ≡ Datagrams → found ≡ Nothing → due ≡ true) → AreFound s found frames → frames ≡ [] → pace ≡ Clock
+  by_clock : (s : Circle) (pace : Pace) (found : TurnInput) (frames : List (SocketAddr × List ℕ)) (due : Bool) → due ≡ false → (pace ≡ Datagrams → found ≡ Nothing → due ≡ true) → AreFound s found frames → frames ≡ [] → pace ≡ Clock
   by_clock s Clock found frames due isnt nothing are empty = refl
   by_clock s Datagrams Nothing frames due isnt nothing are empty = absurd (cc (isnt, nothing refl refl))
   by_clock s Datagrams Beside frames due isnt nothing are empty = absurd (let both : are.0 ∷ [] ≡ [] = sym are.1 ∙ empty in cc both)
@@ -332,7 +332,7 @@ module _ {R : Type 0} (S : Sayings R) (G : Gatherings R) (tells : Type 0) where
   -- `Keeps` says what is kept of the frames that came
   module _ (Keeps : List (SocketAddr × List ℕ) → Type 0) where
     -- this was found, and nothing of it was taken
-    abbrev pub HasFound : Found → GroupValue → GroupValue → ServerValue R → ServerValue R → Type 0
+    abbrev pub HasFound : TurnInput → GroupValue → GroupValue → ServerValue R → ServerValue R → Type 0
     HasFound found group one old mid = (old.own ≡ []) × (frames : List (SocketAddr × List ℕ)) × Finds tells found frames old mid × (one ≡ group) × Keeps frames
 
     -- this waited, and was taken
@@ -347,7 +347,7 @@ module _ {R : Type 0} (S : Sayings R) (G : Gatherings R) (tells : Type 0) where
     pub untimely_takes : (group one : GroupValue) (old mid : ServerValue R) → HasWaiting group one old mid → HasTaken group one old mid
     untimely_takes group one old mid t = (t.0, without_tick t.0 group one old mid t.1, t.2)
 
-    pub untimely_rests : (found : Found) (due : Bool) (group one : GroupValue) (old mid : ServerValue R) → mid.pace ≡ old.pace → due ≡ false → (mid.pace ≡ Datagrams → found ≡ Nothing → due ≡ true)
+    pub untimely_rests : (found : TurnInput) (due : Bool) (group one : GroupValue) (old mid : ServerValue R) → mid.pace ≡ old.pace → due ≡ false → (mid.pace ≡ Datagrams → found ≡ Nothing → due ≡ true)
         → HasFound found group one old mid → (frames : List (SocketAddr × List ℕ)) × HasReceived tells frames old mid × IsIdle tells frames old mid × Keeps frames
     untimely_rests found due group one old mid pace isnt nothing n = (
       n.1,
@@ -364,14 +364,14 @@ module _ {R : Type 0} (S : Sayings R) (G : Gatherings R) (tells : Type 0) where
 
     -- one is
     module _ (due : Bool) (group one : GroupValue) (old mid new : ServerValue R) (pace : mid.pace ≡ old.pace) (is_so : due ≡ true) (same : new ≡ record mid { replica = new.replica; failed = new.failed }) where
-      pub tick_turn : (found : Found) (now : GroupValue) → (found ≡ Something → HasWaiting group one old mid) → ((found ≡ Something → ⊥) → HasFound found group one old mid)
+      pub tick_turn : (found : TurnInput) (now : GroupValue) → (found ≡ Something → HasWaiting group one old mid) → ((found ≡ Something → ⊥) → HasFound found group one old mid)
           → (mid.pace ≡ Datagrams → found ≡ Something → due ≡ false) → GathersMore G (None ∷ []) one now mid.replica new.replica → HasTaken group now old new
       tick_turn Something now takes none given ticks =
           let t = takes refl in (t.0, tick_behind t.0 group one old mid new (sym pace ∙ clock_of mid.pace due is_so (λ is. given is refl)) t.1 same now ticks, t.2)
       tick_turn Nothing now takes none given ticks = let n = none (λ is. cc is) in (n.1, tick_alone Nothing n.1 group one old mid new n.0 n.2 n.3 same now ticks, n.4)
       tick_turn Beside now takes none given ticks = let n = none (λ is. cc is) in (n.1, tick_alone Beside n.1 group one old mid new n.0 n.2 n.3 same now ticks, n.4)
 
-      pub tick_turn_ends : (found : Found) → (found ≡ Something → HasWaiting group one old mid) → ((found ≡ Something → ⊥) → HasFound found group one old mid)
+      pub tick_turn_ends : (found : TurnInput) → (found ≡ Something → HasWaiting group one old mid) → ((found ≡ Something → ⊥) → HasFound found group one old mid)
           → (mid.pace ≡ Datagrams → found ≡ Something → due ≡ false) → SaysNoMore S G (None ∷ []) one mid.replica new.replica → (frames : List (SocketAddr × List ℕ)) × EndsGroup S G tells frames group old new
       tick_turn_ends Something takes none given silent =
           let t = takes refl in (t.0, tick_ends_behind t.0 group one old mid new (sym pace ∙ clock_of mid.pace due is_so (λ is. given is refl)) t.1 same silent)

@@ -3,23 +3,23 @@ use Rattle.std.specs.Prelude.{◌≡◌, ◌≢◌, ◌≤◌, ℕ, true, List, 
 use Rattle.std.specs.declared.net.socket_addr.SocketAddr.{SocketAddr}
 use Rattle.lk_step.specs.Letters.{LetterValue}
 use Rattle.lk_replica.specs.Groups.{GroupValue}
-use Rattle.lk_node_replica.specs.Groups.{Sayings, Gatherings, GathersMore, SaysNoMore}
-use Rattle.lk_pace.specs.declared.found.Found.{Found}
-use Rattle.lk_pace.specs.declared.found.Found.TheVariants.{Nothing, Beside, Something}
+use Rattle.lk_served_replica.specs.Groups.{Sayings, Gatherings, GathersMore, SaysNoMore}
+use Rattle.lk_pace.specs.declared.turn_input.TurnInput.{TurnInput}
+use Rattle.lk_pace.specs.declared.turn_input.TurnInput.TheVariants.{Nothing, Beside, Something}
 use Rattle.lk_transport.specs.Addresses.{Circle, circle_of, IsSameCircle}
 use Rattle.lk_transport.specs.Posts.{HearsAll, is_apart, all_taken_as}
 use Rattle.lk_server.specs.Servers.{ServerValue, all_inputs, counted, datagrams_in, Given, GivenFirst, HasReceived, IsFront, TakesLetters, HandsOn}
 
 -- a replica is given nothing of these frames: there is none, or one, which stands beside the protocol or came from a
 -- node of another genesis
-abbrev pub AreFound : Circle → Found → List (SocketAddr × List ℕ) → Type 0
+abbrev pub AreFound : Circle → TurnInput → List (SocketAddr × List ℕ) → Type 0
 AreFound s Nothing frames = frames ≡ []
 AreFound s Beside frames = (frame : SocketAddr × List ℕ) × (frames ≡ frame ∷ []) × (is_apart s frame ≡ true)
 AreFound s Something frames = ⊥
 
 -- these frames were found at the socket, and a replica is given nothing of them; where there is none, nothing was to
 -- come, if the socket tells that; and nothing else is changed
-pub record Finds {R : Type 0} (tells : Type 0) (found : Found) (frames : List (SocketAddr × List ℕ)) (old new : ServerValue R) : Type 0 where
+pub record Finds {R : Type 0} (tells : Type 0) (found : TurnInput) (frames : List (SocketAddr × List ℕ)) (old new : ServerValue R) : Type 0 where
   pub are : AreFound (circle_of old.addresses) found frames
   pub none : tells → frames ≡ [] → old.coming ≡ []
   pub comes : tells → old.coming ≡ frames ++ new.coming

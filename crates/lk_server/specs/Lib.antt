@@ -1,6 +1,7 @@
 pub mod GroupFaults
+pub mod Counts
 pub mod Servers
 pub mod Gatherings
 pub mod Probes
-pub mod Beside
+pub mod ProbeHandling
 pub mod Premises

@@ -1,6 +1,7 @@
 //! Counts of datagrams that mean nothing to a server.
 
-ghost use Rattle.std.specs.Prelude.{◌≡◌, ◌≢◌, IfSome};
+ghost use Rattle.std.specs.Prelude.{◌≡◌, ◌≢◌, Some, None, if◌then◌else◌};
+ghost use Rattle.lk_server.specs.Counts.{is_power_of_two};
 ghost use Rattle.lk_disk.specs.Disk.{one_more};
 
 use lk_transport::arrival::Arrival;
@@ -14,7 +15,9 @@ pub struct IgnoredCounts {
 }
 
 // Logs a count that is a power of two. Returns whether it is one.
-fn log_count<L: Log>(log: &L, what: &str, count: u64) -> bool {
+fn log_count<L: Log>(log: &L, what: &str, count: u64) -> bool
+    ensures { result ≡ is_power_of_two count }
+{
     if count.is_power_of_two() {
         debug!(log; "datagrams {what}: {count}");
         return true;
@@ -43,7 +46,9 @@ impl IgnoredCounts {
         ensures bad { came.now ≡ Arrival.Bad → self.new ≡ record self.old { bad = one_more self.old.bad } }
         ensures foreign { came.now ≡ Arrival.Foreign → self.new ≡ record self.old { foreign = one_more self.old.foreign } }
         ensures others { came.now ≢ Arrival.Bad → came.now ≢ Arrival.Foreign → self.new ≡ self.old }
-        ensures told { IfSome result (λ count. (came.now ≡ Arrival.Foreign) × (count ≡ self.new.foreign)) }
+        // A count of datagrams of another cluster is returned exactly if it is a power of two.
+        ensures told { came.now ≡ Arrival.Foreign → result ≡ (if is_power_of_two self.new.foreign then Some self.new.foreign else None) }
+        ensures untold { came.now ≢ Arrival.Foreign → result ≡ None }
     {
         match came {
             Arrival::Bad => {

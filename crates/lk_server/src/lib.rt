@@ -4,7 +4,6 @@
 
 mod gathering;
 pub mod group_fault;
-pub mod happened;
 pub mod ignored;
 pub mod laws;
 mod neighbourhood;
@@ -12,4 +11,5 @@ pub mod notes;
 mod pausing;
 mod probing;
 pub mod server;
+pub mod turn_events;
 pub mod watching;

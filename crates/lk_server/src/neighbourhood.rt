@@ -1,17 +1,17 @@
-//! What a server does beside the protocol after a turn: it finds out which genesis each node that writes to it was
-//! started with.
+//! How a server handles probes after a turn: it answers one, and finds out which genesis each node that writes to it
+//! was started with.
 
 ghost use Rattle.std.specs.Prelude.{◌≡◌, None};
 ghost use Rattle.lk_probe.specs.Neighbours.{bound_in};
 ghost use Rattle.lk_transport.specs.Addresses.{IsSameNetwork};
 ghost use Rattle.lk_transport.specs.Inquiring.{AsksOne, LearnsKept, ReadmitsKept};
-ghost use Rattle.lk_server.specs.Beside.{ActsBeside};
+ghost use Rattle.lk_server.specs.ProbeHandling.{HandlesProbes};
 ghost use Rattle.lk_server.specs.Servers.{tray_at};
 
 use crate::server::Server;
 use crate::watching::log_stranger;
-use lk_node_replica::NodeReplica;
 use lk_probe::neighbours::{Neighbour, Origin};
+use lk_served_replica::ServedReplica;
 use lk_transport::asked::Asked;
 use lk_transport::receive_buffer::ReceiveBuffer;
 use lk_transport::socket::DatagramSocket;
@@ -21,7 +21,7 @@ use log::Log;
 // The ticks of a minute.
 const MINUTE: u64 = 600;
 
-impl<R: NodeReplica, S: DatagramSocket + Drop> Server<R, S> {
+impl<R: ServedReplica, S: DatagramSocket + Drop> Server<R, S> {
     /// Which node it is, and the digest of its genesis.
     pub fn origin(&self) -> Origin
         ensures { result ≡ record { node = self.now.node; genesis = self.now.addresses.seals.genesis } }
@@ -32,29 +32,29 @@ impl<R: NodeReplica, S: DatagramSocket + Drop> Server<R, S> {
         }
     }
 
-    // Tells at most once a minute that it hears a node of another genesis.
-    pub(crate) fn tell_stranger<L: Log>(&mut self, node: NodeNo, log: &L)
+    // Warns, at most once a minute, that it hears a node of another genesis.
+    pub(crate) fn warn_of_stranger<L: Log>(&mut self, node: NodeNo, log: &L)
         ensures { self.new ≡ self.old }
     {
-        match self.stranger_told {
+        match self.stranger_warned {
             Some(ticks) if self.ticks.saturating_sub(ticks) < MINUTE => {}
             _ => {
-                self.stranger_told = Some(self.ticks);
-                self.happened.stranger = Some(node);
+                self.stranger_warned = Some(self.ticks);
+                self.events.stranger = Some(node);
                 log_stranger(log, node);
             }
         }
     }
 
-    // Tells so where this was learned of a node.
-    fn tell_learned<L: Log>(&mut self, learned: Option<Neighbour>, log: &L)
+    // Warns of a node, if it was learned to be of another genesis.
+    fn warn_if_stranger<L: Log>(&mut self, learned: Option<Neighbour>, log: &L)
         ensures { self.new ≡ self.old }
     {
         let Some(neighbour) = learned else {
             return;
         };
         if let Some(other) = neighbour.other() {
-            self.tell_stranger(other.node, log);
+            self.warn_of_stranger(other.node, log);
         }
     }
 
@@ -69,7 +69,7 @@ impl<R: NodeReplica, S: DatagramSocket + Drop> Server<R, S> {
         }
     }
 
-    // Learns what the report tells that the buffer keeps, if it keeps one.
+    // Learns from the report that the buffer keeps, if it keeps one.
     fn learn<L: Log>(&mut self, buffer: &mut ReceiveBuffer, log: &L)
         ensures learns { LearnsKept buffer.old.reported self.old.addresses self.new.addresses }
         ensures kept { buffer.new ≡ record buffer.old { reported = None } }
@@ -80,17 +80,17 @@ impl<R: NodeReplica, S: DatagramSocket + Drop> Server<R, S> {
             return;
         };
         let learned = self.post.learn(&reported);
-        self.tell_learned(learned, log);
+        self.warn_if_stranger(learned, log);
     }
 
     // Asks which genesis the node at an address was started with, where that is due at this count of ticks.
-    pub(crate) fn ask(&mut self, now: u64)
+    pub(crate) fn probe_next(&mut self, now: u64)
         ensures asks { AsksOne S.is_telling now self.old.node self.old.addresses self.new.addresses (tray_at self.old.own self.old) (tray_at self.new.own self.new) }
         ensures network { IsSameNetwork self.old.addresses self.new.addresses }
         ensures still { S.is_telling → self.new.coming ≡ self.old.coming }
         ensures others { self.new ≡ record self.old { addresses = self.new.addresses; sent = self.new.sent; socket_failures = self.new.socket_failures; coming = self.new.coming } }
     {
-        if self.post.ask(now).is_err() {
+        if self.post.probe_next(now).is_err() {
             self.unsent = self.unsent.saturating_add(1);
         }
     }
@@ -101,17 +101,17 @@ impl<R: NodeReplica, S: DatagramSocket + Drop> Server<R, S> {
     }
 
     // The first node of another genesis that this one has followed, if there is one.
-    fn bound(&self) -> Option<Origin>
+    fn followed_stranger(&self) -> Option<Origin>
         ensures { result ≡ bound_in self.now.addresses.neighbours }
     {
-        self.post.bound()
+        self.post.followed_stranger()
     }
 
     /// After the letters of a turn: answers the probe that the buffer keeps, hears the node again that asks by it if
-    /// it is of this genesis, learns what the report tells that the buffer keeps, and asks one node where that is due.
+    /// it is of this genesis, learns from the report that the buffer keeps, and probes one node where that is due.
     /// Returns the first node of another genesis that this one has followed, if there is one.
-    pub fn act_beside<L: Log>(&mut self, buffer: &mut ReceiveBuffer, log: &L) -> Option<Origin>
-        ensures acts { ActsBeside R.Shows S.is_telling buffer.old.asked buffer.old.reported self.old self.new }
+    pub fn handle_probes<L: Log>(&mut self, buffer: &mut ReceiveBuffer, log: &L) -> Option<Origin>
+        ensures acts { HandlesProbes R.Shows S.is_telling buffer.old.asked buffer.old.reported self.old self.new }
         ensures kept { buffer.new ≡ record buffer.old { asked = None; reported = None } }
         ensures bound { result ≡ bound_in self.new.addresses.neighbours }
     {
@@ -120,7 +120,7 @@ impl<R: NodeReplica, S: DatagramSocket + Drop> Server<R, S> {
         self.readmit(&asked);
         self.learn(buffer, log);
         let now = self.now();
-        self.ask(now);
-        self.bound()
+        self.probe_next(now);
+        self.followed_stranger()
     }
 }

@@ -3,13 +3,13 @@
 ghost use Rattle.std.specs.Prelude.{◌≡◌, true};
 
 use crate::server::Server;
-use lk_node_replica::NodeReplica;
 use lk_pace::metronome::Metronome;
 use lk_replica::Group;
+use lk_served_replica::ServedReplica;
 use lk_transport::socket::DatagramSocket;
 use std::time::{Clock, Instant};
 
-impl<R: NodeReplica, S: DatagramSocket + Drop> Server<R, S> {
+impl<R: ServedReplica, S: DatagramSocket + Drop> Server<R, S> {
     // Lets a pause pass, if one is due before the sync of this group. Returns whether it was.
     pub(crate) fn pauses<C: Clock>(&mut self, metronome: &Metronome<C>, group: &Group) -> bool
         ensures waits { result ≡ true → group.now.waits ≡ true }
@@ -18,7 +18,7 @@ impl<R: NodeReplica, S: DatagramSocket + Drop> Server<R, S> {
         if !group.waits() {
             return false;
         }
-        let Some(time) = self.sync_pause.next_pause() else {
+        let Some(time) = self.sync_pause.next_pause(group.letters().len()) else {
             return false;
         };
         metronome.pass(time);

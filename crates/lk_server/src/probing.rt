@@ -1,17 +1,17 @@
-//! What a server tells of its node, and how it answers a probe.
+//! What a server reports of its node, and how it answers a probe.
 
 ghost use Rattle.std.specs.Prelude.{◌≡◌};
 ghost use Rattle.lk_server.specs.Probes.{AnswersKept, IsAnswer, Tells};
-ghost use Rattle.lk_node_replica.specs.declared.shown.Shown.{Shown as ShownValue};
+ghost use Rattle.lk_served_replica.specs.declared.shown.Shown.{Shown as ShownValue};
 
 use crate::server::Server;
-use lk_node_replica::{NodeReplica, TableVersion};
 use lk_probe::{Identity, LENGTH, PROGRAM, Status, Traffic};
+use lk_served_replica::{ServedReplica, TableVersion};
 use lk_transport::asked::Asked;
 use lk_transport::socket::DatagramSocket;
 
-impl<R: NodeReplica, S: DatagramSocket + Drop> Server<R, S> {
-    /// What it tells of its node: what the replica shows, the digest of the genesis, what it has counted itself, and
+impl<R: ServedReplica, S: DatagramSocket + Drop> Server<R, S> {
+    /// What it reports of its node: what the replica shows, the digest of the genesis, what it has counted itself, and
     /// the version of the lock table, as it was last read.
     pub fn status(&self) -> Status
         ensures { (shown : ShownValue) × R.Shows self.now.replica shown × Tells self.now.addresses.seals.genesis shown result }

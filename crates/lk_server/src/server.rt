@@ -6,20 +6,20 @@ ghost use Rattle.lk_transport.specs.Addresses.{circle_of, IsSameNetwork};
 ghost use Rattle.lk_server.specs.Gatherings.{Finds, HandsOnAll, SaysNothing};
 ghost use Rattle.lk_transport.specs.Posts.{all_taken_as};
 ghost use Rattle.lk_transport.specs.Kept.{KeepsOf};
-ghost use Rattle.lk_node_replica.specs.Refusals.{IsOfGroups};
+ghost use Rattle.lk_served_replica.specs.Refusals.{IsOfGroups};
 ghost use Rattle.lk_server.specs.Servers.{HandsOn, HandsNothing, HasHeardNobody, HasReceived, IsSameServer, LastTurn, Runs, ServesAs, ServesOn, TakesTurn, Turn};
 
 use crate::group_fault::GroupFault;
-use crate::happened::Happened;
 use crate::ignored::IgnoredCounts;
 use crate::notes::log_notes;
-use crate::watching::log_carried;
-use lk_node_replica::{NodeReplica, TableVersion};
-use lk_pace::found::Found;
+use crate::turn_events::TurnEvents;
+use crate::watching::log_sends;
 use lk_pace::metronome::{Metronome, Still};
 use lk_pace::pace::Pace;
 use lk_pace::sync_pause::SyncPause;
+use lk_pace::turn_input::TurnInput;
 use lk_replica::Group;
+use lk_served_replica::{ServedReplica, TableVersion};
 use lk_step::ReplicaFault;
 use lk_transport::network::Network;
 use lk_transport::post::SocketPost;
@@ -33,7 +33,7 @@ use std::time::Clock;
 
 /// A replica, and the post with the socket on which it serves.
 #[derive(Drop)]
-pub struct Server<R: NodeReplica, S: DatagramSocket + Drop> {
+pub struct Server<R: ServedReplica, S: DatagramSocket + Drop> {
     pub(crate) alloc: Global,
     pub(crate) cluster: u64,
     pub(crate) pace: Pace,
@@ -44,8 +44,8 @@ pub struct Server<R: NodeReplica, S: DatagramSocket + Drop> {
     pub(crate) received: u64,
     // those of them that mean nothing to the node
     pub(crate) ignored: IgnoredCounts,
-    // what has happened since that was asked
-    pub(crate) happened: Happened,
+    // what has happened since the last `take_events`
+    pub(crate) events: TurnEvents,
     // the ticks that its replica was given, and the sends that failed, since its start
     pub(crate) ticks: u64,
     pub(crate) unsent: u64,
@@ -53,11 +53,11 @@ pub struct Server<R: NodeReplica, S: DatagramSocket + Drop> {
     pub(crate) table: TableVersion,
     // whether it waits for more before a sync
     pub(crate) sync_pause: SyncPause,
-    // at which count of ticks it told last that it hears a node of another genesis
-    pub(crate) stranger_told: Option<u64>,
+    // the count of ticks at its last warning of a node of another genesis
+    pub(crate) stranger_warned: Option<u64>,
 }
 
-impl<R: NodeReplica, S: DatagramSocket + Drop> Model for Server<R, S> {
+impl<R: ServedReplica, S: DatagramSocket + Drop> Model for Server<R, S> {
     ghost use Rattle.lk_server.specs.Servers.{ServerValue};
 
     ghost Value = { ServerValue R };
@@ -65,7 +65,7 @@ impl<R: NodeReplica, S: DatagramSocket + Drop> Model for Server<R, S> {
     ghost view = { λ s. record { cluster = s.cluster; node = s.post.node; pace = s.pace; replica = s.replica; own = s.post.own; addresses = s.post.addresses; received = s.received; failed = R.failed s.replica; sent = s.post.sent; socket_failures = s.post.socket_failures; coming = s.post.coming } };
 }
 
-impl<R: NodeReplica, S: DatagramSocket + Drop> Server<R, S> {
+impl<R: ServedReplica, S: DatagramSocket + Drop> Server<R, S> {
     /// The server of this replica of the cluster, to which nobody has written yet.
     pub fn new(
         alloc: Global,
@@ -89,12 +89,12 @@ impl<R: NodeReplica, S: DatagramSocket + Drop> Server<R, S> {
             post: SocketPost::new(alloc, node, network, socket),
             received: 0,
             ignored: IgnoredCounts::new(),
-            happened: Happened::NOTHING,
+            events: TurnEvents::NOTHING,
             ticks: 0,
             unsent: 0,
             table: TableVersion::Unread,
             sync_pause: SyncPause::NONE,
-            stranger_told: None,
+            stranger_warned: None,
         }
     }
 
@@ -112,13 +112,13 @@ impl<R: NodeReplica, S: DatagramSocket + Drop> Server<R, S> {
         self.post.socket_mut()
     }
 
-    /// What has happened since this was asked.
-    pub fn take_happened(&mut self) -> Happened
+    /// Takes out what has happened since the last call.
+    pub fn take_events(&mut self) -> TurnEvents
         ensures { self.new ≡ self.old }
     {
-        let happened = self.happened;
-        self.happened = Happened::NOTHING;
-        happened
+        let events = self.events;
+        self.events = TurnEvents::NOTHING;
+        events
     }
 
     /// The replica, as the server leaves it.
@@ -133,26 +133,25 @@ impl<R: NodeReplica, S: DatagramSocket + Drop> Server<R, S> {
             post: _,
             received: _,
             ignored: _,
-            happened: _,
+            events: _,
             ticks: _,
             unsent: _,
             table: _,
             sync_pause: _,
-            stranger_told: _,
+            stranger_warned: _,
         } = self;
         replica
     }
 
     // Begins a group.
-    fn begin(&self) -> Group
+    fn begin_group(&self) -> Group
         ensures { R.Gathers self.now.replica [] result self.now.replica }
     {
         self.replica.begin(self.alloc)
     }
 
-    // Ends a group: what its replica says by it is sent or kept, what became of that is logged, and sends that failed
-    // are counted.
-    fn hand_over<L: Log>(&mut self, group: &Group, log: &L) -> Result<bool, ReplicaFault>
+    // Releases a group: after its sync each letter is sent or kept. Logs their fate, and counts failed sends.
+    fn sync_and_send<L: Log>(&mut self, group: &Group, log: &L) -> Result<bool, ReplicaFault>
         ensures gives { OnOk result (HandsOnAll R.Says R.Gathers S.is_telling group.now self.old self.new) }
         ensures silent { OnErr result (SaysNothing R.Says R.Gathers group.now self.old self.new) }
         ensures addresses { self.new.addresses ≡ self.old.addresses }
@@ -163,16 +162,16 @@ impl<R: NodeReplica, S: DatagramSocket + Drop> Server<R, S> {
         ensures broken { OnErr result (self.new.failed ≡ true) }
         ensures told { IfErr result IsOfGroups }
     {
-        self.post.begin();
+        self.post.begin_group();
         let released = self.replica.release(group, &mut self.post);
-        self.happened.carried = self.post.carried();
-        self.unsent = self.unsent.saturating_add(self.happened.carried.lost);
-        log_carried(log, &self.happened.carried, self.post.cause());
+        self.events.sends = self.post.send_summary();
+        self.unsent = self.unsent.saturating_add(self.events.sends.lost);
+        log_sends(log, &self.events.sends, self.post.cause());
         released
     }
 
     // Ends a group. What could not be sent is lost; the notes count all the same.
-    fn release<L: Log>(&mut self, group: &Group, log: &L) -> Result<(), GroupFault>
+    fn end_group<L: Log>(&mut self, group: &Group, log: &L) -> Result<(), GroupFault>
         // Each letter of the group was sent to its destination, kept for the node itself, or lost by a failed send, in
         // order.
         ensures gives { OnOk result (HandsOnAll R.Says R.Gathers S.is_telling group.now self.old self.new) }
@@ -185,7 +184,7 @@ impl<R: NodeReplica, S: DatagramSocket + Drop> Server<R, S> {
         ensures alive { OnOk result (self.new.failed ≡ false) }
         ensures broken { OnErr result (self.new.failed ≡ true) }
     {
-        match self.hand_over(group, log) {
+        match self.sync_and_send(group, log) {
             Ok(_) => {
                 log_notes(log, group.notes());
                 self.table = self.table.after(group.notes());
@@ -197,8 +196,8 @@ impl<R: NodeReplica, S: DatagramSocket + Drop> Server<R, S> {
 
     /// Some time has passed: takes a group of one tick.
     pub fn tick<L: Log>(&mut self, log: &L) -> Result<(), GroupFault>
-        // The replica took a tick and nothing else. Each of its letters was sent, kept, or lost by a failed send, and
-        // nothing else was sent.
+        // The replica took a tick and nothing else. Each of its letters was sent, kept, lost by a failed send, or
+        // dropped since no address is known for it, and nothing else was sent.
         ensures hands_on { OnOk result (HandsOn R.Says S.is_telling (None ∷ []) self.old.own self.old self.new) }
         ensures ends { OnErr result (HandsNothing R.Says (None ∷ []) self.old.own self.old self.new) }
         ensures addresses { self.new.addresses ≡ self.old.addresses }
@@ -207,9 +206,9 @@ impl<R: NodeReplica, S: DatagramSocket + Drop> Server<R, S> {
         ensures alive { OnOk result (self.new.failed ≡ false) }
         ensures broken { OnErr result (self.new.failed ≡ true) }
     {
-        let mut group = self.begin();
-        self.gather_tick(&mut group, log)?;
-        self.release(&group, log)
+        let mut group = self.begin_group();
+        self.add_tick(&mut group, log)?;
+        self.end_group(&group, log)
     }
 
     /// Takes what is waiting as one group: the first letters of the node to itself, or else what arrives at the
@@ -221,23 +220,23 @@ impl<R: NodeReplica, S: DatagramSocket + Drop> Server<R, S> {
     ) -> Result<bool, GroupFault>
         ensures turn { IfOk result (λ came. came ≡ true → (frames : List (Address × List ℕ)) × HasReceived S.is_telling frames self.old self.new × Turn R.Says S.is_telling (all_taken_as (circle_of self.old.addresses) frames) self.old self.new × KeepsOf self.old.node self.old.addresses.seals frames buffer.old buffer.new) }
         ensures ends { OnErr result ((frames : List (Address × List ℕ)) × HasReceived S.is_telling frames self.old self.new × LastTurn R.Says S.is_telling (all_taken_as (circle_of self.old.addresses) frames) self.old self.new) }
-        ensures none { IfOk result (λ came. came ≡ false → (self.old.own ≡ []) × (found : Found) × (frames : List (Address × List ℕ)) × Finds S.is_telling found frames self.old self.new × KeepsOf self.old.node self.old.addresses.seals frames buffer.old buffer.new) }
+        ensures none { IfOk result (λ came. came ≡ false → (self.old.own ≡ []) × (found : TurnInput) × (frames : List (Address × List ℕ)) × Finds S.is_telling found frames self.old self.new × KeepsOf self.old.node self.old.addresses.seals frames buffer.old buffer.new) }
         // Where nodes live and the keys do not change.
         ensures network { IsSameNetwork self.old.addresses self.new.addresses }
     {
-        let mut group = self.begin();
+        let mut group = self.begin_group();
         let metronome = Metronome::new(Still);
-        let found = self.gather_all(buffer, &metronome, &mut group, log)?;
+        let found = self.add_pending(buffer, &metronome, &mut group, log)?;
         if !found.is_something() {
             return Ok(false);
         }
-        self.release(&group, log)?;
+        self.end_group(&group, log)?;
         Ok(true)
     }
 }
 
 /// One turn of a server: it takes a group of what waits, and a tick where one is due.
-pub fn node_turn<R: NodeReplica, S: DatagramSocket + Drop, C: Clock, L: Log>(
+pub fn node_turn<R: ServedReplica, S: DatagramSocket + Drop, C: Clock, L: Log>(
     server: &mut Server<R, S>,
     buffer: &mut ReceiveBuffer,
     metronome: &mut Metronome<C>,
@@ -246,8 +245,8 @@ pub fn node_turn<R: NodeReplica, S: DatagramSocket + Drop, C: Clock, L: Log>(
     // Where the node wrote to itself it takes the first 64 letters of that, once and in order, and nothing of the
     // socket. Else it takes the frames that came next, at most 64, and at least one if one was to come: of each what it
     // opens to, from where it came. No other frame is lost. Its replica was given just that, as one group, and a tick
-    // where one was due. The letters that it said were each sent where they go, kept for the node itself, or lost by a
-    // send that failed, in order, and nothing else was sent. A turn in which it was given nothing is idle. Of the
+    // where one was due. Its letters were each sent, kept for the node itself, lost by a failed send, or dropped since
+    // no address is known, in order, and nothing else was sent. A turn in which it was given nothing is idle. Of the
     // probes in these frames the first is kept, unless one was kept before.
     ensures turn { OnOk result ((frames : List (Address × List ℕ)) × HasReceived S.is_telling frames server.old server.new × TakesTurn R.Says S.is_telling frames server.old server.new × KeepsOf server.old.node server.old.addresses.seals frames buffer.old buffer.new) }
     // After an error nothing of the group is sent.
@@ -255,12 +254,12 @@ pub fn node_turn<R: NodeReplica, S: DatagramSocket + Drop, C: Clock, L: Log>(
     // Where nodes live and the keys do not change.
     ensures network { IsSameNetwork server.old.addresses server.new.addresses }
 {
-    let mut group = server.begin();
-    if !server.gather_turn(buffer, metronome, &mut group, log)? {
+    let mut group = server.begin_group();
+    if !server.fill_group(buffer, metronome, &mut group, log)? {
         return Ok(());
     }
     let began = metronome.now();
-    server.release(&group, log)?;
+    server.end_group(&group, log)?;
     server.note_sync(&group, metronome, began);
     Ok(())
 }

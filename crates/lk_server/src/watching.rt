@@ -1,9 +1,9 @@
 //! What a server logs of its replica besides the notes: lines of level debug, one fact each. A line that cannot be
 //! written is dropped.
 
-use lk_node_replica::replica_status::ReplicaStatus;
+use lk_served_replica::replica_status::ReplicaStatus;
 use lk_transport::arrival::Arrival;
-use lk_transport::post::Carried;
+use lk_transport::post::SendSummary;
 use lk_types::{NodeNo, Port, RealBallot};
 use log::{Log, debug, warn};
 use std::io;
@@ -101,8 +101,8 @@ pub fn log_served<L: Log>(log: &L, came: &Arrival, said: usize) {
 }
 
 // Logs that the node asks for what it has missed.
-fn log_wants<L: Log>(log: &L, carried: &Carried) {
-    if let Some(node) = carried.wanted {
+fn log_wants<L: Log>(log: &L, sends: &SendSummary) {
+    if let Some(node) = sends.wanted {
         log_number(log, "Want sent to node", u64::from(node.get()));
     }
 }
@@ -117,7 +117,7 @@ fn log_lost<L: Log>(log: &L, lost: u64, cause: Option<io::Error>) {
 }
 
 /// Logs the fate of a turn's letters.
-pub fn log_carried<L: Log>(log: &L, carried: &Carried, cause: Option<io::Error>) {
-    log_wants(log, carried);
-    log_lost(log, carried.lost, cause);
+pub fn log_sends<L: Log>(log: &L, sends: &SendSummary, cause: Option<io::Error>) {
+    log_wants(log, sends);
+    log_lost(log, sends.lost, cause);
 }

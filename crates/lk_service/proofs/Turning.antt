@@ -2,23 +2,18 @@
 use Rattle.std.proofs.Common.{◌≡◌, ◌∙◌, ◌⊎◌, ◌<◌, ℕ, List, Option, Result, Ok, Err, inl, inr, refl, subst, sym}
 use Rattle.std.specs.declared.net.socket_addr.SocketAddr.{SocketAddr}
 use Rattle.std.specs.Prelude.{OnErr, IfErr, IsErrAnd}
-use Rattle.lk_disk.specs.Disk.{Disk}
-use Rattle.lk_disk.specs.declared.device.Side.{Side}
-use Rattle.lk_entries.specs.Values.{HeaderValue}
 use Rattle.lk_state.specs.Meanings.{Meaning}
 use Rattle.lk_step.specs.Letters.{LetterValue}
 use Rattle.lk_replica.specs.ReplicaValue.{ReplicaValue}
-use Rattle.lk_recovery.specs.Revivals.{IsRefusedFor}
 use Rattle.lk_transport.specs.Addresses.{IsSameNetwork, circle_of}
 use Rattle.lk_transport.specs.Hearing.{BufferValue}
 use Rattle.lk_transport.specs.Kept.{KeepsOf}
 use Rattle.lk_transport.specs.Posts.{all_taken_as}
-use Rattle.lk_node_replica.specs.Sayings.{SaysOf}
-use Rattle.lk_server.specs.Beside.{ActsBeside}
-use Rattle.lk_node_replica.specs.Showing.{IsShown}
+use Rattle.lk_served_replica.specs.Sayings.{SaysOf}
+use Rattle.lk_server.specs.ProbeHandling.{HandlesProbes}
+use Rattle.lk_served_replica.specs.Showing.{IsShown}
 use Rattle.lk_server.specs.Servers.{ServerValue, HasReceived, TakesTurn as ServerTurn, LastTurn}
 use Rattle.lk_transport.specs.Chains.{Repeats}
-use Rattle.lk_service.specs.Revivals.{StaysDown}
 use Rattle.lk_service.specs.Turns.{TakesTurn, TakesTurnWith, TakesLeave, EndsTurn, BreaksOff, Leaves, TellsFailure}
 
 -- what a replica on a device says, where that is honest
@@ -43,7 +38,7 @@ turn_ended frames old new received turn network failure = record { frames = fram
 
 -- a turn, and what the server does beside the protocol after it
 pub turn_taken : {Says : ReplicaValue → List (Option (List ℕ)) → List LetterValue → ReplicaValue → Type 0} {tells : Type 0} (After : ServerValue ReplicaValue → Type 0) (frames : List (SocketAddr × List ℕ)) (kept left : BufferValue)
-    (old mid new : ServerValue ReplicaValue) → HasReceived tells frames old mid → ServerTurn Says tells frames old mid → KeepsOf old.node old.addresses.seals frames kept left → ActsBeside IsShown tells left.asked left.reported mid new
+    (old mid new : ServerValue ReplicaValue) → HasReceived tells frames old mid → ServerTurn Says tells frames old mid → KeepsOf old.node old.addresses.seals frames kept left → HandlesProbes IsShown tells left.asked left.reported mid new
     → IsSameNetwork old.addresses mid.addresses → TellsFailure new → After new → TakesTurnWith Says tells kept.asked kept.reported After old new
 turn_taken After frames kept left old mid new received turn keeps acts network failure becomes = record {
   frames = frames;
@@ -71,15 +66,6 @@ or_later P (Err e) f a = inr (f a)
 pub on_err_weaker : {T E P Q : Type 0} (r : Result T E) → (P → Q) → OnErr r P → OnErr r Q
 on_err_weaker (Ok x) f p = tt
 on_err_weaker (Err e) f p = f p
-
--- a refusal of the disks as they were looked at is one of the disks as they were
-pub refused_as : (m : Meaning) (IsText : List ℕ → Type 0) (looked old : Side → Disk) (header : HeaderValue) (number : ℕ) (left : Side → Disk) → looked ≡ old
-    → IsRefusedFor m IsText looked header number left → IsRefusedFor m IsText old header number left
-refused_as m IsText looked old header number left same refused = subst (λ (d : Side → Disk). IsRefusedFor m IsText d header number left) same refused
-
--- and what was not taken up of the disks as they were looked at stays down as they were
-pub down_as : (m : Meaning) (looked old : Side → Disk) (header : HeaderValue) (left : Side → Disk) → looked ≡ old → StaysDown m header looked left → StaysDown m header old left
-down_as m looked old header left same stays = subst (λ (d : Side → Disk). StaysDown m header d left) same stays
 
 -- what stands of an error stands of a refusal with it
 pub if_err_is : {T E : Type 0} (P : E → Type 0) (r : Result T E) (e : E) → IsErrAnd r (λ y. y ≡ e) → P e → IfErr r P

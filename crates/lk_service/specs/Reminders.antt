@@ -4,14 +4,7 @@ use Rattle.std.specs.Fmt.{decimal}
 use Rattle.std.specs.Io.KnownBytes.{Appends}
 use Rattle.lk_probe.specs.declared.status.Leadership.{Leadership}
 use Rattle.lk_probe.specs.declared.status.Status.{Status}
-use Rattle.lk_server.specs.Probes.{Tells}
-use Rattle.lk_server.specs.Servers.{ServerValue}
-use Rattle.lk_node_replica.specs.declared.shown.Shown.{Shown}
 use Rattle.lk_service.specs.declared.port_reminder.PortReminder.{PortReminder}
-
--- a server tells this of its node; `Shows` is what its replica shows
-abbrev pub IsStatusOf : {R : Type 0} → (R → Shown → Type 0) → ServerValue R → Status → Type 0
-IsStatusOf Shows server s = (shown : Shown) × Shows server.replica shown × Tells server.addresses.seals.genesis shown s
 
 -- the node neither leads nor has heard of a leader since its start
 pub record KnowsNobody (l : Leadership) : Type 0 where

@@ -10,8 +10,8 @@ use Rattle.lk_probe.specs.declared.reported.Reported.{Reported}
 use Rattle.lk_seal.specs.declared.seals.Seals.{Seals}
 use Rattle.lk_transport.specs.Addresses.{IsSameNetwork, circle_of}
 use Rattle.lk_transport.specs.Posts.{all_taken_as}
-use Rattle.lk_server.specs.Beside.{ActsBeside}
-use Rattle.lk_node_replica.specs.Showing.{IsShown}
+use Rattle.lk_server.specs.ProbeHandling.{HandlesProbes}
+use Rattle.lk_served_replica.specs.Showing.{IsShown}
 use Rattle.lk_server.specs.Servers.{ServerValue, HasReceived, Turn, LastTurn, IsIdle}
 use Rattle.lk_transport.specs.Askers.{IsKeptOf}
 use Rattle.lk_transport.specs.Inquiring.{IsToldBy}
@@ -52,7 +52,7 @@ module _ (Says : ReplicaValue → List (Option (List ℕ)) → List LetterValue 
     pub first_asked : KeepsFirstOf (IsKeptOf old.addresses.seals) kept frames asked
     pub reported : Option Reported
     pub first_reported : KeepsFirstOf (IsToldBy old.node old.addresses.seals) told frames reported
-    pub acts : ActsBeside IsShown tells asked reported mid new
+    pub acts : HandlesProbes IsShown tells asked reported mid new
     pub network : IsSameNetwork old.addresses new.addresses
     pub failure : TellsFailure new
     pub becomes : After new

@@ -25,8 +25,8 @@ fn write_line<E: Write>(own: &Origin, leader: &Origin, err: &mut E) -> io::Resul
     err.write_all(b"\n")
 }
 
-/// Tells that a node was led by one of another genesis.
-pub fn tell_another<E: Write>(own: &Origin, leader: &Origin, err: &mut E) -> ServiceFault
+/// Writes that a node was led by one of another genesis.
+pub fn write_other_genesis<E: Write>(own: &Origin, leader: &Origin, err: &mut E) -> ServiceFault
     ensures { result ≡ ServiceFault.OtherGenesis }
 {
     let _ = write_line(own, leader, err);

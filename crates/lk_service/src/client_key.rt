@@ -45,6 +45,6 @@ pub fn client_key<R: Files<File = File>, W: Write, E: Write>(
 {
     match print_keys(rt, alloc, master, client, out, err) {
         Ok(()) => 0,
-        Err(fault) => fault.tell(err),
+        Err(fault) => fault.write_to(err),
     }
 }

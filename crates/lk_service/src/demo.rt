@@ -170,7 +170,7 @@ impl<M: Machine, S: DatagramSocket + Drop> Cluster<M, S> {
     }
 
     // What the clients receive next. It follows an Elsewhere.
-    fn hear(&mut self, question: &Question, bytes: &[u8]) -> Heard {
+    fn receive_reply(&mut self, question: &Question, bytes: &[u8]) -> Heard {
         match next_reply(&mut self.buffer, &mut self.client, question) {
             Heard::Reply(Reply::Elsewhere(member)) => {
                 let _ = self.client.send_to(local(member.port.get()), bytes);
@@ -188,7 +188,7 @@ impl<M: Machine, S: DatagramSocket + Drop> Cluster<M, S> {
     ) -> Result<Option<Reply>, ServiceFault> {
         for _ in 0..TURNS {
             let was_served = self.serve()?;
-            match self.hear(question, bytes) {
+            match self.receive_reply(question, bytes) {
                 Heard::Reply(reply) => return Ok(Some(reply)),
                 Heard::Nothing if !was_served => return Ok(None),
                 Heard::Nothing | Heard::Other => {}
@@ -199,7 +199,11 @@ impl<M: Machine, S: DatagramSocket + Drop> Cluster<M, S> {
 
     // Sends a request, and resends it after every 200 idle turns; in each idle turn every node takes a tick. Returns
     // the reply, or `None` after 10,000 idle turns.
-    fn ask(&mut self, alloc: Global, question: &Question) -> Result<Option<Reply>, ServiceFault> {
+    fn exchange(
+        &mut self,
+        alloc: Global,
+        question: &Question,
+    ) -> Result<Option<Reply>, ServiceFault> {
         let bytes = datagram(alloc, question)?;
         for idle in 0..IDLE_TURNS {
             if idle % PATIENCE == 0 {
@@ -214,14 +218,14 @@ impl<M: Machine, S: DatagramSocket + Drop> Cluster<M, S> {
     }
 
     // Sends the request of a row of the story, and prints the reply. Returns whether there was one.
-    fn tell<W: Write>(
+    fn play_row<W: Write>(
         &mut self,
         alloc: Global,
         row: (u16, u64, &[u8]),
         out: &mut W,
     ) -> Result<bool, ServiceFault> {
         let reply = match question_of(row, self.port) {
-            Some(question) => self.ask(alloc, &question)?,
+            Some(question) => self.exchange(alloc, &question)?,
             None => None,
         };
         write_reply(reply, out).map_err(|_| ServiceFault::Write)
@@ -237,7 +241,7 @@ pub fn play<M: Machine, S: DatagramSocket + Drop, W: Write>(
 ) -> Result<bool, ServiceFault> {
     let mut cluster: Cluster<M, S> = Cluster::begin(alloc, sockets)?;
     for row in STORY {
-        if !cluster.tell(alloc, row, out)? {
+        if !cluster.play_row(alloc, row, out)? {
             return Ok(false);
         }
     }
@@ -265,11 +269,11 @@ fn play_on_ports<M: Machine, R: Net, W: Write>(
 ) -> Result<bool, ServiceFault> {
     let client = LocalSocket::without_waiting(rt, 0)?;
     let nodes = free_sockets(rt, alloc, NODES)?;
-    let is_told = play::<M, _, W>(alloc, Sockets { nodes, client }, out)?;
+    let is_answered = play::<M, _, W>(alloc, Sockets { nodes, client }, out)?;
     if out.flush().is_err() {
         return Err(ServiceFault::Write);
     }
-    Ok(is_told)
+    Ok(is_answered)
 }
 
 /// Runs the demonstration: three nodes of this process on free ports of 127.0.0.1, and the replies to two clients that
@@ -285,6 +289,6 @@ pub fn demo<M: Machine, R: Net, W: Write, E: Write>(
     match play_on_ports::<M, R, W>(rt, alloc, out) {
         Ok(true) => 0,
         Ok(false) => 1,
-        Err(fault) => fault.tell(err),
+        Err(fault) => fault.write_to(err),
     }
 }

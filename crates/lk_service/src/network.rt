@@ -11,7 +11,7 @@ use lk_arguments::operation::node_of;
 use lk_arguments::word::split_word;
 use lk_client::destination::Destination;
 use lk_entries::Header;
-use lk_folder::causes::tell_cause;
+use lk_folder::causes::write_cause;
 use lk_seal::{AskerSeals, Keys, Masters, Seals};
 use lk_transport::fault::ServiceFault;
 use lk_transport::hosts::Hosts;
@@ -37,7 +37,7 @@ pub struct NetworkOptions<'a> {
 const OTHERS: u32 = 0o077;
 
 // Opens a file to read.
-fn open<R: Files<File = File>>(rt: &R, path: &str) -> io::Result<File> {
+fn open_file<R: Files<File = File>>(rt: &R, path: &str) -> io::Result<File> {
     let mut how = OpenOptions::new();
     how.read(true);
     how.open(rt, path)
@@ -45,28 +45,28 @@ fn open<R: Files<File = File>>(rt: &R, path: &str) -> io::Result<File> {
 
 // Reads a file. On failure it writes the reason and returns `CannotOpen`; also if the file should be secret and
 // others have access to it.
-fn bytes_of<R: Files<File = File>, E: Write>(
+fn read_file<R: Files<File = File>, E: Write>(
     rt: &R,
     alloc: Global,
     path: &str,
     is_secret: bool,
     err: &mut E,
 ) -> Result<Vec<u8>, ServiceFault> {
-    let mut file = match open(rt, path) {
+    let mut file = match open_file(rt, path) {
         Ok(file) => file,
-        Err(error) => return Err(tell_cause(path, error, err)),
+        Err(error) => return Err(write_cause(path, error, err)),
     };
     if is_secret {
         match file.metadata() {
             Ok(data) if data.permissions().mode() & OTHERS == 0 => {}
-            Ok(_) => return Err(tell_cause(path, "others than its owner may have it", err)),
-            Err(error) => return Err(tell_cause(path, error, err)),
+            Ok(_) => return Err(write_cause(path, "others than its owner may have it", err)),
+            Err(error) => return Err(write_cause(path, error, err)),
         }
     }
     let mut bytes = Vec::new(alloc);
     match file.read_to_end(&mut bytes) {
         Ok(_) => Ok(bytes),
-        Err(error) => Err(tell_cause(path, error, err)),
+        Err(error) => Err(write_cause(path, error, err)),
     }
 }
 
@@ -81,7 +81,7 @@ fn host_of(line: &[u8]) -> Option<(NodeNo, IpAddr)> {
 }
 
 // Whether a line may follow the last one.
-fn follows(last: Option<&(NodeNo, IpAddr)>, host: &(NodeNo, IpAddr)) -> bool {
+fn may_follow(last: Option<&(NodeNo, IpAddr)>, host: &(NodeNo, IpAddr)) -> bool {
     match last {
         Some(last) => last.0 < host.0 && last.1.is_ipv4() == host.1.is_ipv4(),
         None => true,
@@ -107,7 +107,7 @@ fn read_hosts(
             continue;
         }
         match host_of(line) {
-            Some(host) if follows(hosts.last(), &host) => hosts.push(host)?,
+            Some(host) if may_follow(hosts.last(), &host) => hosts.push(host)?,
             _ => return Ok(Err(number)),
         }
     }
@@ -124,7 +124,7 @@ fn hosts_in<R: Files<File = File>, E: Write>(
     let Some(path) = path else {
         return Ok(Hosts::Local);
     };
-    let text = bytes_of(rt, alloc, path, false, err)?;
+    let text = read_file(rt, alloc, path, false, err)?;
     match read_hosts(alloc, &text)? {
         Ok(lines) => Ok(Hosts::Listed(lines)),
         Err(number) => {
@@ -143,10 +143,10 @@ pub fn keys_of<R: Files<File = File>, E: Write>(
 ) -> Result<Keys, ServiceFault>
     ensures { IfOk result (λ keys. (text : List ℕ) × (key_file text ≡ Some (key_list keys))) }
 {
-    let text = bytes_of(rt, alloc, path, true, err)?;
+    let text = read_file(rt, alloc, path, true, err)?;
     match Keys::read(&text) {
         Some(keys) => Ok(keys),
-        None => Err(tell_cause(path, "its lines are not one key or two", err)),
+        None => Err(write_cause(path, "its lines are not one key or two", err)),
     }
 }
 
@@ -164,7 +164,7 @@ fn keys_in<R: Files<File = File>, E: Write>(
 }
 
 // Writes that no address of a node is known.
-fn tell_homeless<E: Write>(node: NodeNo, path: &str, err: &mut E) -> ServiceFault {
+fn write_no_address<E: Write>(node: NodeNo, path: &str, err: &mut E) -> ServiceFault {
     let _ = writeln!(err, "{path}: no line of node {}, and no --bind", node.get());
     ServiceFault::CannotOpen
 }
@@ -179,7 +179,7 @@ fn place_of<E: Write>(
 ) -> Result<IpAddr, ServiceFault> {
     match bind.or(hosts.address(header.node())) {
         Some(address) => Ok(address),
-        None => Err(tell_homeless(header.node(), path.unwrap_or(""), err)),
+        None => Err(write_no_address(header.node(), path.unwrap_or(""), err)),
     }
 }
 
@@ -191,10 +191,10 @@ fn check_keys<E: Write>(
     err: &mut E,
 ) -> Result<(), ServiceFault> {
     if nodes.is_none() && !clients.is_none() {
-        return Err(tell_cause(path, "the clients' key, and the nodes have none", err));
+        return Err(write_cause(path, "the clients' key, and the nodes have none", err));
     }
     if nodes.meets(clients) {
-        return Err(tell_cause(path, "a key of the nodes and of the clients", err));
+        return Err(write_cause(path, "a key of the nodes and of the clients", err));
     }
     Ok(())
 }
@@ -230,7 +230,7 @@ fn check_reach<E: Write>(seals: &Seals, place: SocketAddr, err: &mut E) -> Resul
         return Ok(());
     }
     if seals.nodes.is_none() {
-        return Err(tell_cause(place, "no key, and other machines reach it", err));
+        return Err(write_cause(place, "no key, and other machines reach it", err));
     }
     if seals.clients.is_none() {
         let _ = writeln!(

@@ -1,4 +1,4 @@
-//! What an operator is told of a node, turn by turn.
+//! What is reported to an operator of a node, turn by turn.
 
 ghost use Rattle.std.specs.Prelude.{◌≡◌};
 
@@ -7,8 +7,8 @@ use lk_events::line::Observer;
 use lk_events::view::View;
 use lk_node::Node;
 use lk_replica::Replica;
-use lk_server::happened::Happened;
 use lk_server::server::Server;
+use lk_server::turn_events::TurnEvents;
 use lk_state::Machine;
 use lk_transport::socket::DatagramSocket;
 use lk_types::{Members, NodeNo};
@@ -17,14 +17,14 @@ use lk_types::{Members, NodeNo};
 const HEARD: u8 = 4;
 
 // The node that a node hears to lead.
-fn follows<M: Machine>(node: &Node<M>) -> Option<NodeNo> {
+fn followed_leader<M: Machine>(node: &Node<M>) -> Option<NodeNo> {
     let known = node.known()?;
     let is_heard = node.term().is_none() && node.ticks() < HEARD;
     (is_heard && known != node.header().node()).then_some(known)
 }
 
 // The members of the next position.
-fn members<M: Machine>(node: &Node<M>) -> &Members {
+fn next_members<M: Machine>(node: &Node<M>) -> &Members {
     let roster = node.roster();
     match roster.window().get(0) {
         Some(members) => members,
@@ -33,23 +33,23 @@ fn members<M: Machine>(node: &Node<M>) -> &Members {
 }
 
 // What is seen of a node after what has happened to it.
-fn view_of<M: Machine>(node: &Node<M>, happened: &Happened) -> View {
+fn view_of<M: Machine>(node: &Node<M>, events: &TurnEvents) -> View {
     let own = node.header().node();
-    let members = members(node).copy();
+    let members = next_members(node).copy();
     let is_member = members.as_slice().iter().any(|member| member.node == own);
     View {
         leads: if node.leads() { node.term() } else { None },
-        follows: follows(node),
+        follows: followed_leader(node),
         promised: node.promised(),
         executed: node.executed(),
         snapshot: node.snapshot_position(),
-        installed: happened.installed,
+        installed: events.installed,
         is_member,
         members,
-        wanted: happened.carried.wanted,
-        unsent: happened.carried.unsent,
-        stranger: happened.stranger,
-        foreign: happened.foreign,
+        wanted: events.sends.wanted,
+        unsent: events.sends.unsent,
+        stranger: events.stranger,
+        foreign: events.foreign,
     }
 }
 
@@ -58,18 +58,18 @@ fn is_empty<M: Machine>(node: &Node<M>) -> bool {
     node.executed().get() == 0 && node.promised().round() == 0
 }
 
-/// Tells that a node has come up.
+/// Reports to an observer that a node has come up.
 pub fn observe_start<M: Machine, D: LogDisk + Drop, O: Observer>(
     replica: &Replica<M, D>,
     observer: &mut O,
 ) {
     if observer.is_on() {
         let node = replica.node();
-        observer.begin(is_empty(node), view_of(node, &Happened::NOTHING));
+        observer.begin(is_empty(node), view_of(node, &TurnEvents::NOTHING));
     }
 }
 
-/// Tells that a server has taken a turn.
+/// Reports to an observer that a server has taken a turn.
 pub fn observe_turn<M: Machine, D: LogDisk + Drop, S: DatagramSocket + Drop, O: Observer>(
     server: &mut Server<Replica<M, D>, S>,
     observer: &mut O,
@@ -77,7 +77,7 @@ pub fn observe_turn<M: Machine, D: LogDisk + Drop, S: DatagramSocket + Drop, O: 
     ensures { server.new ≡ server.old }
 {
     if observer.is_on() {
-        let happened = server.take_happened();
-        observer.turn(view_of(server.replica().node(), &happened));
+        let events = server.take_events();
+        observer.observe(view_of(server.replica().node(), &events));
     }
 }

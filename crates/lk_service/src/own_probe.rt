@@ -28,7 +28,7 @@ fn comes_next<S: DatagramSocket>(buffer: &mut ReceiveBuffer, socket: &mut S, fra
     ensures spares { S.failures socket.new ≡ S.failures socket.old }
 {
     buffer.receive(socket);
-    match buffer.heard() {
+    match buffer.latest() {
         Some((bytes, _)) => bytes == frame,
         None => false,
     }
@@ -40,7 +40,7 @@ fn comes_back<S: DatagramSocket>(socket: &mut S, frame: &[u8]) -> bool
     ensures unchanged { S.sent socket.new ≡ S.sent socket.old }
     ensures spares { S.failures socket.new ≡ S.failures socket.old }
 {
-    socket.wait_for(Duration::from_millis(WAIT));
+    socket.set_timeout(Duration::from_millis(WAIT));
     let mut buffer = ReceiveBuffer::new();
     'receives: for _ in 0..RECEIVES {
         if comes_next(&mut buffer, socket, frame) {

@@ -2,14 +2,10 @@
 
 ghost use Rattle.std.specs.Io.KnownBytes.{Appends};
 ghost use Rattle.std.specs.Prelude.{◌≡◌, ◌↔◌, None, Some, IsTrue, IfSome, IsNone, OnOk, OnErr, ℕ};
-ghost use Rattle.lk_probe.specs.declared.status.Status.{Status as StatusValue};
-ghost use Rattle.lk_service.specs.Reminders.{IsDue, IsNoneDue, IsStatusOf, KnowsNobody, Reminds, having_warned, reminder_line};
+ghost use Rattle.lk_service.specs.Reminders.{IsDue, IsNoneDue, KnowsNobody, Reminds, having_warned, reminder_line};
 
 use crate::resources::NodePlan;
-use lk_node_replica::NodeReplica;
 use lk_probe::{Leadership, Status};
-use lk_server::server::Server;
-use lk_transport::socket::DatagramSocket;
 use lk_types::Port;
 use std::io;
 use std::io::Write;
@@ -76,21 +72,21 @@ impl PortReminder {
         Some(named)
     }
 
-    /// A turn has passed: warns if that is due. The error is that of a warning.
-    pub fn turn<R: NodeReplica, S: DatagramSocket + Drop, E: Write>(
+    /// Warns after a turn if a warning is due, by the node's status. The error is that of writing it.
+    pub fn remind<E: Write>(
         &mut self,
-        server: &Server<R, S>,
+        status: &Status,
         plan: &NodePlan<'_>,
         err: &mut E,
     ) -> io::Result<()>
-        ensures reminds { OnOk result ((status : StatusValue) × IsStatusOf R.Shows server.now status
-            × Reminds plan.now.header.node plan.now.port status self.old self.new (E.contents err.old) (E.contents err.new)) }
-        ensures fails { OnErr result ((status : StatusValue) × IsStatusOf R.Shows server.now status × (port : ℕ) × IsDue self.old status port) }
+        // Its line is written exactly if a warning is due, and the next one is due a minute later.
+        ensures reminds { OnOk result (Reminds plan.now.header.node plan.now.port status.now self.old self.new (E.contents err.old) (E.contents err.new)) }
+        // A warning that fails was due, and the next one is due a minute later all the same.
+        ensures fails { OnErr result ((port : ℕ) × IsDue self.old status.now port × (self.new ≡ having_warned self.old status.now)) }
         // A node that is heard at the port that the genesis names is never warned of.
         ensures heard { self.old.unheard ≡ None → (self.new ≡ self.old) × (err.new ≡ err.old) }
     {
-        let status = server.status();
-        match self.take_due(&status) {
+        match self.take_due(status) {
             Some(named) => write_reminder(plan, named, err),
             None => Ok(()),
         }

@@ -4,27 +4,26 @@ ghost use Rattle.std.specs.Prelude.{◌≡◌, ◌≤◌, ◌^◌, ◌⊎◌, No
 ghost use Rattle.lk_step.specs.Faults.{fault_number};
 ghost use Rattle.lk_replica.specs.ReplicaValue.{ReplicaValue};
 ghost use Rattle.lk_replica.specs.Revived.{MayGoOn};
-ghost use Rattle.lk_server.specs.Beside.{ActsBeside};
-ghost use Rattle.lk_node_replica.specs.Showing.{IsShown};
+ghost use Rattle.lk_server.specs.ProbeHandling.{HandlesProbes};
+ghost use Rattle.lk_served_replica.specs.Showing.{IsShown};
 ghost use Rattle.lk_server.specs.Servers.{ServerValue, ServesAs, ServesOn};
 ghost use Rattle.lk_transport.specs.Chains.{Repeats};
 ghost use Rattle.lk_service.specs.Revivals.{ComesUp, IsBegun, IsNotTakenUp, IsRefusedWith};
 ghost use Rattle.lk_service.specs.Turns.{TakesTurn, TakesTurnWith, GoesOn, LeavesOff, EndsTurn, BreaksOff, Leaves, AreSealsOf, Serves, EndsEarly, LeavesEarly, TellsFailure};
 
-use crate::another_genesis::tell_another;
+use crate::another_genesis::write_other_genesis;
 use crate::observing::{observe_start, observe_turn};
 use crate::port_reminder::PortReminder;
 use crate::resources::{NodePlan, Resources};
 use lk_disk::LogDisk;
 use lk_entries::Header;
 use lk_events::line::Observer;
-use lk_folder::causes::{FailureCause, tell_device};
-use lk_folder::refusals::tell_refusal;
-use lk_log::look;
-use lk_node_replica::NodeReplica;
+use lk_folder::causes::{FailureCause, write_failed_calls};
+use lk_folder::refusals::write_refusal;
 use lk_pace::metronome::Metronome;
 use lk_recovery::ReviveFault;
 use lk_replica::Replica;
+use lk_served_replica::ServedReplica;
 use lk_server::notes::log_notes;
 use lk_server::server::{Server, node_turn};
 use lk_server::watching::{log_port, log_start};
@@ -57,10 +56,8 @@ fn take_up<M: Machine, D: LogDisk + Drop, L: Log>(
     // It fails with 7 to 11, each with its cause, and what the device then has fits as what it had.
     ensures refused { IfErr result (λ e. IsNotTakenUp M.meaning M.IsText D.is_honest (D.disk device) header.now (fault_number e.fault) (D.disk e.device)) }
 {
-    let mut device = device;
-    let is_new = matches!(look(alloc, &mut device), Ok(None));
     let revived = Replica::<M, D>::revive(alloc, device, header)?;
-    log_start(log, is_new, &revived.replica.status());
+    log_start(log, revived.is_new, &revived.replica.status());
     log_notes(log, &revived.notes);
     Ok(revived.replica)
 }
@@ -100,7 +97,7 @@ pub fn revive<M: Machine, D: LogDisk + Drop, S: DatagramSocket + Drop, L: Log>(
     ))
 }
 
-// The same. Where it is refused, lines tell what was found.
+// The same. After a refusal, writes what was found.
 fn revive_plan<
     M: Machine,
     D: LogDisk + FailureCause + Drop,
@@ -124,13 +121,13 @@ fn revive_plan<
             let ReviveFault { fault, device } = refused;
             let mut device = device;
             let told = ServiceFault::of_replica(&fault);
-            Err(tell_refusal(alloc, told, &mut device, plan.folder, err))
+            Err(write_refusal(alloc, told, &mut device, plan.folder, err))
         }
     }
 }
 
-// Ends a turn: acts beside the protocol, and tells an observer of the turn. Where the node has followed one of another
-// genesis a line tells so.
+// Ends a turn: handles probes, and reports the turn to an observer. If the node has followed one of another genesis,
+// writes so.
 fn end_turn<M: Machine, D: LogDisk + Drop, S: DatagramSocket + Drop, L: Log, O: Observer, E: Write>(
     server: &mut NodeServer<M, D, S>,
     buffer: &mut ReceiveBuffer,
@@ -138,22 +135,22 @@ fn end_turn<M: Machine, D: LogDisk + Drop, S: DatagramSocket + Drop, L: Log, O: 
     observer: &mut O,
     err: &mut E,
 ) -> Result<(), ServiceFault>
-    ensures acts { ActsBeside IsShown S.is_telling buffer.old.asked buffer.old.reported server.old server.new }
+    ensures acts { HandlesProbes IsShown S.is_telling buffer.old.asked buffer.old.reported server.old server.new }
     ensures goes_on { OnOk result (GoesOn server.new) }
     ensures leaves { OnErr result (LeavesOff server.new) }
     ensures spent { (buffer.new.asked ≡ None) × (buffer.new.reported ≡ None) }
     ensures failure { TellsFailure server.new }
 {
-    let leader = server.act_beside(buffer, log);
+    let leader = server.handle_probes(buffer, log);
     let _ = server.replica();
     observe_turn(server, observer);
     match leader {
         None => Ok(()),
-        Some(leader) => Err(tell_another(&server.origin(), &leader, err)),
+        Some(leader) => Err(write_other_genesis(&server.origin(), &leader, err)),
     }
 }
 
-// Takes one turn, of which an observer is told. Where the device failed a line tells why.
+// Takes one turn, and reports it to an observer. If the device failed, writes why.
 fn take_turn<
     M: Machine,
     D: LogDisk + FailureCause + Drop,
@@ -173,24 +170,24 @@ fn take_turn<
 ) -> Result<(), ServiceFault>
     // Its replica was given as one group just what it wrote to itself, or what was taken of what came, and a tick
     // where one was due. Of the letters that it said it keeps none but those of the node to itself, after the ones
-    // that wait. After that it acts beside the protocol, by the probe and the report that were kept, or else by the
-    // first that came. No node of another genesis has led it.
-    ensures turn { OnOk result (TakesTurnWith ⟦<Replica<M, D> as NodeReplica>⟧.Says S.is_telling buffer.old.asked buffer.old.reported GoesOn server.old server.new) }
+    // that wait. After that it handles probes: the probe and the report that were kept, or else the first that
+    // came. No node of another genesis has led it.
+    ensures turn { OnOk result (TakesTurnWith ⟦<Replica<M, D> as ServedReplica>⟧.Says S.is_telling buffer.old.asked buffer.old.reported GoesOn server.old server.new) }
     ensures spent { OnOk result ((buffer.new.asked ≡ None) × (buffer.new.reported ≡ None)) }
     // The turn ended the replica, and after that nothing is sent and no probe is answered; or it is such a turn, and a
     // node of another genesis has led the node.
-    ensures ends { OnErr result (EndsTurn ⟦<Replica<M, D> as NodeReplica>⟧.Says S.is_telling server.old server.new ⊎ TakesTurnWith ⟦<Replica<M, D> as NodeReplica>⟧.Says S.is_telling buffer.old.asked buffer.old.reported LeavesOff server.old server.new) }
+    ensures ends { OnErr result (EndsTurn ⟦<Replica<M, D> as ServedReplica>⟧.Says S.is_telling server.old server.new ⊎ TakesTurnWith ⟦<Replica<M, D> as ServedReplica>⟧.Says S.is_telling buffer.old.asked buffer.old.reported LeavesOff server.old server.new) }
 {
     match node_turn(server, buffer, metronome, log) {
         Ok(()) => end_turn(server, buffer, log, observer, err),
         Err(fault) => {
             let told = ServiceFault::from(fault);
-            Err(tell_device(told, server.replica().device(), folder, err))
+            Err(write_failed_calls(told, server.replica().device(), folder, err))
         }
     }
 }
 
-// Takes 2^48 turns, of which an observer is told. Where the device failed a line tells why.
+// Takes 2^48 turns, and reports them to an observer. If the device failed, writes why.
 fn take_turns<
     M: Machine,
     D: LogDisk + FailureCause + Drop,
@@ -209,10 +206,10 @@ fn take_turns<
     err: &mut E,
 ) -> Result<(), ServiceFault>
     // At Ok it has taken exactly this many turns, one after another.
-    ensures ok { OnOk result (Repeats (TakesTurn ⟦<Replica<M, D> as NodeReplica>⟧.Says S.is_telling) (2 ^ 48) server.old server.new) }
+    ensures ok { OnOk result (Repeats (TakesTurn ⟦<Replica<M, D> as ServedReplica>⟧.Says S.is_telling) (2 ^ 48) server.old server.new) }
     // At an error it has taken fewer, and then one that ended the replica, or after which a node of another genesis had
     // led the node.
-    ensures err { OnErr result (BreaksOff ⟦<Replica<M, D> as NodeReplica>⟧.Says S.is_telling (2 ^ 48) server.old server.new ⊎ Leaves ⟦<Replica<M, D> as NodeReplica>⟧.Says S.is_telling (2 ^ 48) server.old server.new) }
+    ensures err { OnErr result (BreaksOff ⟦<Replica<M, D> as ServedReplica>⟧.Says S.is_telling (2 ^ 48) server.old server.new ⊎ Leaves ⟦<Replica<M, D> as ServedReplica>⟧.Says S.is_telling (2 ^ 48) server.old server.new) }
 {
     let mut buffer = ReceiveBuffer::new();
     let mut metronome = Metronome::new(clock);
@@ -227,13 +224,13 @@ fn take_turns<
             observer,
             err,
         )?;
-        let _ = reminder.turn(server, plan, err);
+        let status = server.status();
+        let _ = reminder.remind(&status, plan, err);
     }
     Ok(())
 }
 
-// Takes 2^48 turns with a server that ends then. That it serves, and at which port, is logged, and an observer is
-// told of it.
+// Takes 2^48 turns with a server that ends then. Logs its port, and reports its start to an observer.
 fn serve_turns<
     M: Machine,
     D: LogDisk + FailureCause + Drop,
@@ -251,8 +248,8 @@ fn serve_turns<
     observer: &mut O,
     err: &mut E,
 ) -> Result<(), ServiceFault>
-    ensures ok { OnOk result ((ended : ServerValue ReplicaValue) × Repeats (TakesTurn ⟦<Replica<M, D> as NodeReplica>⟧.Says S.is_telling) (2 ^ 48) server ended) }
-    ensures err { OnErr result ((ended : ServerValue ReplicaValue) × (BreaksOff ⟦<Replica<M, D> as NodeReplica>⟧.Says S.is_telling (2 ^ 48) server ended ⊎ Leaves ⟦<Replica<M, D> as NodeReplica>⟧.Says S.is_telling (2 ^ 48) server ended)) }
+    ensures ok { OnOk result ((ended : ServerValue ReplicaValue) × Repeats (TakesTurn ⟦<Replica<M, D> as ServedReplica>⟧.Says S.is_telling) (2 ^ 48) server ended) }
+    ensures err { OnErr result ((ended : ServerValue ReplicaValue) × (BreaksOff ⟦<Replica<M, D> as ServedReplica>⟧.Says S.is_telling (2 ^ 48) server ended ⊎ Leaves ⟦<Replica<M, D> as ServedReplica>⟧.Says S.is_telling (2 ^ 48) server ended)) }
 {
     let mut server = server;
     log_port(log, plan.port);
@@ -279,18 +276,18 @@ fn serve<
     err: &mut E,
 ) -> Result<(), ServiceFault>
     requires { AreSealsOf plan.now.header resources.network.seals }
-    ensures ok { OnOk result (Serves (IsBegun M.meaning D.is_honest (D.disk resources.device) plan.now.header) plan.now.header resources.network.seals ⟦<Replica<M, D> as NodeReplica>⟧.Says S.is_telling (2 ^ 48)) }
+    ensures ok { OnOk result (Serves (IsBegun M.meaning D.is_honest (D.disk resources.device) plan.now.header) plan.now.header resources.network.seals ⟦<Replica<M, D> as ServedReplica>⟧.Says S.is_telling (2 ^ 48)) }
     ensures err { IfErr result (λ f. IsRefusedWith M.meaning M.IsText D.is_honest (D.disk resources.device) plan.now.header f
-        ⊎ EndsEarly (IsBegun M.meaning D.is_honest (D.disk resources.device) plan.now.header) plan.now.header resources.network.seals ⟦<Replica<M, D> as NodeReplica>⟧.Says S.is_telling (2 ^ 48)
-        ⊎ LeavesEarly (IsBegun M.meaning D.is_honest (D.disk resources.device) plan.now.header) plan.now.header resources.network.seals ⟦<Replica<M, D> as NodeReplica>⟧.Says S.is_telling (2 ^ 48)) }
+        ⊎ EndsEarly (IsBegun M.meaning D.is_honest (D.disk resources.device) plan.now.header) plan.now.header resources.network.seals ⟦<Replica<M, D> as ServedReplica>⟧.Says S.is_telling (2 ^ 48)
+        ⊎ LeavesEarly (IsBegun M.meaning D.is_honest (D.disk resources.device) plan.now.header) plan.now.header resources.network.seals ⟦<Replica<M, D> as ServedReplica>⟧.Says S.is_telling (2 ^ 48)) }
 {
     let reminder = PortReminder::of(resources.unheard);
     let server = revive_plan::<M, D, S, L, E>(alloc, plan, resources, log, err)?;
     serve_turns(clock, server, plan, reminder, log, observer, err)
 }
 
-/// Runs a node on these resources, and tells an observer what happens to it. The status is 0 after 2^48 turns, and 1
-/// where a fault is told on standard error.
+/// Runs a node on these resources, and reports what happens to it to an observer. The status is 0 after 2^48 turns, and
+/// 1 after a fault, which is written to standard error.
 pub fn run_node<
     M: Machine,
     D: LogDisk + FailureCause + Drop,
@@ -312,15 +309,15 @@ pub fn run_node<
     ensures status { result ≤ 1 }
     // At status 0 the server of the plan's node, with a replica restarted from what the device had, has taken this
     // many turns.
-    ensures served { result ≡ 0 → Serves (IsBegun M.meaning D.is_honest (D.disk resources.device) plan.now.header) plan.now.header resources.network.seals ⟦<Replica<M, D> as NodeReplica>⟧.Says S.is_telling (2 ^ 48) }
+    ensures served { result ≡ 0 → Serves (IsBegun M.meaning D.is_honest (D.disk resources.device) plan.now.header) plan.now.header resources.network.seals ⟦<Replica<M, D> as ServedReplica>⟧.Says S.is_telling (2 ^ 48) }
     // At status 1 it did not start, or it has taken fewer turns, and then one that ended its replica, or after which a
     // node of another genesis had led it.
     ensures broken { result ≡ 1 → ((f : ServiceFault) × IsRefusedWith M.meaning M.IsText D.is_honest (D.disk resources.device) plan.now.header f)
-        ⊎ EndsEarly (IsBegun M.meaning D.is_honest (D.disk resources.device) plan.now.header) plan.now.header resources.network.seals ⟦<Replica<M, D> as NodeReplica>⟧.Says S.is_telling (2 ^ 48)
-        ⊎ LeavesEarly (IsBegun M.meaning D.is_honest (D.disk resources.device) plan.now.header) plan.now.header resources.network.seals ⟦<Replica<M, D> as NodeReplica>⟧.Says S.is_telling (2 ^ 48) }
+        ⊎ EndsEarly (IsBegun M.meaning D.is_honest (D.disk resources.device) plan.now.header) plan.now.header resources.network.seals ⟦<Replica<M, D> as ServedReplica>⟧.Says S.is_telling (2 ^ 48)
+        ⊎ LeavesEarly (IsBegun M.meaning D.is_honest (D.disk resources.device) plan.now.header) plan.now.header resources.network.seals ⟦<Replica<M, D> as ServedReplica>⟧.Says S.is_telling (2 ^ 48) }
 {
     match serve::<M, D, S, C, L, O, E>(clock, alloc, plan, resources, log, observer, err) {
         Ok(()) => 0,
-        Err(fault) => fault.tell(err),
+        Err(fault) => fault.write_to(err),
     }
 }

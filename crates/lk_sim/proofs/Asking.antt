@@ -21,13 +21,13 @@ use Rattle.lk_node.specs.Histories.{History, Genesis, Datagram, RequestValue}
 use Rattle.lk_node.specs.Served.{BearsOut}
 use Rattle.lk_node.specs.Holdings.{Holding}
 use Rattle.lk_node.specs.Leavings.{DisksFit}
-use Rattle.lk_seats.specs.Told.{Tells}
+use Rattle.lk_world_nodes.specs.Told.{Tells}
 use Rattle.lk_sim.specs.Traces.{asked_in, happened, told_in}
-use Rattle.lk_seats.proofs.Tellings.{tells_append}
+use Rattle.lk_world_nodes.proofs.Tellings.{tells_append}
 use Rattle.lk_sim.proofs.Told.{told_in-append}
-use Rattle.lk_seats.specs.Seats.{SeatFits, At}
+use Rattle.lk_world_nodes.specs.Seats.{SeatFits, At}
 use Rattle.lk_sim.specs.Worlds.{Holds}
-use Rattle.lk_seats.specs.declared.seat.Seat.{Seat}
+use Rattle.lk_world_nodes.specs.declared.seat.Seat.{Seat}
 use Rattle.lk_sim.proofs.Lists.{asked_in-append, asked_among}
 use Rattle.lk_sim.proofs.Growth.{disks_move, still_asked, still_holding, still_bears}
 use Rattle.lk_sim.proofs.Ordering.{still_in_time}

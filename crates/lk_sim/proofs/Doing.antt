@@ -10,25 +10,25 @@ use Rattle.lk_step.specs.declared.note.Note.{Note}
 use Rattle.lk_node.specs.Histories.{History, Genesis, Datagram, RequestValue}
 use Rattle.lk_node.specs.Holdings.{Holding}
 use Rattle.lk_node.specs.Leavings.{header_of}
-use Rattle.lk_seats.specs.Told.{Tells}
+use Rattle.lk_world_nodes.specs.Told.{Tells}
 use Rattle.lk_sim.specs.Traces.{asked_in, happened, asked_note}
 use Rattle.lk_sim.specs.Scenes.{Scene}
-use Rattle.lk_seats.specs.Seats.{At, SeatFits, SeatGoes, stopped_on, fallen_on, rested_on, device_in}
+use Rattle.lk_world_nodes.specs.Seats.{At, SeatFits, SeatGoes, stopped_on, fallen_on, rested_on, device_in}
 use Rattle.lk_replica.specs.Behaviours.{Behaviour, TrapsAlone, disks_by}
-use Rattle.lk_seats.specs.Ends.{Breaks, StaysDown, FailsToPack, IsToldEnd, end_by, end_at}
-use Rattle.lk_seats.specs.Sends.{stop_among, after_sends}
+use Rattle.lk_world_nodes.specs.Ends.{Breaks, StaysDown, FailsToPack, IsToldEnd, end_by, end_at}
+use Rattle.lk_world_nodes.specs.Sends.{stop_among, after_sends}
 use Rattle.lk_sim.specs.Events.{AreOwn, Adds, Falls, Comes, IsGiven, IsBack, ComesUp, IsPacked, IsCompacted, IsHalted, LeftBy, LeftByRevival}
-use Rattle.lk_seats.specs.Outcomes.{HasFallen, HasTaken, HasRevived, HasPacked, HasWanted, Rests}
+use Rattle.lk_world_nodes.specs.Outcomes.{HasFallen, HasTaken, HasRevived, HasPacked, HasWanted, Rests}
 use Rattle.lk_sim.specs.Settled.{HasAdded, HasSettled, HasGivenUp}
 use Rattle.lk_sim.specs.Worlds.{Holds}
-use Rattle.lk_seats.specs.declared.end.End.{End}
-use Rattle.lk_seats.specs.declared.seat.Seat.{Seat}
-use Rattle.lk_seats.specs.declared.seat.Life.{Life}
-use Rattle.lk_seats.specs.declared.seat.Life.TheVariants.{Up, Down}
+use Rattle.lk_world_nodes.specs.declared.end.End.{End}
+use Rattle.lk_world_nodes.specs.declared.seat.Seat.{Seat}
+use Rattle.lk_world_nodes.specs.declared.seat.Life.{Life}
+use Rattle.lk_world_nodes.specs.declared.seat.Life.TheVariants.{Up, Down}
 use Rattle.lk_sim.proofs.Ending.{goes_fits}
-use Rattle.lk_seats.proofs.Faults.{told_as}
+use Rattle.lk_world_nodes.proofs.Faults.{told_as}
 use Rattle.lk_sim.proofs.Lists.{at_set_here}
-use Rattle.lk_seats.proofs.Stopping.{rested, nothing_sent, stopped_sent}
+use Rattle.lk_world_nodes.proofs.Stopping.{rested, nothing_sent, stopped_sent}
 use Rattle.lk_sim.proofs.Given.{set_twice, asked_maybe, went_down, went_off, went_on}
 
 -- one thing stands at a place

@@ -12,10 +12,10 @@ use Rattle.lk_node.specs.Histories.{History, Genesis, Datagram, RequestValue}
 use Rattle.lk_node.specs.Holdings.{Holding}
 use Rattle.lk_node.specs.Leavings.{DisksFit}
 use Rattle.lk_sim.specs.Traces.{happened}
-use Rattle.lk_seats.specs.Seats.{UpFits, SeatFits, SeatGoes, At}
+use Rattle.lk_world_nodes.specs.Seats.{UpFits, SeatFits, SeatGoes, At}
 use Rattle.lk_sim.specs.Worlds.{Holds}
-use Rattle.lk_seats.specs.declared.seat.Seat.{Seat}
-use Rattle.lk_seats.specs.declared.seat.Life.TheVariants.{Down}
+use Rattle.lk_world_nodes.specs.declared.seat.Seat.{Seat}
+use Rattle.lk_world_nodes.specs.declared.seat.Life.TheVariants.{Down}
 use Rattle.lk_sim.proofs.Lists.{at_set, at_set_here, at_set_other}
 
 -- a node that is down fits whatever view stands for its number

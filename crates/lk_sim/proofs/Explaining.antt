@@ -21,10 +21,10 @@ use Rattle.lk_node.specs.Leavings.{DisksFit}
 use Rattle.lk_sim.specs.Traces.{asked_by, asked_in, happened}
 use Rattle.lk_sim.specs.Explained.{Explains}
 use Rattle.lk_sim.specs.Orders.{InOrder, ToldInTime}
-use Rattle.lk_seats.specs.Seats.{At}
+use Rattle.lk_world_nodes.specs.Seats.{At}
 use Rattle.lk_sim.specs.States.{KeepsPacked, SumsUpChosen}
 use Rattle.lk_sim.specs.Worlds.{Holds}
-use Rattle.lk_seats.specs.declared.seat.Seat.{Seat}
+use Rattle.lk_world_nodes.specs.declared.seat.Seat.{Seat}
 use Rattle.lk_sim.proofs.Ordering as ordering
 
 asked_of : (x : Note) (r : RequestValue) → Contains (asked_by x) r → x ≡ note.Asked r

@@ -9,13 +9,13 @@ use Rattle.lk_step.specs.declared.note.Note.{Note}
 use Rattle.lk_node.specs.Histories.{Genesis, Datagram, RequestValue}
 use Rattle.lk_node.specs.Holdings.{Holding}
 use Rattle.lk_node.specs.Calls.{Goes}
-use Rattle.lk_seats.specs.Told.{Tells}
+use Rattle.lk_world_nodes.specs.Told.{Tells}
 use Rattle.lk_sim.specs.Traces.{asked_in, happened, asked_note}
-use Rattle.lk_seats.specs.Seats.{SeatFits, SeatGoes, At}
+use Rattle.lk_world_nodes.specs.Seats.{SeatFits, SeatGoes, At}
 use Rattle.lk_sim.specs.Worlds.{Holds}
-use Rattle.lk_seats.specs.declared.seat.Seat.{Seat}
-use Rattle.lk_seats.specs.declared.seat.Life.TheVariants.{Down}
-use Rattle.lk_seats.proofs.Fitting.{down_fits}
+use Rattle.lk_world_nodes.specs.declared.seat.Seat.{Seat}
+use Rattle.lk_world_nodes.specs.declared.seat.Life.TheVariants.{Down}
+use Rattle.lk_world_nodes.proofs.Fitting.{down_fits}
 use Rattle.lk_sim.proofs.Growth.{disks_move}
 use Rattle.lk_sim.proofs.Asking.{injected_holds}
 use Rattle.lk_sim.proofs.Sending.{goes_on}

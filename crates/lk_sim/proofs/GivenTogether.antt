@@ -18,34 +18,34 @@ use Rattle.lk_node.specs.Leavings.{DisksFit}
 use Rattle.lk_replica.specs.Behaviours.{Behaviour, TrapsAlone, disks_by}
 use Rattle.lk_replica.specs.Together.{Said, sent_of, parts_of, GoesAll}
 use Rattle.lk_replica.specs.declared.taken.Step.{Step}
-use Rattle.lk_seats.specs.Ends.{BreaksTogether, IsToldEnd, end_at}
-use Rattle.lk_seats.specs.Sends.{after_sends, stop_among}
+use Rattle.lk_world_nodes.specs.Ends.{BreaksTogether, IsToldEnd, end_at}
+use Rattle.lk_world_nodes.specs.Sends.{after_sends, stop_among}
 use Rattle.lk_sim.specs.Events.{Adds, AreAllOwn, Falls, ComesTogether, IsGivenTogether, LeftByGroup}
 use Rattle.lk_sim.specs.Groups.{WasSentTo, WereSentTo, AreNotesOf, given_by}
-use Rattle.lk_seats.specs.Outcomes.{HasTakenTogether, HasFallenTogether, Rests}
+use Rattle.lk_world_nodes.specs.Outcomes.{HasTakenTogether, HasFallenTogether, Rests}
 use Rattle.lk_sim.specs.Settled.{HasSettledSteps, HasGivenUp}
 use Rattle.lk_sim.specs.Refusals.{AreFor, IsFor}
-use Rattle.lk_seats.specs.Rooms.{AreShort}
+use Rattle.lk_world_nodes.specs.Rooms.{AreShort}
 use Rattle.lk_sim.specs.Scenes.{Scene}
-use Rattle.lk_seats.specs.Seats.{At, SeatFits, stopped_on, fallen_on, device_in}
-use Rattle.lk_seats.specs.Told.{Tells}
+use Rattle.lk_world_nodes.specs.Seats.{At, SeatFits, stopped_on, fallen_on, device_in}
+use Rattle.lk_world_nodes.specs.Told.{Tells}
 use Rattle.lk_sim.specs.Traces.{happened}
 use Rattle.lk_sim.specs.Worlds.{Holds}
-use Rattle.lk_seats.specs.declared.end.End.{End}
+use Rattle.lk_world_nodes.specs.declared.end.End.{End}
 use Rattle.lk_sim.specs.declared.event.Turn.{Turn}
 use Rattle.lk_sim.specs.declared.event.Turn.TheVariants as turn
-use Rattle.lk_seats.specs.declared.seat.Seat.{Seat}
-use Rattle.lk_seats.specs.declared.seat.Life.{Life}
-use Rattle.lk_seats.specs.declared.seat.Life.TheVariants.{Up, Down}
+use Rattle.lk_world_nodes.specs.declared.seat.Seat.{Seat}
+use Rattle.lk_world_nodes.specs.declared.seat.Life.{Life}
+use Rattle.lk_world_nodes.specs.declared.seat.Life.TheVariants.{Up, Down}
 use Rattle.lk_sim.proofs.Doing.{StopsOn, at_same, falls}
-use Rattle.lk_seats.proofs.Fitting.{stopped_fit, down_fits}
+use Rattle.lk_world_nodes.proofs.Fitting.{stopped_fit, down_fits}
 use Rattle.lk_sim.proofs.Given.{set_twice, went_down}
 use Rattle.lk_sim.proofs.Grouping.{group_holds, group_own}
 use Rattle.lk_sim.proofs.Hearing.{heard_sent, datagram_listed}
 use Rattle.lk_sim.proofs.Lists.{at_set_here}
-use Rattle.lk_seats.proofs.Shortness.{kept_short}
-use Rattle.lk_seats.proofs.Stopping.{nothing_sent, stopped_sent}
-use Rattle.lk_seats.proofs.Together.{parts_cut, still_whole}
+use Rattle.lk_world_nodes.proofs.Shortness.{kept_short}
+use Rattle.lk_world_nodes.proofs.Stopping.{nothing_sent, stopped_sent}
+use Rattle.lk_world_nodes.proofs.Together.{parts_cut, still_whole}
 
 -- ---- what it may be given
 

@@ -14,17 +14,17 @@ pub use Rattle.lk_replica.specs.Together.{Said, sent_of, said_by_steps, GoesAll}
 pub use Rattle.lk_replica.proofs.TakenTogether.{goes_all}
 pub use Rattle.lk_sim.specs.Groups.{WasSentTo, WereSentTo, AreNotesOf}
 use Rattle.lk_sim.specs.Events.{AreAllOwn}
-use Rattle.lk_seats.specs.Seats.{At}
+use Rattle.lk_world_nodes.specs.Seats.{At}
 use Rattle.lk_sim.specs.Traces.{happened}
 use Rattle.lk_sim.specs.Worlds.{Holds}
-use Rattle.lk_seats.specs.declared.seat.Seat.{Seat}
-use Rattle.lk_seats.specs.declared.seat.Life.TheVariants.{Up}
-use Rattle.lk_seats.proofs.Fitting.{node_fits}
+use Rattle.lk_world_nodes.specs.declared.seat.Seat.{Seat}
+use Rattle.lk_world_nodes.specs.declared.seat.Life.TheVariants.{Up}
+use Rattle.lk_world_nodes.proofs.Fitting.{node_fits}
 use Rattle.lk_sim.proofs.Given.{set_twice}
 use Rattle.lk_sim.proofs.Hearing.{heard_sent}
 use Rattle.lk_sim.proofs.Lists.{at_set_here}
 use Rattle.lk_sim.proofs.Sending.{goes_on}
-use Rattle.lk_seats.proofs.Shortness.{stepped_short}
+use Rattle.lk_world_nodes.proofs.Shortness.{stepped_short}
 use Rattle.lk_sim.proofs.Explaining.{lawful}
 
 still_sent_to : (sent more : List Datagram) (is : List Input) → WereSentTo sent is → WereSentTo (sent ++ more) is

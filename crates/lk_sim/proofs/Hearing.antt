@@ -17,7 +17,7 @@ use Rattle.lk_sim.specs.Heard.{Reads, Asks, IsForged}
 use Rattle.lk_sim.specs.Traces.{asked_in, happened, asked_note}
 use Rattle.lk_sim.specs.Refusals.{datagram_at}
 use Rattle.lk_sim.specs.Worlds.{Holds}
-use Rattle.lk_seats.specs.declared.seat.Seat.{Seat}
+use Rattle.lk_world_nodes.specs.declared.seat.Seat.{Seat}
 use Rattle.lk_sim.proofs.Asking.{asked_last}
 
 -- a datagram of the list

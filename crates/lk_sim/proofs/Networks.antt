@@ -12,19 +12,19 @@ use Rattle.lk_node.specs.Calls.{Goes, NodeFits}
 use Rattle.lk_node.specs.Histories.{History, Genesis, Datagram, RequestValue, IsHeard, IsLawful}
 use Rattle.lk_node.specs.Holdings.{Holding}
 use Rattle.lk_node.specs.Leavings.{DisksFit}
-use Rattle.lk_seats.specs.Rooms.{AreShort}
+use Rattle.lk_world_nodes.specs.Rooms.{AreShort}
 use Rattle.lk_sim.specs.Events.{Adds}
 use Rattle.lk_sim.specs.Networks.{MayCome, IsRequestIn, AreAsking, MayHear, TellsOf, Appears, Rises, Rests, GoesOn, Ends, Stops, Steps, StepsAll, nothing}
 use Rattle.lk_sim.specs.Scenes.{Scene}
-use Rattle.lk_seats.specs.Seats.{UpFits, SeatFits, SeatGoes, At}
-use Rattle.lk_seats.specs.Told.{Tells}
+use Rattle.lk_world_nodes.specs.Seats.{UpFits, SeatFits, SeatGoes, At}
+use Rattle.lk_world_nodes.specs.Told.{Tells}
 use Rattle.lk_sim.specs.Traces.{asked_in, happened, asked_note}
 use Rattle.lk_sim.specs.Worlds.{Holds}
-use Rattle.lk_seats.specs.declared.seat.Seat.{Seat}
-use Rattle.lk_seats.specs.declared.seat.Life.{Life}
-use Rattle.lk_seats.specs.declared.seat.Life.TheVariants.{Up, Down}
+use Rattle.lk_world_nodes.specs.declared.seat.Seat.{Seat}
+use Rattle.lk_world_nodes.specs.declared.seat.Life.{Life}
+use Rattle.lk_world_nodes.specs.declared.seat.Life.TheVariants.{Up, Down}
 use Rattle.lk_sim.proofs.Asking.{asked_last}
-use Rattle.lk_seats.proofs.Fitting.{stopped_fit, node_fits, down_fits}
+use Rattle.lk_world_nodes.proofs.Fitting.{stopped_fit, node_fits, down_fits}
 use Rattle.lk_sim.proofs.Explaining.{lawful, explains, agree, states, ordered, told_in_time}
 use Rattle.lk_sim.proofs.Keeping.{room, covered, kept}
 use Rattle.lk_sim.specs.Promises.{Promises}
@@ -32,7 +32,7 @@ use Rattle.lk_replica.specs.Behaviours.{Behaviour, disks_by}
 use Rattle.lk_state.specs.States.{WholeValue, SumsUp}
 pub use Rattle.lk_sim.proofs.Given.{asked_maybe, set_twice, went_down}
 use Rattle.lk_sim.proofs.Given.{went_on}
-use Rattle.lk_seats.proofs.Shortness.{kept_short}
+use Rattle.lk_world_nodes.proofs.Shortness.{kept_short}
 pub use Rattle.lk_sim.proofs.Lists.{at_set, at_set_here}
 pub use Rattle.lk_sim.proofs.Starting.{at_push, nothing_holds}
 use Rattle.lk_sim.proofs.Starting.{starts}

@@ -25,14 +25,14 @@ use Rattle.lk_node.specs.Served.{BearsOut, BearsOutMessage}
 use Rattle.lk_node.specs.Holdings.{Holding}
 use Rattle.lk_node.specs.Leavings.{DisksFit}
 use Rattle.lk_node.specs.Calls.{Goes}
-use Rattle.lk_seats.specs.Told.{told_by, Tells}
+use Rattle.lk_world_nodes.specs.Told.{told_by, Tells}
 use Rattle.lk_sim.specs.Traces.{asked_in, happened, told_in}
-use Rattle.lk_seats.specs.Rooms.{AreShort}
-use Rattle.lk_seats.specs.Seats.{UpFits, SeatFits, At}
+use Rattle.lk_world_nodes.specs.Rooms.{AreShort}
+use Rattle.lk_world_nodes.specs.Seats.{UpFits, SeatFits, At}
 use Rattle.lk_sim.specs.Worlds.{Holds}
-use Rattle.lk_seats.specs.declared.seat.Seat.{Seat}
-use Rattle.lk_seats.specs.declared.seat.Life.TheVariants.{Up}
-use Rattle.lk_seats.proofs.Tellings.{tells_append}
+use Rattle.lk_world_nodes.specs.declared.seat.Seat.{Seat}
+use Rattle.lk_world_nodes.specs.declared.seat.Life.TheVariants.{Up}
+use Rattle.lk_world_nodes.proofs.Tellings.{tells_append}
 use Rattle.lk_sim.proofs.Told.{told_in-append, told_in-of_node, told_in-tells, told_from, bears_told}
 use Rattle.lk_sim.proofs.Lists.{at_set, at_set_here, at_set_other, asked_among}
 use Rattle.lk_sim.proofs.Growth.{disks_move, still_asked, still_holding, still_bears}

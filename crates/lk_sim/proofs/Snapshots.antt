@@ -11,7 +11,7 @@ use Rattle.lk_node.specs.Served.{text}
 use Rattle.lk_replica.specs.Behaviours.{Behaviour, disks_by}
 use Rattle.lk_recovery.specs.Compacting.{AllStandAt}
 use Rattle.lk_sim.specs.Events.{Does, IsCompacted, IsPacked}
-use Rattle.lk_seats.specs.Seats.{disks_of, At}
+use Rattle.lk_world_nodes.specs.Seats.{disks_of, At}
 use Rattle.lk_sim.specs.Packed.{StandsPacked, LeavesPacked}
 use Rattle.lk_sim.specs.Scenes.{Scene}
 use Rattle.lk_sim.specs.Worlds.{Holds}

@@ -17,12 +17,12 @@ use Rattle.lk_node.specs.Served.{text}
 use Rattle.lk_node.specs.Holdings.{Holding}
 use Rattle.lk_node.specs.Leavings.{header_of, DisksFit}
 use Rattle.lk_sim.specs.Traces.{happened}
-use Rattle.lk_seats.specs.Rooms.{AreShort}
-use Rattle.lk_seats.proofs.Shortness.{empty_short}
-use Rattle.lk_seats.specs.Seats.{SeatFits, At}
+use Rattle.lk_world_nodes.specs.Rooms.{AreShort}
+use Rattle.lk_world_nodes.proofs.Shortness.{empty_short}
+use Rattle.lk_world_nodes.specs.Seats.{SeatFits, At}
 use Rattle.lk_sim.specs.Worlds.{Holds}
-use Rattle.lk_seats.specs.declared.seat.Seat.{Seat}
-use Rattle.lk_seats.specs.declared.seat.Life.TheVariants.{Down}
+use Rattle.lk_world_nodes.specs.declared.seat.Seat.{Seat}
+use Rattle.lk_world_nodes.specs.declared.seat.Life.TheVariants.{Down}
 
 -- empty disks fit where the node has sent nothing
 pub empty_fits : (m : Meaning) (h : History) (n : ℕ) (disks : Side → Disk) → ((s : Side) → disks s ≡ record { synced = []; unsynced = [] }) → ((x : NodeMessage) → HasSent h.genesis h.sent n x → ⊥) → DisksFit m h n disks

@@ -15,14 +15,14 @@ use Rattle.lk_node.specs.Calls.{NodeFits, Goes}
 use Rattle.lk_node.specs.Histories.{History, Genesis, Datagram, RequestValue, IsHeard, IsLawful}
 use Rattle.lk_node.specs.Holdings.{Holding}
 use Rattle.lk_node.specs.Leavings.{DisksFit}
-use Rattle.lk_seats.specs.Rooms.{AreShort}
-use Rattle.lk_seats.specs.Seats.{At}
+use Rattle.lk_world_nodes.specs.Rooms.{AreShort}
+use Rattle.lk_world_nodes.specs.Seats.{At}
 use Rattle.lk_sim.specs.Events.{Turns, Adds}
 use Rattle.lk_sim.specs.Scenes.{Scene}
-use Rattle.lk_seats.specs.Told.{told_by}
+use Rattle.lk_world_nodes.specs.Told.{told_by}
 use Rattle.lk_sim.specs.Traces.{asked_note}
-use Rattle.lk_seats.specs.declared.seat.Seat.{Seat}
-use Rattle.lk_seats.specs.declared.seat.Life.TheVariants.{Up, Down}
+use Rattle.lk_world_nodes.specs.declared.seat.Seat.{Seat}
+use Rattle.lk_world_nodes.specs.declared.seat.Life.TheVariants.{Up, Down}
 
 -- ---- what arrives at a node
 

@@ -15,11 +15,11 @@ use Rattle.lk_node.specs.Served.{BearsOut, BearsOutMessage}
 use Rattle.lk_node.specs.Holdings.{Holding}
 use Rattle.lk_sim.specs.Orders.{InTime}
 use Rattle.lk_sim.specs.Scenes.{Scene}
-use Rattle.lk_seats.specs.Told.{Tells}
+use Rattle.lk_world_nodes.specs.Told.{Tells}
 use Rattle.lk_sim.specs.Traces.{asked_in, happened, told_in}
-use Rattle.lk_seats.specs.Seats.{SeatFits, At}
-use Rattle.lk_seats.specs.declared.seat.Seat.{Seat}
-use Rattle.lk_sim.specs.declared.parts.Parts.{Parts}
+use Rattle.lk_world_nodes.specs.Seats.{SeatFits, At}
+use Rattle.lk_world_nodes.specs.declared.seat.Seat.{Seat}
+use Rattle.lk_sim.specs.declared.world_parts.WorldParts.{WorldParts}
 
 pub record Holds {R : Type 0} (Shows : R → Genesis → ℕ → Holding → Type 0) (disks : R → Side → Disk) (m : Meaning) (genesis : Genesis) (seats : List (Seat R)) (sent : List Datagram) (trace : List Note) : Type 0 where
   -- a view for each number, which everything that was sent fits
@@ -43,9 +43,9 @@ pub record Holds {R : Type 0} (Shows : R → Genesis → ℕ → Holding → Typ
   pub in_time : InTime m genesis sent trace
 
 -- the same of the parts of a world
-abbrev pub PartsHold : {R : Type 0} → (R → Genesis → ℕ → Holding → Type 0) → (R → Side → Disk) → Meaning → Parts R → Type 0
+abbrev pub PartsHold : {R : Type 0} → (R → Genesis → ℕ → Holding → Type 0) → (R → Side → Disk) → Meaning → WorldParts R → Type 0
 PartsHold Shows disks m p = Holds Shows disks m p.genesis p.seats.items p.sent.items p.trace.items
 
 -- what is seen of them
-abbrev pub scene_of : {R : Type 0} → Parts R → Scene R
+abbrev pub scene_of : {R : Type 0} → WorldParts R → Scene R
 scene_of p = record { genesis = p.genesis; seats = p.seats.items; sent = p.sent.items; trace = p.trace.items; ended = p.ended }

@@ -8,14 +8,14 @@ ghost use Rattle.lk_sim.specs.Worlds.{PartsHold, scene_of};
 ghost use Rattle.lk_sim.specs.declared.event.Event.TheVariants as event;
 
 use crate::datagrams::has_room;
-use crate::parts::Parts;
+use crate::world_parts::WorldParts;
 use bytes::BytesMut;
 use lk_agreement::Party;
 use lk_replica::{Datagram, MemoryReplica};
-use lk_seats::{Refused, find};
 use lk_step::Note;
 use lk_types::{NoMemory, NodeNo, Request};
 use lk_wire::{Content, Message, write};
+use lk_world_nodes::{Refused, find};
 use std::alloc::Global;
 
 // The bytes of a request.
@@ -51,8 +51,8 @@ fn join(
 }
 
 // The request joins the lists.
-fn ask<R: MemoryReplica>(
-    parts: &mut Parts<R>,
+fn add_request<R: MemoryReplica>(
+    parts: &mut WorldParts<R>,
     number: NodeNo,
     request: &Request,
 ) -> Result<(), NoMemory>
@@ -73,7 +73,7 @@ fn ask<R: MemoryReplica>(
 
 /// A client's request.
 pub fn client<R: MemoryReplica>(
-    parts: &mut Parts<R>,
+    parts: &mut WorldParts<R>,
     number: NodeNo,
     request: &Request,
 ) -> Result<(), Refused>
@@ -88,6 +88,6 @@ pub fn client<R: MemoryReplica>(
     if !has_room(&parts.sent) {
         return Err(Refused::WorldFull);
     }
-    ask(parts, number, request)?;
+    add_request(parts, number, request)?;
     Ok(())
 }

@@ -10,22 +10,22 @@ ghost use Rattle.lk_sim.specs.Events.{Does, IsInjected, IsNotInjected, IsRefused
 ghost use Rattle.lk_sim.specs.Heard.{Asks, IsForged};
 ghost use Rattle.lk_sim.specs.Refusals.{datagram_at, HasRoom, NoTurn, NoDelivery, MayInject};
 ghost use Rattle.lk_sim.specs.Rooms.{HasNoteRoom};
-ghost use Rattle.lk_seats.specs.Seats.{IsUpAt};
+ghost use Rattle.lk_world_nodes.specs.Seats.{IsUpAt};
 ghost use Rattle.lk_sim.specs.Worlds.{PartsHold, scene_of};
 ghost use Rattle.lk_sim.specs.declared.event.Event.TheVariants as event;
 
 use crate::datagrams::{datagram, has_room};
 use crate::giving::give;
-use crate::parts::Parts;
+use crate::world_parts::WorldParts;
 use lk_agreement::Party;
 use lk_replica::MemoryReplica;
-use lk_seats::{Refused, find_up};
 use lk_step::{Input, Note};
 use lk_types::{NoMemory, NodeNo, Request};
 use lk_wire::{ContentRef, Datagram};
+use lk_world_nodes::{Refused, find_up};
 
 // The place of the node of this number, which is up, with room for what it sends.
-fn turn_of<R: MemoryReplica>(parts: &Parts<R>, number: NodeNo) -> Result<usize, Refused>
+fn find_ready<R: MemoryReplica>(parts: &WorldParts<R>, number: NodeNo) -> Result<usize, Refused>
     ensures ok { IfOk result (λ i. IsUpAt parts.now.seats.items i number × HasRoom parts.now.sent.items) }
     ensures err { IfErr result (λ e. NoTurn parts.now.seats.items parts.now.sent.items number e) }
 {
@@ -37,19 +37,19 @@ fn turn_of<R: MemoryReplica>(parts: &Parts<R>, number: NodeNo) -> Result<usize, 
 }
 
 /// A node takes a tick.
-pub fn tick<R: MemoryReplica>(parts: &mut Parts<R>, number: NodeNo) -> Result<(), Refused>
+pub fn tick<R: MemoryReplica>(parts: &mut WorldParts<R>, number: NodeNo) -> Result<(), Refused>
     requires { PartsHold R.Shows (disks_by R.behaves) R.meaning parts.old }
     ensures holds { PartsHold R.Shows (disks_by R.behaves) R.meaning parts.new }
     ensures ok { OnOk result (Does R.behaves (scene_of parts.old) (event.Tick number) (scene_of parts.new)) }
     ensures err { IfErr result (λ e. IsRefused R.behaves (scene_of parts.old) (event.Tick number) e (scene_of parts.new)) }
 {
-    let i = turn_of(parts, number)?;
+    let i = find_ready(parts, number)?;
     give(parts, i, Input::Tick, None)?;
     Ok(())
 }
 
 // The node to which the datagram at this place is addressed.
-fn bound<R: MemoryReplica>(parts: &Parts<R>, k: usize) -> Result<NodeNo, Refused>
+fn bound<R: MemoryReplica>(parts: &WorldParts<R>, k: usize) -> Result<NodeNo, Refused>
     ensures ok { IfOk result (λ n. (d : DatagramValue) × (datagram_at parts.now.sent.items k ≡ Some d) × (d.to ≡ party.Node n)) }
     ensures err { IfErr result (λ e. NoDelivery parts.now.seats.items parts.now.sent.items (datagram_at parts.now.sent.items k) e) }
 {
@@ -63,7 +63,7 @@ fn bound<R: MemoryReplica>(parts: &Parts<R>, k: usize) -> Result<NodeNo, Refused
 }
 
 // A copy of the bytes of the datagram at this place.
-fn bytes_of<R: MemoryReplica>(parts: &Parts<R>, k: usize) -> Result<Vec<u8>, NoMemory>
+fn bytes_of<R: MemoryReplica>(parts: &WorldParts<R>, k: usize) -> Result<Vec<u8>, NoMemory>
     requires { (d : DatagramValue) × (datagram_at parts.now.sent.items k ≡ Some d) }
     ensures { IfOk result (λ b. (d : DatagramValue) × (datagram_at parts.now.sent.items k ≡ Some d) × (b.items ≡ d.bytes)) }
 {
@@ -74,14 +74,14 @@ fn bytes_of<R: MemoryReplica>(parts: &Parts<R>, k: usize) -> Result<Vec<u8>, NoM
 }
 
 /// The node to which the datagram at this place is addressed takes it.
-pub fn deliver<R: MemoryReplica>(parts: &mut Parts<R>, k: usize) -> Result<(), Refused>
+pub fn deliver<R: MemoryReplica>(parts: &mut WorldParts<R>, k: usize) -> Result<(), Refused>
     requires { PartsHold R.Shows (disks_by R.behaves) R.meaning parts.old }
     ensures holds { PartsHold R.Shows (disks_by R.behaves) R.meaning parts.new }
     ensures ok { OnOk result (Does R.behaves (scene_of parts.old) (event.Deliver k) (scene_of parts.new)) }
     ensures err { IfErr result (λ e. IsRefused R.behaves (scene_of parts.old) (event.Deliver k) e (scene_of parts.new)) }
 {
     let number = bound(parts, k)?;
-    let i = turn_of(parts, number)?;
+    let i = find_ready(parts, number)?;
     let bytes = bytes_of(parts, k)?;
     give(parts, i, Input::Datagram(Datagram::of(&bytes)), None)?;
     Ok(())
@@ -124,7 +124,7 @@ fn make_room(trace: &mut Vec<Note>, asked: &Option<Request>) -> Result<(), NoMem
 
 /// A node takes bytes that no node has sent. The room for the note of a request is reserved before the node steps.
 pub fn inject<R: MemoryReplica>(
-    parts: &mut Parts<R>,
+    parts: &mut WorldParts<R>,
     number: NodeNo,
     bytes: &[u8],
 ) -> Result<(), Refused>

@@ -7,16 +7,16 @@ ghost use Rattle.lk_replica.specs.Behaviours.{disks_by};
 ghost use Rattle.lk_sim.specs.Events.{IsGiven, IsHalted, IsBack, LeftBy, LeftByRevival};
 ghost use Rattle.lk_sim.specs.Settled.{HasAdded, HasSettled, HasGivenUp};
 ghost use Rattle.lk_sim.specs.Rooms.{HasNoteRoom};
-ghost use Rattle.lk_seats.specs.Seats.{IsUpAt, IsDownAt};
-ghost use Rattle.lk_seats.specs.Told.{Tells};
+ghost use Rattle.lk_world_nodes.specs.Seats.{IsUpAt, IsDownAt};
+ghost use Rattle.lk_world_nodes.specs.Told.{Tells};
 ghost use Rattle.lk_sim.specs.Traces.{happened, asked_note};
 ghost use Rattle.lk_sim.specs.Worlds.{PartsHold, scene_of};
 
-use crate::parts::Parts;
+use crate::world_parts::WorldParts;
 use lk_replica::{Datagram, MemoryReplica};
-use lk_seats::{Outcome, rest, revive, step, stop, tell};
 use lk_step::{Input, Note};
 use lk_types::{NoMemory, Request};
+use lk_world_nodes::{Outcome, add_notes, carry_out_stop, revive, step, stop};
 use std::alloc::Global;
 
 // All notes of a step: a request that was just asked, what the node noted, and its answers and passes in the order in
@@ -32,7 +32,7 @@ fn notes_of(
     if let Some(request) = asked {
         notes.insert(0, Note::Asked(request))?;
     }
-    tell(alloc, &mut notes, batch)?;
+    add_notes(alloc, &mut notes, batch)?;
     Ok(notes)
 }
 
@@ -76,7 +76,7 @@ fn note_asked(trace: &mut Vec<Note>, asked: Option<Request>)
 /// Keeps the result of a call after a request that was just asked, whose note has its room, or nothing of it. If the
 /// call left nothing to keep, it takes no memory.
 pub fn add<R: MemoryReplica>(
-    parts: &mut Parts<R>,
+    parts: &mut WorldParts<R>,
     asked: Option<Request>,
     outcome: Outcome,
 ) -> Result<(), NoMemory>
@@ -105,8 +105,8 @@ pub fn add<R: MemoryReplica>(
 
 /// Keeps the result of a call of the node at this place, and carries out an armed stop that it has reached; if it is
 /// out of memory, the node is stopped.
-pub fn settle<R: MemoryReplica>(
-    parts: &mut Parts<R>,
+pub fn finish_call<R: MemoryReplica>(
+    parts: &mut WorldParts<R>,
     i: usize,
     asked: Option<Request>,
     outcome: Outcome,
@@ -120,7 +120,7 @@ pub fn settle<R: MemoryReplica>(
     let at = outcome.stop;
     match add(parts, asked, outcome) {
         Ok(()) => {
-            rest(parts.alloc, &mut parts.seats[i], at);
+            carry_out_stop(parts.alloc, &mut parts.seats[i], at);
             Ok(())
         }
         Err(refused) => {
@@ -132,7 +132,7 @@ pub fn settle<R: MemoryReplica>(
 
 /// The node at this place, which is up, takes the input. A request in it is noted as asked: its note has its room.
 pub fn give<R: MemoryReplica>(
-    parts: &mut Parts<R>,
+    parts: &mut WorldParts<R>,
     i: usize,
     input: Input,
     asked: Option<Request>,
@@ -148,12 +148,12 @@ pub fn give<R: MemoryReplica>(
         → OnErr result (IsHalted (LeftBy R.behaves (heard_by input.entry)) (scene_of parts.old) (scene_of parts.new) n) }
 {
     let outcome = step(parts.alloc, &mut parts.seats[i], input)?;
-    settle(parts, i, asked, outcome)?;
+    finish_call(parts, i, asked, outcome)?;
     Ok(())
 }
 
 /// The node at this place, which is down, restarts from its disks.
-pub fn come_up<R: MemoryReplica>(parts: &mut Parts<R>, i: usize) -> Result<(), NoMemory>
+pub fn come_up<R: MemoryReplica>(parts: &mut WorldParts<R>, i: usize) -> Result<(), NoMemory>
     requires down { (n : ℕ) × IsDownAt parts.old.seats.items i n }
     requires holds { PartsHold R.Shows (disks_by R.behaves) R.meaning parts.old }
     ensures holds { PartsHold R.Shows (disks_by R.behaves) R.meaning parts.new }
@@ -163,6 +163,6 @@ pub fn come_up<R: MemoryReplica>(parts: &mut Parts<R>, i: usize) -> Result<(), N
         → OnErr result (IsHalted (LeftByRevival R.behaves (header_of parts.old.genesis n)) (scene_of parts.old) (scene_of parts.new) n) }
 {
     let outcome = revive(parts.alloc, &mut parts.seats[i], &parts.genesis)?;
-    settle(parts, i, None, outcome)?;
+    finish_call(parts, i, None, outcome)?;
     Ok(())
 }

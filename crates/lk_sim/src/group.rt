@@ -3,7 +3,7 @@ ghost use Rattle.std.specs.Prelude.{◌≡◌, ◌↔◌, ℕ, ◌<◌, [], true
 ghost use Rattle.lk_node.specs.Calls.{heard_by};
 ghost use Rattle.lk_replica.specs.Behaviours.{disks_by};
 ghost use Rattle.lk_replica.specs.Together.{parts_of};
-ghost use Rattle.lk_seats.specs.Seats.{IsUpAt};
+ghost use Rattle.lk_world_nodes.specs.Seats.{IsUpAt};
 ghost use Rattle.lk_sim.specs.Events.{IsGivenTogether, IsHalted, IsNotGrouped, LeftByGroup};
 ghost use Rattle.lk_sim.specs.Groups.{AreNotesOf, WereSentTo, copied, given_by};
 ghost use Rattle.lk_sim.specs.Refusals.{AreFor, IsFor, MayGroup};
@@ -13,12 +13,12 @@ ghost use Rattle.lk_sim.specs.Worlds.{PartsHold, scene_of};
 use crate::datagrams::{datagram, has_room};
 use crate::event::Turn;
 use crate::giving::join;
-use crate::parts::Parts;
+use crate::world_parts::WorldParts;
 use lk_agreement::Party;
 use lk_replica::{Datagram, MemoryReplica, Step};
-use lk_seats::{GroupOutcome, Refused, find_up, rest, step_all, stop, tell};
 use lk_step::{Input, Note};
 use lk_types::{NoMemory, NodeNo};
+use lk_world_nodes::{GroupOutcome, Refused, add_notes, carry_out_stop, find_up, step_all, stop};
 use std::alloc::Global;
 
 // All notes of the steps, one step after another: what the node noted, and its answers and passes in the order in
@@ -35,7 +35,7 @@ fn notes_of(alloc: Global, steps: Vec<Step>, sent: &[Datagram]) -> Result<Vec<No
         } = step;
         notes.append(&mut own)?;
         let (now, later) = rest.split_at(sends.min(rest.len()));
-        tell(alloc, &mut notes, now)?;
+        add_notes(alloc, &mut notes, now)?;
         rest = later;
     }
     Ok(notes)
@@ -51,7 +51,10 @@ fn is_nothing(outcome: &GroupOutcome) -> bool
 }
 
 // Keeps the result of a group, or nothing of it. If there is nothing to keep, it takes no memory.
-fn add_all<R: MemoryReplica>(parts: &mut Parts<R>, outcome: GroupOutcome) -> Result<(), NoMemory>
+fn add_all<R: MemoryReplica>(
+    parts: &mut WorldParts<R>,
+    outcome: GroupOutcome,
+) -> Result<(), NoMemory>
     ensures ok { OnOk result (HasAddedSteps (scene_of parts.old) (scene_of parts.new) outcome.steps.items outcome.sent.items outcome.ended) }
     ensures err { OnErr result (scene_of parts.new ≡ scene_of parts.old) }
     ensures wants { OnErr result (outcome.steps.items ≡ [] → outcome.sent.items ≡ [] → ⊥) }
@@ -75,8 +78,8 @@ fn add_all<R: MemoryReplica>(parts: &mut Parts<R>, outcome: GroupOutcome) -> Res
 
 // Keeps the result of a group of the node at this place, and carries out an armed stop that it has reached; if it is
 // out of memory, the node is stopped.
-fn settle_all<R: MemoryReplica>(
-    parts: &mut Parts<R>,
+fn finish_group<R: MemoryReplica>(
+    parts: &mut WorldParts<R>,
     i: usize,
     outcome: GroupOutcome,
 ) -> Result<(), NoMemory>
@@ -88,7 +91,7 @@ fn settle_all<R: MemoryReplica>(
     let at = outcome.stop;
     match add_all(parts, outcome) {
         Ok(()) => {
-            rest(parts.alloc, &mut parts.seats[i], at);
+            carry_out_stop(parts.alloc, &mut parts.seats[i], at);
             Ok(())
         }
         Err(refused) => {
@@ -100,7 +103,7 @@ fn settle_all<R: MemoryReplica>(
 
 // The node at this place, which is up, takes the inputs together: ticks, and datagrams that were sent.
 fn give_all<R: MemoryReplica>(
-    parts: &mut Parts<R>,
+    parts: &mut WorldParts<R>,
     i: usize,
     inputs: Vec<Input<'_>>,
 ) -> Result<(), NoMemory>
@@ -114,7 +117,7 @@ fn give_all<R: MemoryReplica>(
         → OnErr result (IsHalted (LeftByGroup R.behaves (map heard_by inputs.entry.items)) (scene_of parts.old) (scene_of parts.new) n) }
 {
     let outcome = step_all(parts.alloc, &mut parts.seats[i], inputs)?;
-    settle_all(parts, i, outcome)?;
+    finish_group(parts, i, outcome)?;
     Ok(())
 }
 
@@ -139,7 +142,10 @@ fn are_for(sent: &[Datagram], number: NodeNo, turns: &[Turn]) -> bool
 }
 
 // A copy of the bytes of the turn; none at a tick.
-fn bytes_for<R: MemoryReplica>(parts: &Parts<R>, turn: Turn) -> Result<Option<Vec<u8>>, NoMemory>
+fn bytes_for<R: MemoryReplica>(
+    parts: &WorldParts<R>,
+    turn: Turn,
+) -> Result<Option<Vec<u8>>, NoMemory>
     ensures { IfOk result (λ o. copied o ≡ given_by parts.now.sent.items turn) }
 {
     let Turn::Deliver(k) = turn else {
@@ -153,7 +159,7 @@ fn bytes_for<R: MemoryReplica>(parts: &Parts<R>, turn: Turn) -> Result<Option<Ve
 
 // The same of each turn.
 fn bytes_for_all<R: MemoryReplica>(
-    parts: &Parts<R>,
+    parts: &WorldParts<R>,
     turns: &[Turn],
 ) -> Result<Vec<Option<Vec<u8>>>, NoMemory>
     ensures ok { IfOk result (λ l. map copied l.items ≡ map (given_by parts.now.sent.items) turns.now) }
@@ -183,7 +189,7 @@ fn inputs_of<'a>(alloc: Global, all: &'a [Option<Vec<u8>>]) -> Result<Vec<Input<
 
 /// A node takes the turns together.
 pub fn group<R: MemoryReplica>(
-    parts: &mut Parts<R>,
+    parts: &mut WorldParts<R>,
     number: NodeNo,
     turns: &[Turn],
 ) -> Result<(), Refused>

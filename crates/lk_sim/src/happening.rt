@@ -12,12 +12,12 @@ use crate::event::Event;
 use crate::group::group;
 use crate::lives::{arm, fail_at, halt, restart, start};
 use crate::packing::compact;
-use crate::parts::Parts;
+use crate::world_parts::WorldParts;
 use lk_replica::MemoryReplica;
-use lk_seats::Refused;
+use lk_world_nodes::Refused;
 
 /// One event happens.
-pub fn happen<R: MemoryReplica>(parts: &mut Parts<R>, event: &Event) -> Result<(), Refused>
+pub fn happen<R: MemoryReplica>(parts: &mut WorldParts<R>, event: &Event) -> Result<(), Refused>
     requires { PartsHold R.Shows (disks_by R.behaves) R.meaning parts.old }
     ensures holds { PartsHold R.Shows (disks_by R.behaves) R.meaning parts.new }
     ensures ok { OnOk result (Does R.behaves (scene_of parts.old) event.now (scene_of parts.new)) }
@@ -39,7 +39,7 @@ pub fn happen<R: MemoryReplica>(parts: &mut Parts<R>, event: &Event) -> Result<(
 }
 
 /// Events happen in order, up to the first that is rejected.
-pub fn happen_all<R: MemoryReplica>(parts: &mut Parts<R>, events: &[Event]) -> RunEnd
+pub fn happen_all<R: MemoryReplica>(parts: &mut WorldParts<R>, events: &[Event]) -> RunEnd
     requires { PartsHold R.Shows (disks_by R.behaves) R.meaning parts.old }
     ensures holds { PartsHold R.Shows (disks_by R.behaves) R.meaning parts.new }
     ensures runs { Runs R.behaves (scene_of parts.old) events.now result (scene_of parts.new) }

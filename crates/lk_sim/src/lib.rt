@@ -12,10 +12,10 @@ mod happening;
 pub mod laws;
 mod lives;
 mod packing;
-mod parts;
 mod world;
+mod world_parts;
 
 pub use end::RunEnd;
 pub use event::{Event, Turn};
-pub use lk_seats::{End, LeftNode, Refused};
+pub use lk_world_nodes::{End, LeftNode, Refused};
 pub use world::World;

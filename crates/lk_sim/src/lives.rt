@@ -2,24 +2,26 @@
 ghost use Rattle.std.specs.Prelude.{◌≡◌, IfErr, OnOk, OnErr};
 ghost use Rattle.lk_replica.specs.Behaviours.{disks_by};
 ghost use Rattle.lk_sim.specs.Events.{Does, IsBegun, IsRefused, StartWants};
-ghost use Rattle.lk_seats.specs.Seats.{HasNo};
+ghost use Rattle.lk_world_nodes.specs.Seats.{HasNo};
 ghost use Rattle.lk_sim.specs.Worlds.{PartsHold, scene_of};
 ghost use Rattle.lk_sim.specs.declared.event.Event.TheVariants as event;
-ghost use Rattle.lk_seats.specs.declared.refused.Refused.TheVariants.{WorldMemory};
+ghost use Rattle.lk_world_nodes.specs.declared.refused.Refused.TheVariants.{WorldMemory};
 
 use crate::giving::{add, come_up};
-use crate::parts::Parts;
+use crate::world_parts::WorldParts;
 use lk_disk::Trap;
 use lk_replica::MemoryReplica;
-use lk_seats::{Life, Refused, Seat, find, find_down, find_up, rest, revive, set_trap, stop};
 use lk_simulated_disk::MemoryDisk;
 use lk_types::{NoMemory, NodeNo};
+use lk_world_nodes::{
+    Life, Refused, Seat, carry_out_stop, find, find_down, find_up, revive, set_trap, stop,
+};
 
 // The largest number of nodes that are ever started.
 const MAX_NODES: usize = 16;
 
 // A node that was never started starts with empty disks, and joins the others.
-fn begin<R: MemoryReplica>(parts: &mut Parts<R>, number: NodeNo) -> Result<(), NoMemory>
+fn begin<R: MemoryReplica>(parts: &mut WorldParts<R>, number: NodeNo) -> Result<(), NoMemory>
     requires unused { HasNo parts.old.seats.items number }
     requires holds { PartsHold R.Shows (disks_by R.behaves) R.meaning parts.old }
     ensures holds { PartsHold R.Shows (disks_by R.behaves) R.meaning parts.new }
@@ -34,13 +36,13 @@ fn begin<R: MemoryReplica>(parts: &mut Parts<R>, number: NodeNo) -> Result<(), N
     let outcome = revive(parts.alloc, &mut seat, &parts.genesis)?;
     let at = outcome.stop;
     add(parts, None, outcome)?;
-    rest(parts.alloc, &mut seat, at);
+    carry_out_stop(parts.alloc, &mut seat, at);
     parts.seats.push(seat).unwrap();
     Ok(())
 }
 
 /// A new node starts with two empty disks.
-pub fn start<R: MemoryReplica>(parts: &mut Parts<R>, number: NodeNo) -> Result<(), Refused>
+pub fn start<R: MemoryReplica>(parts: &mut WorldParts<R>, number: NodeNo) -> Result<(), Refused>
     requires { PartsHold R.Shows (disks_by R.behaves) R.meaning parts.old }
     ensures holds { PartsHold R.Shows (disks_by R.behaves) R.meaning parts.new }
     ensures ok { OnOk result (Does R.behaves (scene_of parts.old) (event.Start number) (scene_of parts.new)) }
@@ -58,7 +60,7 @@ pub fn start<R: MemoryReplica>(parts: &mut Parts<R>, number: NodeNo) -> Result<(
 }
 
 /// A node that is down restarts from its disks.
-pub fn restart<R: MemoryReplica>(parts: &mut Parts<R>, number: NodeNo) -> Result<(), Refused>
+pub fn restart<R: MemoryReplica>(parts: &mut WorldParts<R>, number: NodeNo) -> Result<(), Refused>
     requires { PartsHold R.Shows (disks_by R.behaves) R.meaning parts.old }
     ensures holds { PartsHold R.Shows (disks_by R.behaves) R.meaning parts.new }
     ensures ok { OnOk result (Does R.behaves (scene_of parts.old) (event.Restart number) (scene_of parts.new)) }
@@ -71,7 +73,7 @@ pub fn restart<R: MemoryReplica>(parts: &mut Parts<R>, number: NodeNo) -> Result
 
 /// A node stops, and its disks keep up to `x` and `y` of their unsynced bytes.
 pub fn halt<R: MemoryReplica>(
-    parts: &mut Parts<R>,
+    parts: &mut WorldParts<R>,
     number: NodeNo,
     x: usize,
     y: usize,
@@ -89,7 +91,7 @@ pub fn halt<R: MemoryReplica>(
 
 /// A future changing call of the node's device fails once.
 pub fn fail_at<R: MemoryReplica>(
-    parts: &mut Parts<R>,
+    parts: &mut WorldParts<R>,
     number: NodeNo,
     count: u64,
 ) -> Result<(), Refused>
@@ -106,7 +108,7 @@ pub fn fail_at<R: MemoryReplica>(
 
 /// A node will stop at a future changing call of its device, or at a send.
 pub fn arm<R: MemoryReplica>(
-    parts: &mut Parts<R>,
+    parts: &mut WorldParts<R>,
     number: NodeNo,
     count: u64,
     bytes: usize,

@@ -1,19 +1,19 @@
 // Nodes compact.
 ghost use Rattle.std.specs.Prelude.{ℕ, IfErr, OnOk, OnErr};
 ghost use Rattle.lk_replica.specs.Behaviours.{disks_by};
-ghost use Rattle.lk_seats.specs.Seats.{IsUpAt};
+ghost use Rattle.lk_world_nodes.specs.Seats.{IsUpAt};
 ghost use Rattle.lk_sim.specs.Events.{Does, IsCompacted, IsHalted, IsRefused, LeftByPacking};
 ghost use Rattle.lk_sim.specs.Worlds.{PartsHold, scene_of};
 ghost use Rattle.lk_sim.specs.declared.event.Event.TheVariants as event;
 
-use crate::giving::settle;
-use crate::parts::Parts;
+use crate::giving::finish_call;
+use crate::world_parts::WorldParts;
 use lk_replica::MemoryReplica;
-use lk_seats::{Refused, find_up, pack};
 use lk_types::{NoMemory, NodeNo};
+use lk_world_nodes::{Refused, find_up, pack};
 
 // The node at this place, which is up, compacts.
-fn pack_at<R: MemoryReplica>(parts: &mut Parts<R>, i: usize) -> Result<(), NoMemory>
+fn pack_at<R: MemoryReplica>(parts: &mut WorldParts<R>, i: usize) -> Result<(), NoMemory>
     requires up { (n : ℕ) × IsUpAt parts.old.seats.items i n }
     requires holds { PartsHold R.Shows (disks_by R.behaves) R.meaning parts.old }
     ensures holds { PartsHold R.Shows (disks_by R.behaves) R.meaning parts.new }
@@ -23,12 +23,12 @@ fn pack_at<R: MemoryReplica>(parts: &mut Parts<R>, i: usize) -> Result<(), NoMem
         → OnErr result (IsHalted (LeftByPacking R.behaves) (scene_of parts.old) (scene_of parts.new) n) }
 {
     let outcome = pack(parts.alloc, &mut parts.seats[i])?;
-    settle(parts, i, None, outcome)?;
+    finish_call(parts, i, None, outcome)?;
     Ok(())
 }
 
 /// A node that is up writes a snapshot of everything executed.
-pub fn compact<R: MemoryReplica>(parts: &mut Parts<R>, number: NodeNo) -> Result<(), Refused>
+pub fn compact<R: MemoryReplica>(parts: &mut WorldParts<R>, number: NodeNo) -> Result<(), Refused>
     requires { PartsHold R.Shows (disks_by R.behaves) R.meaning parts.old }
     ensures holds { PartsHold R.Shows (disks_by R.behaves) R.meaning parts.new }
     ensures ok { OnOk result (Does R.behaves (scene_of parts.old) (event.Compact number) (scene_of parts.new)) }

@@ -2,23 +2,23 @@
 use crate::end::RunEnd;
 use crate::event::Event;
 use crate::happening::{happen, happen_all};
-use crate::parts::Parts;
+use crate::world_parts::WorldParts;
 use lk_replica::{Datagram, MemoryReplica};
-use lk_seats::{End, LeftNode, Refused, all_left, find, lengths};
 use lk_step::Note;
 use lk_types::{Genesis, NoMemory, NodeNo};
+use lk_world_nodes::{End, LeftNode, Refused, all_left, find, lengths};
 use std::alloc::Global;
 use std::marker::Model;
 
 /// Replicas with disks in memory, all datagrams that were ever sent, and the trace of what has happened.
 #[derive(Drop)]
 pub struct World<R: MemoryReplica> {
-    parts: Parts<R>,
+    parts: WorldParts<R>,
 }
 
 impl<R: MemoryReplica> Model for World<R> {
     ghost use Rattle.lk_replica.specs.Behaviours.{disks_by};
-    ghost use Rattle.lk_seats.specs.Ends.{IsToldEnd};
+    ghost use Rattle.lk_world_nodes.specs.Ends.{IsToldEnd};
     ghost use Rattle.lk_sim.specs.Scenes.{Scene};
     ghost use Rattle.lk_sim.specs.Worlds.{PartsHold, scene_of};
 
@@ -32,23 +32,23 @@ impl<R: MemoryReplica> Model for World<R> {
 impl<R: MemoryReplica> World<R> {
     ghost use Rattle.std.specs.Prelude.{◌≡◌, ℕ, [], length, map, None, IfSome, IfOk, OnOk, IfErr};
     ghost use Rattle.lk_replica.specs.Behaviours.{disks_by};
-    ghost use Rattle.lk_seats.specs.Ends.{IsToldEnd};
+    ghost use Rattle.lk_world_nodes.specs.Ends.{IsToldEnd};
     ghost use Rattle.lk_sim.specs.Events.{Does, IsRefused, Grows};
     ghost use Rattle.lk_disk.specs.Disk.{contents};
     ghost use Rattle.lk_disk.specs.declared.device.Side.TheVariants.{A, B};
-    ghost use Rattle.lk_seats.specs.Seats.{disks_of, At, HasNo};
-    ghost use Rattle.lk_seats.specs.Left.{left_of};
+    ghost use Rattle.lk_world_nodes.specs.Seats.{disks_of, At, HasNo};
+    ghost use Rattle.lk_world_nodes.specs.Left.{left_of};
     ghost use Rattle.lk_sim.specs.Packed.{LeavesPacked};
     ghost use Rattle.lk_sim.specs.Promises.{Promises};
     ghost use Rattle.lk_sim.specs.Runs.{Runs};
-    ghost use Rattle.lk_seats.specs.declared.seat.Seat.{Seat as SeatValue};
+    ghost use Rattle.lk_world_nodes.specs.declared.seat.Seat.{Seat as SeatValue};
 
     /// A world in which nothing has happened.
     pub fn new(alloc: Global, genesis: Genesis) -> Self
         ensures { result ≡ record { genesis = genesis; seats = []; sent = []; trace = []; ended = None } }
     {
         World {
-            parts: Parts {
+            parts: WorldParts {
                 alloc,
                 genesis,
                 seats: Vec::new(alloc),
@@ -125,7 +125,7 @@ impl<R: MemoryReplica> World<R> {
         ensures { IfOk result (λ nodes. nodes.items ≡ map (left_of R.behaves) self.seats) }
     {
         let World { parts } = self;
-        let Parts {
+        let WorldParts {
             alloc,
             genesis: _,
             seats,

@@ -129,7 +129,7 @@ impl MemoryDisk {
     }
 
     // Counts a reading call, which may have to fail.
-    fn ask(&mut self) -> Result<(), DeviceFault>
+    fn begin_read(&mut self) -> Result<(), DeviceFault>
         ensures ok { OnOk result ((is_unread self.old.meter ≡ false) × (self.new ≡ heeded self.old)) }
         ensures err { OnErr result ((is_unread self.old.meter ≡ true) × (self.new ≡ failed (heeded self.old))) }
     {
@@ -147,6 +147,7 @@ impl MemoryDisk {
         DeviceFault
     }
 
+    // How many bytes the disk has, synced or not.
     fn len_of(&self, side: Side) -> usize
         ensures { result ≡ length (contents (disk_of self.now side)) }
     {
@@ -156,6 +157,7 @@ impl MemoryDisk {
         }
     }
 
+    // Appends the piece to the disk, unsynced.
     fn grow(&mut self, side: Side, piece: &[u8]) -> Result<(), AllocError>
         ensures ok { OnOk result (self.new ≡ with_disk side (appended (disk_of self.old side) piece.now) self.old) }
         ensures err { OnErr result (self.new ≡ self.old) }
@@ -166,6 +168,7 @@ impl MemoryDisk {
         }
     }
 
+    // Syncs everything that the disk has.
     fn make_synced(&mut self, side: Side)
         ensures { self.new ≡ with_disk side (flushed (disk_of self.old side)) self.old }
     {
@@ -175,6 +178,7 @@ impl MemoryDisk {
         }
     }
 
+    // Cuts the disk to its first `len` bytes.
     fn shorten(&mut self, side: Side, len: usize)
         ensures { self.new ≡ with_disk side (cut_to len (disk_of self.old side)) self.old }
     {
@@ -200,7 +204,7 @@ impl LogDisk for MemoryDisk {
         ensures refused { IsTrue (is_unread self.old.meter) → IsErr result × (self.new ≡ failed (heeded self.old)) }
         ensures passed { IsFalse (is_unread self.old.meter) → (result ≡ Ok (length (contents (disk_of self.old side)))) × (self.new ≡ heeded self.old) }
     {
-        self.ask()?;
+        self.begin_read()?;
         Ok(self.len_of(side))
     }
 
@@ -212,7 +216,7 @@ impl LogDisk for MemoryDisk {
         ensures ok { OnOk result (self.new ≡ heeded self.old) }
         ensures err { OnErr result ((self.new ≡ failed (heeded self.old)) × (buffer.new ≡ buffer.old)) }
     {
-        self.ask()?;
+        self.begin_read()?;
         let is_read = match side {
             Side::A => self.a.read_into(offset, buffer),
             Side::B => self.b.read_into(offset, buffer),

@@ -14,10 +14,21 @@ use Rattle.lk_health.specs.declared.target.Target.{Target}
 
 -- ---- of a node
 
+-- whom it follows, and how many ticks ago it heard of that leader
+abbrev pub heard_text : ℕ → ℕ → List ℕ
+heard_text leader ticks =
+    if ticks == 1 then codes "follows " ++ (decimal leader ++ codes ", heard 1 tick ago")
+    else codes "follows " ++ (decimal leader ++ (codes ", heard " ++ (decimal ticks ++ codes " ticks ago")))
+
+-- for how many ticks it knows no leader
+abbrev pub unled_text : ℕ → List ℕ
+unled_text ticks =
+    if ticks == 1 then codes "knows no leader for 1 tick" else codes "knows no leader for " ++ (decimal ticks ++ codes " ticks")
+
 -- whom a node follows
 abbrev pub following : Option ℕ → ℕ → List ℕ
-following (Some leader) ticks = codes "follows " ++ (decimal leader ++ (codes ", heard " ++ (decimal ticks ++ codes " ticks ago")))
-following None ticks = codes "knows no leader for " ++ (decimal ticks ++ codes " ticks")
+following (Some leader) ticks = heard_text leader ticks
+following None ticks = unled_text ticks
 
 abbrev pub following_text : Leadership → List ℕ
 following_text l = if l.leads then codes "leads" else following l.leader l.silence

@@ -5,7 +5,7 @@ ghost use Rattle.lk_status.specs.Fields.{field_name, field_kind, field_help, fie
 use lk_probe::Report;
 use lk_types::NodeNo;
 
-/// A number that a node tells.
+/// A number that a node reports.
 #[derive(Clone, Copy)]
 pub enum Field {
     Leads,

@@ -172,7 +172,7 @@ fn write_targets<W: Write>(
     Ok(())
 }
 
-// Writes the cluster, whether it is served, and whether all tell one genesis.
+// Writes the cluster, whether it is served, and whether all name one genesis.
 fn write_head<W: Write>(cluster: u64, served: bool, one: bool, out: &mut W) -> io::Result<()>
     ensures { OnOk result (Appends (W.contents out.old) (W.contents out.new) (head_part cluster served one)) }
 {
@@ -190,7 +190,7 @@ fn write_verdict<W: Write>(cluster: u64, reports: &[Report], out: &mut W) -> io:
     Ok(())
 }
 
-// Writes that so many of so many members report.
+// Writes how many members report, and how many there are.
 fn write_counts<W: Write>(reporting: usize, count: usize, out: &mut W) -> io::Result<()>
     ensures { OnOk result (Appends (W.contents out.old) (W.contents out.new) (counts_part reporting count)) }
 {

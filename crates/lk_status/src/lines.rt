@@ -1,17 +1,42 @@
 ghost use Rattle.std.specs.Io.KnownBytes.{Appends};
 ghost use Rattle.std.specs.Option.{option_copied};
 ghost use Rattle.std.specs.Prelude.{OnOk};
-ghost use Rattle.lk_status.specs.Lines.{following_text, leadership_text, executed_text, snapshot_text, behind_text, promised_text, progress_text, members_text, count_text, traffic_text, node_line, target_line, target_lines, stranger_word, strangers_text, raised_text, majority_text, cluster_line, status_text};
+ghost use Rattle.lk_status.specs.Lines.{heard_text, unled_text, following_text, leadership_text, executed_text, snapshot_text, behind_text, promised_text, progress_text, members_text, count_text, traffic_text, node_line, target_line, target_lines, stranger_word, strangers_text, raised_text, majority_text, cluster_line, status_text};
 
 use lk_health::measure::executed_of;
 use lk_health::target::{Inquiry, report_with};
 use lk_health::verdict::{has_one_genesis, seeks_votes, up};
 use lk_probe::{Leadership, Report};
-use lk_types::{Ballot, Member};
+use lk_types::{Ballot, Member, NodeNo};
 use std::io;
 use std::io::Write;
 
-// Writes whom a node follows: `leads`, `follows 1, heard 2 ticks ago` or `knows no leader for 28 ticks`.
+// Writes whom a node follows and when it heard of that leader: `follows 1, heard 2 ticks ago`.
+fn write_heard<W: Write>(leader: NodeNo, ticks: u64, out: &mut W) -> io::Result<()>
+    ensures { OnOk result (Appends (W.contents out.old) (W.contents out.new) (heard_text leader ticks)) }
+{
+    let leader = leader.get();
+    if ticks == 1 {
+        write!(out, "follows {leader}, heard 1 tick ago")?;
+    } else {
+        write!(out, "follows {leader}, heard {ticks} ticks ago")?;
+    }
+    Ok(())
+}
+
+// Writes how long a node has known no leader: `knows no leader for 28 ticks`.
+fn write_unled<W: Write>(ticks: u64, out: &mut W) -> io::Result<()>
+    ensures { OnOk result (Appends (W.contents out.old) (W.contents out.new) (unled_text ticks)) }
+{
+    if ticks == 1 {
+        out.write_all(b"knows no leader for 1 tick")?;
+    } else {
+        write!(out, "knows no leader for {ticks} ticks")?;
+    }
+    Ok(())
+}
+
+// Writes that a node leads, whom it follows, or that it knows no leader.
 fn write_following<W: Write>(leadership: &Leadership, out: &mut W) -> io::Result<()>
     ensures { OnOk result (Appends (W.contents out.old) (W.contents out.new) (following_text leadership.now)) }
 {
@@ -19,10 +44,9 @@ fn write_following<W: Write>(leadership: &Leadership, out: &mut W) -> io::Result
         out.write_all(b"leads")?;
         return Ok(());
     }
-    let ticks = leadership.silence;
     match leadership.leader {
-        Some(leader) => write!(out, "follows {}, heard {ticks} ticks ago", leader.get())?,
-        None => write!(out, "knows no leader for {ticks} ticks")?,
+        Some(leader) => write_heard(leader, leadership.silence, out)?,
+        None => write_unled(leadership.silence, out)?,
     }
     Ok(())
 }
@@ -162,7 +186,7 @@ fn write_targets<W: Write>(
     Ok(())
 }
 
-// Writes a node that tells another genesis than the measure.
+// Writes a node that names another genesis than the measure.
 fn write_stranger<W: Write>(measure: &Report, report: &Report, out: &mut W) -> io::Result<()>
     ensures { OnOk result (Appends (W.contents out.old) (W.contents out.new) (stranger_word measure.now report.now)) }
 {
@@ -172,7 +196,7 @@ fn write_stranger<W: Write>(measure: &Report, report: &Report, out: &mut W) -> i
     Ok(())
 }
 
-// Writes which nodes tell another genesis than the measure.
+// Writes which nodes name another genesis than the measure.
 fn write_strangers<W: Write>(measure: &Report, reports: &[Report], out: &mut W) -> io::Result<()>
     ensures { OnOk result (Appends (W.contents out.old) (W.contents out.new) (strangers_text measure.now reports.now)) }
 {

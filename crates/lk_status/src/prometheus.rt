@@ -60,7 +60,7 @@ fn write_served<W: Write>(cluster: u64, reports: &[Report], out: &mut W) -> io::
     Ok(())
 }
 
-// Writes whether all nodes tell one genesis.
+// Writes whether all nodes name one genesis.
 fn write_genesis<W: Write>(cluster: u64, reports: &[Report], out: &mut W) -> io::Result<()>
     ensures { OnOk result (Appends (W.contents out.old) (W.contents out.new) (genesis_text cluster reports.now)) }
 {

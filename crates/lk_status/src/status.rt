@@ -12,7 +12,7 @@ use crate::json::write_json;
 use crate::lines::write_lines;
 use crate::prometheus::write_metrics;
 use crate::why::write_why;
-use lk_health::asking::ask_all;
+use lk_health::asking::probe_all;
 use lk_health::measure::measure_in;
 use lk_health::target::Inquiry;
 use lk_health::verdict::{is_ready, is_served};
@@ -128,8 +128,8 @@ fn is_at(goal: Option<u64>, inquiry: &Inquiry, reports: &[Report]) -> bool
     }
 }
 
-// Asks again and again until all targets report that they have executed what the leader had when it was first heard
-// of, or until so many receives brought nothing. The last round.
+// Asks until all targets report that they have executed what the leader had in its first report, or this many receives
+// brought nothing. Returns the last round.
 fn wait_until_ready<S: DatagramSocket>(
     alloc: Global,
     socket: &mut S,
@@ -166,7 +166,7 @@ fn ask_once<S: DatagramSocket>(
 {
     Ok(Round {
         first,
-        reports: ask_all(alloc, socket, inquiry, first, idle)?,
+        reports: probe_all(alloc, socket, inquiry, first, idle)?,
         is_ready: false,
     })
 }
@@ -197,7 +197,7 @@ fn are_both(one: bool, other: bool) -> bool
     one && other
 }
 
-// Asks, and prints what is reported. Whether the cluster is served, and ready where that was waited for.
+// Asks, and prints the reports. Returns whether the cluster is served, and ready if that is waited for.
 fn ask_and_print<S: DatagramSocket, W: Write>(
     alloc: Global,
     socket: &mut S,
@@ -213,8 +213,8 @@ fn ask_and_print<S: DatagramSocket, W: Write>(
     }
 }
 
-/// Asks all targets what they tell of themselves, and prints that. The status is 0 where the cluster is served, and
-/// ready where that was waited for; else, and where a fault is told on standard error, it is 1.
+/// Asks all targets for their reports, and prints them. Returns status 0 if the cluster is served, and ready if that is
+/// waited for; else 1, also after writing a fault to standard error.
 pub fn status<S: DatagramSocket, W: Write, E: Write>(
     alloc: Global,
     socket: &mut S,
@@ -230,6 +230,6 @@ pub fn status<S: DatagramSocket, W: Write, E: Write>(
     match ask_and_print(alloc, socket, plan, out) {
         Ok(true) => 0,
         Ok(false) => 1,
-        Err(fault) => fault.tell(err),
+        Err(fault) => fault.write_to(err),
     }
 }

@@ -10,7 +10,7 @@ use lk_types::{Member, NodeNo};
 use std::io;
 use std::io::Write;
 
-// The ticks without a leader from which on a node hears nobody: so long waits the last of seven members.
+// The ticks without a leader after which a node hears nobody: the last of seven members waits as long.
 const SILENT: u64 = 28;
 
 // Whether that node is one of these members.
@@ -60,7 +60,7 @@ fn write_no_majority<W: Write>(out: &mut W) -> io::Result<()>
     Ok(())
 }
 
-// Writes that the reports tell two geneses, if they do.
+// Writes that the reports name two geneses, if they do.
 fn write_geneses<W: Write>(reports: &[Report], out: &mut W) -> io::Result<()>
     ensures { OnOk result (Appends (W.contents out.old) (W.contents out.new) (geneses_reason reports.now)) }
 {
@@ -189,7 +189,7 @@ fn write_nodes<W: Write>(
     Ok(())
 }
 
-// Writes that nobody leads and of whom that comes, or, without a majority, that there is none.
+// Writes that nobody leads and which node causes that, or that there is no majority.
 fn write_leaders<W: Write>(
     majority: bool,
     measure: &Report,
@@ -217,7 +217,7 @@ fn write_members<W: Write>(measure: &Report, reports: &[Report], out: &mut W) ->
     Ok(())
 }
 
-/// Writes in words why requests may not be answered, where that can be told.
+/// Writes in words why requests may not be answered, if the reports show it.
 #[tactic(auto, using(crate::proofs::Writing::appends_more))]
 pub fn write_why<W: Write>(
     measure: Option<&Report>,

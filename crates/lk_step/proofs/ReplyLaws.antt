@@ -9,7 +9,7 @@ use Rattle.lk_state.specs.declared.session.Session.{Session}
 use Rattle.lk_state.specs.declared.whole.Seen.{Seen}
 use Rattle.lk_state.specs.declared.whole.Seen.TheVariants as seen
 use Rattle.lk_state.proofs.Wholes.{passed_is}
-use Rattle.lk_step.specs.KeptReplies.{kept_reply, told}
+use Rattle.lk_step.specs.KeptReplies.{kept_reply, session_reply}
 
 -- what a number is told that the last one has passed
 abbrev passed_by : ℕ → ℕ → ℕ → NodeMessage
@@ -45,7 +45,7 @@ none_is_new o client number e = by_seen (seen_as o number) refl e
         absurd cc
 
 -- a waiting number that a session has reached is told of it
-pub reached_is_told : (s : Session) (number : ℕ) → number ≤ s.number → kept_reply s.client number (seen_as (Some s) number) ≡ Some (told s number)
+pub reached_is_told : (s : Session) (number : ℕ) → number ≤ s.number → kept_reply s.client number (seen_as (Some s) number) ≡ Some (session_reply s number)
 reached_is_told s number le =
     elim (cases_Bool (nat_lt number s.number)) [
       | inl below ↦ rw (other below, below, below) refl

@@ -18,8 +18,8 @@ kept_reply client number (seen.Passed last) =
 
 -- the reply to the waiting request of this number, after the session's was executed: if it is that one, its answer; if
 -- it is smaller, the number that passed it
-abbrev pub told : Session → ℕ → NodeMessage
-told s number =
+abbrev pub session_reply : Session → ℕ → NodeMessage
+session_reply s number =
     if nat_lt number s.number then Passed (record { client = s.client; number = number; last = s.number })
     else Answer (record { client = s.client; number = number; answer = s.answer })
 

@@ -1,5 +1,7 @@
-//! The input and the output of a node's step: a tick or a datagram, and the resulting entries, notes and letters. Also
-//! the replies, recipients, spellings and counts of a step that need no node.
+//! What a step of a node needs beside the node itself: its input, a tick or a datagram (`Input`); its result, entries,
+//! notes and letters (`Outbox`); and its parts that need no node: replies, recipients, spellings, and the counts of
+//! ticks and rounds. What a replica adds is here too: its errors (`ReplicaFault`, and `Halted` and `SendFault`, two of
+//! their causes), and the trait `Post`, which sends its letters.
 #![tactic(auto)]
 
 mod fault;
@@ -26,7 +28,7 @@ pub use note::Note;
 pub use outbox::Outbox;
 pub use post::{Post, SendFault};
 pub use recipients::{letters_to, others, place_of, window_nodes};
-pub use replies::{is_granted, kept_reply, session_of, told};
+pub use replies::{is_granted, kept_reply, session_of, session_reply};
 pub use seen_round::SeenRound;
 pub use spelling::spelled;
 pub use tick_count::TickCount;

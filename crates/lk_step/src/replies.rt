@@ -1,7 +1,7 @@
 // An acceptor's reply, the reply to a client's request that is not new, and the session that one leaves.
 ghost use Rattle.std.specs.Prelude.{◌≡◌, ◌≤◌};
 ghost use Rattle.lk_step.specs.Grants.{is_granted};
-ghost use Rattle.lk_step.specs.KeptReplies.{kept_reply, told, session_by};
+ghost use Rattle.lk_step.specs.KeptReplies.{kept_reply, session_reply, session_by};
 
 use lk_state::{Seen, Session};
 use lk_types::{Answer, ClientNo, Command, RequestNumber};
@@ -34,9 +34,9 @@ pub fn kept_reply(client: ClientNo, number: RequestNumber, seen: Seen) -> Option
 }
 
 /// The reply to the client's waiting request of this number, after the session's was executed.
-pub fn told(session: Session, number: RequestNumber) -> NodeMessage
+pub fn session_reply(session: Session, number: RequestNumber) -> NodeMessage
     requires { number ≤ session.number }
-    ensures { result ≡ told session number }
+    ensures { result ≡ session_reply session number }
 {
     let client = session.client;
     let seen = Seen::of(Some(session), number);

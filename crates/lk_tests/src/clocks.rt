@@ -61,7 +61,7 @@ fn a_metronome_tells_each_100_ms(rt: HostRuntime) -> Result<(), Fail> {
         (false, Duration::from_millis(100))
     );
     clock.shown.set(400);
-    metronome.rest();
+    metronome.reset();
     assert_eq!(rt; metronome.left(), Duration::from_millis(100));
     Ok(())
 }

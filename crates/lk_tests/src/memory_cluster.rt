@@ -1,14 +1,14 @@
-//! Three servers of the lock table in one process, on disks and sockets in memory, and what they tell to clients.
+//! Three servers of the lock table in one process, on disks and sockets in memory, and what they reply to clients.
 
 use crate::clocks::Stopped;
 use crate::digits::bytes_of;
 use crate::node_turns::{Locks, header};
 use lk_locks::LockTable;
-use lk_memory_socket::{MemorySocket, Told};
-use lk_node_replica::NodeReplica;
+use lk_memory_socket::{MemoryDatagram, MemorySocket};
 use lk_pace::metronome::Metronome;
 use lk_pace::pace::Pace;
 use lk_recovery::ReviveFault;
+use lk_served_replica::ServedReplica;
 use lk_server::server::{Server, node_turn};
 use lk_service::resources::Resources;
 use lk_service::running::revive;
@@ -26,16 +26,16 @@ const ROUNDS: u32 = 100;
 
 type LockServer = Server<Locks, MemorySocket>;
 
-/// Servers of one process, where what comes to one of them is heard, and what they told to clients.
+/// Servers of one process, where what comes to one of them is received, and what they replied to clients.
 #[derive(Drop)]
 pub struct Cluster {
     servers: Vec<LockServer>,
     buffer: ReceiveBuffer,
-    told: Vec<Told>,
+    replies: Vec<MemoryDatagram>,
 }
 
 // The server of a node of three, at this port.
-fn begun(alloc: Global, node: u32, port: u16) -> Result<LockServer, Fail> {
+fn start_server(alloc: Global, node: u32, port: u16) -> Result<LockServer, Fail> {
     let header = header(node, 1, 3)?;
     let resources = Resources {
         device: MemoryDisk::new(alloc),
@@ -51,21 +51,25 @@ fn begun(alloc: Global, node: u32, port: u16) -> Result<LockServer, Fail> {
 }
 
 // The servers of nodes 1 to 3, at ports 7001 to 7003.
-fn three(alloc: Global) -> Result<Vec<LockServer>, Fail> {
+fn start_servers(alloc: Global) -> Result<Vec<LockServer>, Fail> {
     let mut servers = Vec::new(alloc);
     for (node, port) in [(1, 7001), (2, 7002), (3, 7003)] {
-        servers.push(begun(alloc, node, port)?)?;
+        servers.push(start_server(alloc, node, port)?)?;
     }
     Ok(servers)
 }
 
 // The datagram comes to the server, if it goes to its port. Whether it does.
-fn takes(server: &mut LockServer, from: SocketAddr, sent: &Told) -> Result<bool, Fail> {
+fn deliver_to(
+    server: &mut LockServer,
+    from: SocketAddr,
+    sent: &MemoryDatagram,
+) -> Result<bool, Fail> {
     let socket = server.socket_mut();
     if socket.port() != Some(sent.place.port()) {
         return Ok(false);
     }
-    socket.comes(from, &sent.bytes)?;
+    socket.add_incoming(from, &sent.bytes)?;
     Ok(true)
 }
 
@@ -73,24 +77,24 @@ impl Cluster {
     /// Three servers that have heard nothing.
     pub fn new(alloc: Global) -> Result<Cluster, Fail> {
         Ok(Cluster {
-            servers: three(alloc)?,
+            servers: start_servers(alloc)?,
             buffer: ReceiveBuffer::new(),
-            told: Vec::new(alloc),
+            replies: Vec::new(alloc),
         })
     }
 
     /// A datagram comes to the server at whose port it goes, or to a client.
-    pub fn carry(&mut self, from: SocketAddr, sent: Told) -> Result<(), Fail> {
+    pub fn deliver(&mut self, from: SocketAddr, sent: MemoryDatagram) -> Result<(), Fail> {
         for server in &mut self.servers {
-            if takes(server, from, &sent)? {
+            if deliver_to(server, from, &sent)? {
                 return Ok(());
             }
         }
-        self.told.push(sent)?;
+        self.replies.push(sent)?;
         Ok(())
     }
 
-    // A server takes a turn, and what it sends by that is carried.
+    // A server takes a turn, and what it sends by that is delivered.
     fn serve(&mut self, place: usize) -> Result<(), Fail> {
         let Some(server) = self.servers.get_mut(place) else {
             return Ok(());
@@ -103,13 +107,13 @@ impl Cluster {
         )?;
         let port = server.socket_mut().port().unwrap_or(0);
         for sent in server.socket_mut().take_sent() {
-            self.carry(local(port), sent)?;
+            self.deliver(local(port), sent)?;
         }
         Ok(())
     }
 
     /// Each server takes a turn: what comes to it next, or a tick.
-    pub fn turn(&mut self) -> Result<(), Fail> {
+    pub fn serve_all(&mut self) -> Result<(), Fail> {
         for place in 0..self.servers.len() {
             self.serve(place)?;
         }
@@ -128,29 +132,29 @@ impl Cluster {
     }
 
     /// Takes turns until each server has a term or knows who leads.
-    pub fn lead(&mut self) -> Result<(), Fail> {
+    pub fn run_until_led(&mut self) -> Result<(), Fail> {
         for _ in 0..ROUNDS {
             if self.is_led() {
                 return Ok(());
             }
-            self.turn()?;
+            self.serve_all()?;
         }
         Err("led")?
     }
 
-    /// Takes turns until a client is told something.
-    pub fn next_told(&mut self) -> Result<Told, Fail> {
+    /// Takes turns until a client gets a reply.
+    pub fn next_reply(&mut self) -> Result<MemoryDatagram, Fail> {
         for _ in 0..ROUNDS {
-            if let Some(told) = self.told.pop() {
-                return Ok(told);
+            if let Some(reply) = self.replies.pop() {
+                return Ok(reply);
             }
-            self.turn()?;
+            self.serve_all()?;
         }
         Err("told")?
     }
 }
 
-// From which port a client asks, at which port, and as hex what it asks and what it is told.
+// From which port a client asks, at which port, and as hex what it asks and the reply.
 type Row<'a> = (u16, u16, &'a str, &'a str);
 
 #[rattlefmt::skip]
@@ -163,24 +167,24 @@ const ROWS: [Row; 5] = [
     (8007, 7001, "4c4b0109 0000000000000005 00000000 0007 0000000000000002 00 0c 02026462 0000000000000001", "4c4b010a 0000000000000005 00000001 0007 0000000000000002 03"),
 ];
 
-// Whether a client is told what the row says, where it asked.
-fn is_told(alloc: Global, cluster: &mut Cluster, row: Row<'_>) -> Result<bool, Fail> {
-    let (client, server, asked, told) = row;
-    let asked = Told {
+// Whether a client gets the reply of the row at the port from which it asked.
+fn is_answered(alloc: Global, cluster: &mut Cluster, row: Row<'_>) -> Result<bool, Fail> {
+    let (client, server, asked, answer) = row;
+    let asked = MemoryDatagram {
         place: local(server),
         bytes: bytes_of(alloc, &[asked])?,
     };
-    cluster.carry(local(client), asked)?;
-    let heard = cluster.next_told()?;
-    Ok(heard.place == local(client) && heard.bytes == bytes_of(alloc, &[told])?)
+    cluster.deliver(local(client), asked)?;
+    let reply = cluster.next_reply()?;
+    Ok(reply.place == local(client) && reply.bytes == bytes_of(alloc, &[answer])?)
 }
 
-// The first row that is told otherwise.
+// The first row that is answered otherwise.
 fn first_other(alloc: Global, rows: &[Row<'_>]) -> Result<Option<usize>, Fail> {
     let mut cluster = Cluster::new(alloc)?;
-    cluster.lead()?;
+    cluster.run_until_led()?;
     for (at, row) in rows.iter().enumerate() {
-        if !is_told(alloc, &mut cluster, *row)? {
+        if !is_answered(alloc, &mut cluster, *row)? {
             return Ok(Some(at));
         }
     }

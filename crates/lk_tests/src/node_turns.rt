@@ -91,20 +91,21 @@ const PROMISES: [Heard<'static>; 2] = [
 ];
 
 // The replica begins a ballot at the fourth tick, and hears its promises.
-fn lead(alloc: Global, replica: &mut Locks) -> Result<(), Fail> {
+fn elect(alloc: Global, replica: &mut Locks) -> Result<(), Fail> {
     if first_loud(alloc, replica, 4)? != Some(4) {
         return Err("begun")?;
     }
-    hear_all(alloc, replica, &PROMISES)
+    step_all(alloc, replica, &PROMISES)
 }
 
 /// Node 1's replica in a cluster of three, whose ballot (1, 1) nodes 1 and 2 have promised.
 pub fn led(alloc: Global, alpha: u8) -> Result<Locks, Fail> {
     let mut replica = begun(alloc, 1, alpha, 3)?;
-    lead(alloc, &mut replica)?;
+    elect(alloc, &mut replica)?;
     Ok(replica)
 }
 
+// The bytes of a node's message, from its kind and its fields in hex.
 fn spelled(alloc: Global, sender: &str, kind: &str, fields: &str) -> Result<Vec<u8>, Fail> {
     bytes_of(alloc, &["4c4b01", kind, "0000000000000005", sender, fields])
 }
@@ -117,8 +118,8 @@ fn take(replica: &mut Locks, input: Input) -> Result<Vec<Datagram>, Fail> {
     }
 }
 
-// What the replica sends for what it hears.
-fn hear(alloc: Global, replica: &mut Locks, heard: Heard<'_>) -> Result<Vec<Datagram>, Fail> {
+// What the replica sends for a tick or a message.
+fn step(alloc: Global, replica: &mut Locks, heard: Heard<'_>) -> Result<Vec<Datagram>, Fail> {
     match heard {
         Heard::Tick => take(replica, Input::Tick),
         Heard::Said(sender, kind, fields) => {
@@ -128,13 +129,15 @@ fn hear(alloc: Global, replica: &mut Locks, heard: Heard<'_>) -> Result<Vec<Data
     }
 }
 
-fn hear_all(alloc: Global, replica: &mut Locks, heard: &[Heard<'_>]) -> Result<(), Fail> {
+// Gives the replica these, one after another.
+fn step_all(alloc: Global, replica: &mut Locks, heard: &[Heard<'_>]) -> Result<(), Fail> {
     for one in heard {
-        hear(alloc, replica, *one)?;
+        step(alloc, replica, *one)?;
     }
     Ok(())
 }
 
+// The destination of a datagram.
 fn party(who: For) -> Result<Party, Fail> {
     Ok(match who {
         For::Node(number) => Party::Node(NodeNo::of(number).ok_or("node")?),
@@ -142,6 +145,7 @@ fn party(who: For) -> Result<Party, Fail> {
     })
 }
 
+// Whether a datagram is what the row says.
 fn is_sent(alloc: Global, datagram: &Datagram, sent: &Sent<'_>) -> Result<bool, Fail> {
     let bytes = spelled(alloc, "00000001", sent.1, sent.2)?;
     Ok(datagram.to == party(sent.0)? && datagram.bytes == bytes)
@@ -164,7 +168,7 @@ pub fn first_astray(
     turns: &[Turn<'_>],
 ) -> Result<Option<usize>, Fail> {
     for (row, turn) in turns.iter().enumerate() {
-        let datagrams = hear(alloc, replica, turn.0)?;
+        let datagrams = step(alloc, replica, turn.0)?;
         if !are_sent(alloc, &datagrams, turn.1)? {
             return Ok(Some(row));
         }
@@ -175,7 +179,7 @@ pub fn first_astray(
 // The first of so many ticks at which the replica sends anything, from 1.
 fn first_loud(alloc: Global, replica: &mut Locks, ticks: usize) -> Result<Option<usize>, Fail> {
     for tick in 0..ticks {
-        if !hear(alloc, replica, Heard::Tick)?.is_empty() {
+        if !step(alloc, replica, Heard::Tick)?.is_empty() {
             return Ok(Some(tick + 1));
         }
     }

@@ -5,11 +5,11 @@ use crate::clocks::Stopped;
 use crate::node_turns::{Locks, begun};
 use lk_locks::LockTable;
 use lk_memory_socket::MemorySocket;
-use lk_node_replica::replica_status::ReplicaStatus;
-use lk_node_replica::{NodeReplica, Shown};
 use lk_pace::metronome::Metronome;
 use lk_pace::pace::Pace;
 use lk_replica::Group;
+use lk_served_replica::replica_status::ReplicaStatus;
+use lk_served_replica::{ServedReplica, Shown};
 use lk_server::server::{Server, node_turn};
 use lk_service::demo::{Sockets, play};
 use lk_step::{Input, Note, Outbox, Post, ReplicaFault};
@@ -29,7 +29,7 @@ enum End {
 
 // Stands for a replica: it notes that it ran position 3.
 #[derive(Drop)]
-struct Told {
+struct NotingReplica {
     alloc: Global,
     end: End,
     failed: bool,
@@ -52,7 +52,7 @@ fn ran(alloc: Global) -> Option<Outbox> {
     }
 }
 
-impl NodeReplica for Told {
+impl ServedReplica for NotingReplica {
     ghost failed = { λ t. t.failed };
 
     ghost Says = { λ _ _ letters _. letters ≡ [] };
@@ -106,6 +106,7 @@ type Seen = (u64, u64, u64, u64, u32);
 
 const NEW: Seen = (1, 0, 0, 0, 0);
 
+// The status of a replica that is seen so.
 fn status_of(seen: Seen) -> Result<ReplicaStatus, Fail> {
     let (generation, snapshot, executed, round, known) = seen;
     Ok(ReplicaStatus {
@@ -127,8 +128,8 @@ fn server(
     end: End,
     before: Seen,
     after: Seen,
-) -> Result<Server<Told, MemorySocket>, Fail> {
-    let told = Told {
+) -> Result<Server<NotingReplica, MemorySocket>, Fail> {
+    let replica = NotingReplica {
         alloc,
         end,
         failed: false,
@@ -139,7 +140,7 @@ fn server(
     let node = NodeNo::of(1).ok_or("node")?;
     let socket = MemorySocket::new(alloc, 7001);
     let network = Network::local(5, node);
-    Ok(Server::new(alloc, 5, node, Pace::Datagrams, network, told, socket))
+    Ok(Server::new(alloc, 5, node, Pace::Datagrams, network, replica, socket))
 }
 
 // What a turn logs whose replica ends so, and is seen so before and after it.
@@ -236,9 +237,9 @@ fn apart(alloc: Global) -> Result<Sockets<MemorySocket>, Fail> {
 #[test]
 fn a_demonstration_that_nobody_answers_ends(rt: HostRuntime) -> Result<(), Fail> {
     let mut out = Vec::new(rt.alloc());
-    let is_told = play::<LockTable, _, _>(rt.alloc(), apart(rt.alloc())?, &mut out)?;
+    let is_answered = play::<LockTable, _, _>(rt.alloc(), apart(rt.alloc())?, &mut out)?;
     assert_eq!(rt;
-        (is_told, out.as_slice()),
+        (is_answered, out.as_slice()),
         (false, b"no answer\n".as_slice())
     );
     Ok(())

@@ -94,7 +94,7 @@ impl Addresses {
     }
 
     /// Records that a client wrote.
-    pub fn hear_client(&mut self, client: ClientNo, from: SocketAddr)
+    pub fn record_client(&mut self, client: ClientNo, from: SocketAddr)
         ensures own { client_at self.new client ≡ Some from }
         ensures others { (c : ℕ) → IsClient c → c ≢ client → client_at self.new c ≡ client_at self.old c }
         ensures nodes { self.new.nodes ≡ self.old.nodes }
@@ -126,8 +126,8 @@ impl Addresses {
     }
 
     /// Records that a node wrote: its entry moves to the front. If all entries are taken, the least recent one is
-    /// dropped. `binds` tells whether this node follows the sender by what it wrote.
-    pub fn hear_node(&mut self, node: NodeNo, from: SocketAddr, binds: bool)
+    /// dropped. `binds` is whether this node follows the sender by what it wrote.
+    pub fn record_node(&mut self, node: NodeNo, from: SocketAddr, binds: bool)
         ensures own { node_at self.new node ≡ Some from }
         ensures places { self.new.nodes ≡ moved_up self.old.nodes node from }
         ensures clients { self.new.clients ≡ self.old.clients }

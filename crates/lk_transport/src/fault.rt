@@ -29,7 +29,7 @@ pub enum ServiceFault {
     Halted,
     /// Fault 24: the output could not be written.
     Write,
-    /// A node of another genesis has led this one. The line that tells it is written where it is found.
+    /// A node of another genesis has led this one. The line that reports it is written where it is found.
     OtherGenesis,
 }
 
@@ -69,7 +69,7 @@ impl ServiceFault {
     }
 
     /// Writes the line to standard error, and returns status 1.
-    pub fn tell<E: Write>(self, err: &mut E) -> u8
+    pub fn write_to<E: Write>(self, err: &mut E) -> u8
         ensures { result ≡ 1 }
     {
         let _ = err.write_all(self.text().as_bytes());

@@ -10,7 +10,7 @@ use crate::arrival::Arrival;
 use lk_wire::{ContentRef, Datagram, NodeMessageRef};
 use std::net::SocketAddr;
 
-// Whether whoever takes a message follows its sender.
+// Whether accepting this message means following its sender.
 fn is_binding(message: &NodeMessageRef<'_>) -> bool
     ensures { result ≡ is_binding (shown_node message.now) }
 {
@@ -26,7 +26,12 @@ fn is_binding(message: &NodeMessageRef<'_>) -> bool
 impl Addresses {
     /// Records the source of a datagram of the cluster if it is a client's request or a node's message, and ignores
     /// everything else. Returns what arrived, for the log.
-    pub fn hear(&mut self, cluster: u64, datagram: &Datagram<'_>, from: SocketAddr) -> Arrival
+    pub fn record_sender(
+        &mut self,
+        cluster: u64,
+        datagram: &Datagram<'_>,
+        from: SocketAddr,
+    ) -> Arrival
         ensures heard { Hears cluster datagram.now from self.old self.new }
         ensures network { IsSameCircle self.old self.new }
     {
@@ -39,11 +44,11 @@ impl Addresses {
         match &message.content {
             ContentRef::Request(request) => {
                 let client = request.request().client;
-                self.hear_client(client, from);
+                self.record_client(client, from);
                 Arrival::Request(client)
             }
             ContentRef::Node(node, said) => {
-                self.hear_node(*node, from, is_binding(said));
+                self.record_node(*node, from, is_binding(said));
                 Arrival::said(*node, said)
             }
         }

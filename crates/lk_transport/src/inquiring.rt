@@ -21,17 +21,18 @@ use std::net::SocketAddr;
 impl Addresses {
     // The address at which a question is due at this count of ticks, if there is one: it counts as asked from now on.
     // Where the nodes have a key nothing is asked, since a seal names the genesis.
-    fn ask(&mut self, now: u64) -> Option<SocketAddr>
+    fn next_to_probe(&mut self, now: u64) -> Option<SocketAddr>
         ensures asked { IsAskedAt now result self.old self.new }
         ensures network { IsSameNetwork self.old self.new }
     {
         if !self.seals().nodes.is_none() {
             return None;
         }
-        self.neighbours.ask(now)
+        self.neighbours.next_to_probe(now)
     }
 
-    // A node of this genesis asks from that address: if another genesis was known there, it is as if it was never asked.
+    // A node of this genesis asks from that address. If another genesis was known there, it is as if it was never
+    // asked.
     fn readmit(&mut self, place: SocketAddr)
         ensures readmits { Readmits place self.old.neighbours self.new.neighbours }
         ensures others { self.new ≡ record self.old { neighbours = self.new.neighbours } }
@@ -39,7 +40,7 @@ impl Addresses {
         self.neighbours.readmit(place);
     }
 
-    // Learns what a report tells of the node at an address that was asked.
+    // Learns from a report of the node at an address that was asked.
     fn learn(&mut self, reported: &Reported) -> Option<Neighbour>
         ensures learns { LearnsOf reported.now result self.old self.new }
         ensures network { IsSameNetwork self.old self.new }
@@ -62,15 +63,15 @@ impl<S: DatagramSocket + Drop> SocketPost<S> {
         question(self.addresses.seals().cluster, asker)
     }
 
-    /// What a report that came from there tells, if it answers the question of this node.
-    pub fn reported(&self, from: SocketAddr, datagram: &[u8]) -> Option<Reported>
+    /// What a report that came from there says, if it answers the question of this node.
+    pub fn read_report(&self, from: SocketAddr, datagram: &[u8]) -> Option<Reported>
         ensures { IsReportedOf (question_by self.now.addresses.seals self.now.node) (from, datagram.now) result }
     {
         Reported::by(&self.question(), from, datagram)
     }
 
-    /// Learns what a report tells of the node at an address that was asked. `None`, and nothing is changed, where it
-    /// was not asked or has told before.
+    /// Learns from a report of the node at an address that was asked. `None`, and nothing is changed, if it was not
+    /// asked or has answered before.
     pub fn learn(&mut self, reported: &Reported) -> Option<Neighbour>
         ensures learns { LearnsOf reported.now result self.old.addresses self.new.addresses }
         ensures network { IsSameNetwork self.old.addresses self.new.addresses }
@@ -103,13 +104,13 @@ impl<S: DatagramSocket + Drop> SocketPost<S> {
     }
 
     /// Asks which genesis the node at an address was started with, where that is due at this count of ticks.
-    pub fn ask(&mut self, now: u64) -> Result<(), SendFault>
+    pub fn probe_next(&mut self, now: u64) -> Result<(), SendFault>
         ensures asks { AsksOne S.is_telling now self.old.node self.old.addresses self.new.addresses (tray_of self.old) (tray_of self.new) }
         ensures network { IsSameNetwork self.old.addresses self.new.addresses }
         ensures still { S.is_telling → self.new.coming ≡ self.old.coming }
         ensures others { self.new ≡ record self.old { addresses = self.new.addresses; sent = self.new.sent; socket_failures = self.new.socket_failures; coming = self.new.coming } }
     {
-        match self.addresses.ask(now) {
+        match self.addresses.next_to_probe(now) {
             Some(place) => self.send_question(place),
             None => Ok(()),
         }
@@ -123,9 +124,9 @@ impl<S: DatagramSocket + Drop> SocketPost<S> {
     }
 
     /// The first node of another genesis that this node has followed, if there is one.
-    pub fn bound(&self) -> Option<Origin>
+    pub fn followed_stranger(&self) -> Option<Origin>
         ensures { result ≡ bound_in self.now.addresses.neighbours }
     {
-        self.addresses.neighbours.bound()
+        self.addresses.neighbours.followed_stranger()
     }
 }

@@ -33,9 +33,9 @@ const WANT: u8 = 7;
 
 /// A socket, and the addresses of those who wrote to it.
 ///
-/// A letter for a client goes to the address of its last request, and is dropped if there is none. A letter for a node
-/// goes to its port on 127.0.0.1, or, if that is not known, to the address from which the node last wrote. A letter
-/// for this node stays here, unless it is out of memory.
+/// A letter for a client goes to the address of its last request. A letter for a node goes to its port at its host, or,
+/// if that is not known, to the address from which the node last wrote. A letter with no known address is dropped. A
+/// letter for this node stays here, unless it is out of memory.
 #[derive(Drop)]
 pub struct SocketPost<S: DatagramSocket + Drop> {
     alloc: Global,
@@ -56,7 +56,7 @@ pub struct SocketPost<S: DatagramSocket + Drop> {
 
 /// The fate of a group's letters, for the log.
 #[derive(Clone, Copy)]
-pub struct Carried {
+pub struct SendSummary {
     /// How many sends failed.
     pub lost: u64,
     /// The last node that was sent a Want.
@@ -65,9 +65,9 @@ pub struct Carried {
     pub unsent: Option<NodeNo>,
 }
 
-impl Carried {
+impl SendSummary {
     /// Nothing has been sent.
-    pub const NOTHING: Carried = Carried {
+    pub const NOTHING: SendSummary = SendSummary {
         lost: 0,
         wanted: None,
         unsent: None,
@@ -155,13 +155,18 @@ impl<S: DatagramSocket + Drop> SocketPost<S> {
         }
     }
 
-    /// Records the source of a datagram of the cluster, as `Addresses::hear` does.
-    pub fn hear(&mut self, cluster: u64, datagram: &Datagram<'_>, from: SocketAddr) -> Arrival
+    /// Records the source of a datagram of the cluster, as `Addresses::record_sender` does.
+    pub fn record_sender(
+        &mut self,
+        cluster: u64,
+        datagram: &Datagram<'_>,
+        from: SocketAddr,
+    ) -> Arrival
         ensures heard { Hears cluster datagram.now from self.old.addresses self.new.addresses }
         ensures network { IsSameCircle self.old.addresses self.new.addresses }
         ensures others { self.new ≡ record self.old { addresses = self.new.addresses } }
     {
-        self.addresses.hear(cluster, datagram, from)
+        self.addresses.record_sender(cluster, datagram, from)
     }
 
     /// Removes the first letter of the node to itself.
@@ -175,14 +180,14 @@ impl<S: DatagramSocket + Drop> SocketPost<S> {
     }
 
     /// From now on a receive waits at most this long, or up to 10 ms longer, for the next datagram.
-    pub fn wait_for(&mut self, time: Duration)
+    pub fn set_timeout(&mut self, time: Duration)
         ensures { self.new ≡ self.old }
     {
-        self.socket.wait_for(time);
+        self.socket.set_timeout(time);
     }
 
     /// Receives the next datagram of the socket into the buffer, if one arrives.
-    pub fn listen(&mut self, buffer: &mut ReceiveBuffer)
+    pub fn receive(&mut self, buffer: &mut ReceiveBuffer)
         ensures comes { S.is_telling → self.old.coming ≡ listed buffer.new.last ++ self.new.coming }
         ensures none { S.is_telling → buffer.new.last ≡ None → self.old.coming ≡ [] }
         ensures asked { buffer.new.asked ≡ buffer.old.asked }
@@ -193,7 +198,7 @@ impl<S: DatagramSocket + Drop> SocketPost<S> {
     }
 
     /// Receives the next datagram that is already waiting.
-    pub fn listen_waiting(&mut self, buffer: &mut ReceiveBuffer)
+    pub fn receive_waiting(&mut self, buffer: &mut ReceiveBuffer)
         ensures comes { S.is_telling → self.old.coming ≡ listed buffer.new.last ++ self.new.coming }
         ensures none { S.is_telling → buffer.new.last ≡ None → self.old.coming ≡ [] }
         ensures asked { buffer.new.asked ≡ buffer.old.asked }
@@ -211,7 +216,7 @@ impl<S: DatagramSocket + Drop> SocketPost<S> {
     }
 
     /// The probe to answer that came from there by this frame, of which the datagram was taken.
-    pub fn asked(&self, from: SocketAddr, frame: &[u8], datagram: &[u8]) -> Option<Asked>
+    pub fn read_probe(&self, from: SocketAddr, frame: &[u8], datagram: &[u8]) -> Option<Asked>
         requires { datagram.now ≡ heard self.now.addresses.seals frame.now }
         ensures { IsKeptOf self.now.addresses.seals (from, frame.now) result }
     {
@@ -243,7 +248,7 @@ impl<S: DatagramSocket + Drop> SocketPost<S> {
     }
 
     /// Begins a group.
-    pub fn begin(&mut self)
+    pub fn begin_group(&mut self)
         ensures { self.new ≡ record self.old { failures = 0 } }
     {
         self.failures = 0;
@@ -252,10 +257,10 @@ impl<S: DatagramSocket + Drop> SocketPost<S> {
     }
 
     /// The fate of the letters in this group.
-    pub fn carried(&self) -> Carried
+    pub fn send_summary(&self) -> SendSummary
         ensures { result.lost ≡ self.now.failures }
     {
-        Carried {
+        SendSummary {
             lost: self.failures,
             wanted: self.wanted,
             unsent: self.unsent,
@@ -263,7 +268,7 @@ impl<S: DatagramSocket + Drop> SocketPost<S> {
     }
 
     // Notes for the log that a letter was sent or kept.
-    fn note(&mut self, to: &To, bytes: &[u8])
+    fn note_sent(&mut self, to: &To, bytes: &[u8])
         ensures { self.new ≡ self.old }
     {
         match to {
@@ -272,8 +277,8 @@ impl<S: DatagramSocket + Drop> SocketPost<S> {
         }
     }
 
-    // Counts one that could not be sent.
-    fn lose(&mut self, to: &To)
+    // Counts a letter that could not be sent.
+    fn count_lost(&mut self, to: &To)
         ensures { self.new ≡ record self.old { failures = one_more self.old.failures } }
     {
         self.failures = self.failures.saturating_add(1);
@@ -293,18 +298,18 @@ impl<S: DatagramSocket + Drop> SocketPost<S> {
     }
 
     // Keeps one more letter of the node to itself.
-    fn keep(&mut self, to: To, bytes: &[u8]) -> Result<(), NoMemory>
+    fn keep_own(&mut self, to: To, bytes: &[u8]) -> Result<(), NoMemory>
         ensures ok { OnOk result (self.new ≡ record self.old { own = self.old.own ++ record { to = to; bytes = bytes.now } ∷ [] }) }
         ensures err { OnErr result (self.new ≡ self.old) }
     {
         let kept = bytes.to_vec(self.alloc)?;
         self.own.push_back(Letter { to, bytes: kept })?;
-        self.note(&to, bytes);
+        self.note_sent(&to, bytes);
         Ok(())
     }
 
     // Sends a letter through the system, even one to this node.
-    fn carry(&mut self, to: To, bytes: &[u8]) -> Result<(), SendFault>
+    fn transmit(&mut self, to: To, bytes: &[u8]) -> Result<(), SendFault>
         ensures becomes { Becomes S.is_telling self.old.node self.old.addresses (tray_of self.old) (record { to = to; bytes = bytes.now }) (is_ok result) (tray_of self.new) }
         ensures own { self.new.own ≡ self.old.own }
         ensures node { self.new.node ≡ self.old.node }
@@ -321,11 +326,11 @@ impl<S: DatagramSocket + Drop> SocketPost<S> {
         };
         match sent {
             Ok(()) => {
-                self.note(&to, bytes);
+                self.note_sent(&to, bytes);
                 Ok(())
             }
             Err(SendFault) => {
-                self.lose(&to);
+                self.count_lost(&to);
                 Err(SendFault)
             }
         }
@@ -362,9 +367,9 @@ impl<S: DatagramSocket + Drop> Post for SocketPost<S> {
     ghost Carries = { CarriesLetter S.is_telling };
 
     fn send(&mut self, to: To, bytes: &[u8]) -> Result<(), SendFault> {
-        if self.is_own(&to) && self.keep(to, bytes).is_ok() {
+        if self.is_own(&to) && self.keep_own(to, bytes).is_ok() {
             return Ok(());
         }
-        self.carry(to, bytes)
+        self.transmit(to, bytes)
     }
 }

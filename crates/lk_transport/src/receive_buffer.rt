@@ -73,7 +73,7 @@ impl ReceiveBuffer {
     }
 
     /// The latest datagram, and its source.
-    pub fn heard(&self) -> Option<(&[u8], SocketAddr)>
+    pub fn latest(&self) -> Option<(&[u8], SocketAddr)>
         ensures some { IfSome result (λ r. self.now.last ≡ Some (r.1, r.0.now)) }
         ensures none { IsNone result → self.now.last ≡ None }
     {
@@ -84,7 +84,7 @@ impl ReceiveBuffer {
     }
 
     /// Keeps a probe that is to be answered, if there is one and none is kept yet.
-    pub fn keep(&mut self, asked: Option<Asked>)
+    pub fn keep_probe(&mut self, asked: Option<Asked>)
         ensures { self.new ≡ record self.old { asked = first_asked self.old.asked asked } }
     {
         if self.asked.is_none() {
@@ -92,7 +92,7 @@ impl ReceiveBuffer {
         }
     }
 
-    /// Keeps what a report tells, if there is one and none is kept yet.
+    /// Keeps what a report says, if there is one and none is kept yet.
     pub fn keep_report(&mut self, reported: Option<Reported>)
         ensures { self.new ≡ record self.old { reported = first_reported self.old.reported reported } }
     {

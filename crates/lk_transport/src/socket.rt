@@ -11,10 +11,10 @@ use std::io;
 use std::net::{Ipv4Addr, Net, SocketAddr, UdpSocket};
 use std::time::Duration;
 
-// How long a receive waits at most if it is not told otherwise, in milliseconds.
+// How long a receive waits at most until a timeout is set, in milliseconds.
 const WAIT: u64 = 100;
 
-// A receive may wait this many milliseconds longer than it is told to, since each change costs a call of the system.
+// A receive may wait this many milliseconds longer than its timeout, since each change costs a call of the system.
 const SLACK: u64 = 10;
 
 /// The address of a port on 127.0.0.1.
@@ -47,12 +47,12 @@ pub trait DatagramSocket {
         ensures cause { is_telling → HasCause (failures self.old) (failures self.new) result };
 
     /// From now on a receive waits so long at most, or up to 10 ms longer; until this is called it is 100 ms.
-    fn wait_for(&mut self, time: Duration)
+    fn set_timeout(&mut self, time: Duration)
         ensures unchanged { sent self.new ≡ sent self.old }
         ensures spares { failures self.new ≡ failures self.old }
         ensures still { coming self.new ≡ coming self.old };
 
-    /// Puts the next datagram into the buffer, and tells its length and from where it came. What does not fit is lost.
+    /// Puts the next datagram into the buffer, and returns its length and its source. What does not fit is lost.
     /// `None` where none came in time, or the receive failed.
     fn receive(&mut self, buffer: &mut [u8]) -> Option<(usize, SocketAddr)>
         // The buffer has room for the longest frame and one byte more.
@@ -124,14 +124,14 @@ impl LocalSocket {
     pub fn without_waiting<R: Net>(rt: &R, port: u16) -> Result<LocalSocket, ServiceFault> {
         let mut socket = LocalSocket::bind(rt, port)?;
         socket.never_waits = true;
-        if !socket.waits_as(false) {
+        if !socket.set_waiting(false) {
             return Err(ServiceFault::CannotOpen);
         }
         Ok(socket)
     }
 
     // Makes its receives wait or not, by a system call only if that changes. Returns whether it succeeded.
-    fn waits_as(&mut self, waits: bool) -> bool {
+    fn set_waiting(&mut self, waits: bool) -> bool {
         if self.waits == waits {
             return true;
         }
@@ -151,7 +151,7 @@ impl LocalSocket {
     }
 
     // Has receives wait as long as they are to.
-    fn times_out(&mut self) {
+    fn apply_timeout(&mut self) {
         if !self.is_in_time() && self.socket.set_read_timeout(Some(self.wait)).is_ok() {
             self.timeout = self.wait;
         }
@@ -161,8 +161,8 @@ impl LocalSocket {
     fn receive_in_time(&mut self, buffer: &mut [u8]) -> Option<(usize, SocketAddr)>
         ensures within { IfSome result (λ r. r.0 ≤ length buffer.new) }
     {
-        self.times_out();
-        if !self.waits_as(true) {
+        self.apply_timeout();
+        if !self.set_waiting(true) {
             return None;
         }
         self.socket.recv_from(buffer).ok()
@@ -188,7 +188,7 @@ impl DatagramSocket for LocalSocket {
         }
     }
 
-    fn wait_for(&mut self, time: Duration) {
+    fn set_timeout(&mut self, time: Duration) {
         self.wait = time;
     }
 
@@ -207,7 +207,7 @@ impl DatagramSocket for LocalSocket {
     }
 
     fn receive_waiting(&mut self, buffer: &mut [u8]) -> Option<(usize, SocketAddr)> {
-        if !self.waits_as(false) {
+        if !self.set_waiting(false) {
             return None;
         }
         self.socket.recv_from(buffer).ok()

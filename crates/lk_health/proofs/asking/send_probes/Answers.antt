@@ -21,7 +21,7 @@ targets-preserved g c =
     ∙ ap (λ (n : ℕ). c.target-item.result ∷ drop n targets) (same c.targets.target-index) in
     λ tells last more.
     c.targets.invariant tells last
-    (subst (λ (ts : List Target). asks c.targets.token ts rs c.targets.socket last) (sym next) (c.ask_target.new.socket, c.in_ok-ask_target.ensures tells, more))
+    (subst (λ (ts : List Target). asks c.targets.token ts rs c.targets.socket last) (sym next) (c.probe_target.new.socket, c.in_ok-probe_target.ensures tells, more))
 
 pub returns : goal.returns
 returns g c =

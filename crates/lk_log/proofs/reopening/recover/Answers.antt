@@ -5,7 +5,7 @@ use Rattle.lk_entries.specs.declared.stored.Stored.{Stored}
 use Rattle.lk_log.specs.Images.{seen}
 use Rattle.lk_log.proofs.BeginLaws.{begins_same, begins_after}
 use Rattle.lk_log.proofs.ImageLaws.{found_is_live}
-use Rattle.lk_log.proofs.RecoverLaws.{ok_then, found_after, empty_after, opens_before}
+use Rattle.lk_log.proofs.RecoverLaws.{ok_then, both, neither, found_after, empty_after, opens_before}
 use Rattle.lk_log.proofs.StoreLaws.{not_both}
 use Rattle.lk_log.proofs.reopening.recover.Goals as goal
 use Rattle.lk_log.proofs.Room.{within_same, within_then, within_more}
@@ -34,6 +34,18 @@ returns-else-not-has_header-clause-begun g c honest empty =
     let old = g.D.LogDisk.disk c.args.device.now in
     let found = rw c.in-Some.is at (c.in_ok-live.ensures.live honest) in
     absurd (not_both (seen old) c.in-Some.file.entries.items (found_is_live old c.in-Some.live c.in-Some.file.entries.items c.in-Some.file.end c.in-Some.file.size found) empty)
+
+pub returns-else-not-has_header-clause-is_new : goal.returns-else-not-has_header-clause-is_new
+returns-else-not-has_header-clause-is_new g c honest =
+    let old = g.D.LogDisk.disk c.args.device.now in
+    let found = rw c.in-Some.is at (c.in_ok-live.ensures.live honest) in
+    ok_then c.open.result _ _
+    (λ o is_old. neither (not_both (seen old) c.in-Some.file.entries.items (found_is_live old c.in-Some.live c.in-Some.file.entries.items c.in-Some.file.end c.in-Some.file.size found)) is_old)
+    c.open.ensures.is_old
+
+pub returns-in-None-clause-is_new : goal.returns-in-None-clause-is_new
+returns-in-None-clause-is_new g c honest =
+    ok_then c.begin.result _ _ (λ o is_new. both is_new (c.in_ok-live.ensures.empty honest (cc))) c.begin.ensures.is_new
 
 pub returns-else-not-has_header-clause-stays : goal.returns-else-not-has_header-clause-stays
 returns-else-not-has_header-clause-stays g c honest =

@@ -27,30 +27,32 @@ returns-in-Ok-restored-clause-fits g c honest h n is lawful before =
     let fits = subst IsGenesis (began c.genesis.result.now h.genesis c.args.header.now n c.genesis.ensures.cluster c.genesis.ensures.alpha c.genesis.ensures.members is) c.facts.ensures in
     let begins : c.as_slice.result.now ≡ text m h.genesis [] = c.as_slice.ensures ∙ c.in-Ok.ensures.text ∙ ap (λ (k : Genesis). text m k []) same in
     let old = g.D.LogDisk.disk c.args.device in
-    let after : DisksFit m h n (disks c.in-Ok-reopen.store) = opening_fits_as m h n c.args.header.now c.as_slice.result.now is begins old (disks c.in-Ok-reopen.store) (c.in-Ok-reopen.ensures.stays honest) before in
-    revived_goes m g.M.Machine.IsText keeps h n old c.in-Ok-reopen.store c.in-Ok-reopen.standing c.in-Ok-restored.node c.in-Ok-restored.notes.items lawful fits
-    (opened m h.genesis n c.args.header.now c.as_slice.result.now is begins old c.in-Ok-reopen.store c.in-Ok-reopen.standing (c.in-Ok-reopen.ensures.ok honest))
-    (subst (λ (w : HeaderValue). Restores m g.M.Machine.IsText w c.in-Ok-reopen.standing c.in-Ok-restored.node c.in-Ok-restored.notes.items) is c.in-Ok-restored.ensures.restores) before (c.in-Ok-reopen.ensures.open.1 ∙ is) after
+    let after : DisksFit m h n (disks c.in-Ok-reopen.opened.store) = opening_fits_as m h n c.args.header.now c.as_slice.result.now is begins old (disks c.in-Ok-reopen.opened.store) (c.in-Ok-reopen.ensures.stays honest) before in
+    revived_goes m g.M.Machine.IsText keeps h n old c.in-Ok-reopen.opened.store c.in-Ok-reopen.opened.standing c.in-Ok-restored.node c.in-Ok-restored.notes.items lawful fits
+    (opened m h.genesis n c.args.header.now c.as_slice.result.now is begins old c.in-Ok-reopen.opened.store c.in-Ok-reopen.opened.standing (c.in-Ok-reopen.ensures.ok honest))
+    (subst (λ (w : HeaderValue). Restores m g.M.Machine.IsText w c.in-Ok-reopen.opened.standing c.in-Ok-restored.node c.in-Ok-restored.notes.items) is c.in-Ok-restored.ensures.restores) before (c.in-Ok-reopen.ensures.open.1 ∙ is) after
 
 pub returns-in-Ok-restored-clause-covers : goal.returns-in-Ok-restored-clause-covers
 returns-in-Ok-restored-clause-covers g c honest genesis n x is every =
     let m : Meaning = g.M.Machine.meaning in
     let same = began c.genesis-2.result.now genesis c.args.header.now n c.genesis-2.ensures.cluster c.genesis-2.ensures.alpha c.genesis-2.ensures.members is in
     let begins : c.as_slice.result.now ≡ text m genesis [] = c.as_slice.ensures ∙ c.in-Ok.ensures.text ∙ ap (λ (k : Genesis). text m k []) same in
-    opening_covers_as m genesis n c.args.header.now c.as_slice.result.now is begins (g.D.LogDisk.disk c.args.device) (disks c.in-Ok-reopen.store) x (c.in-Ok-reopen.ensures.stays honest) every
+    opening_covers_as m genesis n c.args.header.now c.as_slice.result.now is begins (g.D.LogDisk.disk c.args.device) (disks c.in-Ok-reopen.opened.store) x (c.in-Ok-reopen.ensures.stays honest) every
 
 pub returns-in-Ok-restored-clause-exact : goal.returns-in-Ok-restored-clause-exact
 returns-in-Ok-restored-clause-exact g c honest =
     let m : Meaning = g.M.Machine.meaning in
     let own = own_header c.genesis-2.result.now c.args.header.now c.genesis-2.ensures.cluster c.genesis-2.ensures.alpha c.genesis-2.ensures.members in
-    let begins : c.as_slice.result.now ≡ text m c.genesis-2.result.now [] = c.as_slice.ensures ∙ c.in-Ok.ensures.text in
-    record {
-      genesis = c.genesis-2.result.now;
-      began = own;
-      standing = c.in-Ok-reopen.standing;
-      opens = subst (λ (t : List ℕ). Opens (seen (g.D.LogDisk.disk c.args.device)) c.args.header.now t c.in-Ok-reopen.store c.in-Ok-reopen.standing) begins (c.in-Ok-reopen.ensures.ok honest);
-      restores = c.in-Ok-restored.ensures.restores;
-    }
+    let begins : c.as_slice.result.now ≡ text m c.genesis-2.result.now [] = c.as_slice.ensures ∙ c.in-Ok.ensures.text in (
+      record {
+        genesis = c.genesis-2.result.now;
+        began = own;
+        standing = c.in-Ok-reopen.opened.standing;
+        opens = subst (λ (t : List ℕ). Opens (seen (g.D.LogDisk.disk c.args.device)) c.args.header.now t c.in-Ok-reopen.opened.store c.in-Ok-reopen.opened.standing) begins (c.in-Ok-reopen.ensures.ok honest);
+        restores = c.in-Ok-restored.ensures.restores;
+      },
+      c.in-Ok-reopen.ensures.is_new honest,
+    )
 
 pub returns-in_default-clause-fits : goal.returns-in_default-clause-fits
 returns-in_default-clause-fits g c honest h n is lawful before = (inr (inl refl), before)
@@ -63,21 +65,21 @@ returns-in-Ok-reopen-clause-fits g c honest h n is lawful before =
     let fits = subst IsGenesis (began c.genesis.result.now h.genesis c.args.header.now n c.genesis.ensures.cluster c.genesis.ensures.alpha c.genesis.ensures.members is) c.facts.ensures in
     let begins : c.as_slice.result.now ≡ text m h.genesis [] = c.as_slice.ensures ∙ c.in-Ok.ensures.text ∙ ap (λ (k : Genesis). text m k []) same in
     let old = g.D.LogDisk.disk c.args.device in
-    let after : DisksFit m h n (disks c.in-Ok-reopen.store) = opening_fits_as m h n c.args.header.now c.as_slice.result.now is begins old (disks c.in-Ok-reopen.store) (c.in-Ok-reopen.ensures.stays honest) before in
+    let after : DisksFit m h n (disks c.in-Ok-reopen.opened.store) = opening_fits_as m h n c.args.header.now c.as_slice.result.now is begins old (disks c.in-Ok-reopen.opened.store) (c.in-Ok-reopen.ensures.stays honest) before in
     let number : IsNumberOfRevival (fault_number c.in-Err-restored.fault) =
-    restored_number m g.M.Machine.IsText keeps h n old c.args.header.now c.in-Ok-reopen.store c.in-Ok-reopen.standing c.in-Err-restored.fault fits is
-    (opened m h.genesis n c.args.header.now c.as_slice.result.now is begins old c.in-Ok-reopen.store c.in-Ok-reopen.standing (c.in-Ok-reopen.ensures.ok honest)) before c.in-Err-restored.ensures.only
+    restored_number m g.M.Machine.IsText keeps h n old c.args.header.now c.in-Ok-reopen.opened.store c.in-Ok-reopen.opened.standing c.in-Err-restored.fault fits is
+    (opened m h.genesis n c.args.header.now c.as_slice.result.now is begins old c.in-Ok-reopen.opened.store c.in-Ok-reopen.opened.standing (c.in-Ok-reopen.ensures.ok honest)) before c.in-Err-restored.ensures.only
     (λ damaged. c.in-Err-restored.ensures.damaged (ap (λ (f : ReplicaFault). Err f) damaged)) in
-    (number, given_fit m h n c.in-Ok-reopen.store (g.D.LogDisk.disk c.into_disks.result) c.into_disks.ensures.live_disk c.into_disks.ensures.other_disk after)
+    (number, given_fit m h n c.in-Ok-reopen.opened.store (g.D.LogDisk.disk c.into_disks.result) c.into_disks.ensures.live_disk c.into_disks.ensures.other_disk after)
 
 pub returns-in-Ok-reopen-clause-covers : goal.returns-in-Ok-reopen-clause-covers
 returns-in-Ok-reopen-clause-covers g c honest genesis n x is every =
     let m : Meaning = g.M.Machine.meaning in
     let same = began c.genesis-2.result.now genesis c.args.header.now n c.genesis-2.ensures.cluster c.genesis-2.ensures.alpha c.genesis-2.ensures.members is in
     let begins : c.as_slice.result.now ≡ text m genesis [] = c.as_slice.ensures ∙ c.in-Ok.ensures.text ∙ ap (λ (k : Genesis). text m k []) same in
-    let after : AllCover m genesis n (disks c.in-Ok-reopen.store) x =
-    opening_covers_as m genesis n c.args.header.now c.as_slice.result.now is begins (g.D.LogDisk.disk c.args.device) (disks c.in-Ok-reopen.store) x (c.in-Ok-reopen.ensures.stays honest) every in
-    given_cover m genesis n x c.in-Ok-reopen.store (g.D.LogDisk.disk c.into_disks.result) c.into_disks.ensures.live_disk c.into_disks.ensures.other_disk after
+    let after : AllCover m genesis n (disks c.in-Ok-reopen.opened.store) x =
+    opening_covers_as m genesis n c.args.header.now c.as_slice.result.now is begins (g.D.LogDisk.disk c.args.device) (disks c.in-Ok-reopen.opened.store) x (c.in-Ok-reopen.ensures.stays honest) every in
+    given_cover m genesis n x c.in-Ok-reopen.opened.store (g.D.LogDisk.disk c.into_disks.result) c.into_disks.ensures.live_disk c.into_disks.ensures.other_disk after
 
 pub returns-clause-fits : goal.returns-clause-fits
 returns-clause-fits g c honest h n is lawful before =
@@ -101,7 +103,7 @@ returns-clause-covers g c honest genesis n x is every =
 
 pub returns-in-Ok-reopen-clause-room : goal.returns-in-Ok-reopen-clause-room
 returns-in-Ok-reopen-clause-room g c honest =
-    given_room 49152 (g.D.LogDisk.disk c.args.device) c.in-Ok-reopen.store (g.D.LogDisk.disk c.into_disks.result) c.into_disks.ensures.live_disk c.into_disks.ensures.other_disk (c.in-Ok-reopen.ensures.room honest)
+    given_room 49152 (g.D.LogDisk.disk c.args.device) c.in-Ok-reopen.opened.store (g.D.LogDisk.disk c.into_disks.result) c.into_disks.ensures.live_disk c.into_disks.ensures.other_disk (c.in-Ok-reopen.ensures.room honest)
 
 -- ---- which calls were made
 
@@ -129,8 +131,8 @@ returns-in-Ok-reopen-clause-stays_err g c honest genesis is =
     let m : Meaning = g.M.Machine.meaning in
     let same = began c.genesis-2.result.now genesis c.args.header.now c.args.header.now.node c.genesis-2.ensures.cluster c.genesis-2.ensures.alpha c.genesis-2.ensures.members is in
     let begins : c.as_slice.result.now ≡ text m genesis [] = c.as_slice.ensures ∙ c.in-Ok.ensures.text ∙ ap (λ (k : Genesis). text m k []) same in
-    given_narrow (g.D.LogDisk.disk c.args.device) c.args.header.now (text m genesis []) c.in-Ok-reopen.store (g.D.LogDisk.disk c.into_disks.result) c.into_disks.ensures.live_disk c.into_disks.ensures.other_disk
-    (subst (λ (t : List ℕ). NarrowsOrBegins (g.D.LogDisk.disk c.args.device) (disks c.in-Ok-reopen.store) c.args.header.now t) begins (c.in-Ok-reopen.ensures.stays honest))
+    given_narrow (g.D.LogDisk.disk c.args.device) c.args.header.now (text m genesis []) c.in-Ok-reopen.opened.store (g.D.LogDisk.disk c.into_disks.result) c.into_disks.ensures.live_disk c.into_disks.ensures.other_disk
+    (subst (λ (t : List ℕ). NarrowsOrBegins (g.D.LogDisk.disk c.args.device) (disks c.in-Ok-reopen.opened.store) c.args.header.now t) begins (c.in-Ok-reopen.ensures.stays honest))
 
 pub returns-clause-stays_err : goal.returns-clause-stays_err
 returns-clause-stays_err g c honest genesis is =
@@ -147,9 +149,9 @@ returns-in-Ok-restored-clause-remembers g c honest genesis n is =
     let same = began c.genesis-2.result.now genesis c.args.header.now n c.genesis-2.ensures.cluster c.genesis-2.ensures.alpha c.genesis-2.ensures.members is in
     let begins : c.as_slice.result.now ≡ text m genesis [] = c.as_slice.ensures ∙ c.in-Ok.ensures.text ∙ ap (λ (k : Genesis). text m k []) same in
     let old = g.D.LogDisk.disk c.args.device in
-    revived_remembers m g.M.Machine.IsText genesis n old c.in-Ok-reopen.store c.in-Ok-reopen.standing c.in-Ok-restored.node c.in-Ok-restored.notes.items
-    (opened m genesis n c.args.header.now c.as_slice.result.now is begins old c.in-Ok-reopen.store c.in-Ok-reopen.standing (c.in-Ok-reopen.ensures.ok honest))
-    (subst (λ (w : HeaderValue). Restores m g.M.Machine.IsText w c.in-Ok-reopen.standing c.in-Ok-restored.node c.in-Ok-restored.notes.items) is c.in-Ok-restored.ensures.restores) (c.in-Ok-reopen.ensures.open.1 ∙ is)
+    revived_remembers m g.M.Machine.IsText genesis n old c.in-Ok-reopen.opened.store c.in-Ok-reopen.opened.standing c.in-Ok-restored.node c.in-Ok-restored.notes.items
+    (opened m genesis n c.args.header.now c.as_slice.result.now is begins old c.in-Ok-reopen.opened.store c.in-Ok-reopen.opened.standing (c.in-Ok-reopen.ensures.ok honest))
+    (subst (λ (w : HeaderValue). Restores m g.M.Machine.IsText w c.in-Ok-reopen.opened.standing c.in-Ok-restored.node c.in-Ok-restored.notes.items) is c.in-Ok-restored.ensures.restores) (c.in-Ok-reopen.ensures.open.1 ∙ is)
 
 -- ---- what is ready
 
@@ -179,15 +181,15 @@ returns-in-Ok-reopen-clause-refused g c honest =
     let m : Meaning = g.M.Machine.meaning in
     let begins : c.as_slice.result.now ≡ text m c.genesis-2.result.now [] = c.as_slice.ensures ∙ c.in-Ok.ensures.text in
     let k = c.in-Ok-reopen.ensures.ok honest in
-    let o : Opens (seen (g.D.LogDisk.disk c.args.device)) c.args.header.now (text m c.genesis-2.result.now []) c.in-Ok-reopen.store c.in-Ok-reopen.standing =
-    subst (λ (t : List ℕ). Opens (seen (g.D.LogDisk.disk c.args.device)) c.args.header.now t c.in-Ok-reopen.store c.in-Ok-reopen.standing) begins k in
+    let o : Opens (seen (g.D.LogDisk.disk c.args.device)) c.args.header.now (text m c.genesis-2.result.now []) c.in-Ok-reopen.opened.store c.in-Ok-reopen.opened.standing =
+    subst (λ (t : List ℕ). Opens (seen (g.D.LogDisk.disk c.args.device)) c.args.header.now t c.in-Ok-reopen.opened.store c.in-Ok-reopen.opened.standing) begins k in
     let f = c.in-Err-restored.fault in
     let only = c.in-Err-restored.ensures.only in
     record {
       damaged = λ nine. inr (record {
         genesis = c.genesis-2.result.now;
         began = own_header c.genesis-2.result.now c.args.header.now c.genesis-2.ensures.cluster c.genesis-2.ensures.alpha c.genesis-2.ensures.members;
-        standing = c.in-Ok-reopen.standing;
+        standing = c.in-Ok-reopen.opened.standing;
         stands = record { entries = o.entries; found = o.found; header = o.header; stands = o.stands };
         none = c.in-Err-restored.ensures.damaged (ap (λ (f : ReplicaFault). Err f) (damaged_only f only nine));
       });

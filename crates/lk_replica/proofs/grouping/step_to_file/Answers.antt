@@ -78,62 +78,62 @@ returns-then-outbox-clause-goes g c honest h n f heard sent among =
     let m : Meaning = g.M.Machine.meaning in
     let is : c.in_ok-outbox.outbox.rebase ≡ true = sym (ap (λ (o : OutboxValue). o.rebase) c.outbox.view_is) ∙ c.if-outbox.true in
     let base = c.in_ok-write_base.ensures.becomes in
-    let mid = settled_fits m h n c.args.node.now c.args.store.now c.settle.new.store c.args.waits (c.in_ok-settle.ensures.settles honest) f in
+    let mid = settled_fits m h n c.args.node.now c.args.store.now c.sync_if_waiting.new.store c.args.waits (c.in_ok-sync_if_waiting.ensures.settles honest) f in
     subst (λ (k : NodeValue). GroupGoes m h n k c.write_base.new.store (waits_after c.args.waits c.in_ok-outbox.outbox) c.in_ok-outbox.outbox.notes (batch_of n sent)) (sym base.becomes)
-    (based_goes m h n c.args.node.now c.step.new.self c.settle.new.store c.write_base.new.store c.args.waits c.args.input c.in_ok-outbox.outbox mid heard c.in_ok-outbox.ensures.goes_on is base.begins c.write_base.ensures.near
+    (based_goes m h n c.args.node.now c.step.new.self c.sync_if_waiting.new.store c.write_base.new.store c.args.waits c.args.input c.in_ok-outbox.outbox mid heard c.in_ok-outbox.ensures.goes_on is base.begins c.write_base.ensures.near
     ((c.in_ok-write_base.ensures.done honest).rebases.writes mid.shown.keeps.entries (plain mid.shown.keeps.loose) mid.shown.keeps.holds) sent among)
 
 pub returns-then-outbox-clause-ends : goal.returns-then-outbox-clause-ends
 returns-then-outbox-clause-ends g c honest h n s heard =
     let m : Meaning = g.M.Machine.meaning in
     let is : c.in_ok-outbox.outbox.rebase ≡ true = sym (ap (λ (o : OutboxValue). o.rebase) c.outbox.view_is) ∙ c.if-outbox.true in
-    let mid = settled_fits m h n c.args.node.now c.args.store.now c.settle.new.store c.args.waits (c.in_ok-settle.ensures.settles honest) s.fits in
-    (c.write_base.ensures.disks honest).fits h n (stepped_fits m h n c.args.node.now c.step.new.self c.settle.new.store c.args.input c.in_ok-outbox.outbox mid heard c.in_ok-outbox.ensures.goes_on is)
+    let mid = settled_fits m h n c.args.node.now c.args.store.now c.sync_if_waiting.new.store c.args.waits (c.in_ok-sync_if_waiting.ensures.settles honest) s.fits in
+    (c.write_base.ensures.disks honest).fits h n (stepped_fits m h n c.args.node.now c.step.new.self c.sync_if_waiting.new.store c.args.input c.in_ok-outbox.outbox mid heard c.in_ok-outbox.ensures.goes_on is)
 
 pub returns-then-outbox-clause-stays : goal.returns-then-outbox-clause-stays
 returns-then-outbox-clause-stays g c honest h n s heard =
     let m : Meaning = g.M.Machine.meaning in
     let is : c.in_ok-outbox.outbox.rebase ≡ true = sym (ap (λ (o : OutboxValue). o.rebase) c.outbox.view_is) ∙ c.if-outbox.true in
     let base = c.in_ok-write_base.ensures.becomes in
-    let mid = settled_fits m h n c.args.node.now c.args.store.now c.settle.new.store c.args.waits (c.in_ok-settle.ensures.settles honest) s.fits in
+    let mid = settled_fits m h n c.args.node.now c.args.store.now c.sync_if_waiting.new.store c.args.waits (c.in_ok-sync_if_waiting.ensures.settles honest) s.fits in
     subst (λ (k : NodeValue). GroupStays m h n k c.write_base.new.store (waits_after c.args.waits c.in_ok-outbox.outbox)) (sym base.becomes)
-    (based_stays m h n c.args.node.now c.step.new.self c.settle.new.store c.write_base.new.store c.args.waits c.args.input c.in_ok-outbox.outbox mid heard c.in_ok-outbox.ensures.goes_on is base.begins c.write_base.ensures.near
+    (based_stays m h n c.args.node.now c.step.new.self c.sync_if_waiting.new.store c.write_base.new.store c.args.waits c.args.input c.in_ok-outbox.outbox mid heard c.in_ok-outbox.ensures.goes_on is base.begins c.write_base.ensures.near
     ((c.in_ok-write_base.ensures.done honest).rebases.writes mid.shown.keeps.entries (plain mid.shown.keeps.loose) mid.shown.keeps.holds)
-    ((c.write_base.ensures.disks honest).fits h n (stepped_fits m h n c.args.node.now c.step.new.self c.settle.new.store c.args.input c.in_ok-outbox.outbox mid heard c.in_ok-outbox.ensures.goes_on is)))
+    ((c.write_base.ensures.disks honest).fits h n (stepped_fits m h n c.args.node.now c.step.new.self c.sync_if_waiting.new.store c.args.input c.in_ok-outbox.outbox mid heard c.in_ok-outbox.ensures.goes_on is)))
 
 pub returns-then-outbox-clause-syncs : goal.returns-then-outbox-clause-syncs
 returns-then-outbox-clause-syncs g c honest genesis n x r d listed said =
     let m : Meaning = g.M.Machine.meaning in
     let is : c.in_ok-outbox.outbox.rebase ≡ true = sym (ap (λ (o : OutboxValue). o.rebase) c.outbox.view_is) ∙ c.if-outbox.true in
-    let mid = settled_keeps _ c.args.store.now c.settle.new.store c.args.waits _ (c.in_ok-settle.ensures.settles honest) r.keeps in
+    let mid = settled_keeps _ c.args.store.now c.sync_if_waiting.new.store c.args.waits _ (c.in_ok-sync_if_waiting.ensures.settles honest) r.keeps in
     based_cover m genesis n c.write_base.new.store c.args.waits c.in_ok-outbox.outbox x is
-    ((c.in_ok-write_base.ensures.done honest).syncs genesis n x (still_keeps m _ genesis n c.args.node.now c.step.new.self c.settle.new.store r.whose mid c.in_ok-outbox.outbox c.in_ok-outbox.ensures.goes_on is)
-    (sent_is_covered m _ genesis n c.args.node.now c.step.new.self c.settle.new.store r.whose mid c.in_ok-outbox.outbox c.in_ok-outbox.ensures.goes_on is x d listed said))
+    ((c.in_ok-write_base.ensures.done honest).syncs genesis n x (still_keeps m _ genesis n c.args.node.now c.step.new.self c.sync_if_waiting.new.store r.whose mid c.in_ok-outbox.outbox c.in_ok-outbox.ensures.goes_on is)
+    (sent_is_covered m _ genesis n c.args.node.now c.step.new.self c.sync_if_waiting.new.store r.whose mid c.in_ok-outbox.outbox c.in_ok-outbox.ensures.goes_on is x d listed said))
 
 pub returns-then-outbox-clause-still : goal.returns-then-outbox-clause-still
 returns-then-outbox-clause-still g c honest genesis n x r every =
     let m : Meaning = g.M.Machine.meaning in
     let is : c.in_ok-outbox.outbox.rebase ≡ true = sym (ap (λ (o : OutboxValue). o.rebase) c.outbox.view_is) ∙ c.if-outbox.true in
-    let mid = settled_keeps _ c.args.store.now c.settle.new.store c.args.waits _ (c.in_ok-settle.ensures.settles honest) r.keeps in
+    let mid = settled_keeps _ c.args.store.now c.sync_if_waiting.new.store c.args.waits _ (c.in_ok-sync_if_waiting.ensures.settles honest) r.keeps in
     based_cover m genesis n c.write_base.new.store c.args.waits c.in_ok-outbox.outbox x is
-    ((c.write_base.ensures.disks honest).covers genesis n x (still_keeps m _ genesis n c.args.node.now c.step.new.self c.settle.new.store r.whose mid c.in_ok-outbox.outbox c.in_ok-outbox.ensures.goes_on is)
-    (settled_covers m genesis n c.args.node.now c.args.store.now c.settle.new.store c.args.waits (c.in_ok-settle.ensures.settles honest) r x every))
+    ((c.write_base.ensures.disks honest).covers genesis n x (still_keeps m _ genesis n c.args.node.now c.step.new.self c.sync_if_waiting.new.store r.whose mid c.in_ok-outbox.outbox c.in_ok-outbox.ensures.goes_on is)
+    (settled_covers m genesis n c.args.node.now c.args.store.now c.sync_if_waiting.new.store c.args.waits (c.in_ok-sync_if_waiting.ensures.settles honest) r x every))
 
 pub returns-then-outbox-clause-covers : goal.returns-then-outbox-clause-covers
 returns-then-outbox-clause-covers g c honest genesis n x r every =
     let m : Meaning = g.M.Machine.meaning in
     let is : c.in_ok-outbox.outbox.rebase ≡ true = sym (ap (λ (o : OutboxValue). o.rebase) c.outbox.view_is) ∙ c.if-outbox.true in
-    let mid = settled_keeps _ c.args.store.now c.settle.new.store c.args.waits _ (c.in_ok-settle.ensures.settles honest) r.keeps in
-    (c.write_base.ensures.disks honest).covers genesis n x (still_keeps m _ genesis n c.args.node.now c.step.new.self c.settle.new.store r.whose mid c.in_ok-outbox.outbox c.in_ok-outbox.ensures.goes_on is)
-    (settle_covers m genesis n c.args.node.now c.args.store.now c.settle.new.store c.args.waits r (c.settle.ensures.any honest r.keeps.entries (plain r.keeps.loose) r.keeps.holds) x every)
+    let mid = settled_keeps _ c.args.store.now c.sync_if_waiting.new.store c.args.waits _ (c.in_ok-sync_if_waiting.ensures.settles honest) r.keeps in
+    (c.write_base.ensures.disks honest).covers genesis n x (still_keeps m _ genesis n c.args.node.now c.step.new.self c.sync_if_waiting.new.store r.whose mid c.in_ok-outbox.outbox c.in_ok-outbox.ensures.goes_on is)
+    (settle_covers m genesis n c.args.node.now c.args.store.now c.sync_if_waiting.new.store c.args.waits r (c.sync_if_waiting.ensures.any honest r.keeps.entries (plain r.keeps.loose) r.keeps.holds) x every)
 
 pub returns-then-outbox-clause-recalls : goal.returns-then-outbox-clause-recalls
 returns-then-outbox-clause-recalls g c honest genesis n r =
     let m : Meaning = g.M.Machine.meaning in
     let is : c.in_ok-outbox.outbox.rebase ≡ true = sym (ap (λ (o : OutboxValue). o.rebase) c.outbox.view_is) ∙ c.if-outbox.true in
-    let mid = settled_keeps _ c.args.store.now c.settle.new.store c.args.waits _ (c.in_ok-settle.ensures.settles honest) r.keeps in
+    let mid = settled_keeps _ c.args.store.now c.sync_if_waiting.new.store c.args.waits _ (c.in_ok-sync_if_waiting.ensures.settles honest) r.keeps in
     begin_recalls _ c.write_base.new.store genesis n c.args.waits c.in_ok-outbox.outbox is
-    ((c.in_ok-write_base.ensures.done honest).remembers genesis n (still_remembers m _ genesis n c.args.node.now c.step.new.self c.settle.new.store r.whose mid c.in_ok-outbox.outbox c.in_ok-outbox.ensures.goes_on is))
+    ((c.in_ok-write_base.ensures.done honest).remembers genesis n (still_remembers m _ genesis n c.args.node.now c.step.new.self c.sync_if_waiting.new.store r.whose mid c.in_ok-outbox.outbox c.in_ok-outbox.ensures.goes_on is))
 
 -- ---- at every exit
 
@@ -148,33 +148,33 @@ returns-in_err-put-clause-ends g c honest h n s heard =
     group_leaves _ h n c.args.node.now c.step.new.self c.args.store.now c.put.new.self c.args.waits c.args.input c.in_ok-outbox.outbox s heard c.in_ok-outbox.ensures.goes_on (step_told _ _ c.args.node.now _ c.step.new.self c.in_ok-outbox.outbox c.in_ok-outbox.ensures.steps not_so)
     (subst (λ (es : List Entry). KeepsAtLeast c.put.new.self k.entries (plain k.loose ++ plain es)) is (c.put.ensures.any honest k.entries (plain k.loose) k.holds))
 
-pub returns-in_err-settle-clause-ends : goal.returns-in_err-settle-clause-ends
-returns-in_err-settle-clause-ends g c honest h n s heard =
+pub returns-in_err-sync_if_waiting-clause-ends : goal.returns-in_err-sync_if_waiting-clause-ends
+returns-in_err-sync_if_waiting-clause-ends g c honest h n s heard =
     let k = s.fits.shown.keeps in
-    settle_leaves _ h n c.args.node.now c.args.store.now c.settle.new.store c.args.waits s (c.settle.ensures.any honest k.entries (plain k.loose) k.holds)
+    settle_leaves _ h n c.args.node.now c.args.store.now c.sync_if_waiting.new.store c.args.waits s (c.sync_if_waiting.ensures.any honest k.entries (plain k.loose) k.holds)
 
 pub returns-in_err-write_base-clause-ends : goal.returns-in_err-write_base-clause-ends
 returns-in_err-write_base-clause-ends g c honest h n s heard =
     let m : Meaning = g.M.Machine.meaning in
     let is : c.in_ok-outbox.outbox.rebase ≡ true = sym (ap (λ (o : OutboxValue). o.rebase) c.outbox.view_is) ∙ c.if-outbox.true in
-    let mid = settled_fits m h n c.args.node.now c.args.store.now c.settle.new.store c.args.waits (c.in_ok-settle.ensures.settles honest) s.fits in
-    (c.write_base.ensures.disks honest).fits h n (stepped_fits m h n c.args.node.now c.step.new.self c.settle.new.store c.args.input c.in_ok-outbox.outbox mid heard c.in_ok-outbox.ensures.goes_on is)
+    let mid = settled_fits m h n c.args.node.now c.args.store.now c.sync_if_waiting.new.store c.args.waits (c.in_ok-sync_if_waiting.ensures.settles honest) s.fits in
+    (c.write_base.ensures.disks honest).fits h n (stepped_fits m h n c.args.node.now c.step.new.self c.sync_if_waiting.new.store c.args.input c.in_ok-outbox.outbox mid heard c.in_ok-outbox.ensures.goes_on is)
 
 pub returns-in_err-put-clause-covers : goal.returns-in_err-put-clause-covers
 returns-in_err-put-clause-covers g c honest genesis n x r every =
     gather_still_covers _ genesis n c.args.node.now c.args.store.now c.put.new.self c.args.waits c.deref.result.now r (c.put.ensures.any honest r.keeps.entries (plain r.keeps.loose) r.keeps.holds) x every
 
-pub returns-in_err-settle-clause-covers : goal.returns-in_err-settle-clause-covers
-returns-in_err-settle-clause-covers g c honest genesis n x r every =
-    settle_covers _ genesis n c.args.node.now c.args.store.now c.settle.new.store c.args.waits r (c.settle.ensures.any honest r.keeps.entries (plain r.keeps.loose) r.keeps.holds) x every
+pub returns-in_err-sync_if_waiting-clause-covers : goal.returns-in_err-sync_if_waiting-clause-covers
+returns-in_err-sync_if_waiting-clause-covers g c honest genesis n x r every =
+    settle_covers _ genesis n c.args.node.now c.args.store.now c.sync_if_waiting.new.store c.args.waits r (c.sync_if_waiting.ensures.any honest r.keeps.entries (plain r.keeps.loose) r.keeps.holds) x every
 
 pub returns-in_err-write_base-clause-covers : goal.returns-in_err-write_base-clause-covers
 returns-in_err-write_base-clause-covers g c honest genesis n x r every =
     let m : Meaning = g.M.Machine.meaning in
     let is : c.in_ok-outbox.outbox.rebase ≡ true = sym (ap (λ (o : OutboxValue). o.rebase) c.outbox.view_is) ∙ c.if-outbox.true in
-    let mid = settled_keeps _ c.args.store.now c.settle.new.store c.args.waits _ (c.in_ok-settle.ensures.settles honest) r.keeps in
-    (c.write_base.ensures.disks honest).covers genesis n x (still_keeps m _ genesis n c.args.node.now c.step.new.self c.settle.new.store r.whose mid c.in_ok-outbox.outbox c.in_ok-outbox.ensures.goes_on is)
-    (settle_covers m genesis n c.args.node.now c.args.store.now c.settle.new.store c.args.waits r (c.settle.ensures.any honest r.keeps.entries (plain r.keeps.loose) r.keeps.holds) x every)
+    let mid = settled_keeps _ c.args.store.now c.sync_if_waiting.new.store c.args.waits _ (c.in_ok-sync_if_waiting.ensures.settles honest) r.keeps in
+    (c.write_base.ensures.disks honest).covers genesis n x (still_keeps m _ genesis n c.args.node.now c.step.new.self c.sync_if_waiting.new.store r.whose mid c.in_ok-outbox.outbox c.in_ok-outbox.ensures.goes_on is)
+    (settle_covers m genesis n c.args.node.now c.args.store.now c.sync_if_waiting.new.store c.args.waits r (c.sync_if_waiting.ensures.any honest r.keeps.entries (plain r.keeps.loose) r.keeps.holds) x every)
 
 pub returns-then-outbox-clause-runs : goal.returns-then-outbox-clause-runs
 returns-then-outbox-clause-runs g c none = c.in_ok-write_base.ensures.becomes.runs (c.in_ok-outbox.ensures.runs none)
@@ -196,18 +196,18 @@ returns-clause-room g c honest small =
     let few : length c.in_ok-outbox.outbox.entries ≤ 16 = few_entries _ _ c.args.node.now _ c.step.new.self c.in_ok-outbox.outbox c.in_ok-outbox.ensures.steps in
     behind_room (disks c.args.store.now) c.args.store.now c.put.new.self (within_same 49152 (disks c.args.store.now) (disks c.args.store.now) (λ s. refl)) small c.put.ensures.file.0 (omega (arith, c.put.ensures.grows honest, few, ap length is)) (c.put.ensures.beside honest).0
 
-pub returns-in_err-settle-clause-room : goal.returns-in_err-settle-clause-room
-returns-in_err-settle-clause-room g c honest small = within_more 132704 (disks c.args.store.now) (disks c.settle.new.store) (c.settle.ensures.room honest)
+pub returns-in_err-sync_if_waiting-clause-room : goal.returns-in_err-sync_if_waiting-clause-room
+returns-in_err-sync_if_waiting-clause-room g c honest small = within_more 132704 (disks c.args.store.now) (disks c.sync_if_waiting.new.store) (c.sync_if_waiting.ensures.room honest)
 
 pub returns-in_err-write_base-clause-room : goal.returns-in_err-write_base-clause-room
 returns-in_err-write_base-clause-room g c honest small =
     refused_room (disks c.args.store.now) (disks c.write_base.new.store)
-    (within_first 49152 (disks c.args.store.now) (disks c.settle.new.store) (disks c.write_base.new.store) (within_more 49152 (disks c.args.store.now) (disks c.settle.new.store) (c.settle.ensures.room honest)) (c.write_base.ensures.disks honest).room)
+    (within_first 49152 (disks c.args.store.now) (disks c.sync_if_waiting.new.store) (disks c.write_base.new.store) (within_more 49152 (disks c.args.store.now) (disks c.sync_if_waiting.new.store) (c.sync_if_waiting.ensures.room honest)) (c.write_base.ensures.disks honest).room)
 
 pub returns-then-outbox-clause-room : goal.returns-then-outbox-clause-room
 returns-then-outbox-clause-room g c honest small =
     refused_room (disks c.args.store.now) (disks c.write_base.new.store)
-    (within_first 49152 (disks c.args.store.now) (disks c.settle.new.store) (disks c.write_base.new.store) (within_more 49152 (disks c.args.store.now) (disks c.settle.new.store) (c.settle.ensures.room honest)) (c.write_base.ensures.disks honest).room)
+    (within_first 49152 (disks c.args.store.now) (disks c.sync_if_waiting.new.store) (disks c.write_base.new.store) (within_more 49152 (disks c.args.store.now) (disks c.sync_if_waiting.new.store) (c.sync_if_waiting.ensures.room honest)) (c.write_base.ensures.disks honest).room)
 
 -- ---- and growth
 
@@ -226,18 +226,18 @@ returns-clause-grows g c honest =
     let few : length c.in_ok-outbox.outbox.entries ≤ 16 = few_entries _ _ c.args.node.now _ c.step.new.self c.in_ok-outbox.outbox c.in_ok-outbox.ensures.steps in
     grown_less (disks c.args.store.now) (disks c.put.new.self) (grown_put c.args.store.now c.put.new.self c.put.ensures.file.0 (omega (arith, c.put.ensures.grows honest, few, ap length is)) (c.put.ensures.beside honest).0)
 
-pub returns-in_err-settle-clause-grows : goal.returns-in_err-settle-clause-grows
-returns-in_err-settle-clause-grows g c honest = grown_base (disks c.args.store.now) (disks c.settle.new.store) (within_more 49152 (disks c.args.store.now) (disks c.settle.new.store) (c.settle.ensures.room honest))
+pub returns-in_err-sync_if_waiting-clause-grows : goal.returns-in_err-sync_if_waiting-clause-grows
+returns-in_err-sync_if_waiting-clause-grows g c honest = grown_base (disks c.args.store.now) (disks c.sync_if_waiting.new.store) (within_more 49152 (disks c.args.store.now) (disks c.sync_if_waiting.new.store) (c.sync_if_waiting.ensures.room honest))
 
 pub returns-in_err-write_base-clause-grows : goal.returns-in_err-write_base-clause-grows
 returns-in_err-write_base-clause-grows g c honest =
     grown_base (disks c.args.store.now) (disks c.write_base.new.store)
-    (within_first 49152 (disks c.args.store.now) (disks c.settle.new.store) (disks c.write_base.new.store) (within_more 49152 (disks c.args.store.now) (disks c.settle.new.store) (c.settle.ensures.room honest)) (c.write_base.ensures.disks honest).room)
+    (within_first 49152 (disks c.args.store.now) (disks c.sync_if_waiting.new.store) (disks c.write_base.new.store) (within_more 49152 (disks c.args.store.now) (disks c.sync_if_waiting.new.store) (c.sync_if_waiting.ensures.room honest)) (c.write_base.ensures.disks honest).room)
 
 pub returns-then-outbox-clause-grows : goal.returns-then-outbox-clause-grows
 returns-then-outbox-clause-grows g c honest =
     grown_base (disks c.args.store.now) (disks c.write_base.new.store)
-    (within_first 49152 (disks c.args.store.now) (disks c.settle.new.store) (disks c.write_base.new.store) (within_more 49152 (disks c.args.store.now) (disks c.settle.new.store) (c.settle.ensures.room honest)) (c.write_base.ensures.disks honest).room)
+    (within_first 49152 (disks c.args.store.now) (disks c.sync_if_waiting.new.store) (disks c.write_base.new.store) (within_more 49152 (disks c.args.store.now) (disks c.sync_if_waiting.new.store) (c.sync_if_waiting.ensures.room honest)) (c.write_base.ensures.disks honest).room)
 
 -- ---- what it has done
 
@@ -262,10 +262,10 @@ returns-then-outbox-clause-exact g c honest =
     record {
       stepped = c.step.new.self;
       steps = c.in_ok-outbox.ensures.steps;
-      rebases = λ yes. settled_rebases c.step.new.self c.write_base.new.node c.args.store.now c.settle.new.store c.write_base.new.store c.args.waits (c.in_ok-settle.ensures.settles honest) c.settle.ensures.file done.rebases;
+      rebases = λ yes. settled_rebases c.step.new.self c.write_base.new.node c.args.store.now c.sync_if_waiting.new.store c.write_base.new.store c.args.waits (c.in_ok-sync_if_waiting.ensures.settles honest) c.sync_if_waiting.ensures.file done.rebases;
       puts = λ no. absurd (let both : true ≡ false = sym is ∙ no in cc both);
       grows = λ no. absurd (let both : true ≡ false = sym is ∙ no in cc both);
-      calls = λ metered. gathered_base _ _ _ c.args.waits c.in_ok-outbox.outbox is (c.in_ok-settle.ensures.metered metered) (done.calls metered);
+      calls = λ metered. gathered_base _ _ _ c.args.waits c.in_ok-outbox.outbox is (c.in_ok-sync_if_waiting.ensures.metered metered) (done.calls metered);
     }
 
 pub returns-clause-alive : goal.returns-clause-alive
@@ -306,10 +306,10 @@ returns-in_err-put-clause-refused g c =
       awake = λ wakes other. c.in_ok-outbox.ensures.awake;
     })
 
-pub returns-in_err-settle-clause-refused : goal.returns-in_err-settle-clause-refused
-returns-in_err-settle-clause-refused g c =
-    let was = c.in_err-settle.ensures.refused in
-    err_as _ _ _ c.from_residual-in_err-settle.ensures.1 (record {
+pub returns-in_err-sync_if_waiting-clause-refused : goal.returns-in_err-sync_if_waiting-clause-refused
+returns-in_err-sync_if_waiting-clause-refused g c =
+    let was = c.in_err-sync_if_waiting.ensures.refused in
+    err_as _ _ _ c.from_residual-in_err-sync_if_waiting.ensures.1 (record {
       told = store_told _ was.of_store;
       only = store_only _ was.of_store;
       calls = was.calls;
@@ -327,10 +327,10 @@ returns-in_err-write_base-clause-refused g c =
     err_as _ _ _ c.from_residual-in_err-write_base.ensures.1 (record {
       told = store_told _ was.of_store;
       only = store_only _ was.of_store;
-      calls = λ metered honest. refused_on _ (c.in_ok-settle.ensures.metered metered) _ _ (was.calls metered honest);
-      earlier = λ is alive further. was.earlier is (c.in_ok-settle.ensures.alive alive) (omega (arith, further, c.settle.ensures.file.1));
-      second = λ honest is alive less. absurd (was.earlier is (c.in_ok-settle.ensures.alive alive) (omega (arith, less, c.settle.ensures.file.1)));
-      file = λ honest. kept_then c.args.store.now c.settle.new.store c.write_base.new.store c.settle.ensures.file was.file;
+      calls = λ metered honest. refused_on _ (c.in_ok-sync_if_waiting.ensures.metered metered) _ _ (was.calls metered honest);
+      earlier = λ is alive further. was.earlier is (c.in_ok-sync_if_waiting.ensures.alive alive) (omega (arith, further, c.sync_if_waiting.ensures.file.1));
+      second = λ honest is alive less. absurd (was.earlier is (c.in_ok-sync_if_waiting.ensures.alive alive) (omega (arith, less, c.sync_if_waiting.ensures.file.1)));
+      file = λ honest. kept_then c.args.store.now c.sync_if_waiting.new.store c.write_base.new.store c.sync_if_waiting.ensures.file was.file;
       stays = λ honest. spared_all _ _ tt;
       halts = λ is. absurd (store_awake _ was.of_store is);
       awake = λ wakes other. c.write_base.ensures.wakes ∙ c.in_ok-outbox.ensures.awake;

@@ -8,46 +8,46 @@ use Rattle.lk_server.proofs.server.node_turn.Goals as goal
 
 pub returns-then-not-branch-clause-turn : goal.returns-then-not-branch-clause-turn
 returns-then-not-branch-clause-turn g c =
-    let idle = c.in_ok-gather_turn.ensures.idle (cc c.if-not-branch.true) in
+    let idle = c.in_ok-fill_group.ensures.idle (cc c.if-not-branch.true) in
     (idle.0, idle.1, inr idle.2, idle.3)
 
 pub returns-clause-turn : goal.returns-clause-turn
 returns-clause-turn g c =
-    let r = g.R.NodeReplica in
+    let r = g.R.ServedReplica in
     let tells = g.S.DatagramSocket.is_telling in
-    let o = c.gather_turn.ensures.others in
-    let t = c.in_ok-gather_turn.ensures.takes (cc c.if-not-branch.false) in
-    let e = c.release.ensures in
-    subst (λ (s : ServerValue _). (frames : List (SocketAddr × List ℕ)) × HasReceived tells frames c.args.server.now s × TakesTurn r.Says tells frames c.args.server.now s × KeepsOf c.args.server.now.node c.args.server.now.addresses.seals frames c.args.buffer.now c.gather_turn.new.buffer) (sym c.note_sync.ensures) (
+    let o = c.fill_group.ensures.others in
+    let t = c.in_ok-fill_group.ensures.takes (cc c.if-not-branch.false) in
+    let e = c.end_group.ensures in
+    subst (λ (s : ServerValue _). (frames : List (SocketAddr × List ℕ)) × HasReceived tells frames c.args.server.now s × TakesTurn r.Says tells frames c.args.server.now s × KeepsOf c.args.server.now.node c.args.server.now.addresses.seals frames c.args.buffer.now c.fill_group.new.buffer) (sym c.note_sync.ensures) (
       t.0,
-      received_on tells t.0 c.args.server.now c.gather_turn.new.self c.release.new.self e.still t.1.received,
-      inl (turn_of r.Says r.Gathers tells t.0 c.begin-group.result c.gather_turn.new.group c.args.server.now c.gather_turn.new.self c.release.new.self c.begin-group.ensures t.1 c.in_ok-release.ensures.gives
-          (ap (λ (s : ServerValue _). s.sent) o) (ap (λ (s : ServerValue _). s.socket_failures) o) (same_by c.args.server.now c.gather_turn.new.self o) e.addresses e.received e.same c.in_ok-release.ensures.alive),
+      received_on tells t.0 c.args.server.now c.fill_group.new.self c.end_group.new.self e.still t.1.received,
+      inl (turn_of r.Says r.Gathers tells t.0 c.begin_group-group.result c.fill_group.new.group c.args.server.now c.fill_group.new.self c.end_group.new.self c.begin_group-group.ensures t.1 c.in_ok-end_group.ensures.gives
+          (ap (λ (s : ServerValue _). s.sent) o) (ap (λ (s : ServerValue _). s.socket_failures) o) (same_by c.args.server.now c.fill_group.new.self o) e.addresses e.received e.same c.in_ok-end_group.ensures.alive),
       t.2,
     )
 
-pub returns-in_err-release-clause-ends : goal.returns-in_err-release-clause-ends
-returns-in_err-release-clause-ends g c =
-    let r = g.R.NodeReplica in
+pub returns-in_err-end_group-clause-ends : goal.returns-in_err-end_group-clause-ends
+returns-in_err-end_group-clause-ends g c =
+    let r = g.R.ServedReplica in
     let tells = g.S.DatagramSocket.is_telling in
-    let o = c.gather_turn.ensures.others in
-    let t = c.in_ok-gather_turn.ensures.takes (cc c.if-not-branch.false) in
-    let e = c.release.ensures in
-    on_err c.from_residual-in_err-release.result (
+    let o = c.fill_group.ensures.others in
+    let t = c.in_ok-fill_group.ensures.takes (cc c.if-not-branch.false) in
+    let e = c.end_group.ensures in
+    on_err c.from_residual-in_err-end_group.result (
       t.0,
-      received_on tells t.0 c.args.server.now c.gather_turn.new.self c.release.new.self e.still t.1.received,
-      last_of r.Says r.Gathers tells t.0 c.begin-group.result c.gather_turn.new.group c.args.server.now c.gather_turn.new.self c.release.new.self c.begin-group.ensures t.1 c.in_err-release.ensures.silent
-          (ap (λ (s : ServerValue _). s.sent) o) (ap (λ (s : ServerValue _). s.socket_failures) o) (same_by c.args.server.now c.gather_turn.new.self o) e.addresses e.same c.in_err-release.ensures.broken,
+      received_on tells t.0 c.args.server.now c.fill_group.new.self c.end_group.new.self e.still t.1.received,
+      last_of r.Says r.Gathers tells t.0 c.begin_group-group.result c.fill_group.new.group c.args.server.now c.fill_group.new.self c.end_group.new.self c.begin_group-group.ensures t.1 c.in_err-end_group.ensures.silent
+          (ap (λ (s : ServerValue _). s.sent) o) (ap (λ (s : ServerValue _). s.socket_failures) o) (same_by c.args.server.now c.fill_group.new.self o) e.addresses e.same c.in_err-end_group.ensures.broken,
     )
 
-pub returns-in_err-gather_turn-clause-ends : goal.returns-in_err-gather_turn-clause-ends
-returns-in_err-gather_turn-clause-ends g c =
-    let r = g.R.NodeReplica in
-    let o = c.gather_turn.ensures.others in
-    let e = c.in_err-gather_turn.ensures.ends in
+pub returns-in_err-fill_group-clause-ends : goal.returns-in_err-fill_group-clause-ends
+returns-in_err-fill_group-clause-ends g c =
+    let r = g.R.ServedReplica in
+    let o = c.fill_group.ensures.others in
+    let e = c.in_err-fill_group.ensures.ends in
     on_err c.from_residual.result (
       e.0,
       e.1.received,
-      last_within r.Says r.Gathers g.S.DatagramSocket.is_telling e.0 c.begin-group.result c.args.server.now c.gather_turn.new.self c.begin-group.ensures e.1
-          (ap (λ (s : ServerValue _). s.sent) o) (ap (λ (s : ServerValue _). s.socket_failures) o) (same_by c.args.server.now c.gather_turn.new.self o) c.in_err-gather_turn.ensures.broken,
+      last_within r.Says r.Gathers g.S.DatagramSocket.is_telling e.0 c.begin_group-group.result c.args.server.now c.fill_group.new.self c.begin_group-group.ensures e.1
+          (ap (λ (s : ServerValue _). s.sent) o) (ap (λ (s : ServerValue _). s.socket_failures) o) (same_by c.args.server.now c.fill_group.new.self o) c.in_err-fill_group.ensures.broken,
     )

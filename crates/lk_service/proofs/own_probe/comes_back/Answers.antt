@@ -5,9 +5,9 @@ use Rattle.lk_service.proofs.own_probe.comes_back.Goals as goal
 
 pub receives-init : goal.receives-init
 receives-init g c = (
-  λ tells. away_first c.args.frame.now (g.S.DatagramSocket.coming c.args.socket.now) (g.S.DatagramSocket.coming c.wait_for.new.self) c.wait_for.ensures.still,
-  c.wait_for.ensures.unchanged,
-  c.wait_for.ensures.spares,
+  λ tells. away_first c.args.frame.now (g.S.DatagramSocket.coming c.args.socket.now) (g.S.DatagramSocket.coming c.set_timeout.new.self) c.set_timeout.ensures.still,
+  c.set_timeout.ensures.unchanged,
+  c.set_timeout.ensures.spares,
 )
 
 pub receives-preserved : goal.receives-preserved

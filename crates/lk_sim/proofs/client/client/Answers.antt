@@ -1,11 +1,11 @@
 use Rattle.std.proofs.Common.{rules, refl, inl, inr, sym, subst, subst₂}
 use Rattle.lk_agreement.specs.Worlds.{IsClientRequest}
 use Rattle.lk_sim.specs.Refusals.{HasRoom, IsFull}
-use Rattle.lk_seats.specs.Seats.{IsSeatOf}
+use Rattle.lk_world_nodes.specs.Seats.{IsSeatOf}
 use Rattle.lk_sim.specs.Events.{IsRefused}
 use Rattle.lk_sim.specs.Worlds.{Holds, scene_of}
 use Rattle.lk_sim.specs.declared.event.Event.TheVariants as event
-use Rattle.lk_seats.specs.declared.refused.Refused.TheVariants.{WorldMemory}
+use Rattle.lk_world_nodes.specs.declared.refused.Refused.TheVariants.{WorldMemory}
 use Rattle.lk_sim.proofs.Asking.{asked_holds}
 use Rattle.lk_sim.proofs.client.client.Goals as goal
 use Rattle.lk_replica.specs.Behaviours.{disks_by}
@@ -13,8 +13,8 @@ use Rattle.lk_replica.specs.Behaviours.{disks_by}
 pub returns-clause-holds : goal.returns-clause-holds
 returns-clause-holds g c =
     let p = c.args.parts.now in
-    let q = scene_of c.ask.new.parts in
-    let a = c.in_ok-ask.ensures.ok in
+    let q = scene_of c.add_request.new.parts in
+    let a = c.in_ok-add_request.ensures.ok in
     let asks : IsClientRequest a.datagram = record { client = c.args.request.now.client; cluster = p.genesis.cluster; request = c.args.request.now; from = a.from; spelled = a.spelled } in
     subst (λ z. Holds g.R.MemoryReplica.Shows (disks_by g.R.MemoryReplica.behaves) g.R.MemoryReplica.meaning z q.seats q.sent q.trace) (sym a.adds.genesis)
     (subst (λ z. Holds g.R.MemoryReplica.Shows (disks_by g.R.MemoryReplica.behaves) g.R.MemoryReplica.meaning p.genesis z q.sent q.trace) (sym a.seats)
@@ -27,16 +27,16 @@ returns-then-not-has_room-clause-err g c =
     let full : IsFull c.args.parts.now.sent.items = search rules in
     inl (((u.0.life, (c.in-Some.field-0, u.0, u.1, u.2, refl)), full), refl)
 
-pub returns-in_err-ask-clause-err : goal.returns-in_err-ask-clause-err
-returns-in_err-ask-clause-err g c =
+pub returns-in_err-add_request-clause-err : goal.returns-in_err-add_request-clause-err
+returns-in_err-add_request-clause-err g c =
     let u : IsSeatOf c.args.parts.now.seats.items c.in-Some.field-0 c.args.number = search rules in
     let room : HasRoom c.args.parts.now.sent.items = search rules in
-    let k : IsRefused g.R.MemoryReplica.behaves (scene_of c.args.parts.now) (event.Client c.args.number c.args.request.now) WorldMemory (scene_of c.ask.new.parts) =
-    inr (refl, ((u.0.life, (c.in-Some.field-0, u.0, u.1, u.2, refl)), room), c.in_err-ask.ensures.err) in
+    let k : IsRefused g.R.MemoryReplica.behaves (scene_of c.args.parts.now) (event.Client c.args.number c.args.request.now) WorldMemory (scene_of c.add_request.new.parts) =
+    inr (refl, ((u.0.life, (c.in-Some.field-0, u.0, u.1, u.2, refl)), room), c.in_err-add_request.ensures.err) in
     search rules
 
 pub returns-clause-ok : goal.returns-clause-ok
 returns-clause-ok g c =
     let u : IsSeatOf c.args.parts.now.seats.items c.in-Some.field-0 c.args.number = search rules in
     let room : HasRoom c.args.parts.now.sent.items = search rules in
-    (((u.0.life, (c.in-Some.field-0, u.0, u.1, u.2, refl)), room), c.in_ok-ask.ensures.ok)
+    (((u.0.life, (c.in-Some.field-0, u.0, u.1, u.2, refl)), room), c.in_ok-add_request.ensures.ok)

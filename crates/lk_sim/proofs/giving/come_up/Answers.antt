@@ -1,9 +1,9 @@
 use Rattle.std.proofs.Common.{◌≡◌, rules, None, Err, refl, sym, subst}
 use Rattle.lk_node.specs.Leavings.{header_of}
-use Rattle.lk_seats.specs.Ends.{StaysDown}
+use Rattle.lk_world_nodes.specs.Ends.{StaysDown}
 use Rattle.lk_sim.specs.Events.{LeftByRevival}
-use Rattle.lk_seats.specs.Seats.{At}
-use Rattle.lk_seats.specs.declared.seat.Life.TheVariants.{Down}
+use Rattle.lk_world_nodes.specs.Seats.{At}
+use Rattle.lk_world_nodes.specs.declared.seat.Life.TheVariants.{Down}
 use Rattle.lk_sim.specs.Worlds.{scene_of}
 use Rattle.lk_sim.proofs.Explaining.{lawful}
 use Rattle.lk_sim.proofs.Doing.{StopsOn, at_same, back, revived_cases, revived_left, wanted, since, halted_holds, settled_holds, given_up_holds, given_up}
@@ -31,8 +31,8 @@ returns-in_err-outcome-clause-halted g c n d =
     (d.1, Err (k.number, k.left), down, subst (λ z. g.R.MemoryReplica.behaves.Revives d.1 (header_of p.genesis z) (Err (k.number, k.left))) is k.ends.0, (refl, k.want)) in
     search rules
 
-pub returns-in_err-settle-clause-holds : goal.returns-in_err-settle-clause-holds
-returns-in_err-settle-clause-holds g c =
+pub returns-in_err-finish_call-clause-holds : goal.returns-in_err-finish_call-clause-holds
+returns-in_err-finish_call-clause-holds g c =
     let p = c.args.parts.now in
     let s = c.index_mut.result.now in
     let at : At p.seats.items c.args.i s = (search rules, sym c.index_mut.ensures.value) in
@@ -43,17 +43,17 @@ returns-in_err-settle-clause-holds g c =
     (e.goes _ (v.views s.number) refl (lawful _ _ _ _ _ _ _ v) (v.seated c.args.i s at))
     (e.falls _ (v.views s.number) refl (lawful _ _ _ _ _ _ _ v) (v.seated c.args.i s at))
     (revived_cases g.R.MemoryReplica.behaves _ _ _ _ _ _ _ (e.exact d.1 (rw (at_same _ _ _ _ at d.2) d.4)))
-    p.ended (scene_of c.settle.new.parts) c.in_err-settle.ensures.err
+    p.ended (scene_of c.finish_call.new.parts) c.in_err-finish_call.ensures.err
 
-pub returns-in_err-settle-clause-halted : goal.returns-in_err-settle-clause-halted
-returns-in_err-settle-clause-halted g c n d =
+pub returns-in_err-finish_call-clause-halted : goal.returns-in_err-finish_call-clause-halted
+returns-in_err-finish_call-clause-halted g c n d =
     let p = c.args.parts.now in
     let s = c.index_mut.result.now in
     let at : At p.seats.items c.args.i s = (search rules, sym c.index_mut.ensures.value) in
     let is : s.number ≡ n = rw (at_same _ _ _ _ at d.2) d.3 in
     let down : s.life ≡ Down d.1 = rw (at_same _ _ _ _ at d.2) d.4 in
-    let k = given_up g.R.MemoryReplica.behaves (scene_of p) (scene_of c.settle.new.parts) (LeftByRevival g.R.MemoryReplica.behaves (header_of p.genesis n)) _ _ c.args.i n s c.revive.new.seat at (rw (at_same _ _ _ _ at d.2) d.3) c.revive.ensures.number
-    (subst (λ z. StopsOn g.R.MemoryReplica.behaves (LeftByRevival g.R.MemoryReplica.behaves (header_of p.genesis z) s.life) c.revive.new.seat.life) is (revived_left g.R.MemoryReplica.behaves d.1 _ _ _ _ _ _ _ c.in_err-settle.ensures.wants down (c.in_ok-outcome.ensures.exact d.1 down))) c.in_err-settle.ensures.err in
+    let k = given_up g.R.MemoryReplica.behaves (scene_of p) (scene_of c.finish_call.new.parts) (LeftByRevival g.R.MemoryReplica.behaves (header_of p.genesis n)) _ _ c.args.i n s c.revive.new.seat at (rw (at_same _ _ _ _ at d.2) d.3) c.revive.ensures.number
+    (subst (λ z. StopsOn g.R.MemoryReplica.behaves (LeftByRevival g.R.MemoryReplica.behaves (header_of p.genesis z) s.life) c.revive.new.seat.life) is (revived_left g.R.MemoryReplica.behaves d.1 _ _ _ _ _ _ _ c.in_err-finish_call.ensures.wants down (c.in_ok-outcome.ensures.exact d.1 down))) c.in_err-finish_call.ensures.err in
     search rules
 
 pub returns-clause-holds : goal.returns-clause-holds
@@ -68,7 +68,7 @@ returns-clause-holds g c =
     (e.goes _ (v.views s.number) refl (lawful _ _ _ _ _ _ _ v) (v.seated c.args.i s at))
     (e.falls _ (v.views s.number) refl (lawful _ _ _ _ _ _ _ v) (v.seated c.args.i s at))
     (revived_cases g.R.MemoryReplica.behaves _ _ _ _ _ _ _ (e.exact d.1 (rw (at_same _ _ _ _ at d.2) d.4)))
-    p.ended _ _ (scene_of c.settle.new.parts) c.in_ok-settle.ensures.ok
+    p.ended _ _ (scene_of c.finish_call.new.parts) c.in_ok-finish_call.ensures.ok
 
 pub returns-clause-back : goal.returns-clause-back
 returns-clause-back g c n d =
@@ -79,5 +79,5 @@ returns-clause-back g c n d =
     let goes = c.in_ok-outcome.ensures.goes _ (v.views s.number) refl (lawful _ _ _ _ _ _ _ v) (v.seated c.args.i s at) in
     let is : s.number ≡ n = rw (at_same _ _ _ _ at d.2) d.3 in
     let down : s.life ≡ Down d.1 = rw (at_same _ _ _ _ at d.2) d.4 in
-    back g.R.MemoryReplica.behaves (scene_of p) (scene_of c.settle.new.parts) _ _ c.args.i n s c.revive.new.seat d.1 _ _ _ _ at is down c.revive.ensures.number (λ q up x e. ((goes q up).goes.noted x e).0)
-    c.in_ok-settle.ensures.ok (c.in_ok-outcome.ensures.told _ (v.views s.number) refl (lawful _ _ _ _ _ _ _ v) (v.seated c.args.i s at)) (c.in_ok-outcome.ensures.exact d.1 down)
+    back g.R.MemoryReplica.behaves (scene_of p) (scene_of c.finish_call.new.parts) _ _ c.args.i n s c.revive.new.seat d.1 _ _ _ _ at is down c.revive.ensures.number (λ q up x e. ((goes q up).goes.noted x e).0)
+    c.in_ok-finish_call.ensures.ok (c.in_ok-outcome.ensures.told _ (v.views s.number) refl (lawful _ _ _ _ _ _ _ v) (v.seated c.args.i s at)) (c.in_ok-outcome.ensures.exact d.1 down)

@@ -1,9 +1,9 @@
 use Rattle.std.proofs.Common.{◌≡◌, rules, sym, Err}
 use Rattle.lk_node.specs.Calls.{heard_by}
-use Rattle.lk_seats.specs.Ends.{Breaks}
+use Rattle.lk_world_nodes.specs.Ends.{Breaks}
 use Rattle.lk_sim.specs.Events.{LeftBy}
-use Rattle.lk_seats.specs.Seats.{At}
-use Rattle.lk_seats.specs.declared.seat.Life.TheVariants.{Up}
+use Rattle.lk_world_nodes.specs.Seats.{At}
+use Rattle.lk_world_nodes.specs.declared.seat.Life.TheVariants.{Up}
 use Rattle.lk_sim.specs.Worlds.{scene_of}
 use Rattle.lk_sim.proofs.Explaining.{lawful}
 use Rattle.lk_sim.proofs.Doing.{at_same, given, taken_cases, taken_left, wanted, since, halted_holds, settled_holds, given_up_holds, given_up}
@@ -31,8 +31,8 @@ returns-in_err-outcome-clause-halted g c n u =
     (u.1, k.ends.0, Err k.number, up, k.ends.1, k.ends.3, k.want) in
     search rules
 
-pub returns-in_err-settle-clause-holds : goal.returns-in_err-settle-clause-holds
-returns-in_err-settle-clause-holds g c =
+pub returns-in_err-finish_call-clause-holds : goal.returns-in_err-finish_call-clause-holds
+returns-in_err-finish_call-clause-holds g c =
     let p = c.args.parts.now in
     let s = c.index_mut.result.now in
     let at : At p.seats.items c.args.i s = (search rules, sym c.index_mut.ensures.value) in
@@ -43,15 +43,15 @@ returns-in_err-settle-clause-holds g c =
     (e.goes _ (v.views s.number) (lawful _ _ _ _ _ _ _ v) (v.seated c.args.i s at) c.requires.heard)
     (e.falls _ (v.views s.number) (lawful _ _ _ _ _ _ _ v) (v.seated c.args.i s at) c.requires.heard)
     (taken_cases g.R.MemoryReplica.behaves _ _ _ _ _ _ _ (e.exact u.1 (rw (at_same _ _ _ _ at u.2) u.4)))
-    p.ended (scene_of c.settle.new.parts) c.in_err-settle.ensures.err
+    p.ended (scene_of c.finish_call.new.parts) c.in_err-finish_call.ensures.err
 
-pub returns-in_err-settle-clause-halted : goal.returns-in_err-settle-clause-halted
-returns-in_err-settle-clause-halted g c n u =
+pub returns-in_err-finish_call-clause-halted : goal.returns-in_err-finish_call-clause-halted
+returns-in_err-finish_call-clause-halted g c n u =
     let p = c.args.parts.now in
     let s = c.index_mut.result.now in
     let at : At p.seats.items c.args.i s = (search rules, sym c.index_mut.ensures.value) in
     let up : s.life ≡ Up u.1 = rw (at_same _ _ _ _ at u.2) u.4 in
-    let k = given_up g.R.MemoryReplica.behaves (scene_of p) (scene_of c.settle.new.parts) (LeftBy g.R.MemoryReplica.behaves (heard_by c.args.input)) _ _ c.args.i n s c.step.new.seat at (rw (at_same _ _ _ _ at u.2) u.3) c.step.ensures.number (taken_left g.R.MemoryReplica.behaves g.met.R.MemoryReplica.traps_alone u.1 _ _ _ _ _ _ _ c.in_err-settle.ensures.wants up (c.in_ok-outcome.ensures.exact u.1 up)) c.in_err-settle.ensures.err in
+    let k = given_up g.R.MemoryReplica.behaves (scene_of p) (scene_of c.finish_call.new.parts) (LeftBy g.R.MemoryReplica.behaves (heard_by c.args.input)) _ _ c.args.i n s c.step.new.seat at (rw (at_same _ _ _ _ at u.2) u.3) c.step.ensures.number (taken_left g.R.MemoryReplica.behaves g.met.R.MemoryReplica.traps_alone u.1 _ _ _ _ _ _ _ c.in_err-finish_call.ensures.wants up (c.in_ok-outcome.ensures.exact u.1 up)) c.in_err-finish_call.ensures.err in
     search rules
 
 pub returns-clause-holds : goal.returns-clause-holds
@@ -66,7 +66,7 @@ returns-clause-holds g c =
     (e.goes _ (v.views s.number) (lawful _ _ _ _ _ _ _ v) (v.seated c.args.i s at) c.requires.heard)
     (e.falls _ (v.views s.number) (lawful _ _ _ _ _ _ _ v) (v.seated c.args.i s at) c.requires.heard)
     (taken_cases g.R.MemoryReplica.behaves _ _ _ _ _ _ _ (e.exact u.1 (rw (at_same _ _ _ _ at u.2) u.4)))
-    p.ended _ _ (scene_of c.settle.new.parts) c.in_ok-settle.ensures.ok
+    p.ended _ _ (scene_of c.finish_call.new.parts) c.in_ok-finish_call.ensures.ok
 
 pub returns-clause-given : goal.returns-clause-given
 returns-clause-given g c n u =
@@ -75,5 +75,5 @@ returns-clause-given g c n u =
     let at : At p.seats.items c.args.i s = (search rules, sym c.index_mut.ensures.value) in
     let v = since _ g.R.MemoryReplica.behaves _ p.genesis p.seats.items p.sent.items p.trace.items c.requires.holds c.args.i s c.step.new.seat at c.step.ensures.number c.args.asked in
     let goes = c.in_ok-outcome.ensures.goes _ (v.views s.number) (lawful _ _ _ _ _ _ _ v) (v.seated c.args.i s at) c.requires.heard in
-    given g.R.MemoryReplica.behaves (scene_of p) (scene_of c.settle.new.parts) _ _ c.args.i n s c.step.new.seat u.1 _ _ _ _ _ _ at (rw (at_same _ _ _ _ at u.2) u.3) (rw (at_same _ _ _ _ at u.2) u.4) c.step.ensures.number (λ q up x k. ((goes q up).goes.noted x k).0)
-    c.in_ok-settle.ensures.ok c.in_ok-outcome.ensures.told (c.in_ok-outcome.ensures.exact u.1 (rw (at_same _ _ _ _ at u.2) u.4))
+    given g.R.MemoryReplica.behaves (scene_of p) (scene_of c.finish_call.new.parts) _ _ c.args.i n s c.step.new.seat u.1 _ _ _ _ _ _ at (rw (at_same _ _ _ _ at u.2) u.3) (rw (at_same _ _ _ _ at u.2) u.4) c.step.ensures.number (λ q up x k. ((goes q up).goes.noted x k).0)
+    c.in_ok-finish_call.ensures.ok c.in_ok-outcome.ensures.told (c.in_ok-outcome.ensures.exact u.1 (rw (at_same _ _ _ _ at u.2) u.4))

@@ -2,13 +2,13 @@ use Rattle.std.proofs.Common.{◌≡◌, rules, sym, subst, Err, None, [], map}
 use Rattle.lk_simulated_disk.specs.Memory.{disk_of}
 use Rattle.lk_node.specs.Calls.{heard_by}
 use Rattle.lk_node.specs.Leavings.{DisksFit}
-use Rattle.lk_seats.specs.Ends.{BreaksTogether}
+use Rattle.lk_world_nodes.specs.Ends.{BreaksTogether}
 use Rattle.lk_sim.specs.Events.{LeftByGroup}
-use Rattle.lk_seats.specs.Rooms.{AreShort}
-use Rattle.lk_seats.specs.Seats.{At, device_in}
+use Rattle.lk_world_nodes.specs.Rooms.{AreShort}
+use Rattle.lk_world_nodes.specs.Seats.{At, device_in}
 use Rattle.lk_sim.specs.Traces.{happened}
-use Rattle.lk_seats.specs.declared.seat.Life.{Life}
-use Rattle.lk_seats.specs.declared.seat.Life.TheVariants.{Up}
+use Rattle.lk_world_nodes.specs.declared.seat.Life.{Life}
+use Rattle.lk_world_nodes.specs.declared.seat.Life.TheVariants.{Up}
 use Rattle.lk_sim.specs.Worlds.{scene_of}
 use Rattle.lk_sim.proofs.Explaining.{lawful}
 use Rattle.lk_sim.proofs.Doing.{at_same, wanted, given_up}
@@ -41,24 +41,24 @@ returns-in_err-outcome-clause-halted g c n u =
     (u.1, k.ends.0, Err k.number, up, k.ends.1, k.ends.3, k.want) in
     search rules
 
-pub returns-in_err-settle_all-clause-holds : goal.returns-in_err-settle_all-clause-holds
-returns-in_err-settle_all-clause-holds g c =
+pub returns-in_err-finish_group-clause-holds : goal.returns-in_err-finish_group-clause-holds
+returns-in_err-finish_group-clause-holds g c =
     let p = c.args.parts.now in
     let s = c.index_mut.result.now in
     let at : At p.seats.items c.args.i s = (search rules, sym c.index_mut.ensures.value) in
     let w = c.requires.holds in
     let left = c.step_all.ensures.leaves _ (w.views s.number) (lawful _ _ _ _ _ _ _ w) (w.seated c.args.i s at) (all_heard _ _ _ p.genesis p.seats.items p.sent.items p.trace.items w _ c.requires.heard) in
-    given_up_still _ g.R.MemoryReplica.behaves _ p.genesis p.seats.items p.sent.items p.trace.items w c.args.i s c.step_all.new.seat at c.step_all.ensures.number p.ended [] [] None None (scene_of c.settle_all.new.parts) left.0 left.1 c.in_err-settle_all.ensures.err
+    given_up_still _ g.R.MemoryReplica.behaves _ p.genesis p.seats.items p.sent.items p.trace.items w c.args.i s c.step_all.new.seat at c.step_all.ensures.number p.ended [] [] None None (scene_of c.finish_group.new.parts) left.0 left.1 c.in_err-finish_group.ensures.err
 
-pub returns-in_err-settle_all-clause-halted : goal.returns-in_err-settle_all-clause-halted
-returns-in_err-settle_all-clause-halted g c n u =
+pub returns-in_err-finish_group-clause-halted : goal.returns-in_err-finish_group-clause-halted
+returns-in_err-finish_group-clause-halted g c n u =
     let p = c.args.parts.now in
     let s = c.index_mut.result.now in
     let at : At p.seats.items c.args.i s = (search rules, sym c.index_mut.ensures.value) in
     let up : s.life ≡ Up u.1 = rw (at_same _ _ _ _ at u.2) u.4 in
     let b = g.R.MemoryReplica.behaves in
-    let k = given_up b (scene_of p) (scene_of c.settle_all.new.parts) (LeftByGroup b (map heard_by c.args.inputs.items)) _ _ c.args.i n s c.step_all.new.seat at (rw (at_same _ _ _ _ at u.2) u.3) c.step_all.ensures.number
-    (group_left b g.met.R.MemoryReplica.traps_alone u.1 _ _ _ _ _ _ _ c.in_err-settle_all.ensures.wants up (c.in_ok-outcome.ensures.exact u.1 up)) c.in_err-settle_all.ensures.err in
+    let k = given_up b (scene_of p) (scene_of c.finish_group.new.parts) (LeftByGroup b (map heard_by c.args.inputs.items)) _ _ c.args.i n s c.step_all.new.seat at (rw (at_same _ _ _ _ at u.2) u.3) c.step_all.ensures.number
+    (group_left b g.met.R.MemoryReplica.traps_alone u.1 _ _ _ _ _ _ _ c.in_err-finish_group.ensures.wants up (c.in_ok-outcome.ensures.exact u.1 up)) c.in_err-finish_group.ensures.err in
     search rules
 
 pub returns-clause-holds : goal.returns-clause-holds
@@ -71,8 +71,8 @@ returns-clause-holds g c =
     let up : s.life ≡ Up u.1 = rw (at_same _ _ _ _ at u.2) u.4 in
     let f = (w.seated c.args.i s at).up u.1 up in
     let left = c.step_all.ensures.leaves _ (w.views s.number) (lawful _ _ _ _ _ _ _ w) (w.seated c.args.i s at) (all_heard _ _ _ p.genesis p.seats.items p.sent.items p.trace.items w _ c.requires.heard) in
-    settled_steps_hold _ g.R.MemoryReplica.behaves _ p.genesis p.seats.items p.sent.items p.trace.items w c.args.i s c.step_all.new.seat at c.step_all.ensures.number p.ended _ _ _ _ (scene_of c.settle_all.new.parts) u.1 _ _ _ up c.requires.heard
-    (c.in_ok-outcome.ensures.goes u.1 up p.genesis f.holding f.shown) left.0 left.1 (c.in_ok-outcome.ensures.exact u.1 up) c.in_ok-settle_all.ensures.ok
+    settled_steps_hold _ g.R.MemoryReplica.behaves _ p.genesis p.seats.items p.sent.items p.trace.items w c.args.i s c.step_all.new.seat at c.step_all.ensures.number p.ended _ _ _ _ (scene_of c.finish_group.new.parts) u.1 _ _ _ up c.requires.heard
+    (c.in_ok-outcome.ensures.goes u.1 up p.genesis f.holding f.shown) left.0 left.1 (c.in_ok-outcome.ensures.exact u.1 up) c.in_ok-finish_group.ensures.ok
 
 pub returns-clause-given : goal.returns-clause-given
 returns-clause-given g c n u =
@@ -82,7 +82,7 @@ returns-clause-given g c n u =
     let w = c.requires.holds in
     let up : s.life ≡ Up u.1 = rw (at_same _ _ _ _ at u.2) u.4 in
     let f = (w.seated c.args.i s at).up u.1 up in
-    let k = c.in_ok-settle_all.ensures.ok in
-    given_together g.R.MemoryReplica.behaves (scene_of p) (scene_of c.settle_all.new.parts) _ _ c.args.i n s c.step_all.new.seat u.1 _ _ _ _ _ at (rw (at_same _ _ _ _ at u.2) u.3) up c.step_all.ensures.number
+    let k = c.in_ok-finish_group.ensures.ok in
+    given_together g.R.MemoryReplica.behaves (scene_of p) (scene_of c.finish_group.new.parts) _ _ c.args.i n s c.step_all.new.seat u.1 _ _ _ _ _ at (rw (at_same _ _ _ _ at u.2) u.3) up c.step_all.ensures.number
     (λ q. all_own _ _ _ p.genesis p.seats.items p.sent.items p.trace.items k.notes w c.args.i s at _ u.1 q.after _ _ q.all up c.requires.heard (c.in_ok-outcome.ensures.goes u.1 up p.genesis f.holding f.shown q.after q.up) k.tells)
     k c.in_ok-outcome.ensures.told (c.in_ok-outcome.ensures.exact u.1 up)

@@ -5,7 +5,7 @@ use Rattle.lk_node.specs.Histories.{Datagram}
 use Rattle.lk_replica.specs.Together.{parts_of}
 use Rattle.lk_replica.specs.declared.taken.Step.{Step}
 use Rattle.lk_sim.specs.Groups.{AreNotesOf}
-use Rattle.lk_seats.specs.Told.{Tells}
+use Rattle.lk_world_nodes.specs.Told.{Tells}
 use Rattle.lk_sim.proofs.GivenTogether.{take_min, drop_min}
 use Rattle.lk_sim.proofs.group.notes_of.Goals as goal
 
@@ -13,7 +13,7 @@ pub steps-preserved : goal.steps-preserved
 steps-preserved c more tells =
     let rest = c.steps.rest.now in
     let own = c.in-Some.step.notes.items in
-    let told = c.in_ok-tell.ensures in
+    let told = c.in_ok-add_notes.ensures in
     let at : c.min.result ≡ min c.in-Some.step.sends (length rest) = search rules in
     let front : c.split_at.result.0.now ≡ take c.in-Some.step.sends rest = c.split_at.ensures.front ∙ ap (λ k. take k rest) at ∙ take_min c.in-Some.step.sends rest in
     let back : c.split_at.result.1.now ≡ drop c.in-Some.step.sends rest = c.split_at.ensures.back ∙ ap (λ k. drop k rest) at ∙ drop_min c.in-Some.step.sends rest in
@@ -26,7 +26,7 @@ steps-preserved c more tells =
     ) in
     let all = c.steps.invariant ((own ++ told.0) ++ more) (subst (λ (l : List Step). AreNotesOf (parts_of l rest) ((own ++ told.0) ++ more)) (sym c.in-Some.ensures.steps.0) those) in
     let noted : c.append.new.self.items ≡ c.steps.notes.items ++ own = search rules in
-    let is : c.steps.notes.items ++ ((own ++ told.0) ++ more) ≡ c.tell.new.notes.items ++ more =
+    let is : c.steps.notes.items ++ ((own ++ told.0) ++ more) ≡ c.add_notes.new.notes.items ++ more =
     sym (append_assoc c.steps.notes.items (own ++ told.0) more) ∙ ap (λ l. l ++ more) (sym (append_assoc c.steps.notes.items own told.0) ∙ ap (λ l. l ++ told.0) (sym noted) ∙ sym told.1) in
     subst (λ (l : List Note). AreNotesOf (parts_of c.args.steps.items c.args.sent.now) l) is all
 

@@ -5,8 +5,8 @@ use Rattle.lk_node.specs.Leavings.{header_of}
 use Rattle.lk_sim.specs.Events.{ComesUp, LeftByRevival, StartWants}
 use Rattle.lk_sim.specs.Scenes.{Scene}
 use Rattle.lk_sim.specs.Worlds.{scene_of}
-use Rattle.lk_seats.specs.declared.seat.Life.TheVariants.{Down}
-use Rattle.lk_seats.specs.declared.seat.Seat.{Seat}
+use Rattle.lk_world_nodes.specs.declared.seat.Life.TheVariants.{Down}
+use Rattle.lk_world_nodes.specs.declared.seat.Seat.{Seat}
 use Rattle.lk_sim.proofs.Doing.{comes, revived_cases, revived_left, since, settled_holds}
 use Rattle.lk_sim.proofs.Explaining.{lawful}
 use Rattle.lk_sim.proofs.Lists.{set_last, at_set_here}
@@ -25,7 +25,7 @@ returns-clause-holds g c =
     let e = c.in_ok-outcome.ensures in
     let k = c.in_ok-add.ensures.ok in
     let new : Scene g.row.R.Denot = record { genesis = q.genesis; seats = c.push.new.self.items; sent = q.sent.items; trace = q.trace.items; ended = q.ended } in
-    let pushed : c.push.new.self.items ≡ p.seats.items ++ c.rest.new.seat ∷ [] = search rules in
+    let pushed : c.push.new.self.items ≡ p.seats.items ++ c.carry_out_stop.new.seat ∷ [] = search rules in
     settled_holds _ g.R.MemoryReplica.behaves _ p.genesis (p.seats.items ++ s ∷ []) p.sent.items p.trace.items w (length p.seats.items) s c.revive.new.seat at c.revive.ensures.number None _ _
     (e.goes _ (v.views s.number) refl (lawful _ _ _ _ _ _ _ v) (v.seated _ s at))
     (e.falls _ (v.views s.number) refl (lawful _ _ _ _ _ _ _ v) (v.seated _ s at))
@@ -34,12 +34,12 @@ returns-clause-holds g c =
       told = k.told;
       tells = k.tells;
       seat = c.revive.new.seat;
-      next = c.rest.new.seat;
+      next = c.carry_out_stop.new.seat;
       at = at_set_here (p.seats.items ++ s ∷ []) (length p.seats.items) c.revive.new.seat at.0;
-      number = c.rest.ensures.number;
-      seats = pushed ∙ sym (set_last p.seats.items s c.rest.new.seat) ∙ sym (set_twice (p.seats.items ++ s ∷ []) (length p.seats.items) c.revive.new.seat c.rest.new.seat);
-      rests = c.rest.ensures.rests;
-      fits = c.rest.ensures.fits;
+      number = c.carry_out_stop.ensures.number;
+      seats = pushed ∙ sym (set_last p.seats.items s c.carry_out_stop.new.seat) ∙ sym (set_twice (p.seats.items ++ s ∷ []) (length p.seats.items) c.revive.new.seat c.carry_out_stop.new.seat);
+      rests = c.carry_out_stop.ensures.rests;
+      fits = c.carry_out_stop.ensures.fits;
       adds = record { genesis = k.adds.genesis; sent = k.adds.sent; trace = k.adds.trace };
       ended = k.ended;
     })
@@ -55,13 +55,13 @@ returns-clause-ok g c =
     let k = c.in_ok-add.ensures.ok in
     let q = c.add.new.parts in
     let new : Scene g.row.R.Denot = record { genesis = q.genesis; seats = c.push.new.self.items; sent = q.sent.items; trace = q.trace.items; ended = q.ended } in
-    let pushed : c.push.new.self.items ≡ p.seats.items ++ c.rest.new.seat ∷ [] = search rules in
+    let pushed : c.push.new.self.items ≡ p.seats.items ++ c.carry_out_stop.new.seat ∷ [] = search rules in
     record {
-      seat = c.rest.new.seat;
-      number = c.rest.ensures.number ∙ c.revive.ensures.number;
+      seat = c.carry_out_stop.new.seat;
+      number = c.carry_out_stop.ensures.number ∙ c.revive.ensures.number;
       seats = pushed;
-      comes = subst (λ (z : Memory). ComesUp g.R.MemoryReplica.behaves (scene_of p) new c.rest.new.seat z) c.new.ensures
-          (comes g.R.MemoryReplica.behaves (scene_of p) new c.revive.new.seat c.rest.new.seat _ c.args.number _ k.told _ _ _ c.revive.ensures.number c.rest.ensures.number c.rest.ensures.rests (λ q up x c. ((goes q up).goes.noted x c).0)
+      comes = subst (λ (z : Memory). ComesUp g.R.MemoryReplica.behaves (scene_of p) new c.carry_out_stop.new.seat z) c.new.ensures
+          (comes g.R.MemoryReplica.behaves (scene_of p) new c.revive.new.seat c.carry_out_stop.new.seat _ c.args.number _ k.told _ _ _ c.revive.ensures.number c.carry_out_stop.ensures.number c.carry_out_stop.ensures.rests (λ q up x c. ((goes q up).goes.noted x c).0)
           (record { genesis = k.adds.genesis; sent = k.adds.sent; trace = k.adds.trace }) k.tells k.ended (c.in_ok-outcome.ensures.told _ (v.views s.number) refl (lawful _ _ _ _ _ _ _ v) (v.seated _ s at)) (c.in_ok-outcome.ensures.exact c.new.result refl));
     }
 

@@ -8,7 +8,7 @@ use Rattle.lk_leader.proofs.term.Term.value.Goals as goal
 
 pub returns-in-Some : goal.returns-in-Some
 returns-in-Some c =
-    subst (λ (v : Command). IsLeadersValue c.args.self.now c.args.waiting.now c.args.roster.now c.args.set.now c.args.position v) (sym c.copy.ensures) (highest c.in-Some.told c.in-Some.ensures)
+    subst (λ (v : Command). IsLeadersValue c.args.self.now c.args.waiting.now c.args.roster.now c.args.set.now c.args.position v) (sym c.copy.ensures) (highest c.in-Some.reported c.in-Some.ensures)
 
 pub returns-in-Some-first_new : goal.returns-in-Some-first_new
 returns-in-Some-first_new c =

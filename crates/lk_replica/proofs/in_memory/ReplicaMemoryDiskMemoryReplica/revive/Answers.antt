@@ -27,10 +27,10 @@ if_err : {A E : Type 0} (P : A → Type 0) (X : E → Type 0) (r : Result A E) �
 if_err P X (Ok x) p = tt
 if_err P X (Err e) p = p
 
--- and of three facts at Ok
-all_ok : {A E : Type 0} (P Q S : A → Type 0) (X Y : E → Type 0) (r : Result A E) → IfOk r P → MatchResult r Q X → MatchResult r S Y → IfOk r (λ x. P x × Q x × S x)
-all_ok P Q S X Y (Ok x) p q s = (p, q, s)
-all_ok P Q S X Y (Err e) p q s = tt
+-- and of three facts at Ok, the first of them beside another
+all_ok : {A E : Type 0} (P O Q S : A → Type 0) (X Y : E → Type 0) (r : Result A E) → IfOk r (λ x. P x × O x) → MatchResult r Q X → MatchResult r S Y → IfOk r (λ x. P x × Q x × S x)
+all_ok P O Q S X Y (Ok x) p q s = (p.0, q, s)
+all_ok P O Q S X Y (Err e) p q s = tt
 
 -- and of what stands at a refusal
 not_revived : {A E : Type 0} (m : Meaning) (IsText : List ℕ → Type 0) (device : Memory) (whose : HeaderValue) (r : Result A E) (number : E → ℕ) (left : E → Memory) (X Y : A → Type 0)
@@ -66,7 +66,7 @@ pub returns-clause-covers_err : goal.returns-clause-covers_err
 returns-clause-covers_err g c genesis n x whose every = if_err _ _ c.revive.result (c.revive.ensures.covers tt genesis n x whose every)
 
 pub returns-clause-exact : goal.returns-clause-exact
-returns-clause-exact g c = all_ok _ _ _ _ _ c.revive.result (c.revive.ensures.exact tt) c.revive.ensures.cause (c.revive.ensures.metered tt tt)
+returns-clause-exact g c = all_ok _ _ _ _ _ _ c.revive.result (c.revive.ensures.exact tt) c.revive.ensures.cause (c.revive.ensures.metered tt tt)
 
 pub returns-clause-room : goal.returns-clause-room
 returns-clause-room g c = if_ok _ _ _ c.revive.result (λ r room. on_device (λ d. StaysWithin 49152 (disk_of c.args.device) d) r.replica.store room) (c.revive.ensures.room tt)

@@ -149,43 +149,43 @@ returns-in_err-keep-clause-refused g c =
 
 -- ---- the sync that is refused
 
-pub returns-in_err-end_group-clause-ends : goal.returns-in_err-end_group-clause-ends
-returns-in_err-end_group-clause-ends g c h n fits heard =
+pub returns-in_err-sync_group-clause-ends : goal.returns-in_err-sync_group-clause-ends
+returns-in_err-sync_group-clause-ends g c h n fits heard =
     let m = g.M.Machine.meaning in
     let own = c.args.self.now in
     let k = c.inputs.invariant.stays h n (off_device (λ d. NodeFits m h n (Stands m own.node own.store h.genesis n) d) own.store fits) heard in
-    let ended = subst (λ (w : Bool). LeavesInGroup g.M.Machine.meaning (λ h. ⊤) 0 c.inputs.self.node c.inputs.self.store w (disks c.end_group.new.self.store)) c.waits.ensures (c.end_group.ensures.disks tt) in
-    on_device (DisksFit m h n) c.end_group.new.self.store (ended.ends h n k.0 tt)
+    let ended = subst (λ (w : Bool). LeavesInGroup g.M.Machine.meaning (λ h. ⊤) 0 c.inputs.self.node c.inputs.self.store w (disks c.sync_group.new.self.store)) c.waits.ensures (c.sync_group.ensures.disks tt) in
+    on_device (DisksFit m h n) c.sync_group.new.self.store (ended.ends h n k.0 tt)
 
-pub returns-in_err-end_group-clause-covers : goal.returns-in_err-end_group-clause-covers
-returns-in_err-end_group-clause-covers g c genesis n held x shown every =
+pub returns-in_err-sync_group-clause-covers : goal.returns-in_err-sync_group-clause-covers
+returns-in_err-sync_group-clause-covers g c genesis n held x shown every =
     let m = g.M.Machine.meaning in
     let own = c.args.self.now in
     let r = remembered m genesis n held own.node own.store shown in
     let s = c.inputs.invariant in
-    let ended = subst (λ (w : Bool). LeavesInGroup g.M.Machine.meaning (λ h. ⊤) 0 c.inputs.self.node c.inputs.self.store w (disks c.end_group.new.self.store)) c.waits.ensures (c.end_group.ensures.disks tt) in
-    on_device (λ d. AllCover m genesis n d x) c.end_group.new.self.store
+    let ended = subst (λ (w : Bool). LeavesInGroup g.M.Machine.meaning (λ h. ⊤) 0 c.inputs.self.node c.inputs.self.store w (disks c.sync_group.new.self.store)) c.waits.ensures (c.sync_group.ensures.disks tt) in
+    on_device (λ d. AllCover m genesis n d x) c.sync_group.new.self.store
     (ended.covers genesis n x (s.recalls genesis n r) (s.covers genesis n x r (off_device (λ d. AllCover m genesis n d x) own.store every)))
 
-pub returns-in_err-end_group-clause-room : goal.returns-in_err-end_group-clause-room
-returns-in_err-end_group-clause-room g c =
+pub returns-in_err-sync_group-clause-room : goal.returns-in_err-sync_group-clause-room
+returns-in_err-sync_group-clause-room g c =
     let own = c.args.self.now in
-    on_device (λ d. StaysWithin 132704 (disk_of (device_of own.store)) d) c.end_group.new.self.store
-    (on_device (λ d. StaysWithin 132704 d (disks c.end_group.new.self.store)) own.store
-    (within_still 132704 (disks own.store) (disks c.inputs.self.store) (disks c.end_group.new.self.store) c.inputs.invariant.room (c.end_group.ensures.disks tt).room))
+    on_device (λ d. StaysWithin 132704 (disk_of (device_of own.store)) d) c.sync_group.new.self.store
+    (on_device (λ d. StaysWithin 132704 d (disks c.sync_group.new.self.store)) own.store
+    (within_still 132704 (disks own.store) (disks c.inputs.self.store) (disks c.sync_group.new.self.store) c.inputs.invariant.room (c.sync_group.ensures.disks tt).room))
 
-pub returns-in_err-end_group-clause-calls_err : goal.returns-in_err-end_group-clause-calls_err
-returns-in_err-end_group-clause-calls_err g c =
-    let new = c.end_group.new.self in
-    err_as (λ e. RefusedAfter (fault_number e) c.args.self.now.store.meter new.store.meter) _ _ c.from_residual-in_err-end_group.ensures.1
-    (refused_further g.M.Machine.meaning g.M.Machine.IsText c.args.self.now _ c.inputs.self new _ _ _ _ c.inputs.invariant (c.in_err-end_group.ensures.refused.calls tt tt))
+pub returns-in_err-sync_group-clause-calls_err : goal.returns-in_err-sync_group-clause-calls_err
+returns-in_err-sync_group-clause-calls_err g c =
+    let new = c.sync_group.new.self in
+    err_as (λ e. RefusedAfter (fault_number e) c.args.self.now.store.meter new.store.meter) _ _ c.from_residual-in_err-sync_group.ensures.1
+    (refused_further g.M.Machine.meaning g.M.Machine.IsText c.args.self.now _ c.inputs.self new _ _ _ _ c.inputs.invariant (c.in_err-sync_group.ensures.refused.calls tt tt))
 
-pub returns-in_err-end_group-clause-refused : goal.returns-in_err-end_group-clause-refused
-returns-in_err-end_group-clause-refused g c =
-    let new = c.end_group.new.self in
+pub returns-in_err-sync_group-clause-refused : goal.returns-in_err-sync_group-clause-refused
+returns-in_err-sync_group-clause-refused g c =
+    let new = c.sync_group.new.self in
     let all = c.args.inputs.items in
-    err_as (λ e. IsNumberOfCalls (fault_number e) × IsTogetherRefused g.M.Machine.meaning g.M.Machine.IsText c.args.self.now (map heard_by all) new (fault_number e)) _ _ c.from_residual-in_err-end_group.ensures.1
-    (c.in_err-end_group.ensures.refused.told, refused_in_all g.M.Machine.meaning g.M.Machine.IsText c.args.self.now all c.inputs.self new _ _ _ _ c.inputs.invariant (inl c.in_err-end_group.ensures.refused))
+    err_as (λ e. IsNumberOfCalls (fault_number e) × IsTogetherRefused g.M.Machine.meaning g.M.Machine.IsText c.args.self.now (map heard_by all) new (fault_number e)) _ _ c.from_residual-in_err-sync_group.ensures.1
+    (c.in_err-sync_group.ensures.refused.told, refused_in_all g.M.Machine.meaning g.M.Machine.IsText c.args.self.now all c.inputs.self new _ _ _ _ c.inputs.invariant (inl c.in_err-sync_group.ensures.refused))
 
 -- ---- the letters that were not sent
 
@@ -194,8 +194,8 @@ returns-in-Err-clause-ends g c h n fits heard =
     let m = g.M.Machine.meaning in
     let own = c.args.self.now in
     let k = c.inputs.invariant.stays h n (off_device (λ d. NodeFits m h n (Stands m own.node own.store h.genesis n) d) own.store fits) heard in
-    let ended = subst (λ (w : Bool). LeavesInGroup g.M.Machine.meaning (λ h. ⊤) 0 c.inputs.self.node c.inputs.self.store w (disks c.end_group.new.self.store)) c.waits.ensures (c.end_group.ensures.disks tt) in
-    on_device (DisksFit m h n) c.end_group.new.self.store (ended.ends h n k.0 tt)
+    let ended = subst (λ (w : Bool). LeavesInGroup g.M.Machine.meaning (λ h. ⊤) 0 c.inputs.self.node c.inputs.self.store w (disks c.sync_group.new.self.store)) c.waits.ensures (c.sync_group.ensures.disks tt) in
+    on_device (DisksFit m h n) c.sync_group.new.self.store (ended.ends h n k.0 tt)
 
 pub returns-in-Err-clause-covers : goal.returns-in-Err-clause-covers
 returns-in-Err-clause-covers g c genesis n held x shown every =
@@ -203,28 +203,28 @@ returns-in-Err-clause-covers g c genesis n held x shown every =
     let own = c.args.self.now in
     let r = remembered m genesis n held own.node own.store shown in
     let s = c.inputs.invariant in
-    let ended = subst (λ (w : Bool). LeavesInGroup g.M.Machine.meaning (λ h. ⊤) 0 c.inputs.self.node c.inputs.self.store w (disks c.end_group.new.self.store)) c.waits.ensures (c.end_group.ensures.disks tt) in
-    on_device (λ d. AllCover m genesis n d x) c.end_group.new.self.store
+    let ended = subst (λ (w : Bool). LeavesInGroup g.M.Machine.meaning (λ h. ⊤) 0 c.inputs.self.node c.inputs.self.store w (disks c.sync_group.new.self.store)) c.waits.ensures (c.sync_group.ensures.disks tt) in
+    on_device (λ d. AllCover m genesis n d x) c.sync_group.new.self.store
     (ended.covers genesis n x (s.recalls genesis n r) (s.covers genesis n x r (off_device (λ d. AllCover m genesis n d x) own.store every)))
 
 pub returns-in-Err-clause-room : goal.returns-in-Err-clause-room
 returns-in-Err-clause-room g c =
     let own = c.args.self.now in
-    on_device (λ d. StaysWithin 132704 (disk_of (device_of own.store)) d) c.end_group.new.self.store
-    (on_device (λ d. StaysWithin 132704 d (disks c.end_group.new.self.store)) own.store
-    (within_still 132704 (disks own.store) (disks c.inputs.self.store) (disks c.end_group.new.self.store) c.inputs.invariant.room (c.end_group.ensures.disks tt).room))
+    on_device (λ d. StaysWithin 132704 (disk_of (device_of own.store)) d) c.sync_group.new.self.store
+    (on_device (λ d. StaysWithin 132704 d (disks c.sync_group.new.self.store)) own.store
+    (within_still 132704 (disks own.store) (disks c.inputs.self.store) (disks c.sync_group.new.self.store) c.inputs.invariant.room (c.sync_group.ensures.disks tt).room))
 
 pub returns-in-Err-clause-calls_err : goal.returns-in-Err-clause-calls_err
 returns-in-Err-clause-calls_err g c =
     let s = c.inputs.invariant in
-    (s.calls + settle_calls c.waits.result, passes_on s.calls s.passes (settle_calls c.waits.result) ((c.in_ok-end_group.ensures.exact tt).calls tt))
+    (s.calls + settle_calls c.waits.result, passes_on s.calls s.passes (settle_calls c.waits.result) ((c.in_ok-sync_group.ensures.exact tt).calls tt))
 
 pub returns-in-Err-clause-refused : goal.returns-in-Err-clause-refused
 returns-in-Err-clause-refused g c =
     let m = g.M.Machine.meaning in
-    let new = c.end_group.new.self in
+    let new = c.sync_group.new.self in
     let all = c.args.inputs.items in
-    let settled = subst (λ (w : Bool). IsSettled ⊤ c.inputs.self w new) c.waits.ensures (c.in_ok-end_group.ensures.exact tt) in (
+    let settled = subst (λ (w : Bool). IsSettled ⊤ c.inputs.self w new) c.waits.ensures (c.in_ok-sync_group.ensures.exact tt) in (
       inr (inr (inr (inr refl))),
       refused_in_all m g.M.Machine.IsText c.args.self.now all c.inputs.self new _ _ _ _ c.inputs.invariant
           (inr (inr (record { not_sent = refl; settled = settled }))),
@@ -237,8 +237,8 @@ returns-in-Ok-clause-ends g c h n fits heard =
     let m = g.M.Machine.meaning in
     let own = c.args.self.now in
     let k = c.inputs.invariant.stays h n (off_device (λ d. NodeFits m h n (Stands m own.node own.store h.genesis n) d) own.store fits) heard in
-    let ended = subst (λ (w : Bool). LeavesInGroup g.M.Machine.meaning (λ h. ⊤) 0 c.inputs.self.node c.inputs.self.store w (disks c.end_group.new.self.store)) c.waits.ensures (c.end_group.ensures.disks tt) in
-    on_device (DisksFit m h n) c.end_group.new.self.store (ended.ends h n k.0 tt)
+    let ended = subst (λ (w : Bool). LeavesInGroup g.M.Machine.meaning (λ h. ⊤) 0 c.inputs.self.node c.inputs.self.store w (disks c.sync_group.new.self.store)) c.waits.ensures (c.sync_group.ensures.disks tt) in
+    on_device (DisksFit m h n) c.sync_group.new.self.store (ended.ends h n k.0 tt)
 
 pub returns-in-Ok-clause-covers : goal.returns-in-Ok-clause-covers
 returns-in-Ok-clause-covers g c genesis n held x shown every =
@@ -246,29 +246,29 @@ returns-in-Ok-clause-covers g c genesis n held x shown every =
     let own = c.args.self.now in
     let r = remembered m genesis n held own.node own.store shown in
     let s = c.inputs.invariant in
-    let ended = subst (λ (w : Bool). LeavesInGroup g.M.Machine.meaning (λ h. ⊤) 0 c.inputs.self.node c.inputs.self.store w (disks c.end_group.new.self.store)) c.waits.ensures (c.end_group.ensures.disks tt) in
-    on_device (λ d. AllCover m genesis n d x) c.end_group.new.self.store
+    let ended = subst (λ (w : Bool). LeavesInGroup g.M.Machine.meaning (λ h. ⊤) 0 c.inputs.self.node c.inputs.self.store w (disks c.sync_group.new.self.store)) c.waits.ensures (c.sync_group.ensures.disks tt) in
+    on_device (λ d. AllCover m genesis n d x) c.sync_group.new.self.store
     (ended.covers genesis n x (s.recalls genesis n r) (s.covers genesis n x r (off_device (λ d. AllCover m genesis n d x) own.store every)))
 
 pub returns-in-Ok-clause-room : goal.returns-in-Ok-clause-room
 returns-in-Ok-clause-room g c =
     let own = c.args.self.now in
-    on_device (λ d. StaysWithin 132704 (disk_of (device_of own.store)) d) c.end_group.new.self.store
-    (on_device (λ d. StaysWithin 132704 d (disks c.end_group.new.self.store)) own.store
-    (within_still 132704 (disks own.store) (disks c.inputs.self.store) (disks c.end_group.new.self.store) c.inputs.invariant.room (c.end_group.ensures.disks tt).room))
+    on_device (λ d. StaysWithin 132704 (disk_of (device_of own.store)) d) c.sync_group.new.self.store
+    (on_device (λ d. StaysWithin 132704 d (disks c.sync_group.new.self.store)) own.store
+    (within_still 132704 (disks own.store) (disks c.inputs.self.store) (disks c.sync_group.new.self.store) c.inputs.invariant.room (c.sync_group.ensures.disks tt).room))
 
 pub returns-in-Ok-clause-calls : goal.returns-in-Ok-clause-calls
 returns-in-Ok-clause-calls g c =
     let s = c.inputs.invariant in
-    (s.calls + settle_calls c.waits.result, passes_on s.calls s.passes (settle_calls c.waits.result) ((c.in_ok-end_group.ensures.exact tt).calls tt))
+    (s.calls + settle_calls c.waits.result, passes_on s.calls s.passes (settle_calls c.waits.result) ((c.in_ok-sync_group.ensures.exact tt).calls tt))
 
 pub returns-in-Ok-clause-syncs : goal.returns-in-Ok-clause-syncs
 returns-in-Ok-clause-syncs g c genesis n held x shown =
     let m = g.M.Machine.meaning in
     let own = c.args.self.now in
-    let new = c.end_group.new.self in
+    let new = c.sync_group.new.self in
     let r = remembered m genesis n held own.node own.store shown in
-    let settled = subst (λ (w : Bool). IsSettled ⊤ c.inputs.self w new) c.waits.ensures (c.in_ok-end_group.ensures.exact tt) in
+    let settled = subst (λ (w : Bool). IsSettled ⊤ c.inputs.self w new) c.waits.ensures (c.in_ok-sync_group.ensures.exact tt) in
     let batch : c.in-Ok.sent.items ≡ batch_of own.node.header.node c.inputs.group.letters = c.in-Ok.ensures.ok ∙ (λ i. batch_of (c.number-node.ensures i) (c.into_letters.ensures i)) in
     λ d listed spelled. on_device (λ z. AllCover m genesis n z x) new.store
     (covered_in_all m g.M.Machine.IsText own c.args.inputs.items c.inputs.self new _ _ _ _ c.inputs.invariant settled batch genesis n x r d listed spelled)
@@ -277,19 +277,19 @@ pub returns-in-Ok-clause-goes : goal.returns-in-Ok-clause-goes
 returns-in-Ok-clause-goes g c genesis n held shown =
     let m = g.M.Machine.meaning in
     let own = c.args.self.now in
-    let new = c.end_group.new.self in
+    let new = c.sync_group.new.self in
     let r = remembered m genesis n held own.node own.store shown in
     let none : c.inputs.input-iterator.rest.items ≡ [] = nil_from_length c.inputs.input-iterator.rest.items (sym c.inputs.input-iterator.rest.ok.0 ∙ c.in-None.ensures.steps.0) in
-    let settled = subst (λ (w : Bool). IsSettled ⊤ c.inputs.self w new) c.waits.ensures (c.in_ok-end_group.ensures.exact tt) in
+    let settled = subst (λ (w : Bool). IsSettled ⊤ c.inputs.self w new) c.waits.ensures (c.in_ok-sync_group.ensures.exact tt) in
     let batch : c.in-Ok.sent.items ≡ batch_of own.node.header.node c.inputs.group.letters = c.in-Ok.ensures.ok ∙ (λ i. batch_of (c.number-node.ensures i) (c.into_letters.ensures i)) in
-    gone_in_all m g.M.Machine.IsText own c.args.inputs.items c.inputs.self new _ _ _ _ c.inputs.invariant none settled (c.end_group.ensures.disks tt).room batch genesis n r
+    gone_in_all m g.M.Machine.IsText own c.args.inputs.items c.inputs.self new _ _ _ _ c.inputs.invariant none settled (c.sync_group.ensures.disks tt).room batch genesis n r
 
 pub returns-in-Ok-clause-exact : goal.returns-in-Ok-clause-exact
 returns-in-Ok-clause-exact g c =
     let m = g.M.Machine.meaning in
     let own = c.args.self.now in
-    let new = c.end_group.new.self in
+    let new = c.sync_group.new.self in
     let none : c.inputs.input-iterator.rest.items ≡ [] = nil_from_length c.inputs.input-iterator.rest.items (sym c.inputs.input-iterator.rest.ok.0 ∙ c.in-None.ensures.steps.0) in
-    let settled = subst (λ (w : Bool). IsSettled ⊤ c.inputs.self w new) c.waits.ensures (c.in_ok-end_group.ensures.exact tt) in
+    let settled = subst (λ (w : Bool). IsSettled ⊤ c.inputs.self w new) c.waits.ensures (c.in_ok-sync_group.ensures.exact tt) in
     let batch : c.in-Ok.sent.items ≡ batch_of own.node.header.node c.inputs.group.letters = c.in-Ok.ensures.ok ∙ (λ i. batch_of (c.number-node.ensures i) (c.into_letters.ensures i)) in
-    taken_in_all m g.M.Machine.IsText own c.args.inputs.items c.inputs.self new _ _ _ _ c.inputs.invariant none settled c.in_ok-end_group.ensures.alive batch
+    taken_in_all m g.M.Machine.IsText own c.args.inputs.items c.inputs.self new _ _ _ _ c.inputs.invariant none settled c.in_ok-sync_group.ensures.alive batch

@@ -28,13 +28,13 @@ returns-in-Ok-renew-clause-fits g c honest h n is lawful before =
 pub returns-in-Ok-renew-clause-covers : goal.returns-in-Ok-renew-clause-covers
 returns-in-Ok-renew-clause-covers g c honest genesis n x is every =
     let m : Meaning = g.M.Machine.meaning in
-    let keeps = taken_keeps m g.M.Machine.IsText (g.D.LogDisk.disk c.args.device) genesis n c.args.header.now c.in-Ok.up.node c.in-Ok.up.store c.in-Ok.up.notes.items is c.in-Ok.ensures.ready.whose (c.in-Ok.ensures.exact honest) in
+    let keeps = taken_keeps m g.M.Machine.IsText (g.D.LogDisk.disk c.args.device) genesis n c.args.header.now c.in-Ok.up.node c.in-Ok.up.store c.in-Ok.up.notes.items is c.in-Ok.ensures.ready.whose (c.in-Ok.ensures.exact honest).0 in
     (c.renew.ensures.safe honest).covers genesis n x keeps (c.in-Ok.ensures.covers honest genesis n x is every)
 
 pub returns-in-Ok-renew-clause-metered : goal.returns-in-Ok-renew-clause-metered
 returns-in-Ok-renew-clause-metered g c metered honest =
     let m : Meaning = g.M.Machine.meaning in
-    let t = c.in-Ok.ensures.exact honest in
+    let t = (c.in-Ok.ensures.exact honest).0 in
     revival_calls (g.D.LogDisk.disk c.args.device) (g.D.LogDisk.meter c.args.device) c.in-Ok.up.store.meter c.renew.new.store.meter c.args.header.now (text m t.genesis []) c.in-Ok.up.store t.standing t.opens
     (c.in-Ok.ensures.metered metered honest) (c.in-Ok-renew.ensures.metered metered honest)
 
@@ -44,18 +44,20 @@ returns-in-Ok-renew-clause-remembers g c honest genesis n is = (c.in-Ok-renew.en
 pub returns-in-Ok-renew-clause-exact : goal.returns-in-Ok-renew-clause-exact
 returns-in-Ok-renew-clause-exact g c honest =
     let m : Meaning = g.M.Machine.meaning in
-    let t = c.in-Ok.ensures.exact honest in
-    record {
-      node = c.in-Ok.up.node;
-      store = c.in-Ok.up.store;
-      takes = t;
-      renews = (c.in-Ok-renew.ensures.renewed honest).renews;
-      further = λ last.
-          let was = of_last_old (seen (g.D.LogDisk.disk c.args.device)) c.args.header.now (text m t.genesis []) c.in-Ok.up.store t.standing t.opens last in
-          absurd (cc (c.in-Ok-renew.ensures.last was.0 was.1).1);
-      alive = refl;
-      store_alive = c.in-Ok-renew.ensures.ready.alive c.in-Ok.ensures.ready.store_alive;
-    }
+    let t = (c.in-Ok.ensures.exact honest).0 in (
+      record {
+        node = c.in-Ok.up.node;
+        store = c.in-Ok.up.store;
+        takes = t;
+        renews = (c.in-Ok-renew.ensures.renewed honest).renews;
+        further = λ last.
+            let was = of_last_old (seen (g.D.LogDisk.disk c.args.device)) c.args.header.now (text m t.genesis []) c.in-Ok.up.store t.standing t.opens last in
+            absurd (cc (c.in-Ok-renew.ensures.last was.0 was.1).1);
+        alive = refl;
+        store_alive = c.in-Ok-renew.ensures.ready.alive c.in-Ok.ensures.ready.store_alive;
+      },
+      (c.in-Ok.ensures.exact honest).1,
+    )
 
 pub returns-in-Ok-renew-clause-ready : goal.returns-in-Ok-renew-clause-ready
 returns-in-Ok-renew-clause-ready g c = record {
@@ -81,7 +83,7 @@ returns-in-Err-renew-clause-fits g c honest h n is lawful before =
 pub returns-in-Err-renew-clause-covers : goal.returns-in-Err-renew-clause-covers
 returns-in-Err-renew-clause-covers g c honest genesis n x is every =
     let m : Meaning = g.M.Machine.meaning in
-    let keeps = taken_keeps m g.M.Machine.IsText (g.D.LogDisk.disk c.args.device) genesis n c.args.header.now c.in-Ok.up.node c.in-Ok.up.store c.in-Ok.up.notes.items is c.in-Ok.ensures.ready.whose (c.in-Ok.ensures.exact honest) in
+    let keeps = taken_keeps m g.M.Machine.IsText (g.D.LogDisk.disk c.args.device) genesis n c.args.header.now c.in-Ok.up.node c.in-Ok.up.store c.in-Ok.up.notes.items is c.in-Ok.ensures.ready.whose (c.in-Ok.ensures.exact honest).0 in
     given_cover m genesis n x c.renew.new.store (g.D.LogDisk.disk c.into_disks.result) c.into_disks.ensures.live_disk c.into_disks.ensures.other_disk
     ((c.renew.ensures.safe honest).covers genesis n x keeps (c.in-Ok.ensures.covers honest genesis n x is every))
 
@@ -89,7 +91,7 @@ pub returns-in-Err-renew-clause-stays_err : goal.returns-in-Err-renew-clause-sta
 returns-in-Err-renew-clause-stays_err g c honest genesis is =
     let m : Meaning = g.M.Machine.meaning in
     let old = g.D.LogDisk.disk c.args.device in
-    let t = c.in-Ok.ensures.exact honest in
+    let t = (c.in-Ok.ensures.exact honest).0 in
     let holds = opens_holds (seen old) c.args.header.now (text m t.genesis []) c.in-Ok.up.store t.standing t.opens c.in-Ok.ensures.ready.whose in
     given_renew old c.args.header.now (text m genesis []) c.renew.new.store (g.D.LogDisk.disk c.into_disks.result) c.into_disks.ensures.live_disk c.into_disks.ensures.other_disk
     (renew_left old (disks c.renew.new.store) c.args.header.now (text m t.genesis []) (text m genesis []) c.in-Ok.up.store t.standing (standing_of c.in-Ok.up.node) t.opens c.in-Err-renew.ensures.refused.old
@@ -98,7 +100,7 @@ returns-in-Err-renew-clause-stays_err g c honest genesis is =
 pub returns-in-Err-renew-clause-refused : goal.returns-in-Err-renew-clause-refused
 returns-in-Err-renew-clause-refused g c honest =
     let m : Meaning = g.M.Machine.meaning in
-    let t = c.in-Ok.ensures.exact honest in
+    let t = (c.in-Ok.ensures.exact honest).0 in
     let number = fault_number c.in-Err-renew.fault in
     let by = c.in-Err-renew.ensures.refused.of_store in
     record {

@@ -1,0 +1,37 @@
+ghost use Rattle.std.specs.Prelude.{◌≡◌, Option, List, [], ◌∷◌, ◌++◌, IsTrue, false};
+ghost use Rattle.lk_leader.specs.Values.{IsNotAbove, IsBest};
+
+use lk_types::{NodeNo, Vote};
+
+// A vote, and the node whose promise reports it.
+#[derive(Drop)]
+pub(crate) struct ReportedVote {
+    pub(crate) node: NodeNo,
+    pub(crate) vote: Vote,
+}
+
+impl ReportedVote {
+    // Whether the other counts for more: its ballot is greater, or the same and reported by a smaller node.
+    fn is_below(&self, node: NodeNo, vote: &Vote) -> bool
+        ensures below { IsTrue result → IsNotAbove self.now (record { node = node; vote = vote.now }) }
+        ensures above { result ≡ false → IsNotAbove (record { node = node; vote = vote.now }) self.now }
+    {
+        let (own, other) = (self.vote.ballot.get(), vote.ballot.get());
+        own.is_below(other) || (!other.is_below(own) && node < self.node)
+    }
+}
+
+/// The best so far, or this vote if it counts for more.
+pub fn better(best: Option<ReportedVote>, node: NodeNo, vote: &Vote) -> Option<ReportedVote>
+    ensures { (ts : List ReportedVote) → IsBest ts best → IsBest (ts ++ record { node = node; vote = vote.now } ∷ []) result }
+{
+    if let Some(reported) = &best {
+        if !reported.is_below(node, vote) {
+            return best;
+        }
+    }
+    Some(ReportedVote {
+        node,
+        vote: vote.copy(),
+    })
+}

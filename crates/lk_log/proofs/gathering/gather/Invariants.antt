@@ -1,9 +1,0 @@
-use Rattle.std.specs.List.{AllByRecursion}
-use Rattle.lk_entries.specs.Entries.{IsStored}
-use Rattle.lk_entries.specs.Standings.{Rises}
-use Rattle.lk_entries.proofs.StandingLaws.{StandsSoFar}
-use Rattle.lk_log.proofs.gathering.gather.Given as goal
-
--- what stands so far, in order, and what is left is in its range
-abbrev pub invariant-loop-entry : goal.invariant-loop-entry
-invariant-loop-entry l = StandsSoFar l.yielded l.standing × Rises l.standing × AllByRecursion IsStored l.entry-iterator.rest.items

@@ -1,6 +1,0 @@
-use Rattle.std.proofs.Common.{rules}
-use Rattle.lk_node.proofs.Reminders.{lead_goes_on}
-use Rattle.lk_node.proofs.node.Node.tell_lead.Goals as goal
-
-pub returns-clause-goes_on : goal.returns-clause-goes_on
-returns-clause-goes_on g c = lead_goes_on _ _ c.args.self.now c.args.ballot c.args.out.now c.tell_all.new.out (search rules)

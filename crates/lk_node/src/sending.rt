@@ -1,0 +1,42 @@
+// Messages of a node to several nodes.
+ghost use Rattle.std.specs.Prelude.{◌≡◌, IfOk, OnOk};
+ghost use Rattle.lk_messages.specs.Grammar.{IsMessage};
+ghost use Rattle.lk_step.specs.Saying.{saying};
+ghost use Rattle.lk_node.specs.Telling.{AreWindowNodes, AreOthers, telling};
+
+use crate::node::Node;
+use lk_state::Machine;
+use lk_step::{Outbox, letters_to, others, window_nodes};
+use lk_types::{NoMemory, NodeNo};
+use lk_wire::NodeMessage;
+
+impl<M: Machine> Node<M> {
+    // The nodes of the window, in rising order.
+    pub(crate) fn window_nodes(&self) -> Result<Vec<NodeNo>, NoMemory>
+        ensures { IfOk result (λ ns. AreWindowNodes self.now ns.items) }
+    {
+        window_nodes(self.alloc, self.roster())
+    }
+
+    // The other nodes of the window, in rising order.
+    pub(crate) fn others(&self) -> Result<Vec<NodeNo>, NoMemory>
+        ensures { IfOk result (λ ns. AreOthers self.now ns.items) }
+    {
+        others(self.alloc, self.roster(), self.header.node())
+    }
+
+    // Sends the same to each of the nodes, in order.
+    pub(crate) fn send_to_all(
+        &self,
+        nodes: &[NodeNo],
+        message: NodeMessage,
+        out: &mut Outbox,
+    ) -> Result<(), NoMemory>
+        ensures said { OnOk result (out.new ≡ telling self.now nodes.now message out.old) }
+        ensures fits { OnOk result (IsMessage (saying self.now.header message)) }
+    {
+        let letters = letters_to(self.alloc, &self.header, self.roster(), nodes, message)?;
+        out.post(letters)?;
+        Ok(())
+    }
+}

@@ -1,8 +1,0 @@
-use Rattle.lk_node_replica.proofs.Sayings.{gathers_nothing}
-use Rattle.lk_node_replica.proofs.node_replica.ReplicaNodeReplica.begin.Goals as goal
-
-pub returns : goal.returns
-returns g c =
-    let m = g.M.Machine in
-    let d = g.D.LogDisk in
-    record { begins = gathers_nothing m.meaning m.IsText d.is_honest d.is_metered c.args.self.now c.new.result c.new.ensures }

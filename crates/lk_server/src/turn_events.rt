@@ -1,0 +1,48 @@
+//! What has happened to a node in a turn, for the observer of its events.
+
+ghost use Rattle.std.specs.Prelude.{◌≡◌, ◌≤◌, ◌<◌, ℕ, Some, None};
+ghost use Rattle.lk_transport.specs.Arrivals.{sender};
+
+use lk_served_replica::replica_status::ReplicaStatus;
+use lk_transport::arrival::Arrival;
+use lk_transport::post::SendSummary;
+use lk_types::{Executed, NodeNo};
+
+/// What has happened to a node in a turn, beside what is seen of it then.
+#[derive(Clone, Copy)]
+pub struct TurnEvents {
+    /// The snapshot that it installed last, and the node that sent the last part of it.
+    pub installed: Option<(Executed, NodeNo)>,
+    /// What became of what it sent.
+    pub sends: SendSummary,
+    /// The node of another genesis that it heard, if that is to be reported.
+    pub stranger: Option<NodeNo>,
+    /// How many datagrams of another cluster have come, if that is to be reported.
+    pub foreign: Option<u64>,
+}
+
+impl TurnEvents {
+    /// Nothing has.
+    pub const NOTHING: TurnEvents = TurnEvents {
+        installed: None,
+        sends: SendSummary::NOTHING,
+        stranger: None,
+        foreign: None,
+    };
+
+    /// Notes a snapshot that was installed by what came.
+    pub fn note_installed(&mut self, came: &Arrival, before: &ReplicaStatus, after: &ReplicaStatus)
+        // A snapshot of more positions than were executed before was installed, and the node that sent what came sent
+        // the last part of it.
+        ensures installed { (n : ℕ) → sender came.now ≡ Some n → before.now.executed < after.now.snapshot → self.new ≡ record self.old { installed = Some (after.now.snapshot, n) } }
+        ensures no_more { after.now.snapshot ≤ before.now.executed → self.new ≡ self.old }
+        ensures no_node { sender came.now ≡ None → self.new ≡ self.old }
+    {
+        match came.node() {
+            Some(node) if after.snapshot.get() > before.executed.get() => {
+                self.installed = Some((after.snapshot, node));
+            }
+            _ => {}
+        }
+    }
+}

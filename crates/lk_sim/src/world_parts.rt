@@ -1,0 +1,17 @@
+use lk_replica::Datagram;
+use lk_step::Note;
+use lk_types::Genesis;
+use lk_world_nodes::{End, Seat};
+use std::alloc::Global;
+
+/// The parts of a world: the nodes that were ever started, everything that was ever sent, the trace, and how the last
+/// event ended a node.
+#[derive(Drop)]
+pub struct WorldParts<R: Drop> {
+    pub alloc: Global,
+    pub genesis: Genesis,
+    pub seats: Vec<Seat<R>>,
+    pub sent: Vec<Datagram>,
+    pub trace: Vec<Note>,
+    pub ended: Option<End>,
+}

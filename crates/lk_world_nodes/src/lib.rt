@@ -1,0 +1,22 @@
+//! A node of a world, up or down, with its disks in memory: what each call of it notes and sends, and how one ends it.
+#![tactic(auto)]
+
+mod calls;
+mod end;
+mod finding;
+mod group;
+mod left;
+mod notes;
+mod outcome;
+mod refused;
+mod seat;
+
+pub use calls::{pack, revive, step};
+pub use end::End;
+pub use finding::{find, find_down, find_up};
+pub use group::{GroupOutcome, step_all};
+pub use left::{LeftNode, all_left};
+pub use notes::add_notes;
+pub use outcome::{Outcome, carry_out_stop};
+pub use refused::Refused;
+pub use seat::{Life, Seat, lengths, set_trap, stop};
