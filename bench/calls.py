@@ -49,10 +49,20 @@ def measured(program, system, folder, clients, seconds):
 
 def arguments():
     made = parser(__doc__)
-    made.add_argument("--systems", type=words_of(["locks", *PEERS]), default=["locks", "etcd"], help="locks,etcd if not given")
+    made.add_argument(
+        "--systems",
+        type=words_of(["locks", *PEERS]),
+        default=["locks", "etcd"],
+        help="locks,etcd if not given",
+    )
     made.add_argument("--clients", type=numbers, default=[1, 8, 32, 64], help="1,8,32,64 if not given")
     made.add_argument("--alpha", type=numbers, default=[2, 8, 16], help="2,8,16 if not given")
-    made.add_argument("--ticks", type=words_of(TICKS), default=TICKS[:1], help="of the clusters of locks, as datagrams,clock; datagrams if not given")
+    made.add_argument(
+        "--ticks",
+        type=words_of(TICKS),
+        default=TICKS[:1],
+        help="of the clusters of locks, as datagrams,clock; datagrams if not given",
+    )
     made.add_argument("--seconds", type=float, default=3, help="how long each load lasts, 3 if not given")
     made.add_argument("--program", type=a_program, help="the program of locks; what ./locks runs if not given")
     made.add_argument("--before", type=a_program, help="an older program of locks, beside the other")

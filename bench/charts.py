@@ -55,7 +55,9 @@ def neighbour(figure, is_above):
     """The next 1, 2 or 5 times a power of ten that is not below the figure, or not above it."""
     decade = 10.0 ** math.floor(math.log10(figure))
     steps = [step * decade for step in STEPS]
-    return min(it for it in steps if it >= figure * 0.9999) if is_above else max(it for it in steps if it <= figure * 1.0001)
+    if is_above:
+        return min(it for it in steps if it >= figure * 0.9999)
+    return max(it for it in steps if it <= figure * 1.0001)
 
 
 class Linear:
@@ -72,11 +74,13 @@ class Linear:
 
 
 class Log:
-    """An axis on which a doubling has the same length everywhere. Its ends are the figures' own where each has a tick."""
+    """A logarithmic axis. Where each figure has a tick, it goes from the least of them to the greatest."""
 
     def __init__(self, figures, start, end, each=False):
         self.each, self.start, self.end = sorted(set(figures)) if each else [], start, end
-        self.low, self.high = (min(figures), max(figures)) if each else (neighbour(min(figures), False), neighbour(max(figures), True))
+        self.low, self.high = min(figures), max(figures)
+        if not each:
+            self.low, self.high = neighbour(self.low, False), neighbour(self.high, True)
 
     def __call__(self, figure):
         share = math.log(figure / self.low) / (math.log(self.high / self.low) or 1)
@@ -127,8 +131,7 @@ class Panel:
         self.parts.append(svg.text(self.x + self.wide / 2, self.y + HIGH + 36, words, "small", "middle"))
 
     def curves(self, series, across, up, words):
-        """A curve for each look, of the figures of all rounds by their place. Each axis has its scale and the form of its
-        labels."""
+        """A curve for each look, of the figures of all rounds by place. Each axis has a scale and a form of labels."""
         places = [place for line in series.values() for place in line]
         figures = [it for line in series.values() for all_rounds in line.values() for it in all_rounds]
         xs, ys = across[0](places, self.x, self.x + self.wide), up[0](figures, self.y + HIGH, self.y)
@@ -143,7 +146,10 @@ class Panel:
         edges = [f"{x} {min(ys)}" for x, ys in line] + [f"{x} {max(ys)}" for x, ys in reversed(line)]
         middle = [(x, round(statistics.median(ys), 1)) for x, ys in line]
         through = "L".join(f"{x} {y}" for x, y in middle)
-        self.parts.append(f'<path class="spread {look.colour}" d="M{"L".join(edges)}z"/><path class="{look.curve}" d="M{through}"/>')
+        self.parts.append(
+            f'<path class="spread {look.colour}" d="M{"L".join(edges)}z"/>'
+            f'<path class="{look.curve}" d="M{through}"/>'
+        )
         self.parts += [look.mark(x, y) for x, y in middle]
 
     def strips(self, series, words):
@@ -157,7 +163,8 @@ class Panel:
 
     def strip(self, look, figures, y, scale):
         median = statistics.median(figures)
-        self.parts += [svg.text(self.x - 8, y + 4, look.name, "small", "end"), *(look.mark(scale(it), y) for it in figures)]
+        self.parts.append(svg.text(self.x - 8, y + 4, look.name, "small", "end"))
+        self.parts += [look.mark(scale(it), y) for it in figures]
         self.parts.append(f'<path class="median {look.colour}" d="M{scale(median)} {y - 9}v18"/>')
         self.parts.append(svg.text(self.x + PANEL - NAMES, y + 4, f"{median:.2f}", "small", "end"))
 
@@ -168,7 +175,8 @@ def legend(looks, y, wide):
     for look in looks:
         taken = 48 + svg.width(look.name)
         x, y = (8, y + 22) if x + taken > wide else (x, y)
-        parts += [f'<path class="{look.curve}" d="M{x} {y}h30"/>', look.mark(x + 15, y), svg.text(x + 36, y + 4, look.name)]
+        parts += [f'<path class="{look.curve}" d="M{x} {y}h30"/>', look.mark(x + 15, y)]
+        parts.append(svg.text(x + 36, y + 4, look.name))
         x += taken
     return parts, y
 

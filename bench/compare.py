@@ -34,13 +34,17 @@ TICKS = ["datagrams", "clock"]
 FEW, MANY = 8, 32  # clients of a start or a death; and of a warm-up or the long run
 LEGS = 20  # looks at memory and files in the long run
 DEATH, BEFORE, REST = 8, 1.5, 2  # seconds: of the load around a death, before it, and after it
-COLUMNS = ["what", "system", "disk", "round", "clients", "seconds", "pairs", "pairs_per_second", "p50_ms", "p99_ms", "p999_ms", "slowest_ms"]
+COLUMNS = ["what", "system", "disk", "round", "clients", "seconds", "pairs", "pairs_per_second"]
+COLUMNS += ["p50_ms", "p99_ms", "p999_ms", "slowest_ms"]
 COLUMNS += ["gap_ms", "ready_ms", "repeated", "errors", "error", "processor_seconds", "nodes_processor_seconds"]
 COLUMNS += ["memory_bytes", "file_bytes", "load", "note"]
 TOLD = {
     "note": "{note}",
     "start": "{system}, {disk} disk: first answer {ready_ms:,.0f} ms after the start",
-    "load": "{system}, {disk} disk, {clients} clients: {pairs_per_second:,.0f} pairs per second, p50 {p50_ms:.2f} ms, p99 {p99_ms:.2f} ms",
+    "load": (
+        "{system}, {disk} disk, {clients} clients: {pairs_per_second:,.0f} pairs per second, "
+        "p50 {p50_ms:.2f} ms, p99 {p99_ms:.2f} ms"
+    ),
     "death": "{system}: no answer for {gap_ms:,.0f} ms after the death of the leader",
     "growth": "{system}, {pairs:,} pairs: {memory_bytes:,} bytes of memory, {file_bytes:,} bytes in files",
 }
@@ -76,7 +80,8 @@ class Sheet:
         row = {"what": what, **figures, "load": f"{os.getloadavg()[0]:.1f}"}
         self.rows.writerow(row)
         self.file.flush()
-        print(TOLD[what].format(**row), f"({row['errors']} failed: {row['error']})" if row.get("errors") else "", flush=True)
+        failed = f"({row['errors']} failed: {row['error']})" if row.get("errors") else ""
+        print(TOLD[what].format(**row), failed, flush=True)
 
 
 class Comparison:
@@ -174,7 +179,7 @@ def clusters_of(args):
 
 
 def variants_of(args):
-    """All that is compared. The long run has the greatest alpha alone. What is not installed is left out, with a line."""
+    """All that is compared. Only the greatest alpha has a long run. What is not installed is left out, with a line."""
     for word in args.systems:
         kind = PEERS.get(word)
         if kind and kind.missing():
@@ -189,7 +194,10 @@ def disks_of(args):
     """The disks that can be had."""
     if shutil.which("strace") or "slow" not in args.disks:
         return args.disks
-    print("the slow disk is left out: strace, which delays syncs, is not on the path; Debian: apt-get install strace", flush=True)
+    print(
+        "the slow disk is left out: strace, which delays syncs, is not on the path; Debian: apt-get install strace",
+        flush=True,
+    )
     return [it for it in args.disks if it == "plain"]
 
 
@@ -212,19 +220,24 @@ def processors():
 
 def builds(args):
     """Whether each program of locks is a proved one."""
-    return [f"{name}: {'proved' if is_proved(it) else 'quick'} build" for name, it in programs(args).items()] if "locks" in args.systems else []
+    if "locks" not in args.systems:
+        return []
+    return [f"{name}: {'proved' if is_proved(it) else 'quick'} build" for name, it in programs(args).items()]
 
 
 def versions(args):
     """The versions of what is compared."""
-    return builds(args) + [f"{PEERS[it].name} {PEERS[it].version()}" for it in args.systems if it in PEERS and not PEERS[it].missing()]
+    peers = (PEERS[it] for it in args.systems if it in PEERS)
+    return builds(args) + [f"{it.name} {it.version()}" for it in peers if not it.missing()]
 
 
 def notes(args, disks):
     """Lines on the machine and the programs, for the picture."""
-    yield f"{datetime.date.today()}, {processors()}, Linux {platform.release()}, load before the run {os.getloadavg()[0]:.1f}."
+    load = os.getloadavg()[0]
+    yield f"{datetime.date.today()}, {processors()}, Linux {platform.release()}, load before the run {load:.1f}."
     yield "; ".join(versions(args)) + ". All nodes and clients on this machine."
-    yield "A sync takes " + ", ".join(f"{sync_ms(args, disk):.2f} ms ({plots.DISKS[disk]})" for disk in disks) + " at the median."
+    syncs = (f"{sync_ms(args, disk):.2f} ms ({plots.DISKS[disk]})" for disk in disks)
+    yield f"A sync takes {', '.join(syncs)} at the median."
 
 
 def minutes(args, variants, disks):
@@ -253,21 +266,41 @@ def words_of(known):
 
 def arguments():
     made = parser(__doc__)
-    made.add_argument("--systems", type=words_of(["locks", *PEERS]), default=["locks", *PEERS], help="locks,etcd,zookeeper,redis if not given")
+    made.add_argument(
+        "--systems",
+        type=words_of(["locks", *PEERS]),
+        default=["locks", *PEERS],
+        help="locks,etcd,zookeeper,redis if not given",
+    )
     made.add_argument("--disks", type=words_of(DISKS), default=list(DISKS), help="plain,slow if not given")
     made.add_argument("--clients", type=numbers, default=[1, 2, 4, 8, 16, 32, 64], help="1,2,4,8,16,32,64 if not given")
     made.add_argument("--alpha", type=numbers, default=[8], help="of the clusters of locks, as 2,8,16; 8 if not given")
     made.add_argument("--sealed", action="store_true", help="the clusters of locks with keys too, beside those without")
-    made.add_argument("--ticks", type=words_of(TICKS), default=TICKS[:1], help="of the clusters of locks, as datagrams,clock; datagrams if not given")
+    made.add_argument(
+        "--ticks",
+        type=words_of(TICKS),
+        default=TICKS[:1],
+        help="of the clusters of locks, as datagrams,clock; datagrams if not given",
+    )
     made.add_argument("--rounds", type=int, default=3, help="3 if not given")
     made.add_argument("--seconds", type=float, default=3, help="how long each load lasts, 3 if not given")
     made.add_argument("--warm", type=float, default=10, help="how long each system is loaded before, 10 if not given")
     made.add_argument("--deaths", type=int, default=2, help="deaths of a leader in each round, 2 if not given")
-    made.add_argument("--growth", type=int, default=200_000, help="pairs of the long run, 200000 if not given; 0 for none")
+    made.add_argument(
+        "--growth",
+        type=int,
+        default=200_000,
+        help="pairs of the long run, 200000 if not given; 0 for none",
+    )
     made.add_argument("--program", type=a_program, help="the program of locks; what ./locks runs if not given")
     made.add_argument("--before", type=a_program, help="an older program of locks, beside the other")
     made.add_argument("--dir", help="where the folders of the nodes are made")
-    made.add_argument("--out", type=pathlib.Path, default=plots.PICTURES, help="where the two files go, docs/pictures if not given")
+    made.add_argument(
+        "--out",
+        type=pathlib.Path,
+        default=plots.PICTURES,
+        help="where the two files go, docs/pictures if not given",
+    )
     return made.parse_args()
 
 

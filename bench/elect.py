@@ -3,10 +3,11 @@
 
 Usage: bench/elect.py [--clients N ..] [--times N] [--ticks WORD] [--fixed] [--dir FOLDER] [--program PATH]
 
-Three nodes run as processes on loopback, and so many clients have asked (1, 20, 60, 120 and 250 if nothing is given). Then the leader
-is killed, and in that moment each client asks again. Told is how many seconds went by until the first of them was answered, and until all
-were: the median and the slowest of so many deaths (7 if not given), each of a new cluster. With --fixed the clients wait half a
-second each time and follow twenty Elsewheres, all in step, as a client does that has read too little of docs/WIRE.md.
+Three nodes run as processes on loopback, and N clients have asked (1, 20, 60, 120 and 250 if nothing is given). Then
+the leader is killed, and at that moment each client asks again. It prints how many seconds passed until the first of
+them was answered, and until all were: the median and the slowest of several deaths (7 if not given), each of a new
+cluster. With --fixed the clients wait half a second each time and follow twenty Elsewheres, all in step, as a client
+does whose author has read too little of docs/WIRE.md.
 """
 import argparse
 import contextlib
@@ -34,7 +35,8 @@ def asks(client, start, seconds, place):
 def death(cluster, count):
     """The seconds that each of so many clients waits for its answer, from the death of the leader on."""
     with contextlib.ExitStack() as stack:
-        clients = [stack.enter_context(cluster.client(locks_client.Client, number, patience=PATIENCE)) for number in range(1, count + 1)]
+        made = (cluster.client(locks_client.Client, number, patience=PATIENCE) for number in range(1, count + 1))
+        clients = [stack.enter_context(it) for it in made]
         for it in clients:
             it.ask("db")  # now it knows who leads
         [leader] = {node for node, port in cluster.ports.items() if port == clients[-1].leader}
@@ -66,8 +68,17 @@ def main():
     parser = argparse.ArgumentParser(description="Measures how long a leader's death lasts for clients that wait.")
     parser.add_argument("--clients", type=int, nargs="+", default=[1, 20, 60, 120, 250], help="the numbers of clients")
     parser.add_argument("--times", type=int, default=7, help="the deaths for each of them, 7 if not given")
-    parser.add_argument("--ticks", choices=["datagrams", "clock"], default="datagrams", help="what the ticks of a node go by, datagrams if not given")
-    parser.add_argument("--fixed", action="store_true", help="half a second between two sends, not scattered, twenty Elsewheres")
+    parser.add_argument(
+        "--ticks",
+        choices=["datagrams", "clock"],
+        default="datagrams",
+        help="what the ticks of a node go by, datagrams if not given",
+    )
+    parser.add_argument(
+        "--fixed",
+        action="store_true",
+        help="half a second between two sends, not scattered, twenty Elsewheres",
+    )
     parser.add_argument("--dir", help="where the folders of the nodes are made")
     parser.add_argument("--program", help="the built program; the wrapper builds it if none is given")
     args = parser.parse_args()

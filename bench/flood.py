@@ -3,14 +3,15 @@
 
 Usage: bench/flood.py [--datagrams N] [--rate R] [--seconds S] [--dir FOLDER] [--program PATH]
 
-Three nodes run as processes on loopback; what the others send to node 1 comes to it over a relay, which keeps some of it. A client acquires
-and releases a name, first for S seconds (5 if not given) by itself, and then for as long as five senders send N datagrams (1,000,000
-if not given) to node 1, R a second in all (100,000 if not given). A sixth each are bytes of chance, what was said to node 1 before, the
-same cut, the same with bytes after it, the same of another cluster, and probes, some of which read and some not.
+Three nodes run as processes on loopback. What the others send to node 1 comes over a relay, which keeps some of it.
+A client acquires and releases a name, first alone for S seconds (5 if not given), and then for as long as five senders
+send N datagrams (1,000,000 if not given) to node 1, R a second in all (100,000 if not given). A sixth each are random
+bytes, what the relay kept, the same cut, the same with bytes after it, the same of another cluster, and probes, some
+of them broken.
 
-It tells how many datagrams the node took and how many its socket dropped, how many pairs the client did a second and how long the
-slowest took, without the flood and with it, and how the memory of node 1 grew. The status is 1 where a node stopped, a request stayed
-without an answer, or the memory grew by more than a MiB."""
+It prints how many datagrams were sent and how many the socket of node 1 dropped, how many pairs the client did a
+second and how long the slowest took, without the flood and with it, and how the memory of node 1 grew. The status is 1
+where a node stopped, a request stayed without an answer, or the memory grew by more than a MiB."""
 import argparse
 import multiprocessing
 import os

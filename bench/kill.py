@@ -3,10 +3,10 @@
 
 Usage: bench/kill.py [--times N] [--seconds S] [--dir FOLDER] [--program PATH]
 
-Three nodes run as processes on loopback. Clients acquire and release the same few names for as long as the run lasts. Each node in turn is killed
-as by `kill -9` and started again on its folder, N times each (10 if not given), S seconds apart. In the end it tells how many
-requests were answered, and fails where a fence of a name was granted twice or out of order, where a request stayed without an answer, or where the kept
-answer of a repeated request was another one.
+Three nodes run as processes on loopback. Clients acquire and release the same few names for as long as the run lasts.
+Each node in turn is killed as by `kill -9` and started again on its folder, N times each (10 if not given), S seconds
+apart. In the end it prints how many requests were answered. It fails where a fence of a name was granted twice or out
+of order, where a request stayed without an answer, or where a repeated request had another answer.
 """
 import argparse
 import sys
@@ -94,7 +94,8 @@ def main():
     args = parser.parse_args()
     watch = Watch()
     with tempfile.TemporaryDirectory(dir=args.dir) as folder, Cluster(built(args.program), folder) as cluster:
-        threads = [threading.Thread(target=works, args=(cluster, number, watch)) for number in range(1, args.clients + 1)]
+        numbers = range(1, args.clients + 1)
+        threads = [threading.Thread(target=works, args=(cluster, number, watch)) for number in numbers]
         for it in threads:
             it.start()
         kills(cluster, args.times, args.seconds)

@@ -3,10 +3,11 @@
 
 Usage: bench/long.py [--pairs N] [--ticks WORD] [--dir FOLDER] [--program PATH]
 
-Three nodes run as processes on loopback, and one client acquires and releases a name so many times (200,000 pairs if not given). At every
-tenth it tells, of each node, its resident memory, the greatest that it had, and the bytes of its two files. Then the last node is killed as by
-`kill -9` and started again, and it tells how long that takes until the node gives the client's last answer once more. It fails where a
-node holds 8 MB or more, where a file is longer than 262,144 bytes, or where the node takes 0.3 s or longer.
+Three nodes run as processes on loopback, and one client acquires and releases a name N times (200,000 if not given).
+After each tenth it prints the resident memory of each node, the greatest that it had, and the bytes of its two files.
+Then the last node is killed as by `kill -9` and started again, and it prints how long the node takes to give the
+client's last answer once more. It fails where a node holds 8 MB or more, where a file is longer than 262,144 bytes, or
+where the node takes 0.3 s or longer.
 """
 import argparse
 import os
@@ -43,7 +44,8 @@ def tell(cluster, done):
     for node, process in sorted(cluster.processes.items()):
         resident, peak = memory_of(process)
         lengths = lengths_of(cluster, node)
-        print(f"{done} pairs, node {node}: {resident} KiB, at most {peak} KiB; files of {' and '.join(map(str, lengths))} bytes", flush=True)
+        files = " and ".join(map(str, lengths))
+        print(f"{done} pairs, node {node}: {resident} KiB, at most {peak} KiB; files of {files} bytes", flush=True)
         if peak >= MOST_MEMORY:
             wrong.append(f"node {node} held {peak} KiB")
         wrong += [f"node {node} has a file of {length} bytes" for length in lengths if length > MOST_BYTES]
@@ -51,7 +53,7 @@ def tell(cluster, done):
 
 
 def seconds_to_answer(cluster, client, node):
-    """The seconds from the start of the node until it gives the client's last answer once more, and the client's number."""
+    """The seconds from the start of the node until it gives the client's last answer once more."""
     number, data = client.core.last[:2]
     with socket.socket(socket.AF_INET, socket.SOCK_DGRAM) as it:
         it.settimeout(0.01)
@@ -70,15 +72,22 @@ def seconds_to_answer(cluster, client, node):
 
 
 def main():
-    parser = argparse.ArgumentParser(description="Runs three nodes for long, and looks whether memory and files stay as they are.")
+    parser = argparse.ArgumentParser(
+        description="Runs three nodes for long, and looks whether memory and files stay as they are."
+    )
     parser.add_argument("--pairs", type=int, default=200_000, help="pairs of acquire and release, 200,000 if not given")
-    parser.add_argument("--ticks", choices=["datagrams", "clock"], default="datagrams", help="what the ticks of a node go by, datagrams if not given")
+    parser.add_argument(
+        "--ticks",
+        choices=["datagrams", "clock"],
+        default="datagrams",
+        help="what the ticks of a node go by, datagrams if not given",
+    )
     parser.add_argument("--dir", help="where the folders of the nodes are made")
     parser.add_argument("--program", help="the built program; the wrapper builds it if none is given")
     args = parser.parse_args()
     wrong = []
-    options = ("--ticks", args.ticks)
-    with tempfile.TemporaryDirectory(dir=args.dir) as folder, Cluster(built(args.program), folder, options=options) as cluster:
+    program, options = built(args.program), ("--ticks", args.ticks)
+    with tempfile.TemporaryDirectory(dir=args.dir) as folder, Cluster(program, folder, options=options) as cluster:
         with cluster.client(Client, 1, patience=60.0) as client:
             for tenth in range(1, 11):
                 for _ in range(args.pairs // 10):

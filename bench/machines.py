@@ -1,11 +1,12 @@
 #!/usr/bin/env python3
-"""Runs three nodes on three machines while clients hold locks: elects, cuts the leader off, parts the nodes, cuts one way alone, loses,
-delays, repeats and reorders datagrams, forges and replays them, misuses a client's key, and checks that no fence is given twice and no
-two clients hold a lock.
+"""Runs three nodes on three machines while clients hold locks: elects, cuts the leader off, parts the nodes, cuts one
+way alone, loses, delays, repeats and reorders datagrams, forges and replays them, misuses a client's key, and checks
+that no fence is given twice and no two clients hold a lock.
 
-A machine is a network namespace of its own, joined to the others by a bridge that stands in a fourth; nothing leaves them. Where
-namespaces are not allowed, or with --loopback, the machines are 127.0.0.1, 127.0.0.2 and 127.0.0.3, with a relay between them, and a node
-is stopped in place of being cut off. The last line is `N passed, M failed`; the status is 0 where none failed.
+A machine is a network namespace of its own, joined to the others by a bridge in a fourth; nothing leaves them. Where
+namespaces are not allowed, or with --loopback, the machines are 127.0.0.1, 127.0.0.2 and 127.0.0.3, with a relay
+between them, and a node is stopped in place of being cut off. The last line is `N passed, M failed`; the status is 0
+where none failed.
 """
 
 import argparse
@@ -48,7 +49,8 @@ class Score:
 
 def seal(key, purpose, bound, datagram, cluster=CLUSTER, alpha=ALPHA):
     """The frame of a datagram."""
-    return frames.seal(key, purpose, cluster, frames.genesis_digest(cluster, alpha, dict.fromkeys(NODES, PORT)), bound, datagram)
+    digest = frames.genesis_digest(cluster, alpha, dict.fromkeys(NODES, PORT))
+    return frames.seal(key, purpose, cluster, digest, bound, datagram)
 
 
 def prepare(round, node, first):
@@ -59,7 +61,8 @@ def prepare(round, node, first):
 
 def request(client, number, body):
     """A Request with that body."""
-    return b"LK\1\11" + CLUSTER.to_bytes(8, "big") + bytes(4) + client.to_bytes(2, "big") + number.to_bytes(8, "big") + bytes([0, len(body)]) + body
+    head = b"LK\1\11" + CLUSTER.to_bytes(8, "big") + bytes(4) + client.to_bytes(2, "big")
+    return head + number.to_bytes(8, "big") + bytes([0, len(body)]) + body
 
 
 def acquire(name):
@@ -141,7 +144,7 @@ class Namespaces:
         run("ip", "-n", self.name(node), "link", "set", "wire", "up")
 
     def worsen(self):
-        """A fifth of the datagrams is lost each way from now on, a fifth comes twice, and others come late and in another order."""
+        """From now on each way loses a fifth of the datagrams, repeats a fifth, and delays and reorders others."""
         rules = ["loss", "20%", "duplicate", "20%", "delay", "20ms", "20ms", "reorder", "25%"]
         for node in NODES:
             run("tc", "-n", self.name(node), "qdisc", "replace", "dev", "wire", "root", "netem", *rules)
@@ -210,7 +213,8 @@ class Cluster:
     """Three nodes, one on each machine. They and the clients have keys, or none where it is bare."""
 
     def __init__(self, program, world, folder, is_bare=False):
-        self.program, self.world, self.folder, self.is_bare, self.number, self.processes = program, world, folder, is_bare, 0, {}
+        self.program, self.world, self.folder, self.is_bare = program, world, folder, is_bare
+        self.number, self.processes = 0, {}
         self.write("hosts", "".join(f"{node} {world.address(node)}\n" for node in NODES))
         for node in NODES:
             self.write(f"hosts{node}", "".join(f"{other} {world.seen_by(node, other)}\n" for other in NODES))
@@ -228,11 +232,13 @@ class Cluster:
         genesis = f"{CLUSTER},{ALPHA}," + ",".join(f"{it}:{PORT}" for it in NODES)
         folder = f"{self.folder}/d{node}"
         os.makedirs(folder, exist_ok=True)
-        words = ["node", "--genesis", genesis, "--number", str(node), "--port", str(PORT), "--dir", folder, "--hosts", f"{self.folder}/hosts{node}"]
+        words = ["node", "--genesis", genesis, "--number", str(node), "--port", str(PORT)]
+        words += ["--dir", folder, "--hosts", f"{self.folder}/hosts{node}"]
         words += [] if self.is_bare else ["--key", f"{self.folder}/key", "--client-key", f"{self.folder}/master"]
         words += ["--verbose", *more]
         with open(f"{self.folder}/log{node}", "a") as log:
-            self.processes[node] = subprocess.Popen(self.world.at(node, self.program, *words), stderr=log, stdin=subprocess.DEVNULL)
+            command = self.world.at(node, self.program, *words)
+            self.processes[node] = subprocess.Popen(command, stderr=log, stdin=subprocess.DEVNULL)
 
     def stop(self, node):
         self.processes[node].terminate()
@@ -246,15 +252,17 @@ class Cluster:
         if number is None:
             self.number += 1
             number = self.number
-        words = ["ask", "--cluster", str(CLUSTER), "--port", str(PORT), "--client", str(client), "--request", str(number)]
+        words = ["ask", "--cluster", str(CLUSTER), "--port", str(PORT)]
+        words += ["--client", str(client), "--request", str(number)]
         words += ["--address", self.world.address(node), "--hosts", f"{self.folder}/hosts"]
         words += ["--client-key", f"{self.folder}/{key}"] if key else []
-        return subprocess.run(self.world.at(9, self.program, *words, *op), capture_output=True, text=True).stdout.strip()
+        command = self.world.at(9, self.program, *words, *op)
+        return subprocess.run(command, capture_output=True, text=True).stdout.strip()
 
     def leader(self):
         """The node of the highest term that was begun, and its round."""
-        begun = [(int(round), int(node)) for it in NODES for round, node in re.findall(r"term (\d+)\.(\d+) begun", self.log(it))]
-        return max(begun, default=(0, 0))
+        begun = [it for node in NODES for it in re.findall(r"term (\d+)\.(\d+) begun", self.log(node))]
+        return max(((int(round), int(node)) for round, node in begun), default=(0, 0))
 
     def send(self, node, *frames):
         """Sends bytes from the outsider's machine, and tells what comes back within half a second."""
@@ -362,8 +370,10 @@ def ask_without_key(cluster, score):
     for name, frame in wrong.items():
         score.check(f"a client is not heard {name}", not cluster.send(leader, frame))
     right = cluster.send(leader, client_seal(2, 8, asked))
-    body = right and bytes.fromhex(right[0])[36:]
-    score.check("one with its key is, and its reply is sealed", right and bytes.fromhex(right[0]) == client_seal(3, 8, body) and body[:4] == b"LK\1\12")
+    reply = right and bytes.fromhex(right[0])
+    body = right and reply[36:]
+    is_sealed = right and reply == client_seal(3, 8, body) and body[:4] == b"LK\1\12"
+    score.check("one with its key is, and its reply is sealed", is_sealed)
     score.check("ask without the key has no answer", cluster.ask(leader, "ask", "db", key=None) == "no answer")
 
 
@@ -371,9 +381,11 @@ def misuse(cluster, work, score):
     """A client with its own key releases what others hold, at fences that they have, or are about to have."""
     last = max(fence for name, fence, _, _ in work.holds if name == "one")
     bodies = [release(b"one", fence) for fence in range(last, last + 200)]
-    back = cluster.send(cluster.leader()[1], *(client_seal(2, 8, request(8, number, body)) for number, body in enumerate(bodies, 2)))
+    requests = (request(8, number, body) for number, body in enumerate(bodies, 2))
+    back = cluster.send(cluster.leader()[1], *(client_seal(2, 8, it) for it in requests))
     answers = [bytes.fromhex(it)[36:][26] for it in back]
-    score.check("a client cannot release what another one holds", answers and set(answers) == {4}, f"{len(answers)} answers")
+    are_refused = answers and set(answers) == {4}
+    score.check("a client cannot release what another one holds", are_refused, f"{len(answers)} answers")
 
 
 class Work:
@@ -385,7 +397,8 @@ class Work:
         keys = {client: None if cluster.is_bare else f"{folder}/client{client}" for client in HOLDERS}
         plan = {"cluster": CLUSTER, "places": places, "hosts": f"{folder}/hosts", "keys": keys, "names": ["one", "two"]}
         paths = os.pathsep.join([TOP, os.path.join(TOP, "clients", "python")])
-        how = {"stdin": subprocess.PIPE, "stdout": subprocess.PIPE, "text": True, "env": os.environ | {"PYTHONPATH": paths}}
+        environment = os.environ | {"PYTHONPATH": paths}
+        how = {"stdin": subprocess.PIPE, "stdout": subprocess.PIPE, "text": True, "env": environment}
         self.holds = []
         self.process = subprocess.Popen(world.at(9, sys.executable, "-m", "harness.holders", json.dumps(plan)), **how)
         self.reader = threading.Thread(target=self.read, daemon=True)
@@ -470,7 +483,8 @@ def replay(cluster, work, score):
     made = [seal(KEY, 1, other, prepare(term + 1, leader, first)) for first in range(1, 65)]
     cluster.send(third, *(cluster.world.recorded(other) or made)[:64], *made)
     counts = [0, *map(int, re.findall(r"datagrams that do not read: (\d+)", cluster.log(third)))]
-    score.check("what was sealed for a node is dropped by another", max(counts) >= 64 and cluster.leader() == (term, leader), f"{max(counts)} dropped")
+    are_dropped = max(counts) >= 64 and cluster.leader() == (term, leader)
+    score.check("what was sealed for a node is dropped by another", are_dropped, f"{max(counts)} dropped")
     old = {node: cluster.world.recorded(node) for node in NODES}
     for node in [*NODES] * 2:
         cluster.send(node, *old[node])
@@ -494,7 +508,8 @@ def tell_story(cluster, world, score):
     go_on(work, score, "after all of it")
     work.end()
     wrong = faults(work.holds)
-    score.check("no fence was given twice, and no lock held by two", not wrong, f"{len(work.holds)} holds {wrong[:3] or ''}")
+    holds = f"{len(work.holds)} holds {wrong[:3] or ''}"
+    score.check("no fence was given twice, and no lock held by two", not wrong, holds)
 
 
 def main():

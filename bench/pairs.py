@@ -3,10 +3,11 @@
 
 Usage: bench/pairs.py [--pairs N] [--dir FOLDER] [--program PATH]
 
-Three nodes run as processes on loopback, with their files in fresh folders below FOLDER (the system's folder for temporary files if
-none is given). One client, and then eight at once, acquire and release a name of their own, N times each (1,000 if not given). In the
-same run the limit is measured that they are held against: a request cannot be answered before two datagrams went to and
-fro and a majority of three processes, which all sync at once in the same file system, has synced; and a pair is two requests.
+Three nodes run as processes on loopback, with their files in fresh folders below FOLDER (the system's folder for
+temporary files if none is given). One client, and then eight at once, acquire and release a name of their own, N times
+each (1,000 if not given). The same run measures the limit that they are compared with: a pair is two requests, and a
+request cannot be answered before two datagrams went to and fro and a majority of three processes, which all sync at
+once in the same file system, has synced.
 """
 import argparse
 import os
@@ -50,8 +51,8 @@ def echo(*file):
 
 
 def limits(folder, count):
-    """The seconds of so many rounds: a datagram to an echo and back, then one to each of three that write and sync at once, as three nodes do, and back
-    from the first two of them."""
+    """The seconds of so many rounds: a datagram to an echo and back, then one to each of three that write and sync at
+    once, as three nodes do, and back from the first two of them."""
     leader, *others = echoes = [echo(), *(echo(os.path.join(folder, f"limit-{number}")) for number in range(3))]
     it = socket.socket(socket.AF_INET, socket.SOCK_DGRAM)
 
@@ -99,7 +100,10 @@ def together(cluster, numbers, count):
 def told(name, seconds):
     """Prints the median and the 99th of a hundred, and gives the median."""
     median, last = statistics.median(seconds), statistics.quantiles(seconds, n=100)[98]
-    print(f"{name}: median {median * 1e6:,.0f} us, 99th of a hundred {last * 1e6:,.0f} us, {last / median:.1f} times the median")
+    print(
+        f"{name}: median {median * 1e6:,.0f} us, 99th of a hundred {last * 1e6:,.0f} us, "
+        f"{last / median:.1f} times the median"
+    )
     return median
 
 

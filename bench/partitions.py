@@ -1,10 +1,10 @@
 #!/usr/bin/env python3
-"""Parts three nodes on three machines at random while clients hold locks, and checks that no fence is given twice and no two
-clients hold a lock.
+"""Parts three nodes on three machines at random while clients hold locks, and checks that no fence is given twice and
+no two clients hold a lock.
 
-Each time a random set of the six ways between two nodes is cut for 0.5 to 4 s, and mended for up to 2 s. The machines are those of
-bench/machines.py. With --bare the nodes and the clients have no keys: the nodes serve loopback alone, so the machines are addresses
-of 127/8. The last line is `N passed, M failed`; the status is 0 where none failed.
+Each time a random set of the six ways between two nodes is cut for 0.5 to 4 s, and mended for up to 2 s. The machines
+are those of bench/machines.py. With --bare the nodes and the clients have no keys: the nodes serve loopback alone, so
+the machines are addresses of 127/8. The last line is `N passed, M failed`; the status is 0 where none failed.
 """
 
 import argparse
@@ -49,14 +49,20 @@ def main():
     parser = argparse.ArgumentParser(description=__doc__, formatter_class=argparse.RawDescriptionHelpFormatter)
     parser.add_argument("program", help="the built program")
     parser.add_argument("--minutes", type=float, default=10, help="how long, 10 by default")
-    parser.add_argument("--seed", type=int, default=1, help="the number that the partitions are drawn from, 1 by default")
+    parser.add_argument(
+        "--seed",
+        type=int,
+        default=1,
+        help="the number that the partitions are drawn from, 1 by default",
+    )
     parser.add_argument("--loopback", action="store_true", help="use addresses of 127/8 and no namespaces")
     parser.add_argument("--bare", action="store_true", help="give no keys; uses addresses of 127/8")
     options = parser.parse_args()
     world, score = machines(options.loopback or options.bare), Score()
     with tempfile.TemporaryDirectory(prefix="partitions-") as folder:
         cluster = Cluster(os.path.abspath(options.program), world, folder, options.bare)
-        print(f"machines are {world.kind}, {'without' if options.bare else 'with'} keys; logs are in {folder}", flush=True)
+        keys = "without keys" if options.bare else "with keys"
+        print(f"machines are {world.kind}, {keys}; logs are in {folder}", flush=True)
         try:
             tell(cluster, world, score, options)
         finally:

@@ -19,7 +19,11 @@ WIDE, LEFT, COLUMN, PITCH = 1000, 66, 478, 282
 PICTURES = pathlib.Path(TOP) / "docs" / "pictures"
 DISKS = {"plain": "disk as it is", "slow": "2 ms added to each sync"}
 PEERS = {"etcd": (3, charts.SQUARE), "ZooKeeper": (4, charts.TRIANGLE), "Redis, one node": (5, charts.DIAMOND)}
-LOADS = {"pairs_per_second": "Pairs per second", "p50_ms": "Median of a pair in ms", "p99_ms": "99th percentile of a pair in ms"}
+LOADS = {
+    "pairs_per_second": "Pairs per second",
+    "p50_ms": "Median of a pair in ms",
+    "p99_ms": "99th percentile of a pair in ms",
+}
 HELD = {"memory_bytes": "Memory of the largest node", "file_bytes": "Files of the largest node"}
 SECONDS = {
     ("start", "ready_ms"): ("Start of all nodes until a client is answered", "seconds, 8 clients"),
@@ -62,8 +66,12 @@ class Figures:
         told = [row["note"] for row in self.rows if row["what"] == "note"]
         rounds, failed = {row["round"] for row in timed}, sum(int(float(row["errors"])) for row in timed)
         seconds = statistics.median([float(row["seconds"]) for row in timed] or [0])
-        busy = max((float(row["processor_seconds"]) / float(row["seconds"]) for row in timed if float(row["seconds"])), default=0)
-        told.append(f"Rounds: {len(rounds)}, of {seconds:.2g} s a point. The load generator used at most {busy:.2f} processors. Pairs that failed: {failed}.")
+        lasting = (row for row in timed if float(row["seconds"]))
+        busy = max((float(row["processor_seconds"]) / float(row["seconds"]) for row in lasting), default=0)
+        told.append(
+            f"Rounds: {len(rounds)}, of {seconds:.2g} s a point. "
+            f"The load generator used at most {busy:.2f} processors. Pairs that failed: {failed}."
+        )
         return [*told, f"Load average of the machine during the run, which includes it: {min(loads)} to {max(loads)}."]
 
     def words(self):
@@ -72,7 +80,8 @@ class Figures:
         for disk, name in DISKS.items():
             series = self.lines("load", "pairs_per_second", "clients", disk)
             tops = ((look.name, max(line), line) for look, line in series.items())
-            told.append(f"{name}: {'; '.join(f'{it} at {most:.0f} clients {short(statistics.median(line[most]))}' for it, most, line in tops)}.")
+            shown = (f"{it} at {most:.0f} clients {short(statistics.median(line[most]))}" for it, most, line in tops)
+            told.append(f"{name}: {'; '.join(shown)}.")
         return " ".join(told)
 
 
@@ -91,7 +100,8 @@ def rows(figures):
     clients, pairs = (functools.partial(Log, each=True), short), (Linear, short)
     for figure, title in LOADS.items():
         found = ((disk, figures.lines("load", figure, "clients", disk)) for disk in DISKS)
-        yield [(f"{title}, {DISKS[disk]}", "curves", (it, clients, (Log, short), "clients")) for disk, it in found if it]
+        how = (clients, (Log, short), "clients")
+        yield [(f"{title}, {DISKS[disk]}", "curves", (it, *how)) for disk, it in found if it]
     found = ((*words, figures.seconds(*key)) for key, words in SECONDS.items())
     yield [(title, "strips", (it, words)) for title, words, it in found if it]
     found = ((title, figures.lines("growth", figure, "pairs")) for figure, title in HELD.items())

@@ -3,9 +3,11 @@
 
 Usage: bench/rolling.py --old PROGRAM [--new PROGRAM] [--dir FOLDER]
 
-Three nodes of the old program run as processes on loopback. A client acquires and releases a name all the while. Each node in turn is stopped, started again
-by the new program on its folder, and waited for, until it answers what the others have executed. Then the table is raised, two clients share a name, and one of
-them breaks the lock. The status is 1 where a fence is not one more than the last, a request stays without an answer, or a store has another format than told."""
+Three nodes of the old program run as processes on loopback. A client acquires and releases a name all the while. Each
+node in turn is stopped, and started again by the new program on its folder; the next one follows when it has executed
+what the others had. Then the table is raised, two clients share a name, and one of them breaks the lock. The status is
+1 where a fence is not one more than the last, a request stays without an answer, or a store ends in another format
+than 2."""
 import argparse
 import os
 import subprocess
@@ -46,7 +48,7 @@ def executed(program, folder):
 
 
 def changed(cluster, node, new):
-    """Stops a node, starts it by the new program, and waits until it has executed what another had when it was stopped. The seconds."""
+    """Restarts a node by the new program. The seconds until it has executed what the others had when it was stopped."""
     cluster.kill(node)
     others = [other for other in cluster.ports if other != node]
     far = max(executed(new, os.path.join(cluster.folder, str(other))) for other in others)
@@ -80,15 +82,20 @@ def main():
         time.sleep(5.0)
         for node in cluster.ports:
             formats = [dumped(new, os.path.join(folder, str(each)))["format"] for each in cluster.ports]
-            print(f"{len(worker.fences)} fences, stores of format {' '.join(formats)}; node {node} is changed", flush=True)
+            told = f"{len(worker.fences)} fences, stores of format {' '.join(formats)}"
+            print(f"{told}; node {node} is changed", flush=True)
             print(f"it has caught up after {changed(cluster, node, new):.1f} s", flush=True)
             time.sleep(2.0)
         came = raised(cluster)
         worker.is_over.set()
         worker.join()
         formats = [dumped(new, os.path.join(folder, str(each)))["format"] for each in cluster.ports]
-    is_right = worker.fences == list(range(1, len(worker.fences) + 1)) and came == (1, 1, 2) and formats == ["2", "2", "2"]
-    print(f"{len(worker.fences)} fences in all; raised: shared at {came[0]} and {came[1]}, broken, granted {came[2]}; stores of format {' '.join(formats)}")
+    is_whole = worker.fences == list(range(1, len(worker.fences) + 1))
+    is_right = is_whole and came == (1, 1, 2) and formats == ["2", "2", "2"]
+    print(
+        f"{len(worker.fences)} fences in all; raised: shared at {came[0]} and {came[1]}, broken, granted {came[2]}; "
+        f"stores of format {' '.join(formats)}"
+    )
     print("nothing went wrong" if is_right else "WRONG")
     sys.exit(not is_right)
 

@@ -3,11 +3,11 @@
 
 Usage: bench/status.py [--times N] [--busy N] [--ticks HOW] [--dir FOLDER] [--program PATH]
 
-Three nodes run as processes on loopback. Once one leads, all three are asked by so many calls (300 if not given), one after another.
-Told is how long a call took from its start to its end: the median, the 99th of a hundred, and the slowest. Beside it stands how long three
-probes take that one process sends, until all are answered, and how long the program takes that only prints its version, which is what
-starting a process costs. With --busy so many clients in Python acquire and release locks of their own meanwhile. With --ticks datagrams
-nodes tick by datagrams.
+Three nodes run as processes on loopback. Once one leads, all three are asked by N calls (300 if not given), one after
+another. It prints how long a call took from its start to its end: the median, the 99th of a hundred, and the slowest.
+It also prints how long one process waits for the answers to three probes, and how long the program takes to print its
+version, which is what starting a process costs. With --busy, N clients in Python acquire and release locks of their own
+meanwhile. With --ticks datagrams, nodes tick by datagrams.
 """
 import argparse
 import contextlib
@@ -21,11 +21,13 @@ import time
 
 from cluster import Cluster, built, locks_client
 
+QUIET = {"stdin": subprocess.DEVNULL, "stdout": subprocess.DEVNULL}
+
 
 def seconds_of(command):
     """How long a process takes, and its status."""
     begin = time.perf_counter()
-    status = subprocess.run(command, stdin=subprocess.DEVNULL, stdout=subprocess.DEVNULL, stderr=subprocess.DEVNULL).returncode
+    status = subprocess.run(command, **QUIET, stderr=subprocess.DEVNULL).returncode
     return time.perf_counter() - begin, status
 
 
@@ -58,8 +60,19 @@ def work(cluster, number):
 def main():
     parser = argparse.ArgumentParser(description=__doc__, formatter_class=argparse.RawDescriptionHelpFormatter)
     parser.add_argument("--times", type=int, default=300, metavar="N", help="calls (default: %(default)s)")
-    parser.add_argument("--busy", type=int, default=0, metavar="N", help="clients that work meanwhile (default: %(default)s)")
-    parser.add_argument("--ticks", default="clock", choices=["clock", "datagrams"], help="what the nodes tick by (default: %(default)s)")
+    parser.add_argument(
+        "--busy",
+        type=int,
+        default=0,
+        metavar="N",
+        help="clients that work meanwhile (default: %(default)s)",
+    )
+    parser.add_argument(
+        "--ticks",
+        default="clock",
+        choices=["clock", "datagrams"],
+        help="what the nodes tick by (default: %(default)s)",
+    )
     parser.add_argument("--dir", metavar="FOLDER", help="where the nodes' folders are made (default: a new one)")
     parser.add_argument("--program", metavar="PATH", help="the program (default: that which ./locks runs)")
     words = parser.parse_args()
@@ -68,8 +81,9 @@ def main():
         folder = words.dir or stack.enter_context(tempfile.TemporaryDirectory())
         cluster = stack.enter_context(Cluster(program, folder, options=["--ticks", words.ticks]))
         asks = [program, "status", "--cluster", str(cluster.cluster), "--port", *map(str, cluster.ports.values())]
-        subprocess.run([*asks, "--until", "ready", "60"], stdin=subprocess.DEVNULL, stdout=subprocess.DEVNULL, check=True)
-        clients = [multiprocessing.Process(target=work, args=(cluster, number), daemon=True) for number in range(1, words.busy + 1)]
+        subprocess.run([*asks, "--until", "ready", "60"], **QUIET, check=True)
+        numbers = range(1, words.busy + 1)
+        clients = [multiprocessing.Process(target=work, args=(cluster, number), daemon=True) for number in numbers]
         for it in clients:
             it.start()
             stack.callback(it.kill)

@@ -3,10 +3,12 @@
 
 Usage: bench/steps.py [--times N] [PROGRAM ..]
 
-It asks for valgrind, whose callgrind counts instructions: the same for the same program and script, whatever else the machine does. A script of world mode
-brings three nodes to where a datagram of the kind was sent; then it is delivered N times more (1,000 if not given), and 2 N times more, and the
-difference is that of N lines of a script, N steps and what they send. What a node wants it wants once: there the node is stopped before each delivery, which leaves
-nothing of the one before it, and restarted, and what these two lines take by themselves is subtracted. Each PROGRAM is measured on the same scripts; the built one if none is named.
+It needs valgrind, whose callgrind counts instructions, the same number for the same program and script, whatever else
+the machine does. A script of world mode brings three nodes to where a datagram of the kind was sent. Then it is
+delivered N times more (1,000 if not given), and 2 N times more. The difference is what N lines of a script take: N
+steps and what they send. What a node wants it wants once: there the node is stopped before each delivery, which leaves
+nothing of the one before it, and restarted, and what these two lines take by themselves is subtracted. Each PROGRAM is
+measured on the same scripts; the built one if none is named.
 """
 import argparse
 import re
@@ -20,20 +22,23 @@ SENT = re.compile(r"sent (\d+) (?:c\d+|n(\d)) n(\d) (\w+)")
 
 def output(program, lines):
     """What the script prints, line by line."""
-    done = subprocess.run([program, "sim"], input="".join(f"{line}\n" for line in lines), capture_output=True, text=True, check=True)
+    script = "".join(f"{line}\n" for line in lines)
+    done = subprocess.run([program, "sim"], input=script, capture_output=True, text=True, check=True)
     return done.stdout.splitlines()
 
 
 def sent(program, lines):
     """The number, sender (0 for a client), receiver and kind of each datagram to a node that the script sends."""
-    return [(int(number), int(here or 0), int(there), kind) for number, here, there, kind in SENT.findall("\n".join(output(program, lines)))]
+    found = SENT.findall("\n".join(output(program, lines)))
+    return [(int(number), int(here or 0), int(there), kind) for number, here, there, kind in found]
 
 
 def settled(program, lines, nodes):
     """The script, after which each datagram among these nodes is delivered once, and so on until none is sent."""
     lines, delivered = list(lines), {int(line.split()[1]) for line in lines if line.startswith("deliver ")}
     while True:
-        new = [number for number, here, there, _ in sent(program, lines) if {here, there} <= nodes | {0} and number not in delivered]
+        among = [number for number, here, there, _ in sent(program, lines) if {here, there} <= nodes | {0}]
+        new = [number for number in among if number not in delivered]
         if not new:
             return lines
         delivered.update(new)
@@ -71,7 +76,8 @@ def cases(program):
 def instructions(program, lines):
     """How many instructions the program takes for a script."""
     words = ["valgrind", "--tool=callgrind", "--callgrind-out-file=/dev/null", program, "sim"]
-    done = subprocess.run(words, input="".join(f"{line}\n" for line in lines), capture_output=True, text=True, check=True)
+    script = "".join(f"{line}\n" for line in lines)
+    done = subprocess.run(words, input=script, capture_output=True, text=True, check=True)
     return int(re.search(r"Collected : (\d+)", done.stderr)[1])
 
 
@@ -79,7 +85,10 @@ def step(program, lines, line, before, times):
     """How many instructions it takes for the line, each time after those before it."""
 
     def of(repeated):
-        return instructions(program, lines + repeated * 2 * times) - instructions(program, lines + repeated * times) if repeated else 0
+        if not repeated:
+            return 0
+        twice = instructions(program, lines + repeated * 2 * times)
+        return twice - instructions(program, lines + repeated * times)
 
     return (of([*before, line]) - of(before)) / times
 

@@ -22,7 +22,7 @@ LOAD = pathlib.Path(TOP) / "bench" / "load"
 ZOOKEEPER = pathlib.Path("/usr/share/java/zookeeper.jar")
 DELAY = 2  # milliseconds that a slow disk's sync takes longer
 SYNCS = "fsync,fdatasync"
-# strace stops a program at these calls alone. With -D the program keeps its process number, and strace is its grandchild.
+# strace stops a program at these calls alone. With -D the program keeps its process number; strace is its grandchild.
 SLOWED = ["strace", "-D", "-f", "-qq", "--seccomp-bpf", "-o", "/dev/null", "-e", "signal=none", "-e", f"trace={SYNCS}"]
 SLOWED += ["-e", f"inject={SYNCS}:delay_exit={DELAY * 1000}"]
 
@@ -30,7 +30,8 @@ SLOWED += ["-e", f"inject={SYNCS}:delay_exit={DELAY * 1000}"]
 def generator():
     """The path of the load generator, which cargo builds where its sources are newer."""
     words = ["cargo", "build", "--release", "--offline", "--quiet", "--manifest-path", str(LOAD / "Cargo.toml")]
-    known = {name: it for name, it in os.environ.items() if name != "LOCKS_PROGRAM"}  # for which clients/rust is built anew
+    # cargo builds clients/rust anew where LOCKS_PROGRAM has changed
+    known = {name: it for name, it in os.environ.items() if name != "LOCKS_PROGRAM"}
     subprocess.run(words, check=True, stdin=subprocess.DEVNULL, env=known)
     return LOAD / "target" / "release" / "load"
 
@@ -90,7 +91,8 @@ class System(contextlib.AbstractContextManager):
 
     def load(self, *words):
         """What the generator prints."""
-        run = subprocess.run(self.load_words(*words), stdin=subprocess.DEVNULL, capture_output=True, text=True, check=True)
+        command = self.load_words(*words)
+        run = subprocess.run(command, stdin=subprocess.DEVNULL, capture_output=True, text=True, check=True)
         return json.loads(run.stdout)
 
     def busy(self):

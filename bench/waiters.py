@@ -5,7 +5,8 @@ Usage: bench/waiters.py [--clients N] [--hold S] [--times N] [--dir FOLDER] [--p
 
 Three nodes run as processes on loopback. N clients (20 if not given) wait for one lock at once, as N runs of `hold` do:
 each takes it, keeps it S seconds (0.5 if not given), gives it back and is gone. It prints how long the lock stood free
-between a release and the next grant, and how many datagrams the clients sent a second, over so many rounds (2 if not given).
+between a release and the next grant, and how many datagrams the clients sent a second, over several rounds (2 if not
+given).
 """
 import argparse
 import contextlib
@@ -52,7 +53,7 @@ def works(client, watch, seconds):
 
 
 def measured(program, folder, args):
-    """How long the lock stood free before each grant, the datagrams that were sent, and the seconds of the whole round."""
+    """How long the lock stood free before each grant, the datagrams that were sent, and the seconds of the round."""
     watch = Watch()
     with Cluster(program, folder) as cluster, contextlib.ExitStack() as stack:
         made = [cluster.client(Counting, number, patience=60.0) for number in range(1, args.clients + 1)]
@@ -70,7 +71,12 @@ def measured(program, folder, args):
 def main():
     parser = argparse.ArgumentParser(description="Measures how long a lock stands free while clients wait for it.")
     parser.add_argument("--clients", type=int, default=20, help="the clients, 20 if not given")
-    parser.add_argument("--hold", type=float, default=0.5, help="the seconds that each keeps the lock, 0.5 if not given")
+    parser.add_argument(
+        "--hold",
+        type=float,
+        default=0.5,
+        help="the seconds that each keeps the lock, 0.5 if not given",
+    )
     parser.add_argument("--times", type=int, default=2, help="the rounds, 2 if not given")
     parser.add_argument("--dir", help="where the folders of the nodes are made")
     parser.add_argument("--program", help="the built program; the wrapper builds it if none is given")

@@ -1,9 +1,9 @@
 #!/usr/bin/env python3
 """Measures `locks sim` in world mode on generated events: events per second and peak memory.
 
-One node is elected. Then clients ask in turn, and each request, its Accept and its Accepted are delivered, so that four events
-execute one position and send four datagrams; where 99,000 datagrams would stand, bytes that are no datagram make up the rest. The script is made before the
-clock starts, so each run measures the same input.
+One node is elected. Then clients ask in turn, and each request, its Accept and its Accepted are delivered, so that four
+events execute one position and send four datagrams. After 99,000 datagrams, the remaining events inject bytes that are
+no datagram. The script is made before the clock starts, so each run measures the same input.
 """
 import argparse
 import os
@@ -65,7 +65,10 @@ def main():
                 file.write("genesis 5 2 1:7001\n")
                 file.writelines(line + "\n" for line in events(part))
             status, last, seconds, peak = measure(program, script)
-            print(f"{part} events: status {status}, `{last}`, {seconds:.2f} s, {part / seconds:,.0f} events per second, {peak / 1024:.1f} MiB")
+            print(
+                f"{part} events: status {status}, `{last}`, {seconds:.2f} s, "
+                f"{part / seconds:,.0f} events per second, {peak / 1024:.1f} MiB"
+            )
 
 
 if __name__ == "__main__":

@@ -24,8 +24,8 @@ def bytes_of(*texts):
 class Node:
     """Node 2 of three in cluster 5, on files of these bytes. The test stands at the ports of the others.
 
-    In a text the words 1b59, 1b5a and 1b5b stand for the ports of nodes 1 to 3. `words` are further options of the node, and `address` is
-    the one at which all live."""
+    In a text the words 1b59, 1b5a and 1b5b stand for the ports of nodes 1 to 3. `words` are further options of the
+    node, and `address` is the one at which all live."""
 
     def __init__(self, program, folder, alpha=1, address="127.0.0.1", ports=None):
         self.program, self.folder, self.address, self.ports = program, folder, address, ports or free_ports(3)
@@ -72,10 +72,12 @@ class Node:
         return os.path.getsize(self.path("a")), os.path.getsize(self.path("b"))
 
     def start(self):
-        """Starts it, and waits until it serves: then `runs` has the positions that it executed as it came up, and the last line of standard error
-        is given, which is its fault where it does not come up."""
-        words = ["--genesis", self.genesis, "--number", "2", "--port", str(self.ports[1]), "--dir", self.folder, "--log", "--verbose", *self.words]
-        self.process = subprocess.Popen([self.program, "node", *words], stdin=subprocess.DEVNULL, stderr=subprocess.PIPE, text=True)
+        """Starts it, and waits until it serves: then `runs` has the positions that it executed as it came up, and the
+        last line of standard error is given, which is its fault where it does not come up."""
+        words = ["--genesis", self.genesis, "--number", "2", "--port", str(self.ports[1]), "--dir", self.folder]
+        command = [self.program, "node", *words, "--log", "--verbose", *self.words]
+        piped = {"stdin": subprocess.DEVNULL, "stderr": subprocess.PIPE, "text": True}
+        self.process = subprocess.Popen(command, **piped)
         self.runs, last = [], ""
         for line in self.process.stderr:
             last = line.rsplit("] ", 1)[-1].rstrip("\n")

@@ -18,7 +18,8 @@ def built(program=None):
     """The path of the given program, or of the one that ./locks runs."""
     if program:
         return program
-    told = subprocess.run([os.path.join(TOP, "locks"), "--path"], stdin=subprocess.DEVNULL, stdout=subprocess.PIPE, text=True)
+    command = [os.path.join(TOP, "locks"), "--path"]
+    told = subprocess.run(command, stdin=subprocess.DEVNULL, stdout=subprocess.PIPE, text=True)
     return told.stdout.strip() or sys.exit(told.returncode)
 
 
@@ -57,9 +58,10 @@ class Cluster:
         """Starts a node, on what its folder holds."""
         folder = os.path.join(self.folder, str(node))
         os.makedirs(folder, exist_ok=True)
-        words = ["--genesis", self.genesis, "--number", str(node), "--port", str(self.ports[node]), "--dir", folder, *self.options]
+        words = ["--genesis", self.genesis, "--number", str(node), "--port", str(self.ports[node]), "--dir", folder]
+        command = [self.program, "node", *words, *self.options]
         with open(self.log(node), "ab") if self.logs else contextlib.nullcontext() as told:
-            self.processes[node] = subprocess.Popen([self.program, "node", *words], stdin=subprocess.DEVNULL, stderr=told)
+            self.processes[node] = subprocess.Popen(command, stdin=subprocess.DEVNULL, stderr=told)
 
     def log(self, node):
         """The file of what a node tells on standard error."""

@@ -1,7 +1,7 @@
 """Clients that hold locks one after the other, each in a thread, and what is wrong with their holds.
 
-`python3 -m harness.holders JSON` runs them until its input ends. Each hold is a line `NAME FENCE BEGIN END`, by one clock:
-from its grant until its release is sent."""
+`python3 -m harness.holders JSON` runs them until its input ends. Each hold is a line `NAME FENCE BEGIN END`, by one
+clock: from its grant until its release is sent."""
 import contextlib
 import itertools
 import json
@@ -32,7 +32,8 @@ def tell(line):
 
 def work(number, plan, is_over):
     """Holds names until it is over, with pauses."""
-    places, files = [tuple(place) for place in plan["places"]], {"hosts": plan["hosts"], "key": plan["keys"][str(number)]}
+    places = [tuple(place) for place in plan["places"]]
+    files = {"hosts": plan["hosts"], "key": plan["keys"][str(number)]}
     with Client(plan["cluster"], number, places, first=milliseconds(), patience=2.0, **files) as client:
         while not is_over.is_set():
             name = random.choice(plan["names"])

@@ -10,10 +10,11 @@ import time
 
 
 class Relay:
-    """Carries what node a sends to node b at `address(a, b)` on to where b listens, by rules that may change at any time.
+    """Carries what node a sends to b at `address(a, b)` on to where b listens, by rules that may change at any time.
 
-    cut: pairs of which nothing is carried. loss, repeats: which part is lost, and which comes twice. delay: seconds that
-    each waits at most; several wait differently, so that they come in another order. kept: the last frames of each pair."""
+    cut: pairs of which nothing is carried. loss, repeats: which part is lost, and which comes twice. delay: seconds
+    that each waits at most; several wait differently, so that they come in another order. kept: the last frames of
+    each pair."""
 
     KEPT = 64  # frames of each pair
 

@@ -51,6 +51,8 @@ ANSWERS = [
     ("27", "already raised"),
 ]
 
+NAME_OF_54 = "1234567890" * 5 + "1234"
+
 # What is asked by these words: the op, its length and its body, or a node and a port.
 WORDS = [
     ("acquire db", "00 04 01 02 6462"),
@@ -67,7 +69,7 @@ WORDS = [
     ("raw aBCd", "00 02 abcd"),
     ("raw 0100", "00 02 0100"),
     ("raw " + "00" * 64, "00 40" + "00" * 64),
-    ("acquire 123456789012345678901234567890123456789012345678901234", "00 38 01 36" + b"123456789012345678901234567890123456789012345678901234".hex()),
+    (f"acquire {NAME_OF_54}", "00 38 01 36" + NAME_OF_54.encode().hex()),
     ("join 4 7004", "01 00000004 1b5c"),
     ("leave 4", "02 00000004"),
     ("raise 2", "03 02"),
@@ -105,7 +107,8 @@ class AskingTest(unittest.TestCase):
     def started(self, *words):
         """The program, which asks the first port with these words."""
         place = ["--cluster", "5", "--port", str(self.first.getsockname()[1]), "--client", "7", "--request", "1"]
-        return subprocess.Popen([PROGRAM, "ask", *place, *words], stdout=subprocess.PIPE, stderr=subprocess.PIPE, text=True)
+        command = [PROGRAM, "ask", *place, *words]
+        return subprocess.Popen(command, stdout=subprocess.PIPE, stderr=subprocess.PIPE, text=True)
 
     def asks(self, replies):
         """The status and the output where the first port replies these; and how often each port is asked."""
@@ -132,7 +135,8 @@ class AskingTest(unittest.TestCase):
         for words, op in WORDS:
             with self.subTest(words=words), self.started(*words.split(" ")) as process:
                 data, client = self.first.recvfrom(9000)
-                self.assertEqual(data.hex(), bytes_of("4c4b0109 0000000000000005 00000000 0007 0000000000000001", op).hex())
+                asked = bytes_of("4c4b0109 0000000000000005 00000000 0007 0000000000000001", op)
+                self.assertEqual(data.hex(), asked.hex())
                 self.first.sendto(bytes_of(GRANTED), client)
                 out, err = process.communicate(timeout=60)
                 self.assertEqual(out, "granted 1\n")

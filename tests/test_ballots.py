@@ -27,7 +27,10 @@ PREPARE = "4c4b0101 0000000000000005 00000002 0000000000000002 00000002 00000000
 # Node 1 promises, and tells a vote for A in (1, 1) at position 1. Node 3 promises, and tells none.
 A = "01 0007 0000000000000001 00 03 01 01 61"
 B = "01 0008 0000000000000001 00 03 01 01 62"
-WITH_VOTE = f"4c4b0102 0000000000000005 00000001 0000000000000002 00000002 0000000000000001 01 0000000000000001 0000000000000001 00000001 {A}"
+WITH_VOTE = (
+    "4c4b0102 0000000000000005 00000001 0000000000000002 00000002 0000000000000001"
+    f" 01 0000000000000001 0000000000000001 00000001 {A}"
+)
 WITHOUT = "4c4b0102 0000000000000005 00000003 0000000000000002 00000002 0000000000000001 00"
 
 # Client 8 asks for B; and the vote that node 2 asks for.
@@ -54,7 +57,7 @@ class BallotTest(unittest.TestCase):
         self.assertEqual((node.read("a"), node.read("b")), (node.bytes_of(AT_256), b""))
 
     def wait_for(self, it, text, node):
-        """Takes what comes to a socket until these bytes do. Others than a Prepare and a Lead are none that may come."""
+        """Takes what comes to a socket until these bytes come. Before them only a Prepare or a Lead may come."""
         while (data := received(it)) != node.bytes_of(text):
             self.assertIn(data[3], (1, 13), data.hex())
 

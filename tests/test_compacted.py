@@ -37,7 +37,7 @@ def entry(body):
 
 
 class Files:
-    """What stands in the files of three nodes of cluster 5 with alpha 1, at these ports, and what their state packs to."""
+    """The files of three nodes of cluster 5 with alpha 1, at these ports, and what their state packs to."""
 
     def __init__(self, ports):
         self.members = b"\3" + b"".join(number(node, 4) + number(port, 2) for node, port in enumerate(ports, 1))
@@ -49,12 +49,14 @@ class Files:
     def begun(self, node):
         """The Base of a node that has executed nothing."""
         state = self.state(0, number(0, 2), number(0, 2))
-        head = b"\1" + number(1, 8) + b"\2" + number(5, 8) + number(node, 4) + b"\1" + self.members + bytes(12) + number(0, 8)
+        genesis = number(5, 8) + number(node, 4) + b"\1" + self.members
+        head = b"\1" + number(1, 8) + b"\2" + genesis + bytes(12) + number(0, 8)
         return entry(head + number(len(state), 4) + state + bytes(4))
 
     def filled(self, node):
         """That, and 256 decided commands, by each of which another client acquires another name."""
-        return self.begun(node) + b"".join(entry(b"\4" + number(client, 8) + acquire(client)) for client in range(1, 257))
+        decided = (entry(b"\4" + number(client, 8) + acquire(client)) for client in range(1, 257))
+        return self.begun(node) + b"".join(decided)
 
     def text(self):
         """What the state packs to after these: each client was granted fence 1 at its number 1."""
@@ -87,13 +89,15 @@ class CompactedTest(unittest.TestCase):
 
     def start(self, node, data=None):
         """Starts a node, on a file of these bytes if any are given."""
-        os.makedirs(os.path.join(self.folder, str(node)), exist_ok=True)
+        folder = os.path.join(self.folder, str(node))
+        os.makedirs(folder, exist_ok=True)
         if data is not None:
             for file, text in (("a", data), ("b", b"")):
                 with open(self.path(node, file), "wb") as to:
                     to.write(text)
-        words = ["--genesis", self.genesis, "--number", str(node), "--port", str(self.own[node - 1]), "--dir", os.path.join(self.folder, str(node)), "--verbose"]
-        process = subprocess.Popen([PROGRAM, "node", *words], stdin=subprocess.DEVNULL, stderr=subprocess.PIPE, text=True)
+        place = ["--port", str(self.own[node - 1]), "--dir", folder]
+        command = [PROGRAM, "node", "--genesis", self.genesis, "--number", str(node), *place, "--verbose"]
+        process = subprocess.Popen(command, stdin=subprocess.DEVNULL, stderr=subprocess.PIPE, text=True)
         self.addCleanup(process.communicate)
         self.addCleanup(process.kill)
         while not process.stderr.readline().endswith(f"] port {self.own[node - 1]}\n"):

@@ -24,7 +24,9 @@ class CompareTest(unittest.TestCase):
 
     def ran(self, *words):
         """Runs a command, which has to end well."""
-        run = subprocess.run(words, stdin=subprocess.DEVNULL, stdout=subprocess.PIPE, stderr=subprocess.STDOUT, text=True)
+        run = subprocess.run(
+            words, stdin=subprocess.DEVNULL, stdout=subprocess.PIPE, stderr=subprocess.STDOUT, text=True
+        )
         self.assertEqual(run.returncode, 0, run.stdout)
 
     def test_each_load_is_measured_and_drawn(self):

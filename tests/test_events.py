@@ -33,7 +33,8 @@ class Told(Cluster):
         place = ["--port", str(self.ports[node]), "--dir", folder]
         words = ["--genesis", self.genesis, "--number", str(node), *place, "--events", *self.options]
         with open(f"{folder}.events", "a") as told:
-            self.processes[node] = subprocess.Popen([self.program, "node", *words], stdin=subprocess.DEVNULL, stderr=told)
+            command = [self.program, "node", *words]
+            self.processes[node] = subprocess.Popen(command, stdin=subprocess.DEVNULL, stderr=told)
 
     def events(self, node):
         """What a node has told: level, time and text of each line."""
@@ -75,7 +76,8 @@ class EventsTest(unittest.TestCase):
         """The answer to an operation, which all ports are asked in turn."""
         ports = [word for port in self.cluster.ports.values() for word in ("--port", str(port))]
         place = ["--cluster", "5", *ports, "--client", "7", "--request", str(first)]
-        return subprocess.run([PROGRAM, "ask", *place, *words], stdin=subprocess.DEVNULL, stdout=subprocess.PIPE, text=True).stdout
+        command = [PROGRAM, "ask", *place, *words]
+        return subprocess.run(command, stdin=subprocess.DEVNULL, stdout=subprocess.PIPE, text=True).stdout
 
     def test_a_leader_that_pauses_is_followed_by_another(self):
         with self.cluster as cluster:
@@ -93,7 +95,8 @@ class EventsTest(unittest.TestCase):
                 time.sleep(0.05)
             self.assertIsNotNone(taken)
             cluster.processes[old].send_signal(signal.SIGCONT)
-            cluster.waits(old, f"no longer leads in ballot {re.escape(ballot)}: (node {taken} began|there is) a greater ballot")
+            why = f"(node {taken} began|there is) a greater ballot"
+            cluster.waits(old, f"no longer leads in ballot {re.escape(ballot)}: {why}")
             cluster.waits(old, f"follows node {taken}")
 
     def test_one_of_three_hears_of_no_leader(self):

@@ -11,16 +11,27 @@ from harness.cluster import free_ports
 
 PROGRAM = os.environ.get("LOCKS_PROGRAM")
 
-# The state of node 1 at port 7001 with alpha 2 that has executed nothing, in 39 bytes, and the Base that holds it, in 101.
+# The state of node 1 at port 7001 with alpha 2 that has executed nothing (39 bytes), and the Base that holds it (101).
 STATE = bytes_of("0000000000000000 02 01 00000001 1b59 01 00000001 1b59 00000001 0000000000000000 0000 0000")
-HEADER = bytes_of("00000061 01 0000000000000001 02 0000000000000005 00000001 02 01 00000001 1b59 0000000000000000 00000000 0000000000000000 00000027")
+HEADER = bytes_of(
+    "00000061 01 0000000000000001 02 0000000000000005 00000001 02 01 00000001 1b59"
+    " 0000000000000000 00000000 0000000000000000 00000027"
+)
 BASE = HEADER + STATE + bytes_of("0000 0000")
 
-# The same Base as a program wrote it that knew format 1 alone, and the Base that takes its place once (1, 1) is promised.
-OLD = bytes_of("00000061 01 0000000000000001 01 0000000000000005 00000001 02 01 00000001 1b59 0000000000000000 00000000 0000000000000000 00000027") + STATE + bytes_of("0000 0000")
-RENEWED = bytes_of("00000061 01 0000000000000002 02 0000000000000005 00000001 02 01 00000001 1b59 0000000000000001 00000001 0000000000000000 00000027") + STATE + bytes_of("0000 0000")
+# The same Base as a program that knew format 1 alone wrote it, and the Base that replaces it once (1, 1) is promised.
+OLD_HEADER = bytes_of(
+    "00000061 01 0000000000000001 01 0000000000000005 00000001 02 01 00000001 1b59"
+    " 0000000000000000 00000000 0000000000000000 00000027"
+)
+OLD = OLD_HEADER + STATE + bytes_of("0000 0000")
+RENEWED_HEADER = bytes_of(
+    "00000061 01 0000000000000002 02 0000000000000005 00000001 02 01 00000001 1b59"
+    " 0000000000000001 00000001 0000000000000000 00000027"
+)
+RENEWED = RENEWED_HEADER + STATE + bytes_of("0000 0000")
 
-# Entries: the promises of its first and its second ballot, in 17 bytes each, and a vote for a no-op at position 1, in 26.
+# Entries: the promises of its first and second ballots (17 bytes each), and a vote for a no-op at position 1 (26).
 PROMISED = bytes_of("0000000d 02 0000000000000001 00000001")
 PROMISED_NEXT = bytes_of("0000000d 02 0000000000000002 00000001")
 VOTED = bytes_of("00000016 03 0000000000000001 0000000000000001 00000001 00")

@@ -7,7 +7,8 @@ from harness.by_bytes import Node
 
 PROGRAM = os.environ.get("LOCKS_PROGRAM")
 
-# The Base of node 2 of three that has promised nothing and executed nothing, between its generation and its votes, in formats 1 and 2.
+# The Base of node 2 of three that has promised and executed nothing: what follows its format, up to its votes, and the
+# whole Base in formats 1 and 2.
 MEMBERS = "03 00000001 1b59 00000002 1b5a 00000003 1b5b"
 REST = (
     f"0000000000000005 00000002 01 {MEMBERS} 0000000000000000 00000000 0000000000000000"

@@ -29,7 +29,7 @@ class NodesTest(unittest.TestCase):
         self.ports = free_ports(2)
 
     def start(self, port, more="", options=()):
-        """Starts node 1 of a cluster of its own, whose genesis names the first port, and further members, at that port."""
+        """Starts node 1 of a cluster of its own at that port. The genesis names the first port, and further members."""
         genesis = f"5,8,1:{self.ports[0]}{more}"
         words = ["--genesis", genesis, "--number", "1", "--port", str(port), "--dir", self.folder, *options]
         node = subprocess.Popen([PROGRAM, "node", *words], stdin=subprocess.DEVNULL, stderr=subprocess.PIPE, text=True)
@@ -135,7 +135,15 @@ class NodesTest(unittest.TestCase):
         node = self.start(self.ports[1])
         data, sender = named.recvfrom(9000)
         self.assertEqual((data, sender), (self.probe(), ("127.0.0.1", self.ports[1])))
-        for other in (data[:-1], data + b"\0", data[:25] + b"\2" + data[26:], data[:58].ljust(174, b"\1"), b"LP\1\x0a" + data[4:], b""):
+        others = (
+            data[:-1],
+            data + b"\0",
+            data[:25] + b"\2" + data[26:],
+            data[:58].ljust(174, b"\1"),
+            b"LP\1\x0a" + data[4:],
+            b"",
+        )
+        for other in others:
             named.sendto(other, sender)
         self.assertIn("warning: the genesis names node 1", node.stderr.readline())
         named.settimeout(0.5)

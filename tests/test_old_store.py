@@ -9,10 +9,12 @@ from locks_client import Client, Held
 
 PROGRAM = os.environ.get("LOCKS_PROGRAM")
 
-# File `a` of node 1, alone in cluster 5 at alpha 2, as that program left it when it was killed; `b` was empty. Client 7 had acquired and released db, client 8
-# had acquired db, and client 9 other. PORT stands for the two bytes of the node's port.
+# File `a` of node 1, alone in cluster 5 at alpha 2, as that program left it when it was killed; `b` was empty.
+# Client 7 had acquired and released db, client 8 had acquired db, and client 9 other.
+# PORT stands for the two bytes of the node's port.
 OLD = """
-    00000061 01 0000000000000001 01 0000000000000005 00000001 02 01 00000001 PORT 0000000000000000 00000000 0000000000000000
+    00000061 01 0000000000000001 01 0000000000000005 00000001 02 01 00000001 PORT
+    0000000000000000 00000000 0000000000000000
     00000027 0000000000000000 02 01 00000001 PORT 01 00000001 PORT 00000001 0000000000000000 0000 0000 0000 0000
     0000000d 02 0000000000000001 00000001
     00000026 03 0000000000000001 0000000000000001 00000001 01 0007 0000000000000001 00 04 01 02 6462
@@ -41,7 +43,8 @@ class OldStoreTest(unittest.TestCase):
 
     def dump(self):
         """What `locks dump` prints of the folder, by its words."""
-        told = subprocess.run([PROGRAM, "dump", "--dir", os.path.join(self.folder, "1")], capture_output=True, text=True, check=True)
+        command = [PROGRAM, "dump", "--dir", os.path.join(self.folder, "1")]
+        told = subprocess.run(command, capture_output=True, text=True, check=True)
         return dict(line.split(" ", 1) for line in told.stdout.splitlines())
 
     def test_it_is_taken_up_and_written_anew(self):

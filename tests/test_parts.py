@@ -27,23 +27,27 @@ def members(ports):
 
 
 def longest_text(ports):
-    """The longest packed state of a table that was never raised: seven members at each of the next sixteen positions, 256 clients who were told Busy last, and
-    512 names of 32 bytes, each held by client 1 at fence 9."""
+    """The longest packed state of a table that was never raised: seven members at each of the next sixteen positions,
+    256 clients who were told Busy last, and 512 names of 32 bytes, each held by client 1 at fence 9."""
     head = number(POSITION, 8) + number(16, 1) + 16 * members(ports) + number(7, 4) + number(0, 8)
-    sessions = b"".join(number(client, 2) + number(5, 8) + number(2, 1) + number(1, 2) + number(9, 8) for client in range(1, 257))
+    sessions = b"".join(
+        number(client, 2) + number(5, 8) + number(2, 1) + number(1, 2) + number(9, 8) for client in range(1, 257)
+    )
     names = b"".join(number(32, 1) + b"%032d" % place + number(9, 8) + number(1, 2) for place in range(512))
     return head + number(256, 2) + sessions + number(512, 2) + names
 
 
 def file_of(cluster, ports, node, text):
     """A file whose Base has that text as its snapshot, and nothing else."""
-    head = number(1, 1) + number(1, 8) + number(2, 1) + number(cluster, 8) + number(node, 4) + number(16, 1) + members(ports)
+    genesis = number(cluster, 8) + number(node, 4) + number(16, 1) + members(ports)
+    head = number(1, 1) + number(1, 8) + number(2, 1) + genesis
     body = head + number(0, 8) + number(0, 4) + number(POSITION, 8) + number(len(text), 4) + text + number(0, 4)
     return number(len(body), 4) + body
 
 
 class Nodes(Cluster):
-    """Seven members, of which nodes 1 and 2 are processes. They listen at other ports than the genesis names, at which the test stands."""
+    """Seven members, of which nodes 1 and 2 are processes. They listen at other ports than the genesis names, at
+    which the test stands."""
 
     def __init__(self, folder):
         super().__init__(PROGRAM, folder, nodes=7, alpha=16)
@@ -57,7 +61,8 @@ class Nodes(Cluster):
             with open(os.path.join(folder, name), "wb") as file:
                 file.write(data)
         words = ["--genesis", self.genesis, "--number", str(node), "--port", str(self.own[node]), "--dir", folder]
-        self.processes[node] = subprocess.Popen([PROGRAM, "node", *words], stdin=subprocess.DEVNULL, stderr=subprocess.DEVNULL)
+        command = [PROGRAM, "node", *words]
+        self.processes[node] = subprocess.Popen(command, stdin=subprocess.DEVNULL, stderr=subprocess.DEVNULL)
 
     def files_of(self, node):
         """What stands in both files of a node."""

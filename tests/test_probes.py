@@ -16,7 +16,7 @@ LENGTH = 174
 REPORT = struct.Struct(">4sQIHQ32s3sBBBIQQIQQB")
 CLUSTER = 5
 
-# The first Base of node 2 of three with alpha 2, and entries by which node 4 joins at position 1 and node 1 leaves at 2.
+# The first Base of node 2 of three with alpha 2, and entries: node 4 joins at position 1, and node 1 leaves at 2.
 MEMBERS = "03 00000001 1b59 00000002 1b5a 00000003 1b5b"
 BEGUN = (
     f"00000085 01 0000000000000001 02 0000000000000005 00000002 02 {MEMBERS} 0000000000000000 00000000 0000000000000000"
@@ -25,8 +25,8 @@ BEGUN = (
 JOIN = "0000001b 04 0000000000000001 01 0009 0000000000000001 01 00000004 1b5c"
 LEAVE = "00000019 04 0000000000000002 01 0009 0000000000000002 02 00000001"
 
-# What it reports then: up to the digest of its genesis, the program and the store; two positions executed, no snapshot, and one
-# position until the leave is in force; and the members of position 3.
+# What it reports then: up to the digest of its genesis, the program and the store; two positions executed, no snapshot,
+# and one position until the leave is in force; and the members of position 3.
 FRONT = "4c50010a 0000000000000005 00000002 0000 0000000000000007"
 PROGRESS = "0000000000000002 0000000000000000 01"
 NEXT = "04 00000001 1b59 00000002 1b5a 00000003 1b5b 00000004 1b5c"
@@ -75,7 +75,8 @@ class ProbesTest(unittest.TestCase):
 
     def test_a_report_counts_what_does_not_read_and_ticks(self):
         before = self.counts(1)
-        for datagram in (b"", b"LK", b"\0" * 16, b"LK\x01\x0d" + bytes(28), b"LK\x01\x09" + (6).to_bytes(8, "big") + bytes(4)):
+        of_cluster_6 = b"LK\x01\x09" + (6).to_bytes(8, "big") + bytes(4)
+        for datagram in (b"", b"LK", b"\0" * 16, b"LK\x01\x0d" + bytes(28), of_cluster_6):
             self.socket.sendto(datagram, ("127.0.0.1", self.cluster.ports[1]))
         end = time.monotonic() + 30.0
         while (after := self.counts(1))[0] < before[0] + 5 or after[1] < before[1] + 2:
@@ -89,7 +90,16 @@ class ProbesTest(unittest.TestCase):
     def test_what_is_no_probe_of_the_cluster_is_passed_over(self):
         self.awaited(1, probe())
         of_nobody = probe()[:57] + b"\1" + bytes(116)  # a digest without a node
-        for datagram in (probe(cluster=6), probe()[:-1], probe() + b"\0", probe()[:-1] + b"\1", of_nobody, b"LP", b"LP\x01\x0a" + probe()[4:]):
+        others = (
+            probe(cluster=6),
+            probe()[:-1],
+            probe() + b"\0",
+            probe()[:-1] + b"\1",
+            of_nobody,
+            b"LP",
+            b"LP\x01\x0a" + probe()[4:],
+        )
+        for datagram in others:
             self.assertIsNone(self.report(1, datagram, 0.2), datagram)
         self.assertIsNotNone(self.report(1, probe()))
 
@@ -108,7 +118,8 @@ class ReportTest(unittest.TestCase):
         report = it.recv(9000)
         genesis = hashlib.sha256(node.bytes_of("0000000000000005 02", MEMBERS)).digest()
         self.assertEqual((len(report), report[:26].hex(), report[26:58]), (LENGTH, bytes_of(FRONT).hex(), genesis))
-        self.assertEqual((report[58:62].hex(), report[63:68].hex()), ("00010002", "0000000000"))  # it leads not, and knows no leader
+        # It does not lead, and knows no leader.
+        self.assertEqual((report[58:62].hex(), report[63:68].hex()), ("00010002", "0000000000"))
         self.assertEqual((report[88:105].hex(), report[105:107]), (bytes_of(PROGRESS).hex(), b"\0\0"))
         self.assertEqual(report[131:].hex(), node.bytes_of(NEXT).hex().ljust(2 * (LENGTH - 131), "0"))
 

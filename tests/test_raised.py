@@ -19,7 +19,8 @@ BEGUN = (
 PREPARE = "4c4b0101 0000000000000005 00000001 0000000000000001 00000001 0000000000000001"
 
 # A client, the number of its request, its op and what it is answered.
-# Before the table is raised a Share is no body. Then two clients share `db`, a third one breaks it, and is granted the next fence.
+# Before the table is raised a Share is no body. Then two clients share `db`; a third breaks it, and is granted the next
+# fence.
 BROKEN = [
     (7, 1, "00 04 05026462", "0a"),
     (7, 2, "03 02", "26"),
@@ -75,11 +76,13 @@ class RaisedTest(unittest.TestCase):
         """The requests of the rows are answered as they say."""
         lines = "".join(f"4c4b0109 0000000000000005 00000000 {request(row)}\n" for row in rows)
         ran = subprocess.run([PROGRAM, "sim"], input=f"table 5\n{lines}", capture_output=True, text=True, timeout=60)
-        replies = [f"4c4b010a 0000000000000005 00000001 {row[0]:04x} {row[1]:016x} {row[3]}".replace(" ", "") for row in rows]
+        replies = [
+            f"4c4b010a 0000000000000005 00000001 {row[0]:04x} {row[1]:016x} {row[3]}".replace(" ", "") for row in rows
+        ]
         self.assertEqual((ran.returncode, ran.stderr, ran.stdout.splitlines()), (0, "", replies))
 
     def based(self, node, name, commands):
-        """The Base of the other file, which a node writes that comes up with these commands after those that it has: 256 each time."""
+        """The Base that a node writes in the other file as it comes up with 256 more commands: these, then no-ops."""
         with open(node.path(name), "ab") as file:
             first = 257 if name == "b" else 1
             file.write(node.bytes_of(*decided(first, commands + ["00"] * (256 - len(commands)))))

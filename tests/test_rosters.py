@@ -15,8 +15,21 @@ PROGRAM = os.environ.get("LOCKS_PROGRAM")
 # How many members stand at first, and what is asked one after another and answered.
 ROWS = [
     (1, [("leave 1", "last"), ("join 2 9", "joined")]),
-    (2, [("leave 2", "left"), ("join 2 9", "used"), ("leave 2", "not a member"), ("leave 1", "last"), ("join 3 9", "joined")]),
-    (7, [("join 8 9", "full"), ("join 7 9", "used"), ("leave 9", "not a member"), ("leave 7", "left"), ("join 8 9", "joined"), ("join 9 9", "full")]),
+    (2, [
+        ("leave 2", "left"),
+        ("join 2 9", "used"),
+        ("leave 2", "not a member"),
+        ("leave 1", "last"),
+        ("join 3 9", "joined"),
+    ]),
+    (7, [
+        ("join 8 9", "full"),
+        ("join 7 9", "used"),
+        ("leave 9", "not a member"),
+        ("leave 7", "left"),
+        ("join 8 9", "joined"),
+        ("join 9 9", "full"),
+    ]),
 ]
 
 # The ballot (1, 2), from position 3 on: node 2 asks for a promise, and nodes 3 and 4 give it.
@@ -32,7 +45,8 @@ AT_4 = "0000000000000001 00000002 0000000000000004 00"
 DECIDED_3 = "4c4b0106 0000000000000005 00000002 0000000000000003 01 00"
 DECIDED_4 = "4c4b0106 0000000000000005 00000002 0000000000000004 01 00"
 
-# Who has accepted one, how many positions are executed then, and what each other node of the window is told by that: nodes 1, 3 and 4.
+# Who has accepted one, how many positions are executed then, and what each other node of the window is told by that:
+# nodes 1, 3 and 4.
 ACCEPTED = [
     ("00000003", AT_3, 2, [None, None, None]),
     ("00000004", AT_3, 3, [DECIDED_3, DECIDED_3, DECIDED_3]),
@@ -44,8 +58,8 @@ ACCEPTED = [
 SMALLER = "4c4b0101 0000000000000005 00000009 0000000000000001 00000001 0000000000000001"
 NACK = "4c4b0105 0000000000000005 00000002 0000000000000001 00000001 0000000000000001 00000002"
 
-# The first Base of node 2 in formats 2 and 1, and entries by which node 4 joins at position 1 and node 1 leaves at 2. On a file of format 1 the node writes a
-# snapshot as it comes up, at 2.
+# The first Base of node 2 in formats 2 and 1, and entries by which node 4 joins at position 1 and node 1 leaves at 2.
+# On a file of format 1 the node writes a snapshot as it comes up, at 2.
 MEMBERS = "03 00000001 1b59 00000002 1b5a 00000003 1b5b"
 REST = (
     f"0000000000000005 00000002 02 {MEMBERS} 0000000000000000 00000000 0000000000000000"
@@ -66,12 +80,14 @@ PART = f"4c4b0108 0000000000000005 00000002 0000000000000002 00000050 00000000 0
 
 def printed(lines):
     """What a script prints."""
-    run = subprocess.run([PROGRAM, "sim"], input="".join(f"{line}\n" for line in lines), capture_output=True, text=True, timeout=60)
+    script = "".join(f"{line}\n" for line in lines)
+    run = subprocess.run([PROGRAM, "sim"], input=script, capture_output=True, text=True, timeout=60)
     return run.stdout
 
 
 def delivered(lines, done):
-    """The script, and after it each datagram to a node beyond the first so many, one after another as they come about; and how many there are then."""
+    """The script, and after it each datagram to a node beyond the first so many, one after another as they come about;
+    and how many there are then."""
     while True:
         sent = re.findall(r"(?m)^sent (\d+) \S+ (n[1-7]) ", printed(lines))
         more = [f"deliver {k}" for k, _ in sent if int(k) > done]
@@ -185,7 +201,8 @@ class LogTest(unittest.TestCase):
         asked = ["--cluster", "5", "--port", str(port), "--client", "7", "--request"]
         for number, op in enumerate(("acquire db", "release db 1"), 1):
             for _ in range(3):
-                told = subprocess.run([PROGRAM, "ask", *asked, str(number), *op.split()], capture_output=True, text=True)
+                command = [PROGRAM, "ask", *asked, str(number), *op.split()]
+                told = subprocess.run(command, capture_output=True, text=True)
                 if told.returncode == 0:
                     break
         late = threading.Timer(10, node.kill)  # the node may log after it has answered

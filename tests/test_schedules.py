@@ -19,7 +19,7 @@ def ended(start, *more):
 
 
 def replayed(start):
-    """What a schedule with groups prints, and the same of a run of its script: how many events, and the greatest position."""
+    """What a schedule with groups prints, and the same of a run of its script: event count and greatest position."""
     script = ended(start, "--groups", "--script")[1]
     ran = subprocess.run([PROGRAM, "sim"], input=script, capture_output=True, text=True, timeout=60)
     done = re.search(r"done (\d+)\n\Z", ran.stdout)

@@ -202,7 +202,8 @@ class QuestionsTest(unittest.TestCase):
         """How often node 3 is asked a question, gets a report, and gets what it wanted, by a datagram that it sends."""
         self.from_third(data)
         found = self.came(self.node.third, 0.5)
-        return found.count(self.question), sum(it.startswith(REPORT) for it in found), found.count(self.node.bytes_of(DECIDED))
+        reports = sum(it.startswith(REPORT) for it in found)
+        return found.count(self.question), reports, found.count(self.node.bytes_of(DECIDED))
 
     def test_a_stranger_is_never_asked_again_and_heard_once_it_asks_with_the_right_genesis(self):
         self.node.words = ("--events",)
@@ -213,12 +214,14 @@ class QuestionsTest(unittest.TestCase):
             self.assertEqual(self.third_gets(want), (0, 0, 0))
             self.a_minute_passes()
             self.came(self.node.third, 0.5)
-            self.assertEqual([self.third_gets(data) for data in (want, asks(3, genesis), want)], [(0, 0, 0), (0, 1, 0), (0, 0, 0)])
+            found = [self.third_gets(data) for data in (want, asks(3, genesis), want)]
+            self.assertEqual(found, [(0, 0, 0), (0, 1, 0), (0, 0, 0)])
         self.from_third(asks(3, self.genesis))
         while self.node.third.recv(9000) != self.question:
             pass
         self.from_third(report(3, self.genesis, self.question))
-        self.assertEqual([self.third_gets(data) for data in (want, asks(3, self.genesis), want)], [(0, 0, 1), (0, 1, 0), (0, 0, 1)])
+        found = [self.third_gets(data) for data in (want, asks(3, self.genesis), want)]
+        self.assertEqual(found, [(0, 0, 1), (0, 1, 0), (0, 0, 1)])
         self.node.process.kill()
         self.assertEqual(self.node.process.stderr.read().count("node 2 hears node 3 of another genesis\n"), 3)
 

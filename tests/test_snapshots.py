@@ -21,7 +21,8 @@ class SnapshotTest(unittest.TestCase):
 
     def dumped(self):
         """The lines of `locks dump` that tell the generation, the snapshot and how many commands stand above it."""
-        told = subprocess.run([PROGRAM, "dump", "--dir", os.path.join(self.folder, "1")], capture_output=True, text=True, check=True)
+        command = [PROGRAM, "dump", "--dir", os.path.join(self.folder, "1")]
+        told = subprocess.run(command, capture_output=True, text=True, check=True)
         lines = told.stdout.splitlines()
         return lines[0], lines[2], lines[4]
 

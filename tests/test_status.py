@@ -27,7 +27,20 @@ RAISED = "000100 02 02"
 MEMBERS = "03 00000001 1b59 00000002 1b5a 00000003 1b5b"
 
 
-def report(node, token, genesis=GENESIS, build=PROGRAM_0_1_0, leads=0, leader=1, silence=1, promised=3, executed=10, members=MEMBERS, client=0, cluster=5):
+def report(
+    node,
+    token,
+    genesis=GENESIS,
+    build=PROGRAM_0_1_0,
+    leads=0,
+    leader=1,
+    silence=1,
+    promised=3,
+    executed=10,
+    members=MEMBERS,
+    client=0,
+    cluster=5,
+):
     """A report, field by field: the numbers are as in docs/WIRE.md."""
     head = f"4c50010a {cluster:016x} {node:08x} {client:04x} {token:016x} {genesis} {build}"
     leadership = f"{leads:02x} {leader:08x} {silence:016x} {promised:016x} {1:08x}"
@@ -112,7 +125,10 @@ class StatusTest(unittest.TestCase):
 
     def test_three_nodes_are_a_line_each(self):
         lines = self.tells([node(1, leads=1, silence=0, executed=12), node(2), node(3, executed=12)], 0)
-        tail = "promised 3.1, snapshot 4, members 1 2 3, a change takes effect in 1 positions, 2 requests wait, 6 sends failed"
+        tail = (
+            "promised 3.1, snapshot 4, members 1 2 3, a change takes effect in 1 positions,"
+            " 2 requests wait, 6 sends failed"
+        )
         self.assertEqual(lines, [
             f"node 1, port a: leads, executed 12, {tail}",
             f"node 2, port b: follows 1, heard 1 tick ago, executed 10 (2 behind), {tail}",
@@ -142,11 +158,13 @@ class StatusTest(unittest.TestCase):
 
     def test_who_is_followed_and_does_not_lead_is_named(self):
         answers = [node(1, leader=3), node(2, leader=3), node(3, leader=0, silence=0)]
-        self.tells(answers, 1, "why: nobody leads: an election takes seconds; if it lasts, node 3 sends and hears nobody")
+        why = "why: nobody leads: an election takes seconds; if it lasts, node 3 sends and hears nobody"
+        self.tells(answers, 1, why)
         self.tells([*answers[:2], silent], 1, "if it lasts, node 3 sends and hears nobody")
 
     def test_a_node_that_is_no_member_is_named(self):
-        lines = self.tells([node(1, leads=1), node(2), node(3), node(4, leader=0, silence=28)], 0, "why: node 4 is not a member")
+        answers = [node(1, leads=1), node(2), node(3), node(4, leader=0, silence=28)]
+        lines = self.tells(answers, 0, "why: node 4 is not a member")
         self.assertNotIn("node 4 hears nobody", "\n".join(lines))
 
     def test_nobody_answers(self):
@@ -157,12 +175,14 @@ class StatusTest(unittest.TestCase):
 
     def test_a_node_that_seeks_votes_is_named_and_follows_nobody(self):
         seeks = node(1, leader=3, silence=0)
-        lines = self.tells([seeks, node(2, leads=1), node(3, leader=2)], 0, "why: node 1 seeks votes: if that lasts, see")
+        answers = [seeks, node(2, leads=1), node(3, leader=2)]
+        lines = self.tells(answers, 0, "why: node 1 seeks votes: if that lasts, see")
         self.assertIn("node 1, port a: seeks votes, executed 10", lines[0])
         self.tells([seeks, node(2, leader=0), silent], 1, "if it lasts, the members do not hear each other")
 
     def test_who_is_no_member_is_named_where_there_is_no_majority(self):
-        lines = self.tells([node(1, leads=1), silent, silent, node(4)], 1, "why: no majority", "why: node 4 is not a member")
+        answers = [node(1, leads=1), silent, silent, node(4)]
+        lines = self.tells(answers, 1, "why: no majority", "why: node 4 is not a member")
         self.assertEqual("\n".join(lines).count("why:"), 2, lines)
 
     def test_two_geneses_are_told(self):
@@ -173,7 +193,8 @@ class StatusTest(unittest.TestCase):
         alone = node(4, genesis=OTHER_GENESIS, leads=1, promised=9, executed=90, members="01 00000004 1b5c")
         lines = self.tells([alone, node(1, leads=1), node(2), node(3)], 1, "majority: 3 of 3 up; genesis differs: 4")
         self.assertNotIn("behind", "\n".join(lines))
-        self.tells([alone, node(1, leader=0), node(2, leader=0)], 1, "2 of 3 up; genesis differs: 4", "why: nobody leads")
+        answers = [alone, node(1, leader=0), node(2, leader=0)]
+        self.tells(answers, 1, "2 of 3 up; genesis differs: 4", "why: nobody leads")
 
     def test_of_two_geneses_that_as_many_tell_that_of_the_leader_is_the_measure(self):
         other = lambda number, **parts: node(number, genesis=OTHER_GENESIS, **parts)
@@ -187,7 +208,23 @@ class StatusTest(unittest.TestCase):
 
     def test_nothing_else_is_a_report(self):
         """Whatever is spoiled in one report: its place, and the byte that stands there then."""
-        spoils = [(0, 0x4B), (1, 0x4B), (2, 2), (3, 9), (11, 6), (12, 0xFF), (17, 1), (25, 1), (63, 2), (64, 0xFF), (131, 8), (131, 0), (135, 2), (141, 1), (173, 1)]
+        spoils = [
+            (0, 0x4B),
+            (1, 0x4B),
+            (2, 2),
+            (3, 9),
+            (11, 6),
+            (12, 0xFF),
+            (17, 1),
+            (25, 1),
+            (63, 2),
+            (64, 0xFF),
+            (131, 8),
+            (131, 0),
+            (135, 2),
+            (141, 1),
+            (173, 1),
+        ]
         for place, byte in spoils:
             with self.subTest(place=place):
                 def spoiled(probe):
@@ -217,12 +254,17 @@ class StatusTest(unittest.TestCase):
         status, lines = self.asks([node(1, leads=1), silent, node(3)], "--json")
         self.assertEqual((status, len(lines)), (0, 1))
         told = json.loads(re.sub(r'"port":([a-z])', r'"port":"\1"', lines[0]))
-        self.assertEqual({key: told[key] for key in told if key != "nodes"}, {"cluster": 5, "served": True, "one_genesis": True, "members_up": 2, "members": 3})
+        self.assertEqual(
+            {key: told[key] for key in told if key != "nodes"},
+            {"cluster": 5, "served": True, "one_genesis": True, "members_up": 2, "members": 3},
+        )
         first, second, third = told["nodes"]
         self.assertEqual(second, {"port": "b", "up": False})
         self.assertEqual((first["leads"], third["leads"], third["leader"]), (1, 0, 1))
         self.assertEqual((first["genesis"], first["program"], first["member_nodes"]), (GENESIS, "0.1.0", [1, 2, 3]))
-        self.assertEqual((first["executed_positions"], first["unread_datagrams_total"], first["promised_round"]), (10, 5, 3))
+        self.assertEqual(
+            (first["executed_positions"], first["unread_datagrams_total"], first["promised_round"]), (10, 5, 3)
+        )
         self.assertEqual(first["change_pending_positions"], 1)
 
     def test_metrics_have_a_type_and_one_value_each(self):
@@ -233,7 +275,13 @@ class StatusTest(unittest.TestCase):
             self.assertRegex(line, r'^locks_[a-z_]+\{cluster="5"(,(node|port)="\w+")?\} \d+$')
             self.assertIn(f"# TYPE {line.partition('{')[0]} ", "\n".join(lines))
         self.assertEqual(len(metrics), len(set(line.rpartition(" ")[0] for line in metrics)))
-        for line in ['locks_served{cluster="5"} 1', 'locks_members_up{cluster="5"} 2', 'locks_up{cluster="5",port="b"} 0', 'locks_failed_sends_total{cluster="5",node="3"} 6']:
+        expected = [
+            'locks_served{cluster="5"} 1',
+            'locks_members_up{cluster="5"} 2',
+            'locks_up{cluster="5",port="b"} 0',
+            'locks_failed_sends_total{cluster="5",node="3"} 6',
+        ]
+        for line in expected:
             self.assertIn(line, metrics)
 
     def test_ready_is_waited_for(self):
@@ -243,7 +291,8 @@ class StatusTest(unittest.TestCase):
             rounds.append(probe)
             return [report(2, token_of(probe), executed=10 if len(rounds) < 3 else 12)]
 
-        status, lines = self.asks([node(1, leads=1, executed=12), behind, node(3, executed=13)], "--until", "ready", "20")
+        answers = [node(1, leads=1, executed=12), behind, node(3, executed=13)]
+        status, lines = self.asks(answers, "--until", "ready", "20")
         self.assertEqual(status, 0, lines)
         self.assertEqual(len(rounds), 3)
 

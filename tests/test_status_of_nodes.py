@@ -55,7 +55,8 @@ class NodesStatusTest(unittest.TestCase):
         while True:
             self.number += 1
             port = str(list(self.cluster.ports.values())[self.number % 2])
-            command = [PROGRAM, "ask", "--cluster", "5", "--port", port, "--client", "7", "--request", str(self.number), *words]
+            place = ["--cluster", "5", "--port", port, "--client", "7", "--request", str(self.number)]
+            command = [PROGRAM, "ask", *place, *words]
             run = subprocess.run(command, stdin=subprocess.DEVNULL, capture_output=True, text=True, timeout=60)
             if run.returncode == 0:
                 return run.stdout.strip()
@@ -157,7 +158,8 @@ class NodesStatusTest(unittest.TestCase):
         *words, last = line.split()[1:]
         self.assertEqual(last, "$READY")
         ready = ["--cluster", "5", "--port", *map(str, self.cluster.ports.values())]
-        run = subprocess.run([PROGRAM, *words, *ready], stdin=subprocess.DEVNULL, capture_output=True, text=True, timeout=120)
+        command = [PROGRAM, *words, *ready]
+        run = subprocess.run(command, stdin=subprocess.DEVNULL, capture_output=True, text=True, timeout=120)
         self.assertEqual((run.returncode, run.stderr), (0, ""))
         self.assertIn("majority: 3 of 3 up\n", run.stdout)
 

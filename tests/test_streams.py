@@ -27,7 +27,9 @@ class StreamTest(unittest.TestCase):
 
     def started(self, stdin):
         """A script that is read from there."""
-        return subprocess.Popen([PROGRAM, "sim"], stdin=stdin, stdout=subprocess.PIPE, stderr=subprocess.PIPE, text=True)
+        return subprocess.Popen(
+            [PROGRAM, "sim"], stdin=stdin, stdout=subprocess.PIPE, stderr=subprocess.PIPE, text=True
+        )
 
     def ended(self, process):
         """The status, the output and what is told."""
@@ -63,7 +65,9 @@ class StreamTest(unittest.TestCase):
 
         script = (LINES[0] + LINES[1] * 5000).encode()
         with tempfile.TemporaryFile() as out:
-            ran = subprocess.run([PROGRAM, "sim"], input=script, stdout=out, stderr=subprocess.PIPE, preexec_fn=limit, timeout=60)
+            ran = subprocess.run(
+                [PROGRAM, "sim"], input=script, stdout=out, stderr=subprocess.PIPE, preexec_fn=limit, timeout=60
+            )
             out.seek(0)
             self.assertEqual((ran.returncode, out.read(), ran.stderr), (1, b"bad\n" * 1024, b"fault 24\n"))
 

@@ -15,10 +15,12 @@ ASKED = "4c4b0109 0000000000000005 00000000"
 ANSWERED = "4c4b010a 0000000000000005 00000001"
 
 # The names n000 to n512, as they are spelled after their length.
-NAMES = [f"04 6e {0x30 + place // 100:02x} {0x30 + place // 10 % 10:02x} {0x30 + place % 10:02x}" for place in range(513)]
+NAMES = [
+    f"04 6e {0x30 + place // 100:02x} {0x30 + place // 10 % 10:02x} {0x30 + place % 10:02x}" for place in range(513)
+]
 
-# What client 1 asks, one number after another, and what it is answered: it takes 512 names, finds no room for another, gives the first one back,
-# and takes it again at the next fence.
+# What client 1 asks, one number after another, and what it is answered: it takes 512 names, finds no room for another,
+# gives the first one back, and takes it again at the next fence.
 FULL = [
     *((f"00 06 01 {name}", "01 0000000000000001") for name in NAMES[:512]),
     (f"00 06 01 {NAMES[512]}", "09"),
@@ -39,8 +41,10 @@ ASK, FREE = "0008 0000000000000001 00 03 03 01 61", "0008 0000000000000001 05 00
 
 # The first Base of node 1, alone, where `a` is free at the last fence, up to its port and after it.
 ALONE = (
-    "0000006d 01 0000000000000001 02 0000000000000005 00000001 02 01 00000001 PORT 0000000000000000 00000000 0000000000000000"
-    " 00000033 0000000000000000 02 01 00000001 PORT 01 00000001 PORT 00000001 0000000000000000 0000 0001 01 61 0001000000000000 0000 0000 0000"
+    "0000006d 01 0000000000000001 02 0000000000000005 00000001 02 01 00000001 PORT"
+    " 0000000000000000 00000000 0000000000000000"
+    " 00000033 0000000000000000 02 01 00000001 PORT 01 00000001 PORT 00000001 0000000000000000"
+    " 0000 0001 01 61 0001000000000000 0000 0000 0000"
 )
 
 
@@ -49,7 +53,9 @@ class TableTest(unittest.TestCase):
     def test_a_full_table_has_no_room(self):
         lines = "".join(f"{ASKED} 0001 {number:016x} {op}\n" for number, (op, _) in enumerate(FULL, 1))
         ran = subprocess.run([PROGRAM, "sim"], input=f"table 5\n{lines}", capture_output=True, text=True, timeout=60)
-        replies = [f"{ANSWERED} 0001 {number:016x} {answer}".replace(" ", "") for number, (_, answer) in enumerate(FULL, 1)]
+        replies = [
+            f"{ANSWERED} 0001 {number:016x} {answer}".replace(" ", "") for number, (_, answer) in enumerate(FULL, 1)
+        ]
         self.assertEqual((len(FULL), ran.returncode, ran.stderr, ran.stdout.splitlines()), (515, 0, "", replies))
 
     def test_a_name_at_the_last_fence_is_spent(self):

@@ -1,4 +1,4 @@
-"""Nodes whose ticks go by the clock: they elect and answer, and tick neither faster nor slower under what strangers send."""
+"""Nodes whose ticks go by the clock: they elect and answer, and what strangers send makes ticks no faster or slower."""
 import os
 import pathlib
 import re
@@ -32,7 +32,7 @@ class TicksTest(unittest.TestCase):
         return sum(len(BEGUN.findall(pathlib.Path(cluster.log(node)).read_text())) for node in cluster.ports)
 
     def send(self, cluster, leader, many, pause):
-        """Sends so many datagrams that do not read to each node but the leader, again and again with a pause. How often?"""
+        """Sends so many datagrams that do not read to each node but the leader, repeatedly, with a pause. How often?"""
         ports = [port for node, port in cluster.ports.items() if node != leader]
         end, rounds = time.monotonic() + LENGTH, 0
         with socket.socket(socket.AF_INET, socket.SOCK_DGRAM) as stranger:

@@ -1,10 +1,11 @@
 #!/usr/bin/env python3
 """callers.py [NAME ..]: programs that call the public functions of the crates, built without a proof and run.
 
-Each file tools/callers/NAME.txt is the main file of such a program. Its first lines are comments: what it shows, `on:` the crates that
-it stands on, and either a line `prints:` for each line that it has to print, or `refused:` a text that the compiler has to tell as it
-refuses the program. Each is built by `rt try` in a copy of these crates, as many side by side as there are processors, and runs compiled alone: its
-interpreter is given one step. The last line is `N passed, M failed`, of the programs, and the status is 1 where one failed."""
+Each file tools/callers/NAME.txt is the main file of such a program. Its first lines are comments: what it shows, `on:`
+the crates that it stands on, and either a line `prints:` for each line that it has to print, or `refused:` a text that
+the compiler has to tell as it refuses the program. Each is built by `rt try` in a copy of these crates, as many side by
+side as there are processors, and runs compiled alone: its interpreter is given one step. The last line is
+`N passed, M failed`, of the programs, and the status is 1 where one failed."""
 import argparse
 import concurrent.futures
 import os
@@ -57,7 +58,8 @@ def fault(text):
     with tempfile.TemporaryDirectory() as folder:
         words = ["rt", "try", "--steps", "1", "--seconds", str(SECONDS)]
         crate = lay_out(pathlib.Path(folder), text)
-        run = subprocess.run(words, cwd=crate, stdin=subprocess.DEVNULL, capture_output=True, text=True, errors="replace")
+        piped = {"stdin": subprocess.DEVNULL, "capture_output": True, "text": True, "errors": "replace"}
+        run = subprocess.run(words, cwd=crate, **piped)
     refusals = told(text, "refused")
     if refusals:
         met = run.returncode and all(refusal in run.stdout + run.stderr for refusal in refusals)

@@ -25,14 +25,16 @@ def spent(session):
 
 def main():
     arguments = parser(__doc__)
-    arguments.add_argument("crate", choices=sorted(it.name for it in (TOP / "crates").iterdir()), metavar="CRATE", help="the crate")
+    crates = sorted(it.name for it in (TOP / "crates").iterdir())
+    arguments.add_argument("crate", choices=crates, metavar="CRATE", help="the crate")
     arguments.add_argument("words", nargs=argparse.REMAINDER, metavar="WORDS", help="arguments of `rt check`")
     given = arguments.parse_args()
     need("rt")
     crate, words = given.crate, ["--test"] * (given.crate == "lk_tests") + given.words
     costs, before, checked = [], 0.0, 0
-    how = {"stdin": subprocess.DEVNULL, "stdout": subprocess.PIPE, "stderr": subprocess.STDOUT, "text": True, "start_new_session": True}
-    with subprocess.Popen(["rt", "check", "--jobs", "1", *words], cwd=TOP / "crates" / crate, **how) as check:
+    mixed = {"stdin": subprocess.DEVNULL, "stdout": subprocess.PIPE, "stderr": subprocess.STDOUT, "text": True}
+    command = ["rt", "check", "--jobs", "1", *words]
+    with subprocess.Popen(command, cwd=TOP / "crates" / crate, start_new_session=True, **mixed) as check:
         for line in check.stdout:
             now = spent(check.pid)
             named = re.match(rf"checked {crate}::(.*), (\d+) of \d+", line)

@@ -39,21 +39,25 @@ def places(below):
     width = max(len(row) for row in rows.values()) * (WIDTH + GAP)
     top = max(rows)
     return width, {
-        crate: (width * (2 * at + 1) // (2 * len(row)), (top - level) * ROW + 36) for level, row in rows.items() for at, crate in enumerate(row)
+        crate: (width * (2 * at + 1) // (2 * len(row)), (top - level) * ROW + 36)
+        for level, row in rows.items()
+        for at, crate in enumerate(row)
     }
 
 
 def draw(below):
     width, at = places(below)
     height = max(y for _, y in at.values()) + 36
-    yield f'<svg xmlns="http://www.w3.org/2000/svg" width="{width}" height="{height}" font-family="sans-serif" font-size="13">'
+    font = 'font-family="sans-serif" font-size="13"'
+    yield f'<svg xmlns="http://www.w3.org/2000/svg" width="{width}" height="{height}" {font}>'
     yield f'<rect width="{width}" height="{height}" fill="white"/>'
     for crate in below:
         for other in lines(crate, below):
             (x, y), (u, v) = at[crate], at[other]
             yield f'<line x1="{x}" y1="{y + HEIGHT // 2}" x2="{u}" y2="{v - HEIGHT // 2}" stroke="#999"/>'
     for crate, (x, y) in at.items():
-        yield f'<rect x="{x - WIDTH // 2}" y="{y - HEIGHT // 2}" width="{WIDTH}" height="{HEIGHT}" rx="5" fill="#eef3fb" stroke="#567"/>'
+        place = f'x="{x - WIDTH // 2}" y="{y - HEIGHT // 2}" width="{WIDTH}" height="{HEIGHT}"'
+        yield f'<rect {place} rx="5" fill="#eef3fb" stroke="#567"/>'
         yield f'<text x="{x}" y="{y + 5}" text-anchor="middle">{crate}</text>'
     yield "</svg>"
 

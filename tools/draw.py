@@ -12,16 +12,49 @@ import svg
 from scripting import TOP, a_program, parser
 WIDTH, PITCH, HEAD, LEFT, RIGHT = 1000, 20, 58, 205, 125
 ALL = 1 << 48
-STYLE = svg.style("""\
-.script{font:12px monospace;fill:#44505c} .name{font-weight:bold}
-.lane{stroke:#7d8b99;stroke-width:3} .down{stroke:#c2cad2;stroke-width:1.5;stroke-dasharray:2 5} .line{fill:none;stroke:#2b6cb0;stroke-width:1.4}
-.line.again{stroke-dasharray:6 4} .lost{stroke:#c0392b;stroke-width:1.4} .cross{stroke:#c0392b;stroke-width:2.2;fill:none} .point{fill:#2b6cb0}
-.promise{fill:#b7791f} .vote{fill:#6b46c1} .promise.again{fill:none;stroke:#b7791f;stroke-width:1.6} .vote.again{fill:none;stroke:#6b46c1;stroke-width:1.6}
-.unsynced{fill:none;stroke:#44505c;stroke-width:1.6} .counted{fill:#2f855a} .ran{fill:#2f855a} .answered{fill:none;stroke:#2f855a;stroke-width:2.5}
-.edge{stroke:#44505c;stroke-width:3}""", """\
-.script{fill:#aab6c2}
-.lane{stroke:#74828f} .down{stroke:#46525e} .line{stroke:#63b3ed} .point{fill:#63b3ed} .lost,.cross{stroke:#fc8181}
-.promise{fill:#f6ad55} .vote{fill:#b794f4} .promise.again{stroke:#f6ad55} .vote.again{stroke:#b794f4} .unsynced{stroke:#aab6c2} .counted,.ran{fill:#68d391} .answered{stroke:#68d391} .edge{stroke:#cbd5de}""")
+LIGHT = (
+    ".script{font:12px monospace;fill:#44505c} .name{font-weight:bold}\n"
+    ".lane{stroke:#7d8b99;stroke-width:3} .down{stroke:#c2cad2;stroke-width:1.5;stroke-dasharray:2 5} "
+    ".line{fill:none;stroke:#2b6cb0;stroke-width:1.4}\n"
+    ".line.again{stroke-dasharray:6 4} .lost{stroke:#c0392b;stroke-width:1.4} "
+    ".cross{stroke:#c0392b;stroke-width:2.2;fill:none} .point{fill:#2b6cb0}\n"
+    ".promise{fill:#b7791f} .vote{fill:#6b46c1} .promise.again{fill:none;stroke:#b7791f;stroke-width:1.6} "
+    ".vote.again{fill:none;stroke:#6b46c1;stroke-width:1.6}\n"
+    ".unsynced{fill:none;stroke:#44505c;stroke-width:1.6} .counted{fill:#2f855a} .ran{fill:#2f855a} "
+    ".answered{fill:none;stroke:#2f855a;stroke-width:2.5}\n"
+    ".edge{stroke:#44505c;stroke-width:3}"
+)
+DARK = (
+    ".script{fill:#aab6c2}\n"
+    ".lane{stroke:#74828f} .down{stroke:#46525e} .line{stroke:#63b3ed} .point{fill:#63b3ed} "
+    ".lost,.cross{stroke:#fc8181}\n"
+    ".promise{fill:#f6ad55} .vote{fill:#b794f4} .promise.again{stroke:#f6ad55} .vote.again{stroke:#b794f4} "
+    ".unsynced{stroke:#aab6c2} .counted,.ran{fill:#68d391} .answered{stroke:#68d391} .edge{stroke:#cbd5de}"
+)
+STYLE = svg.style(LIGHT, DARK)
+# The rows of the legend: where each mark or line stands, its kind, and what it means.
+LEGEND_MARKS = (
+    (
+        (20, "promise", "promise, synced first"),
+        (220, "promise again", "promise, synced before: nothing is written"),
+        (570, "unsynced", "written, not synced"),
+    ),
+    (
+        (20, "vote", "vote, synced first"),
+        (190, "vote again", "vote kept already"),
+        (335, "counted", "a majority has voted"),
+        (505, "ran", "executed at its position"),
+        (700, "answered", "answer to a client"),
+        (862, "cross", "fault, armed stop"),
+    ),
+)
+LEGEND_LINES = (
+    (12, "line", "datagram: number, kind"),
+    (240, "line again", "it comes again"),
+    (420, "lost", "it never comes"),
+    (566, "lane", "node, start to stop"),
+    (734, "down", "client, or node that is down"),
+)
 
 
 def printed(program, lines, *words):
@@ -30,8 +63,8 @@ def printed(program, lines, *words):
 
 
 def events(program, script):
-    """Each line of the script that is not empty, with the lines that it printed and how many calls of the device it made; the last
-    line may be a refused one."""
+    """Each line of the script that is not empty, with the lines that it printed and how many calls of the device it
+    made; the last line may be a refused one."""
     told, before, lines = [], 0, script.splitlines()
     for end, line in enumerate(lines, 1):
         if not line:
@@ -48,8 +81,8 @@ def events(program, script):
 
 
 def calls(program, lines, line, output):
-    """How many appends, syncs and cuts a tick or a delivery makes, told up to 2: found by letting the first fail, and then the second.
-    A group makes 2 where it syncs, and 1 where it appends alone."""
+    """How many appends, syncs and cuts a tick or a delivery makes, told up to 2: found by letting the first fail, and
+    then the second. A group makes 2 where it syncs, and 1 where it appends alone."""
     words = line.split()
     sent = {said.split()[1]: said.split()[3] for said in output if said.startswith("sent ")}
     named = "n" + words[1] if len(words) > 1 else ""
@@ -96,7 +129,8 @@ class Picture:
         self.x = {name: round(LEFT + place * step) for place, name in enumerate(self.names)}
         self.under, self.lines, self.grounds, self.lanes, self.texts, self.marks = [], [], [], [], [], []
         self.sent, self.came, self.up, self.loops, self.y, self.ground = {}, set(), {}, [], HEAD, "paper"
-        self.delivered = {number for line, output, _ in told if not is_refused(output) for number in carried(line.split())}
+        taken = (carried(line.split()) for line, output, _ in told if not is_refused(output))
+        self.delivered = {number for numbers in taken for number in numbers}
 
     def text(self, x, y, words, kind="label", anchor="start"):
         """Words on a ground of their own, so that no line goes through them."""
@@ -125,7 +159,8 @@ class Picture:
         self.marks.append(shapes[kind])
 
     def event(self, line, output, calls):
-        """Draws the event at the line where it stands, what else a group takes a line lower each, and then each line that it printed."""
+        """Draws the event at the line where it stands, what else a group takes a line lower each, and then each line
+        that it printed."""
         top, words, self.calls = self.y, line.split(" "), calls
         shown = [said.split() for said in output if not said.startswith("asked ")]
         refused = is_refused(output)
@@ -209,7 +244,7 @@ class Picture:
         self.text(x + 12, y, said[kind](), "name" if kind == "answered" else "label")
 
     def send(self, y, number, frm, to, kind):
-        """A datagram's number and kind, and its receiver where it never comes; its arrows are drawn where it arrives."""
+        """A datagram's number and kind, and its receiver if it never comes; its arrows are drawn where it arrives."""
         self.sent[number] = (frm, to, y)
         x, side = self.x[frm], -1 if self.x[to] < self.x[frm] else 1
         if kind in ("promise", "accepted"):
@@ -227,17 +262,12 @@ class Picture:
         """Three rows under the picture: each mark, and each kind of line, with what it means."""
         self.ground, y = "paper", self.y + 24
         self.under.append(f'<path class="down" d="M0 {y - 20}H{WIDTH}"/>')
-        for x, kind, words in ((20, "promise", "promise, synced first"), (220, "promise again", "promise, synced before: nothing is written"), (570, "unsynced", "written, not synced")):
-            self.mark(kind, x, y)
-            self.text(x + 14, y, words)
-        y += 26
-        for x, kind, words in ((20, "vote", "vote, synced first"), (190, "vote again", "vote kept already"), (335, "counted", "a majority has voted"),
-                               (505, "ran", "executed at its position"), (700, "answered", "answer to a client"), (862, "cross", "fault, armed stop")):
-            self.mark(kind, x, y)
-            self.text(x + 14, y, words)
-        y += 26
-        for x, kind, words in ((12, "line", "datagram: number, kind"), (240, "line again", "it comes again"), (420, "lost", "it never comes"),
-                               (566, "lane", "node, start to stop"), (734, "down", "client, or node that is down")):
+        for row in LEGEND_MARKS:
+            for x, kind, words in row:
+                self.mark(kind, x, y)
+                self.text(x + 14, y, words)
+            y += 26
+        for x, kind, words in LEGEND_LINES:
             if kind.startswith("line"):
                 self.arrow(x, y, x + 38, y, kind)
             else:
@@ -286,7 +316,9 @@ def main():
     arguments = parser(__doc__)
     arguments.add_argument("--check", action="store_true", help="draw the pictures of the tour again and compare them")
     arguments.add_argument("script", nargs="?", type=pathlib.Path, help="the script to draw; not with --check")
-    arguments.add_argument("program", nargs="?", default=TOP / "locks", type=a_program, help="the program, ./locks by default")
+    arguments.add_argument(
+        "program", nargs="?", default=TOP / "locks", type=a_program, help="the program, ./locks by default"
+    )
     given = arguments.parse_args()
     if given.check:
         # The one word that may follow --check names the program.

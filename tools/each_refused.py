@@ -4,17 +4,18 @@
     tools/each_refused.py CRATE [EDIT ..]
     tools/each_refused.py --named [--list] [CRATE ..]
 
-Each file of crates/CRATE/must-fail (or those named, without .edit) is applied to a copy of the crate, which is then checked. A line
-`refused: module::function` of the file names a function that the check has to refuse; the script says which of them it did not.
-`rt ci` asks only that the crate is refused, and passes over these lines.
+Each file of crates/CRATE/must-fail (or those named, without .edit) is applied to a copy of the crate, which is then
+checked. A line `refused: module::function` of the file names a function that the check has to refuse; the script says
+which of them it did not. `rt ci` asks only that the crate is refused, and passes over these lines.
 
-A line `named: TEXT` after a line `refused:` says which wrong body that the promises name this function shows. With --named the script
-takes each such function of the crates (of all where none is given), applies only the pairs that change it, and checks that the prover
-refuses it. A file with one line `refused:` is one wrong body as a whole, also where it changes what its function calls, and is left to the
-gate, which tries nothing else in it. The last line is `N passed, M failed`; --list prints the named bodies and tries none.
+A line `named: TEXT` after a line `refused:` says which wrong body that the promises name this function shows. With
+--named the script takes each such function of the crates (of all where none is given), applies only the pairs that
+change it, and checks that the prover refuses it. A file with one line `refused:` is one wrong body as a whole, also
+where it changes what its function calls, and is left to the gate, which tries nothing else in it. The last line is
+`N passed, M failed`; --list prints the named bodies and tries none.
 
-Run it at the top of the repository once the crates are proved (`rt check`), so that kept work serves. The status is 1 where something
-was not refused.
+Run it at the top of the repository once the crates are proved (`rt check`), so that kept work serves. The status is 1
+where something was not refused.
 """
 import glob
 import os
@@ -37,7 +38,7 @@ class Change(NamedTuple):
 
 
 class Edit(NamedTuple):
-    """What an edit file changes, the functions that have to be refused, and the wrong bodies that some of these show."""
+    """What an edit file changes, the functions that have to be refused, and the wrong bodies that some of them show."""
 
     changes: list
     refused: list
@@ -45,7 +46,8 @@ class Edit(NamedTuple):
 
 
 class Body(NamedTuple):
-    """A wrong body that has a name: its crate and edit file, the function, the name, the pairs that make it, and how many others stand beside it."""
+    """A wrong body that has a name: its crate and edit file, the function, the name, the pairs that make it, and how
+    many others stand beside it."""
 
     crate: str
     title: str
@@ -119,8 +121,9 @@ NAME = re.compile(r"has no (field|`)|is not in scope|not found|was not (admitted
 
 
 def by_a_name(name, functions, told):
-    """Those of the functions whose proof files have no other error than that a name is gone. That shows nothing of a clause, unless a goal of theirs
-    is open too, which the check tells by its line in the source: read it, and let the wrong body keep the names."""
+    """Those of the functions whose proof files have no other error than that a name is gone. That shows nothing of a
+    clause, unless a goal of theirs is open too, which the check tells by its line in the source: read it, and let the
+    wrong body keep the names."""
     for function in sorted(functions):
         path = function.removeprefix(f"{name}::").replace("::", "/")
         errors = re.findall(rf"(?m)^\./proofs/{path}/\w+\.antt:\S+ error: (.*)$", told)
@@ -129,12 +132,14 @@ def by_a_name(name, functions, told):
 
 
 def refused(name, crate):
-    """The functions of whose own goals the check leaves one open, or of whose own answers it refuses one, and those of them of which
-    that may show nothing. It goes past open goals, since else a caller is not tried where a function that it calls was refused. A body whose form the prover
-    does not cover shows nothing of a clause, and is not among them."""
+    """The functions of whose own goals the check leaves one open, or of whose own answers it refuses one, and those of
+    them of which that may show nothing. It goes past open goals, since else a caller is not tried where a function that
+    it calls was refused. A body whose form the prover does not cover shows nothing of a clause, and is not among
+    them."""
     check = subprocess.run(["rt", "check", "--jobs", "1", "--allow-holes"], cwd=crate, stdin=subprocess.DEVNULL,
                            stdout=subprocess.PIPE, stderr=subprocess.STDOUT, text=True)
-    own = set(re.findall(r"(?m)^fn (\S+): (?:not proved(?!;)|no proof: expected(?!.*the borrow checker does not cover))", check.stdout))
+    pattern = r"(?m)^fn (\S+): (?:not proved(?!;)|no proof: expected(?!.*the borrow checker does not cover))"
+    own = set(re.findall(pattern, check.stdout))
     for function, why in re.findall(r"(?m)^fn (\S+): not proved; it stands on (.*)$", check.stdout):
         path = function.removeprefix(f"{name}::").replace("::", ".")
         if f"`Rattle.{name}.proofs.{path}.Answers." in why:
@@ -159,8 +164,8 @@ def changed_function(crate, change):
 
 
 def is_of(function, changed):
-    """Whether `module::function`, `module::Type::function` or `module::TypeTrait::function` is the changed function: between `Type` and
-    `Trait` stand the arguments of the type, if it has any."""
+    """Whether `module::function`, `module::Type::function` or `module::TypeTrait::function` is the changed function:
+    between `Type` and `Trait` stand the arguments of the type, if it has any."""
     owner, trait, last = changed
     *front, name = function.split("::")
     own = front[-1] if front and front[-1][:1].isupper() else ""
@@ -239,7 +244,9 @@ def main():
     arguments = parser(__doc__)
     arguments.add_argument("--named", action="store_true", help="tries the wrong bodies that have a name, one by one")
     arguments.add_argument("--list", action="store_true", help="with --named: prints them and tries none")
-    arguments.add_argument("names", nargs="*", metavar="NAME", help="with --named crates, else a crate and its edit files")
+    arguments.add_argument(
+        "names", nargs="*", metavar="NAME", help="with --named crates, else a crate and its edit files"
+    )
     given = arguments.parse_args()
     need("rt")
     os.chdir(TOP)

@@ -2,8 +2,8 @@
 """Runs the examples and compares what they print.
 
 `PROGRAM sim` on examples/NAME.txt has to print examples/NAME.out and nothing on standard error, with status 0, or 1
-where the last line says that an event was refused. Where there is an examples/NAME.err, it has to print that on standard
-error, with status 1. Each `examples/NAME/run.py PROGRAM` has to print examples/NAME/run.out, with status 0.
+where the last line says that an event was refused. Where there is an examples/NAME.err, it has to print that on
+standard error, with status 1. Each `examples/NAME/run.py PROGRAM` has to print examples/NAME/run.out, with status 0.
 
 The last line is `N passed, M failed`, and the status is 1 if one failed."""
 import subprocess, sys

@@ -3,9 +3,9 @@
 
 The page asks no network. It shows the script, what each event does in words and as a picture, what each node then holds
 and what of it is synced, the datagrams under way, and the list. All of it was printed by `locks sim`, in a run of the
-script or in one of its first lines and a few more. A click on a node shows what `locks inspect` would print of its disks
-and what a restart would execute; a click on a datagram, what would come of it now. PAGE.html#17 opens the page after
-event 17. The first line of the script is event 0."""
+script or in one of its first lines and a few more. A click on a node shows what `locks inspect` would print of its
+disks and what a restart would execute; a click on a datagram, what would come of it now. PAGE.html#17 opens the page
+after event 17. The first line of the script is event 0."""
 import html
 import json
 import pathlib

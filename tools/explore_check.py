@@ -33,8 +33,8 @@ FACTS = (
     ("tour_5_members", 26, 1, {"members": ["n1", "n3"], "executed": 3}),
     ("tour_6_sync", 8, 1, {"life": "down by fault 7, device", "votes": [0]}),
     ("tour_7_snapshot", 8, 1, {"inspect": [
-        "disk a 160 of 190 bytes synced", "disk b 0 of 0 bytes synced", "executed 1", "members 1:7001", "names 1 of 512",
-        "clients 1 of 256", "held db 7 1",
+        "disk a 160 of 190 bytes synced", "disk b 0 of 0 bytes synced", "executed 1",
+        "members 1:7001", "names 1 of 512", "clients 1 of 256", "held db 7 1",
     ]}),
     ("tour_7_snapshot", 10, 1, {"life": "stopped by its trap", "executed": 1, "kept": [1]}),
     ("tour_7_snapshot", 14, 1, {"life": "up", "executed": 1, "kept": []}),
@@ -49,7 +49,8 @@ FACTS = (
     ("two_changes", 22, 1, {"executed": 2, "members": ["n1", "n2", "n3", "n4"]}),
     ("two_changes", 22, 1, {"inspect": [
         "disk a 267 of 298 bytes synced", "disk b 0 of 0 bytes synced", "executed 2",
-        "members 1:7001 2:7002 3:7003 4:7004", "members from 4 1:7001 2:7002 4:7004", "names 0 of 512", "clients 2 of 256",
+        "members 1:7001 2:7002 3:7003 4:7004", "members from 4 1:7001 2:7002 4:7004",
+        "names 0 of 512", "clients 2 of 256",
     ]}),
     ("two_changes", 32, 1, {"life": "stopped by its trap", "executed": 2, "kept": [1, 2]}),
     ("two_changes", 40, 4, {"executed": 0, "votes": [2, 3]}),

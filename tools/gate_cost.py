@@ -57,7 +57,9 @@ def machine():
 
 def main():
     arguments = parser(__doc__)
-    arguments.add_argument("command", nargs=argparse.REMAINDER, metavar="COMMAND", help="what to run, ./check by default")
+    arguments.add_argument(
+        "command", nargs=argparse.REMAINDER, metavar="COMMAND", help="what to run, ./check by default"
+    )
     command = arguments.parse_args().command or ["./check"]
     start, (all_before, stolen_before) = time.time(), machine()
     spent, loads = {}, []
@@ -71,14 +73,19 @@ def main():
     for (_, kind), ticks in spent.items():
         table[kind] += ticks / TICKS / 60
     all_after, stolen_after = machine()
-    crates = [line.split(":")[0] for line in (TOP / "crates.txt").read_text().split("\n") if line and line[0] != "#"] + ["other"]
+    lines = (TOP / "crates.txt").read_text().split("\n")
+    crates = [line.split(":")[0] for line in lines if line and line[0] != "#"] + ["other"]
     kinds = ("proof", "wrong bodies", "tests")
     print("| crate | " + " | ".join(kinds) + " |\n|---|" + "---:|" * len(kinds))
     for crate in crates:
         print(f"| `{crate}` | " + " | ".join(f"{table[crate, kind]:.1f}" for kind in kinds) + " |")
     print("| all | " + " | ".join(f"{sum(table[crate, kind] for crate in crates):.1f}" for kind in kinds) + " |")
     stolen = (stolen_after - stolen_before) / max(1, all_after - all_before)
-    print(f"{sum(table.values()):.1f} processor minutes, {(time.time() - start) / 60:.1f} by the clock, load {sum(loads) / max(1, len(loads)):.1f}, {stolen:.0%} taken by the host")
+    minutes, load = (time.time() - start) / 60, sum(loads) / max(1, len(loads))
+    print(
+        f"{sum(table.values()):.1f} processor minutes, {minutes:.1f} by the clock, load {load:.1f}, "
+        f"{stolen:.0%} taken by the host"
+    )
     sys.exit(run.returncode)
 
 

@@ -22,7 +22,8 @@ NO_MEMORY = b"refused 22 WorldMemory\n"
 KINDS = {b"restart": "revivals", b"compact": "compactions", b"part": "installs"}
 # A store with a snapshot of three positions, and a command after it.
 STORE = bytes.fromhex(
-    "0000008e 01 0000000000000001 02 0000000000000005 00000001 02 01 00000001 1b59 0000000000000000 00000000 0000000000000003"
+    "0000008e 01 0000000000000001 02 0000000000000005 00000001 02 01 00000001 1b59 0000000000000000 00000000"
+    "0000000000000003"
     "00000054 0000000000000003 02 01 00000001 1b59 01 00000001 1b59 00000001 0000000000000000"
     "0001 0007 0000000000000003 01 0000000000000002"
     "0002 02 6162 0000000000000002 0007 02 6462 0000000000000001 0000 0000 0000"
@@ -35,12 +36,14 @@ class Refuser:
 
     def __init__(self, program, folder):
         self.program, self.library = program, f"{folder}/refusing.so"
-        subprocess.run(["cc", "-O2", "-shared", "-fPIC", "-o", self.library, TOP / "tools/refusing.c", "-ldl"], check=True)
+        command = ["cc", "-O2", "-shared", "-fPIC", "-o", self.library, TOP / "tools/refusing.c", "-ldl"]
+        subprocess.run(command, check=True)
 
     def run(self, lines, at=0, words=("sim",)):
-        """What comes of the lines, as status, output and standard error, and how many requests for memory there were."""
+        """What comes of the lines, as status, output and standard error, and how many requests for memory they made."""
         environment = {**os.environ, "LD_PRELOAD": self.library, "REFUSE_AT": str(at)}
-        run = subprocess.run([self.program, *words], input=b"".join(lines), capture_output=True, env=environment, timeout=60)
+        how = {"capture_output": True, "env": environment, "timeout": 60}
+        run = subprocess.run([self.program, *words], input=b"".join(lines), **how)
         err, told, requests = run.stderr.rpartition(b"requests ")
         if not told or not int(requests):
             sys.exit(f"{self.program}: none of its requests for memory can be refused: {run.stderr[-300:]}")
@@ -59,7 +62,8 @@ def full_table():
 
     def request(number, body):
         op = bytes([0, len(body)]) + body
-        return (bytes.fromhex("4c4b0109") + (5).to_bytes(8) + bytes(4) + (1).to_bytes(2) + number.to_bytes(8) + op).hex().encode() + b"\n"
+        head = bytes.fromhex("4c4b0109") + (5).to_bytes(8) + bytes(4) + (1).to_bytes(2) + number.to_bytes(8)
+        return (head + op).hex().encode() + b"\n"
 
     names = [b"\4n%03d" % name for name in range(513)]
     yield b"table 5\n"
@@ -98,8 +102,15 @@ def kind(lines, count, whole):
     return KINDS.get(b"part" if is_part else verb)
 
 
+def in_words(ended):
+    """The end of a run, as a text."""
+    status, output, err = ended
+    return f"status {status}, printed {output[-200:]}, told {err[-200:]}"
+
+
 def sweep(refuser, lines):
-    """How many requests for memory a script makes, those of each kind of line, and the ends of runs that are not as they may be, as texts."""
+    """How many requests for memory a script makes, those of each kind of line, and the ends of runs that are not as
+    they may be, as texts."""
     whole, most = refuser.run(lines)
     known = [*beginnings(refuser, lines)]
     kinds, wrong = [], []
@@ -109,7 +120,7 @@ def sweep(refuser, lines):
         line = next((count for count, (_, made) in enumerate(known) if at <= made), len(lines))
         fronts = [output for output, _ in known[max(0, line - 1) : line + 1]]
         if not (is_good(ended, whole, fronts) if at <= most else (ended, requests) == (whole, most)):
-            wrong.append(f"request {at} of {most} refused: status {ended[0]}, printed {ended[1][-200:]}, told {ended[2][-200:]}")
+            wrong.append(f"request {at} of {most} refused: {in_words(ended)}")
         kinds += [kind(lines, line, whole[1])] * (at <= most and ended[1].endswith(NO_MEMORY))
     return most, kinds, wrong
 
@@ -122,7 +133,7 @@ def look(refuser, folder, command):
     whole, most = refuser.run([], words=words)
     ends = [refuser.run([], at, words)[0] for at in range(1, most + 1)]
     may = {whole, *((1, b"", told) for told in (b"cannot open\n", b"fault 25\n", b"fault 8\n"))}
-    wrong = [f"{command}: status {end[0]}, printed {end[1][-200:]}, told {end[2][-200:]}" for end in ends if end not in may]
+    wrong = [f"{command}: {in_words(end)}" for end in ends if end not in may]
     wrong += [f"{path} has changed" for path, data in files.items() if pathlib.Path(path).read_bytes() != data]
     wrong += [f"{command}: none is told as 8"] * ((1, b"", b"fault 8\n") not in ends or whole[0] != 0)
     return most, [], wrong

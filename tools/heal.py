@@ -84,7 +84,7 @@ class Cluster:
     def deliver(self):
         """Delivers what is sent to nodes that are up, until nothing is left.
 
-        A run ends at the first datagram that is not sent yet or goes elsewhere, so each run shows where the next goes on."""
+        A run ends at a datagram that is not sent yet or goes elsewhere, so each run shows where the next goes on."""
         while True:
             tried = range(self.next, self.next + AHEAD)
             self.printed = self.run(f"deliver {number}" for number in tried)
@@ -142,7 +142,10 @@ def main():
     again = [second for _, second in rounds if second]
     print(*wrong, sep="\n", end="\n" * bool(wrong))
     slowest = max((first for first, _ in rounds), default=0), max(again, default=0)
-    print(f"{len(rounds)} healed, the slowest in {slowest[0]} rounds; {len(again)} again without a minority, in {slowest[1]}")
+    print(
+        f"{len(rounds)} healed, the slowest in {slowest[0]} rounds; "
+        f"{len(again)} again without a minority, in {slowest[1]}"
+    )
     print(f"{len(rounds)} passed, {len(wrong)} failed", flush=True)
     raise SystemExit(bool(wrong))
 

@@ -1,8 +1,9 @@
 #!/usr/bin/env python3
 """Runs the first lines of a script of world mode and a few lines more, and reads what the program prints.
 
-`locks sim` prints what happens and, with `--state`, what the disks of nodes come to. What else a node holds tools/story.py
-asks: each question is a run of the script up to an event and of a few more lines, and their output is the answer."""
+`locks sim` prints what happens and, with `--state`, what the disks of nodes come to. What else a node holds
+tools/story.py asks: each question is a run of the script up to an event and of a few more lines, and their output is
+the answer."""
 import functools
 import itertools
 import re

@@ -1,5 +1,6 @@
-/* Loaded in front of a program's C library, it refuses the program's N-th request for memory, where the environment has REFUSE_AT=N,
-   and tells on standard error, in a last line `requests K`, how many there were. A program of Rattle asks by malloc and realloc alone. */
+/* Loaded in front of a program's C library, it refuses the program's N-th request for memory, where the environment has
+   REFUSE_AT=N, and prints on standard error, in a last line `requests K`, how many there were. A program of Rattle asks
+   by malloc and realloc alone. */
 #define _GNU_SOURCE
 #include <dlfcn.h>
 #include <stdio.h>

@@ -1,10 +1,11 @@
 #!/usr/bin/env python3
 """Stops and fails nodes at every call and every send of the world scripts of examples/.
 
-Each event that makes a node work (a tick, a datagram that it takes, a restart, a compaction) of each world script that sets no trap of
-its own is preceded by `arm NODE COUNT BYTES`, in a run for each COUNT 1, 2, .. until the event no longer stops its node, and for each
-number of unsynced BYTES 0, 1 and all; then by `fail NODE COUNT` in the same way. Where the node has gone down it is restarted, and the
-rest of the script follows, once with that event again in front of it and once without.
+Each event that makes a node work (a tick, a datagram that it takes, a restart, a compaction) of each world script that
+sets no trap of its own is preceded by `arm NODE COUNT BYTES`, in a run for each COUNT 1, 2, .. until the event no
+longer stops its node, and for each number of unsynced BYTES 0, 1 and all; then by `fail NODE COUNT` in the same way.
+Where the node has gone down it is restarted, and the rest of the script follows, once with that event again in front of
+it and once without.
 
 What stands before the trap has to be printed as before, and no revival may end by a fault. The run goes on to the
 script's end or to a refusal 16 to 19, since a later line may name a datagram that was never sent. Each script is swept
@@ -22,14 +23,22 @@ ALL = 1 << 48
 TRAPS = ("arm {node} {count} 0", "arm {node} {count} 1", f"arm {{node}} {{count}} {ALL}", "fail {node} {count}")
 DOWN = re.compile(r"(?:stopped \d+|fault \d+ 7 device)\n")
 END = re.compile(r"(?:done \d+|refused 1[6-9] \w+)\n\Z")
-# After 256 requests and a restart: a client asks for the first name, the node begins a ballot and hears its promise, and the votes that it asks for are
-# cast and counted, of which the first may be for position 256 again. What has to be printed then.
-NEXT = ["client 1 256 2 ask name-0", *["tick 1"] * 4, "deliver 1028", "deliver 1027", *(f"deliver {k}" for k in range(1029, 1034))]
+# After 256 requests and a restart: a client asks for the first name, the node begins a ballot and hears its promise,
+# and the votes that it asks for are cast and counted, of which the first may be for position 256 again. What has to be
+# printed then.
+NEXT = [
+    "client 1 256 2 ask name-0",
+    *["tick 1"] * 4,
+    "deliver 1028",
+    "deliver 1027",
+    *(f"deliver {k}" for k in range(1029, 1034)),
+]
 NEXT_RAN = "ran 1 257 256 2\nanswered 1 256 2 held 1 1\n"
 
 
 def printed(program, lines):
-    run = subprocess.run([program, "sim"], input="".join(f"{line}\n" for line in lines), capture_output=True, text=True, timeout=60)
+    script = "".join(f"{line}\n" for line in lines)
+    run = subprocess.run([program, "sim"], input=script, capture_output=True, text=True, timeout=60)
     return run.stdout + run.stderr
 
 
@@ -41,7 +50,7 @@ def events(text):
 
 
 def worker(line, bound):
-    """The node that works at the event, where one does that can be given a trap. The receivers of datagrams are told."""
+    """The node that works at the event, if one does that can be given a trap. The receivers of datagrams are told."""
     verb, *words = line.split()
     if verb == "deliver":
         return bound.get(words[0])
@@ -55,7 +64,8 @@ def receivers(output):
 
 
 def given(line, bound):
-    """How a group begins that takes what the line gives a node, and its word there, if it is a tick or a datagram that was sent."""
+    """How a group begins that takes what the line gives a node, and its word there, if it is a tick or a datagram that
+    was sent."""
     verb, *words = line.split()
     if verb == "tick":
         return f"group {words[0]}", "t"
@@ -91,7 +101,8 @@ def fault(output, before):
     """What is wrong with what a run printed, whose lines up to the trap print this."""
     if not output.startswith(before):
         return "another beginning"
-    if len(re.findall(r"(?m)^fault ", output)) > len(re.findall(r"(?m)^fault \d+ 7 device$", output)) or len(DOWN.findall(output)) > len(DOWN.findall(before)) + 1:
+    faults, of_device = re.findall(r"(?m)^fault ", output), re.findall(r"(?m)^fault \d+ 7 device$", output)
+    if len(faults) > len(of_device) or len(DOWN.findall(output)) > len(DOWN.findall(before)) + 1:
         return "a fault that was not set"
     if not END.search(output):
         return "another end"
@@ -100,8 +111,8 @@ def fault(output, before):
 
 
 def swept(program, lines, at, node, after):
-    """Each run of the event at the place: whether it stops or fails its node, and what is wrong with it, as a text. Where lines are given they come after
-    each stop in place of the rest, and have to run the next request."""
+    """Each run of the event at the place: whether it stops or fails its node, and what is wrong with it, as a text.
+    Where lines are given they come after each stop in place of the rest, and have to run the next request."""
     before = re.sub(r"done \d+\n\Z", "", printed(program, lines[:at]))
     rests = (after, [lines[at], *after[:1], *after[2:]]) if after else (lines[at + 1 :], lines[at:])
     for trap in TRAPS:
@@ -134,12 +145,13 @@ def filled():
 
 
 def scripts(program):
-    """The world scripts that set no trap and end without a refusal, as lists of events, from which place on each is swept, and what comes after each stop
-    in place of the rest."""
+    """The world scripts that set no trap and end without a refusal, as lists of events, from which place on each is
+    swept, and what comes after each stop in place of the rest."""
     for file in sorted((TOP / "examples").glob("*.txt")):
         lines = [*events(file.read_text())]
-        is_world = lines and lines[0].startswith("genesis ") and not any(line.startswith(("arm ", "fail ")) for line in lines)
-        if is_world and re.search(r"done \d+\n\Z", printed(program, lines)):
+        is_world = lines and lines[0].startswith("genesis ")
+        has_trap = any(line.startswith(("arm ", "fail ")) for line in lines)
+        if is_world and not has_trap and re.search(r"done \d+\n\Z", printed(program, lines)):
             yield file.name, lines, 0, []
             yield f"{file.name} in groups", grouped(program, lines), 0, []
     lines = [*filled()]
@@ -151,7 +163,8 @@ def main():
     stops = failures = failed = 0
     chosen = [*scripts(program)]
     with concurrent.futures.ThreadPoolExecutor(os.cpu_count()) as pool:
-        for (name, *_), (stopped, faulted, wrong) in zip(chosen, pool.map(lambda script: sweep(program, *script[1:]), chosen)):
+        results = pool.map(lambda script: sweep(program, *script[1:]), chosen)
+        for (name, *_), (stopped, faulted, wrong) in zip(chosen, results):
             stops, failures, failed = stops + stopped, failures + faulted, failed + bool(wrong)
             for text in wrong:
                 print(f"{name}: {text}", flush=True)

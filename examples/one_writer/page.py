@@ -1,6 +1,7 @@
 """The resource: a page in an SQLite file, which is written by whoever holds the lock.
 
-It keeps the highest fence that it has seen, and refuses a write with a lower one. That is one statement, so nothing comes between.
+It keeps the highest fence that it has seen, and refuses a write with a lower one. That is one statement, so nothing
+comes between.
 """
 import sqlite3
 from contextlib import closing

@@ -1,9 +1,9 @@
 #!/usr/bin/env python3
 """Two writers, one lock, and a page that looks at fences: the late write of a writer that was asleep does no harm.
 
-Writer 1 holds the lock and is paused as by a machine that is overloaded (SIGSTOP). A lock has no time limit, so an operator, who
-takes it for dead, breaks it; the table is raised for that. Writer 2 gets the lock, at a higher fence. Then writer 1 wakes up and
-writes, since it has seen nothing of all this.
+Writer 1 holds the lock and is paused as by a machine that is overloaded (SIGSTOP). A lock has no time limit, so an
+operator, who takes it for dead, breaks it; the table is raised for that. Writer 2 gets the lock, at a higher fence.
+Then writer 1 wakes up and writes, since it has seen nothing of all this.
 """
 import argparse
 import os
