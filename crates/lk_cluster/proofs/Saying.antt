@@ -18,6 +18,7 @@ module _ {R : Type 0} (S T : R → List (Option (List ℕ)) → List LetterValue
     may = t.may;
     hands_on = hands_so tells t.given _ old new t.hands_on;
     counted = t.counted;
+    ticks = t.ticks;
     heard = t.heard;
     same = t.same;
     alive = t.alive;
@@ -36,6 +37,7 @@ module _ {R : Type 0} (S T : R → List (Option (List ℕ)) → List LetterValue
     first = t.first;
     hands_on = hands_so tells t.given _ old new t.hands_on;
     silent = t.silent;
+    ticks = t.ticks;
     heard = t.heard;
     same = t.same;
     ended = t.ended;

@@ -14,7 +14,7 @@ use Rattle.lk_transport.specs.Hearing.{listed}
 use Rattle.lk_transport.specs.Posts.{Hears, HearsAll, is_apart, opened_as, let_in, all_taken_as}
 use Rattle.lk_pace.specs.Paces.{ticks_after}
 use Rattle.lk_pace.specs.declared.pace.Pace.{Pace}
-use Rattle.lk_server.specs.Servers.{ServerValue, one_more, inputs, all_inputs, counted, datagrams_in}
+use Rattle.lk_server.specs.Servers.{ServerValue, one_more, one_more_tick, ticks_behind, inputs, all_inputs, all_ticks, counted, datagrams_in}
 
 -- ---- lists
 
@@ -27,6 +27,10 @@ all_more pace received (x ∷ xs) ys =
 pub counted_more : (received : ℕ) (xs ys : List (List ℕ)) → counted received (xs ++ ys) ≡ counted (counted received xs) ys
 counted_more received [] ys = refl
 counted_more received (x ∷ xs) ys = counted_more (one_more received) xs ys
+
+pub ticks_more : (ticks : ℕ) (xs ys : List (Option (List ℕ))) → all_ticks ticks (xs ++ ys) ≡ all_ticks (all_ticks ticks xs) ys
+ticks_more ticks [] ys = refl
+ticks_more ticks (x ∷ xs) ys = ticks_more (ticks_behind ticks x) xs ys
 
 alone : (pace : Pace) (n : ℕ) (bytes : List ℕ) → ticks_after pace n ≡ false → inputs pace n bytes ++ [] ≡ Some bytes ∷ []
 alone pace n bytes e = rw e refl
@@ -207,27 +211,36 @@ module _ {R : Type 0} (G : Gatherings R) where
         subst (λ (l : List (Option (List ℕ))). G first l now new.replica) (sym (append-nil given))
         (subst₂ (λ (x : GroupValue) (s : ServerValue R). G first given x s.replica) (sym is) (sym same) was);
     counted = ap (λ (s : ServerValue R). s.received) same;
+    ticks = ap (λ (s : ServerValue R). s.ticks) same;
     pace = ap (λ (s : ServerValue R). s.pace) same;
   }
 
   -- a datagram
   pub takes_one : (bytes : List ℕ) (group now : GroupValue) (old new : ServerValue R) → GathersMore G (Some bytes ∷ []) group now old.replica new.replica
-      → new.received ≡ one_more old.received → new.pace ≡ old.pace → ticks_after new.pace new.received ≡ false → TakesAll G (bytes ∷ []) group now old new
-  takes_one bytes group now old new gathers count pace is = record {
+      → new.received ≡ one_more old.received → new.pace ≡ old.pace → ticks_after new.pace new.received ≡ false → new.ticks ≡ old.ticks
+      → TakesAll G (bytes ∷ []) group now old new
+  takes_one bytes group now old new gathers count pace is untimed = record {
     gathers = subst (λ (l : List (Option (List ℕ))). GathersMore G l group now old.replica new.replica)
         (sym (alone old.pace (one_more old.received) bytes (subst₂ (λ (p : Pace) (n : ℕ). ticks_after p n ≡ false) pace count is))) gathers;
     counted = count;
+    ticks = untimed
+        ∙ sym (ap (λ (l : List (Option (List ℕ))). all_ticks old.ticks l)
+        (alone old.pace (one_more old.received) bytes (subst₂ (λ (p : Pace) (n : ℕ). ticks_after p n ≡ false) pace count is)));
     pace = pace;
   }
 
   -- and a tick after it
   pub takes_tick : (bytes : List ℕ) (group one now : GroupValue) (old new : ServerValue R) (mid : R) → GathersMore G (Some bytes ∷ []) group one old.replica mid → GathersMore G (None ∷ []) one now mid new.replica
-      → new.received ≡ one_more old.received → new.pace ≡ old.pace → ticks_after new.pace new.received ≡ true → TakesAll G (bytes ∷ []) group now old new
-  takes_tick bytes group one now old new mid gathers ticks count pace is = record {
+      → new.received ≡ one_more old.received → new.pace ≡ old.pace → ticks_after new.pace new.received ≡ true
+      → (before : ℕ) → before ≡ old.ticks → new.ticks ≡ one_more_tick before → TakesAll G (bytes ∷ []) group now old new
+  takes_tick bytes group one now old new mid gathers ticks count pace is before untimed timed = record {
     gathers = subst (λ (l : List (Option (List ℕ))). GathersMore G l group now old.replica new.replica)
         (sym (with_tick old.pace (one_more old.received) bytes (subst₂ (λ (p : Pace) (n : ℕ). ticks_after p n ≡ true) pace count is)))
         (λ first given was. subst (λ (l : List (Option (List ℕ))). G first l now new.replica) (append_assoc given (Some bytes ∷ []) (None ∷ [])) (ticks first (given ++ Some bytes ∷ []) (gathers first given was)));
     counted = count;
+    ticks = timed ∙ ap (λ (n : ℕ). one_more_tick n) untimed
+        ∙ sym (ap (λ (l : List (Option (List ℕ))). all_ticks old.ticks l)
+        (with_tick old.pace (one_more old.received) bytes (subst₂ (λ (p : Pace) (n : ℕ). ticks_after p n ≡ true) pace count is)));
     pace = pace;
   }
 
@@ -240,15 +253,19 @@ module _ {R : Type 0} (G : Gatherings R) where
         ∙ ap (λ (l : List (Option (List ℕ))). given ++ l) (later old mid xs ys a.pace a.counted))
         (b.gathers first (given ++ all_inputs old.pace old.received xs) (a.gathers first given was));
     counted = b.counted ∙ ap (λ (n : ℕ). counted n ys) a.counted ∙ sym (counted_more old.received xs ys);
+    ticks = b.ticks ∙ ap (λ (n : ℕ). all_ticks n (all_inputs mid.pace mid.received ys)) a.ticks
+        ∙ sym (ticks_more old.ticks (all_inputs old.pace old.received xs) (all_inputs mid.pace mid.received ys))
+        ∙ ap (λ (l : List (Option (List ℕ))). all_ticks old.ticks l) (later old mid xs ys a.pace a.counted);
     pace = b.pace ∙ a.pace;
   }
 
   -- of a server that was the same
-  pub takes_from : (xs : List (List ℕ)) (group now : GroupValue) (old begun new : ServerValue R) → begun.replica ≡ old.replica → begun.received ≡ old.received → begun.pace ≡ old.pace → TakesAll G xs group now begun new
-      → TakesAll G xs group now old new
-  takes_from xs group now old begun new replica received pace t = record {
+  pub takes_from : (xs : List (List ℕ)) (group now : GroupValue) (old begun new : ServerValue R) → begun.replica ≡ old.replica → begun.received ≡ old.received → begun.pace ≡ old.pace → begun.ticks ≡ old.ticks
+      → TakesAll G xs group now begun new → TakesAll G xs group now old new
+  takes_from xs group now old begun new replica received pace time t = record {
     gathers = subst₂ (λ (r : R) (l : List (Option (List ℕ))). GathersMore G l group now r new.replica) replica (inputs_from old begun xs pace received) t.gathers;
     counted = t.counted ∙ ap (λ (n : ℕ). counted n xs) received;
+    ticks = t.ticks ∙ (λ i. all_ticks (time i) (inputs_from old begun xs pace received i));
     pace = t.pace ∙ pace;
   }
 
@@ -271,11 +288,11 @@ module _ {R : Type 0} (G : Gatherings R) where
 
   -- a frame of which this was taken
   pub heard_one : (frame x : SocketAddr × List ℕ) (group now : GroupValue) (old mid new : ServerValue R) → opened_as (circle_of old.addresses) frame ≡ x → is_apart (circle_of old.addresses) frame ≡ false
-      → Hears old.cluster x.1 x.0 old.addresses mid.addresses → IsSameCircle old.addresses mid.addresses → new.addresses ≡ mid.addresses → mid.replica ≡ old.replica → mid.received ≡ old.received → mid.pace ≡ old.pace
+      → Hears old.cluster x.1 x.0 old.addresses mid.addresses → IsSameCircle old.addresses mid.addresses → new.addresses ≡ mid.addresses → mid.replica ≡ old.replica → mid.received ≡ old.received → mid.pace ≡ old.pace → mid.ticks ≡ old.ticks
       → TakesAll G (x.1 ∷ []) group now mid new → TakesHeard G (frame ∷ []) group now old new
-  heard_one frame x group now old mid new is apart hears network book replica received pace takes = record {
+  heard_one frame x group now old mid new is apart hears network book replica received pace time takes = record {
     takes = subst (λ (cs : List (SocketAddr × List ℕ)). TakesAll G (datagrams_in [] cs) group now old new) (sym (taken_one (circle_of old.addresses) frame x is apart))
-        (takes_from (x.1 ∷ []) group now old mid new replica received pace takes);
+        (takes_from (x.1 ∷ []) group now old mid new replica received pace time takes);
     heard = subst (λ (cs : List (SocketAddr × List ℕ)). HearsAll old.cluster cs old.addresses new.addresses) (sym (taken_one (circle_of old.addresses) frame x is apart)) (mid.addresses, hears, book);
     network = subst (λ (b : AddressBook). IsSameCircle old.addresses b) (sym book) network;
   }
@@ -292,7 +309,7 @@ module _ {R : Type 0} (G : Gatherings R) where
       record {
         takes = record {
           takes = subst (λ (cs : List (SocketAddr × List ℕ)). TakesAll G (datagrams_in [] cs) group now old new) (sym gone)
-              (takes_from [] group now old mid new (ap (λ (s : ServerValue R). s.replica) others) (ap (λ (s : ServerValue R). s.received) others) (ap (λ (s : ServerValue R). s.pace) others) (takes_nothing group now mid new still same));
+              (takes_from [] group now old mid new (ap (λ (s : ServerValue R). s.replica) others) (ap (λ (s : ServerValue R). s.received) others) (ap (λ (s : ServerValue R). s.pace) others) (ap (λ (s : ServerValue R). s.ticks) others) (takes_nothing group now mid new still same));
           heard = subst (λ (cs : List (SocketAddr × List ℕ)). HearsAll old.cluster cs old.addresses new.addresses) (sym gone) book;
           network = (ap (λ (b : AddressBook). b.hosts) book, ap (λ (b : AddressBook). circle_of b) book);
         };
@@ -308,7 +325,7 @@ module _ {R : Type 0} (G : Gatherings R) where
   socket_one tells e frame group now old mid new is comes others coming heard =
       let h = subst (λ (s : ServerValue R). TakesHeard G (frame ∷ []) group now s new) others heard in
       record {
-        takes = record { takes = record { gathers = h.takes.gathers; counted = h.takes.counted; pace = h.takes.pace }; heard = h.heard; network = h.network };
+        takes = record { takes = record { gathers = h.takes.gathers; counted = h.takes.counted; ticks = h.takes.ticks; pace = h.takes.pace }; heard = h.heard; network = h.network };
         comes = λ t.
             comes t ∙ ap (λ (o : Option (SocketAddr × List ℕ)). listed o ++ mid.coming) is ∙ ap (λ (l : List (SocketAddr × List ℕ)). frame ∷ l) (sym coming);
       }
@@ -334,6 +351,7 @@ module _ {R : Type 0} (G : Gatherings R) where
           takes = record {
             gathers = subst₂ (λ (x : GroupValue) (r : R). GathersMore G (all_inputs old.pace old.received (datagrams_in [] (all_taken_as (circle_of old.addresses) xs))) group x old.replica r) (sym is) (sym (ap (λ (s : ServerValue R). s.replica) same)) a.takes.takes.gathers;
             counted = ap (λ (s : ServerValue R). s.received) same ∙ a.takes.takes.counted;
+            ticks = ap (λ (s : ServerValue R). s.ticks) same ∙ a.takes.takes.ticks;
             pace = ap (λ (s : ServerValue R). s.pace) same ∙ a.takes.takes.pace;
           };
           heard = subst (λ (b : AddressBook). HearsAll old.cluster (all_taken_as (circle_of old.addresses) xs) old.addresses b) (sym book) a.takes.heard;
@@ -373,16 +391,19 @@ module _ {R : Type 0} (S : Sayings R) (G : Gatherings R) where
   silent_from more group old begun new same silent = subst (λ (r : R). SaysNoMore S G more group r new) same silent
 
   -- a datagram has ended it, whether a tick was to follow or not
-  pub ends_one : (bytes : List ℕ) (group : GroupValue) (old new : ServerValue R) → SaysNoMore S G (Some bytes ∷ []) group old.replica new.replica → EndsWithin S G (bytes ∷ []) group old new
-  ends_one bytes group old new silent = record { given = Some bytes ∷ []; front = bytes_first old.pace (one_more old.received) bytes; silent = silent }
+  pub ends_one : (bytes : List ℕ) (group : GroupValue) (old new : ServerValue R) → SaysNoMore S G (Some bytes ∷ []) group old.replica new.replica → new.ticks ≡ old.ticks
+      → EndsWithin S G (bytes ∷ []) group old new
+  ends_one bytes group old new silent untimed = record { given = Some bytes ∷ []; front = bytes_first old.pace (one_more old.received) bytes; silent = silent; ticks = untimed }
 
   -- the tick after it
   pub ends_tick : (bytes : List ℕ) (group one : GroupValue) (old new : ServerValue R) (mid : R) (received : ℕ) (pace : Pace) → GathersMore G (Some bytes ∷ []) group one old.replica mid → SaysNoMore S G (None ∷ []) one mid new.replica
-      → received ≡ one_more old.received → pace ≡ old.pace → ticks_after pace received ≡ true → EndsWithin S G (bytes ∷ []) group old new
-  ends_tick bytes group one old new mid received pace gathers silent count same is = record {
+      → received ≡ one_more old.received → pace ≡ old.pace → ticks_after pace received ≡ true
+      → (before : ℕ) → before ≡ old.ticks → new.ticks ≡ one_more_tick before → EndsWithin S G (bytes ∷ []) group old new
+  ends_tick bytes group one old new mid received pace gathers silent count same is before untimed timed = record {
     given = Some bytes ∷ None ∷ [];
     front = ([], with_tick old.pace (one_more old.received) bytes (subst₂ (λ (p : Pace) (n : ℕ). ticks_after p n ≡ true) same count is));
     silent = λ first given was. subst (λ (l : List (Option (List ℕ))). S first l [] new.replica) (append_assoc given (Some bytes ∷ []) (None ∷ [])) (silent first (given ++ Some bytes ∷ []) (gathers first given was));
+    ticks = timed ∙ ap (λ (n : ℕ). one_more_tick n) untimed;
   }
 
   pub ends_more : (xs ys : List (List ℕ)) (group one : GroupValue) (old mid new : ServerValue R) → TakesAll G xs group one old mid → EndsWithin S G ys one mid new → EndsWithin S G (xs ++ ys) group old new
@@ -396,22 +417,24 @@ module _ {R : Type 0} (S : Sayings R) (G : Gatherings R) where
     silent = λ first given was.
         subst (λ (l : List (Option (List ℕ))). S first l [] new.replica) (append_assoc given (all_inputs old.pace old.received xs) e.given)
         (e.silent first (given ++ all_inputs old.pace old.received xs) (a.gathers first given was));
+    ticks = e.ticks ∙ ap (λ (n : ℕ). all_ticks n e.given) a.ticks ∙ sym (ticks_more old.ticks (all_inputs old.pace old.received xs) e.given);
   }
 
-  pub ends_from : (xs : List (List ℕ)) (group : GroupValue) (old begun new : ServerValue R) → begun.replica ≡ old.replica → begun.received ≡ old.received → begun.pace ≡ old.pace → EndsWithin S G xs group begun new
-      → EndsWithin S G xs group old new
-  ends_from xs group old begun new replica received pace e = record {
+  pub ends_from : (xs : List (List ℕ)) (group : GroupValue) (old begun new : ServerValue R) → begun.replica ≡ old.replica → begun.received ≡ old.received → begun.pace ≡ old.pace → begun.ticks ≡ old.ticks
+      → EndsWithin S G xs group begun new → EndsWithin S G xs group old new
+  ends_from xs group old begun new replica received pace time e = record {
     given = e.given;
     front = (e.front.0, sym (inputs_from old begun xs pace received) ∙ e.front.1);
     silent = subst (λ (r : R). SaysNoMore S G e.given group r new.replica) replica e.silent;
+    ticks = e.ticks ∙ ap (λ (n : ℕ). all_ticks n e.given) time;
   }
 
   pub ends_heard : (frame x : SocketAddr × List ℕ) (group : GroupValue) (old mid new : ServerValue R) → opened_as (circle_of old.addresses) frame ≡ x → is_apart (circle_of old.addresses) frame ≡ false
-      → Hears old.cluster x.1 x.0 old.addresses mid.addresses → IsSameCircle old.addresses mid.addresses → new.addresses ≡ mid.addresses → mid.replica ≡ old.replica → mid.received ≡ old.received → mid.pace ≡ old.pace
+      → Hears old.cluster x.1 x.0 old.addresses mid.addresses → IsSameCircle old.addresses mid.addresses → new.addresses ≡ mid.addresses → mid.replica ≡ old.replica → mid.received ≡ old.received → mid.pace ≡ old.pace → mid.ticks ≡ old.ticks
       → EndsWithin S G (x.1 ∷ []) group mid new → EndsHeard S G (frame ∷ []) group old new
-  ends_heard frame x group old mid new is apart hears network book replica received pace ends = record {
+  ends_heard frame x group old mid new is apart hears network book replica received pace time ends = record {
     ends = subst (λ (cs : List (SocketAddr × List ℕ)). EndsWithin S G (datagrams_in [] cs) group old new) (sym (taken_one (circle_of old.addresses) frame x is apart))
-        (ends_from (x.1 ∷ []) group old mid new replica received pace ends);
+        (ends_from (x.1 ∷ []) group old mid new replica received pace time ends);
     heard = subst (λ (cs : List (SocketAddr × List ℕ)). HearsAll old.cluster cs old.addresses new.addresses) (sym (taken_one (circle_of old.addresses) frame x is apart)) (mid.addresses, hears, book);
     network = subst (λ (b : AddressBook). IsSameCircle old.addresses b) (sym book) network;
   }
@@ -422,7 +445,7 @@ module _ {R : Type 0} (S : Sayings R) (G : Gatherings R) where
   ends_socket tells e frame group old mid new is comes others coming ends =
       let h = subst (λ (s : ServerValue R). EndsHeard S G (frame ∷ []) group s new) others ends in
       record {
-        ends = record { ends = record { given = h.ends.given; front = h.ends.front; silent = h.ends.silent }; heard = h.heard; network = h.network };
+        ends = record { ends = record { given = h.ends.given; front = h.ends.front; silent = h.ends.silent; ticks = h.ends.ticks }; heard = h.heard; network = h.network };
         comes = λ t.
             comes t ∙ ap (λ (o : Option (SocketAddr × List ℕ)). listed o ++ mid.coming) is ∙ ap (λ (l : List (SocketAddr × List ℕ)). frame ∷ l) (sym coming);
       }

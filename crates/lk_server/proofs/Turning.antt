@@ -10,12 +10,12 @@ use Rattle.lk_server.specs.Gatherings.{AreFound, Finds, TakesAll, EndsWithin, Ta
 use Rattle.lk_pace.specs.Paces.{MayFollow}
 use Rattle.lk_seal.specs.Seals.{heard}
 use Rattle.lk_transport.specs.Posts.{HearsAll, is_apart, all_taken_as}
-use Rattle.lk_server.specs.Servers.{ServerValue, HandsOn, HandsNothing, HasReceived, IsSameServer, Turn, LastTurn, IsIdle, Given, GivenFirst, TakesFirst, all_inputs, counted, datagrams_in}
+use Rattle.lk_server.specs.Servers.{ServerValue, HandsOn, HandsNothing, HasReceived, IsSameServer, Turn, LastTurn, IsIdle, Given, GivenFirst, TakesFirst, all_inputs, all_ticks, counted, datagrams_in, one_more_tick}
 use Rattle.lk_pace.specs.declared.turn_input.TurnInput.{TurnInput}
 use Rattle.lk_pace.specs.declared.turn_input.TurnInput.TheVariants.{Nothing, Beside, Something}
 use Rattle.lk_pace.specs.declared.pace.Pace.{Pace}
 use Rattle.lk_pace.specs.declared.pace.Pace.TheVariants.{Datagrams, Clock}
-use Rattle.lk_server.proofs.Gatherings.{takes_more, ends_more, long_as, taken_more, taken_first, found_none, found_few}
+use Rattle.lk_server.proofs.Gatherings.{takes_more, ends_more, ticks_more, long_as, taken_more, taken_first, found_none, found_few}
 
 -- no tick may follow, however they go
 no_tick : (pace : Pace) → MayFollow pace []
@@ -58,7 +58,7 @@ take_none n (l ∷ own) none = absurd (cc none)
 
 -- it is the same server of which nothing else has changed
 pub same_by : {R : Type 0} (old new : ServerValue R)
-    → new ≡ record old { replica = new.replica; failed = new.failed; received = new.received; own = new.own; addresses = new.addresses; coming = new.coming } → IsSameServer old new
+    → new ≡ record old { replica = new.replica; failed = new.failed; received = new.received; ticks = new.ticks; own = new.own; addresses = new.addresses; coming = new.coming } → IsSameServer old new
 same_by old new others = record {
   cluster = ap (λ (s : ServerValue _). s.cluster) others;
   node = ap (λ (s : ServerValue _). s.node) others;
@@ -116,6 +116,7 @@ module _ {R : Type 0} (S : Sayings R) (G : Gatherings R) (tells : Type 0) where
           front = e.front;
         };
         silent = e.silent;
+        ticks = e.ticks;
         left = own ∙ none ∙ sym (ap (λ (o : List LetterValue). drop 0 o) none);
         heard = t.ends.heard;
         network = t.ends.network;
@@ -159,6 +160,7 @@ module _ {R : Type 0} (S : Sayings R) (G : Gatherings R) (tells : Type 0) where
           front = e.front;
         };
         silent = e.silent;
+        ticks = e.ticks;
         left = left ∙ sym (ap (λ (o : List LetterValue). drop (suc count) o) own);
         heard = book;
         network = (ap (λ (b : AddressBook). b.hosts) book, ap (λ (b : AddressBook). circle_of b) book);
@@ -197,6 +199,7 @@ module _ {R : Type 0} (S : Sayings R) (G : Gatherings R) (tells : Type 0) where
         may = given_some old.pace old.received ds t.some;
         gathers = t.takes.gathers;
         counted = t.takes.counted;
+        ticks = t.takes.ticks;
         left = t.left;
         heard = t.heard;
         network = t.network;
@@ -204,7 +207,7 @@ module _ {R : Type 0} (S : Sayings R) (G : Gatherings R) (tells : Type 0) where
 
   -- one is, behind what waits
   module _ (frames : List (SocketAddr × List ℕ)) (group one : GroupValue) (old mid new : ServerValue R) (clock : old.pace ≡ Clock) (t : TakesWaiting G tells frames group one old mid)
-      (same : new ≡ record mid { replica = new.replica; failed = new.failed }) where
+      (same : new ≡ record mid { replica = new.replica; failed = new.failed; ticks = new.ticks }) where
     abbrev waited : List (List ℕ)
     waited = datagrams_in (take 64 old.own) (all_taken_as (circle_of old.addresses) frames)
 
@@ -226,8 +229,11 @@ module _ {R : Type 0} (S : Sayings R) (G : Gatherings R) (tells : Type 0) where
     tick_outside : IsSameCircle old.addresses new.addresses
     tick_outside = subst (λ (b : AddressBook). IsSameCircle old.addresses b) (sym (ap (λ (s : ServerValue R). s.addresses) same)) t.network
 
-    pub tick_behind : (now : GroupValue) → GathersMore G (None ∷ []) one now mid.replica new.replica → TakesGroup G tells frames group now old new
-    tick_behind now ticks = record {
+    tick_counted : new.ticks ≡ one_more_tick mid.ticks → new.ticks ≡ all_ticks old.ticks ticked
+    tick_counted timed = timed ∙ ap (λ (n : ℕ). one_more_tick n) t.takes.ticks ∙ sym (ticks_more old.ticks (all_inputs old.pace old.received waited) (None ∷ []))
+
+    pub tick_behind : (now : GroupValue) → new.ticks ≡ one_more_tick mid.ticks → GathersMore G (None ∷ []) one now mid.replica new.replica → TakesGroup G tells frames group now old new
+    tick_behind now timed ticks = record {
       received = tick_received;
       given = ticked;
       may = may_tick;
@@ -235,14 +241,15 @@ module _ {R : Type 0} (S : Sayings R) (G : Gatherings R) (tells : Type 0) where
           subst (λ (l : List (Option (List ℕ))). G first l now new.replica) (append_assoc given (all_inputs old.pace old.received waited) (None ∷ []))
           (ticks first (given ++ all_inputs old.pace old.received waited) (t.takes.gathers first given was));
       counted = ap (λ (s : ServerValue R). s.received) same ∙ t.takes.counted;
+      ticks = tick_counted timed;
       left = tick_left;
       heard = tick_heard;
       network = tick_outside;
     }
 
     -- it has ended it
-    pub tick_ends_behind : SaysNoMore S G (None ∷ []) one mid.replica new.replica → EndsGroup S G tells frames group old new
-    tick_ends_behind silent = record {
+    pub tick_ends_behind : new.ticks ≡ one_more_tick mid.ticks → SaysNoMore S G (None ∷ []) one mid.replica new.replica → EndsGroup S G tells frames group old new
+    tick_ends_behind timed silent = record {
       received = tick_received;
       count = 64;
       letters = record { at_most = omega arith; some = λ is. absurd (omega (arith, is)) };
@@ -251,6 +258,7 @@ module _ {R : Type 0} (S : Sayings R) (G : Gatherings R) (tells : Type 0) where
       silent = λ first given was.
           subst (λ (l : List (Option (List ℕ))). S first l [] new.replica) (append_assoc given (all_inputs old.pace old.received waited) (None ∷ []))
           (silent first (given ++ all_inputs old.pace old.received waited) (t.takes.gathers first given was));
+      ticks = tick_counted timed;
       left = tick_left;
       heard = tick_heard;
       network = tick_outside;
@@ -258,7 +266,7 @@ module _ {R : Type 0} (S : Sayings R) (G : Gatherings R) (tells : Type 0) where
 
   -- it is alone: a replica is given nothing of what came in these frames
   module _ (found : TurnInput) (frames : List (SocketAddr × List ℕ)) (group one : GroupValue) (old mid new : ServerValue R) (own : old.own ≡ []) (f : Finds tells found frames old mid) (begun : one ≡ group)
-      (same : new ≡ record mid { replica = new.replica; failed = new.failed }) where
+      (same : new ≡ record mid { replica = new.replica; failed = new.failed; ticks = new.ticks }) where
     none_taken : all_taken_as (circle_of old.addresses) frames ≡ []
     none_taken = found_none (circle_of old.addresses) found frames f.are
 
@@ -291,20 +299,24 @@ module _ {R : Type 0} (S : Sayings R) (G : Gatherings R) (tells : Type 0) where
     alone_own : new.own ≡ []
     alone_own = ap (λ (s : ServerValue R). s.own) same ∙ ap (λ (s : ServerValue R). s.own) f.same ∙ own
 
-    pub tick_alone : (now : GroupValue) → GathersMore G (None ∷ []) one now mid.replica new.replica → TakesGroup G tells frames group now old new
-    tick_alone now ticks = record {
+    alone_counted : new.ticks ≡ one_more_tick mid.ticks → new.ticks ≡ all_ticks old.ticks (None ∷ [])
+    alone_counted timed = timed ∙ ap (λ (n : ℕ). one_more_tick n) (ap (λ (s : ServerValue R). s.ticks) f.same)
+
+    pub tick_alone : (now : GroupValue) → new.ticks ≡ one_more_tick mid.ticks → GathersMore G (None ∷ []) one now mid.replica new.replica → TakesGroup G tells frames group now old new
+    tick_alone now timed ticks = record {
       received = alone_received;
       given = None ∷ [];
       may = given_none old.pace old.received (datagrams_in (take 64 old.own) (all_taken_as (circle_of old.addresses) frames)) (no_datagrams 64);
       gathers = subst₂ (λ (x : GroupValue) (r : R). GathersMore G (None ∷ []) x now r new.replica) begun mine ticks;
       counted = ap (λ (s : ServerValue R). s.received) same ∙ ap (λ (s : ServerValue R). s.received) f.same ∙ sym (ap (λ (ds : List (List ℕ)). counted old.received ds) (no_datagrams 64));
+      ticks = alone_counted timed;
       left = alone_own ∙ sym (ap (λ (o : List LetterValue). drop 64 o) own);
       heard = alone_heard;
       network = alone_outside;
     }
 
-    pub tick_ends_alone : SaysNoMore S G (None ∷ []) one mid.replica new.replica → EndsGroup S G tells frames group old new
-    tick_ends_alone silent = record {
+    pub tick_ends_alone : new.ticks ≡ one_more_tick mid.ticks → SaysNoMore S G (None ∷ []) one mid.replica new.replica → EndsGroup S G tells frames group old new
+    tick_ends_alone timed silent = record {
       received = alone_received;
       count = 64;
       letters = record { at_most = omega arith; some = λ is. absurd (omega (arith, is)) };
@@ -312,6 +324,7 @@ module _ {R : Type 0} (S : Sayings R) (G : Gatherings R) (tells : Type 0) where
       first = given_all old.pace old.received (datagrams_in (take 64 old.own) (all_taken_as (circle_of old.addresses) frames)) (None ∷ [])
           (given_none old.pace old.received (datagrams_in (take 64 old.own) (all_taken_as (circle_of old.addresses) frames)) (no_datagrams 64));
       silent = subst₂ (λ (x : GroupValue) (r : R). SaysNoMore S G (None ∷ []) x r new.replica) begun mine silent;
+      ticks = alone_counted timed;
       left = alone_own ∙ sym (ap (λ (o : List LetterValue). drop 64 o) own);
       heard = alone_heard;
       network = alone_outside;
@@ -363,20 +376,21 @@ module _ {R : Type 0} (S : Sayings R) (G : Gatherings R) (tells : Type 0) where
     )
 
     -- one is
-    module _ (due : Bool) (group one : GroupValue) (old mid new : ServerValue R) (pace : mid.pace ≡ old.pace) (is_so : due ≡ true) (same : new ≡ record mid { replica = new.replica; failed = new.failed }) where
+    module _ (due : Bool) (group one : GroupValue) (old mid new : ServerValue R) (pace : mid.pace ≡ old.pace) (is_so : due ≡ true) (same : new ≡ record mid { replica = new.replica; failed = new.failed; ticks = new.ticks })
+        (timed : new.ticks ≡ one_more_tick mid.ticks) where
       pub tick_turn : (found : TurnInput) (now : GroupValue) → (found ≡ Something → HasWaiting group one old mid) → ((found ≡ Something → ⊥) → HasFound found group one old mid)
           → (mid.pace ≡ Datagrams → found ≡ Something → due ≡ false) → GathersMore G (None ∷ []) one now mid.replica new.replica → HasTaken group now old new
       tick_turn Something now takes none given ticks =
-          let t = takes refl in (t.0, tick_behind t.0 group one old mid new (sym pace ∙ clock_of mid.pace due is_so (λ is. given is refl)) t.1 same now ticks, t.2)
-      tick_turn Nothing now takes none given ticks = let n = none (λ is. cc is) in (n.1, tick_alone Nothing n.1 group one old mid new n.0 n.2 n.3 same now ticks, n.4)
-      tick_turn Beside now takes none given ticks = let n = none (λ is. cc is) in (n.1, tick_alone Beside n.1 group one old mid new n.0 n.2 n.3 same now ticks, n.4)
+          let t = takes refl in (t.0, tick_behind t.0 group one old mid new (sym pace ∙ clock_of mid.pace due is_so (λ is. given is refl)) t.1 same now timed ticks, t.2)
+      tick_turn Nothing now takes none given ticks = let n = none (λ is. cc is) in (n.1, tick_alone Nothing n.1 group one old mid new n.0 n.2 n.3 same now timed ticks, n.4)
+      tick_turn Beside now takes none given ticks = let n = none (λ is. cc is) in (n.1, tick_alone Beside n.1 group one old mid new n.0 n.2 n.3 same now timed ticks, n.4)
 
       pub tick_turn_ends : (found : TurnInput) → (found ≡ Something → HasWaiting group one old mid) → ((found ≡ Something → ⊥) → HasFound found group one old mid)
           → (mid.pace ≡ Datagrams → found ≡ Something → due ≡ false) → SaysNoMore S G (None ∷ []) one mid.replica new.replica → (frames : List (SocketAddr × List ℕ)) × EndsGroup S G tells frames group old new
       tick_turn_ends Something takes none given silent =
-          let t = takes refl in (t.0, tick_ends_behind t.0 group one old mid new (sym pace ∙ clock_of mid.pace due is_so (λ is. given is refl)) t.1 same silent)
-      tick_turn_ends Nothing takes none given silent = let n = none (λ is. cc is) in (n.1, tick_ends_alone Nothing n.1 group one old mid new n.0 n.2 n.3 same silent)
-      tick_turn_ends Beside takes none given silent = let n = none (λ is. cc is) in (n.1, tick_ends_alone Beside n.1 group one old mid new n.0 n.2 n.3 same silent)
+          let t = takes refl in (t.0, tick_ends_behind t.0 group one old mid new (sym pace ∙ clock_of mid.pace due is_so (λ is. given is refl)) t.1 same timed silent)
+      tick_turn_ends Nothing takes none given silent = let n = none (λ is. cc is) in (n.1, tick_ends_alone Nothing n.1 group one old mid new n.0 n.2 n.3 same timed silent)
+      tick_turn_ends Beside takes none given silent = let n = none (λ is. cc is) in (n.1, tick_ends_alone Beside n.1 group one old mid new n.0 n.2 n.3 same timed silent)
 
   -- ---- what is handed on
 
@@ -397,13 +411,15 @@ module _ {R : Type 0} (S : Sayings R) (G : Gatherings R) (tells : Type 0) where
 
   pub turn_of : (frames : List (SocketAddr × List ℕ)) (group now : GroupValue) (old mid new : ServerValue R) → G old.replica [] group old.replica → TakesGroup G tells frames group now old mid → HandsOnAll S G tells now mid new
       → mid.sent ≡ old.sent → mid.socket_failures ≡ old.socket_failures → IsSameServer old mid
-      → new.addresses ≡ mid.addresses → new.received ≡ mid.received → IsSameServer mid new → new.failed ≡ false → Turn S tells (all_taken_as (circle_of old.addresses) frames) old new
-  turn_of frames group now old mid new begins t hands sent failures first book received then lives = record {
+      → new.addresses ≡ mid.addresses → new.received ≡ mid.received → new.ticks ≡ mid.ticks → IsSameServer mid new → new.failed ≡ false
+      → Turn S tells (all_taken_as (circle_of old.addresses) frames) old new
+  turn_of frames group now old mid new begins t hands sent failures first book received untimed then lives = record {
     takes = received_first tells frames old mid t.received;
     given = t.given;
     may = t.may;
     hands_on = subst (λ (own : List LetterValue). HandsOn S tells t.given own old new) t.left (hands old t.given (t.gathers old.replica [] begins) (sym sent) (sym failures));
     counted = received ∙ t.counted;
+    ticks = untimed ∙ t.ticks;
     heard = subst (λ (b : AddressBook). HearsAll old.cluster (all_taken_as (circle_of old.addresses) frames) old.addresses b) (sym book) t.heard;
     same = same_further old mid new first.cluster first.node first.pace then;
     alive = lives;
@@ -412,8 +428,8 @@ module _ {R : Type 0} (S : Sayings R) (G : Gatherings R) (tells : Type 0) where
   -- the end of the group has ended it
   pub last_of : (frames : List (SocketAddr × List ℕ)) (group now : GroupValue) (old mid new : ServerValue R) → G old.replica [] group old.replica → TakesGroup G tells frames group now old mid → SaysNothing S G now mid new
       → mid.sent ≡ old.sent → mid.socket_failures ≡ old.socket_failures → IsSameServer old mid
-      → new.addresses ≡ mid.addresses → IsSameServer mid new → new.failed ≡ true → LastTurn S tells (all_taken_as (circle_of old.addresses) frames) old new
-  last_of frames group now old mid new begins t none sent failures first book then ended = record {
+      → new.addresses ≡ mid.addresses → new.ticks ≡ mid.ticks → IsSameServer mid new → new.failed ≡ true → LastTurn S tells (all_taken_as (circle_of old.addresses) frames) old new
+  last_of frames group now old mid new begins t none sent failures first book untimed then ended = record {
     takes = received_first tells frames old mid t.received;
     count = 64;
     letters = record { at_most = omega arith; some = λ is. absurd (omega (arith, is)) };
@@ -426,6 +442,7 @@ module _ {R : Type 0} (S : Sayings R) (G : Gatherings R) (tells : Type 0) where
       failures = none.failures ∙ failures;
     });
     silent = refl;
+    ticks = untimed ∙ t.ticks;
     heard = subst (λ (b : AddressBook). HearsAll old.cluster (all_taken_as (circle_of old.addresses) frames) old.addresses b) (sym book) t.heard;
     same = same_further old mid new first.cluster first.node first.pace then;
     ended = ended;
@@ -442,6 +459,7 @@ module _ {R : Type 0} (S : Sayings R) (G : Gatherings R) (tells : Type 0) where
     first = e.first;
     hands_on = hands_none e.given (drop e.count old.own) old new (record { says = e.silent old.replica [] begins; own = e.left; sent = sent; failures = failures });
     silent = refl;
+    ticks = e.ticks;
     heard = e.heard;
     same = same;
     ended = ended;

@@ -1,14 +1,13 @@
 -- A server in the middle of a turn: what its replica has taken into the group, nothing of which is synced or sent yet.
 use Rattle.std.specs.Prelude.{◌≡◌, ◌≢◌, ◌≤◌, ℕ, true, List, [], ◌∷◌, ◌++◌, take, drop, Option}
 use Rattle.std.specs.declared.net.socket_addr.SocketAddr.{SocketAddr}
-use Rattle.lk_step.specs.Letters.{LetterValue}
 use Rattle.lk_replica.specs.Groups.{GroupValue}
 use Rattle.lk_served_replica.specs.Groups.{Sayings, Gatherings, GathersMore, SaysNoMore}
 use Rattle.lk_pace.specs.declared.turn_input.TurnInput.{TurnInput}
 use Rattle.lk_pace.specs.declared.turn_input.TurnInput.TheVariants.{Nothing, Beside, Something}
 use Rattle.lk_transport.specs.Addresses.{Circle, circle_of, IsSameCircle}
 use Rattle.lk_transport.specs.Posts.{HearsAll, is_apart, all_taken_as}
-use Rattle.lk_server.specs.Servers.{ServerValue, all_inputs, counted, datagrams_in, Given, GivenFirst, HasReceived, IsFront, TakesLetters, HandsOn}
+use Rattle.lk_server.specs.Servers.{ServerValue, all_inputs, all_ticks, counted, datagrams_in, Given, GivenFirst, HasReceived, IsFront, TakesLetters, HandsOn}
 
 -- a replica is given nothing of these frames: there is none, or one, which stands beside the protocol or came from a
 -- node of another genesis
@@ -27,10 +26,11 @@ pub record Finds {R : Type 0} (tells : Type 0) (found : TurnInput) (frames : Lis
 
 module _ {R : Type 0} (Gathers : Gatherings R) where
   -- these datagrams were taken into the group one after another, each counted, and where ticks go by datagrams a tick
-  -- after every 64th
+  -- after every 64th, which is counted too
   pub record TakesAll (datagrams : List (List ℕ)) (group now : GroupValue) (old new : ServerValue R) : Type 0 where
     pub gathers : GathersMore Gathers (all_inputs old.pace old.received datagrams) group now old.replica new.replica
     pub counted : new.received ≡ counted old.received datagrams
+    pub ticks : new.ticks ≡ all_ticks old.ticks (all_inputs old.pace old.received datagrams)
     pub pace : new.pace ≡ old.pace
 
   -- the first letters of the node to itself, at most this many
@@ -65,6 +65,7 @@ module _ {R : Type 0} (Gathers : Gatherings R) where
     pub may : Given old.pace old.received (datagrams_in (take 64 old.own) (all_taken_as (circle_of old.addresses) frames)) given
     pub gathers : GathersMore Gathers given group now old.replica new.replica
     pub counted : new.received ≡ counted old.received (datagrams_in (take 64 old.own) (all_taken_as (circle_of old.addresses) frames))
+    pub ticks : new.ticks ≡ all_ticks old.ticks given
     pub left : new.own ≡ drop 64 old.own
     pub heard : HearsAll old.cluster (all_taken_as (circle_of old.addresses) frames) old.addresses new.addresses
     pub network : IsSameCircle old.addresses new.addresses
@@ -75,6 +76,7 @@ module _ {R : Type 0} (Says : Sayings R) (Gathers : Gatherings R) where
     pub given : List (Option (List ℕ))
     pub front : IsFront given (all_inputs old.pace old.received datagrams)
     pub silent : SaysNoMore Says Gathers given group old.replica new.replica
+    pub ticks : new.ticks ≡ all_ticks old.ticks given
 
   -- at the first letters of the node to itself, of which it took this many
   pub record EndsOwn (most : ℕ) (group : GroupValue) (old new : ServerValue R) : Type 0 where
@@ -103,6 +105,7 @@ module _ {R : Type 0} (Says : Sayings R) (Gathers : Gatherings R) where
     pub given : List (Option (List ℕ))
     pub first : GivenFirst old.pace old.received (datagrams_in (take count old.own) (all_taken_as (circle_of old.addresses) frames)) given
     pub silent : SaysNoMore Says Gathers given group old.replica new.replica
+    pub ticks : new.ticks ≡ all_ticks old.ticks given
     pub left : new.own ≡ drop count old.own
     pub heard : HearsAll old.cluster (all_taken_as (circle_of old.addresses) frames) old.addresses new.addresses
     pub network : IsSameCircle old.addresses new.addresses

@@ -11,33 +11,35 @@ use Rattle.lk_transport.specs.Askers.{Replies}
 
 -- ---- what a node tells
 
--- a status tells what a replica shows, and the digest of the genesis. The rest the server has counted
-pub record Tells (digest : List ℕ) (shown : Shown) (s : Status) : Type 0 where
+-- a status tells what a replica shows, the digest of the genesis, and that count of ticks. The rest the server has
+-- counted
+pub record Tells (digest : List ℕ) (count : ℕ) (shown : Shown) (s : Status) : Type 0 where
   pub genesis : s.identity.genesis ≡ digest
   pub format : s.identity.format ≡ shown.format
   pub leadership : s.leadership ≡ shown.leadership
   pub progress : s.progress ≡ shown.progress
   pub waiting : s.traffic.waiting ≡ shown.waiting
+  pub ticks : s.traffic.ticks ≡ count
   pub members : s.members ≡ shown.members
 
 -- ---- how it answers
 
--- these bytes are a report of that node that answers the probe, and tells what the replica shows. By the laws of
--- lk_probe it is as long as the probe
-pub record IsAnswer (node : ℕ) (genesis : List ℕ) (shown : Shown) (p : Probe) (bytes : List ℕ) : Type 0 where
+-- these bytes are a report of that node that answers the probe, and tells what the replica shows and that count of
+-- ticks. By the laws of lk_probe it is as long as the probe
+pub record IsAnswer (node : ℕ) (genesis : List ℕ) (count : ℕ) (shown : Shown) (p : Probe) (bytes : List ℕ) : Type 0 where
   pub report : Report
   pub spelled : SpellsReport report bytes
   pub answers : Answers p report
   pub node_told : report.node ≡ node
-  pub told : Tells genesis shown report.status
+  pub told : Tells genesis count shown report.status
 
--- the probe was answered, and nothing else is sent or changed; nor is what is to come, if the socket tells that.
--- `Shows` is what a replica shows
+-- the probe was answered, by the server's own count of ticks, and nothing else is sent or changed; nor is what is to
+-- come, if the socket tells that. `Shows` is what a replica shows
 pub record AnswersOne {R : Type 0} (Shows : R → Shown → Type 0) (tells : Type 0) (a : Asked) (old new : ServerValue R) : Type 0 where
   pub shown : Shown
   pub shows : Shows old.replica shown
   pub bytes : List ℕ
-  pub answer : IsAnswer old.node old.addresses.seals.genesis shown a.probe bytes
+  pub answer : IsAnswer old.node old.addresses.seals.genesis old.ticks shown a.probe bytes
   pub replies : Replies tells old.addresses.seals a bytes (tray_at old.own old) (tray_at new.own new)
   pub still : tells → new.coming ≡ old.coming
   pub same : new ≡ record old { sent = new.sent; socket_failures = new.socket_failures; coming = new.coming }

@@ -1,5 +1,5 @@
 -- The input that a server gives to its replica, and the fate of the letters.
-use Rattle.std.specs.Prelude.{◌≡◌, ◌⊎◌, ◌≤◌, Bool, true, false, ◌+◌, ◌%◌, ◌^◌, ℕ, List, [], ◌∷◌, ◌++◌, length, map, take, drop, Option, Some, None, if◌then◌else◌}
+use Rattle.std.specs.Prelude.{◌≡◌, ◌⊎◌, ◌≤◌, Bool, true, false, ◌+◌, ◌%◌, ◌^◌, ℕ, List, [], ◌∷◌, ◌++◌, length, map, min, take, drop, Option, Some, None, if◌then◌else◌}
 use Rattle.std.specs.declared.net.socket_addr.SocketAddr.{SocketAddr}
 use Rattle.lk_types.specs.Ranges.{IsClient}
 use Rattle.lk_step.specs.Letters.{LetterValue}
@@ -12,8 +12,9 @@ use Rattle.lk_pace.specs.declared.pace.Pace.{Pace}
 use Rattle.lk_pace.specs.declared.pace.Pace.TheVariants.{Clock}
 
 -- the number of its cluster and that of its node, what its ticks go by, its replica, the letters of the node to itself
--- that it has not taken yet, from where others wrote, how many datagrams came, whether a call has ended the replica,
--- what its socket has sent, how often a send of that has failed, and the frames that are to come to it, in order
+-- that it has not taken yet, from where others wrote, how many datagrams came, how many ticks its replica was given,
+-- whether a call has ended the replica, what its socket has sent, how often a send of that has failed, and the frames
+-- that are to come to it, in order
 pub record ServerValue (R : Type 0) : Type 0 where
   pub cluster : ℕ
   pub node : ℕ
@@ -22,6 +23,7 @@ pub record ServerValue (R : Type 0) : Type 0 where
   pub own : List LetterValue
   pub addresses : AddressBook
   pub received : ℕ
+  pub ticks : ℕ
   pub failed : Bool
   pub sent : List (SocketAddr × List ℕ)
   pub socket_failures : ℕ
@@ -35,10 +37,11 @@ pub record ServesAs {R : Type 0} (c n : ℕ) (p : Pace) (known : Network) (s : S
   pub hosts : s.addresses.hosts ≡ known.hosts
   pub seals : s.addresses.seals ≡ known.seals
 
--- nobody has written to it yet, not even itself
+-- nobody has written to it yet, not even itself, and it has counted no tick
 pub record HasHeardNobody {R : Type 0} (s : ServerValue R) : Type 0 where
   pub own : s.own ≡ []
   pub received : s.received ≡ 0
+  pub ticks : s.ticks ≡ 0
   pub clients : (c : ℕ) → IsClient c → client_at s.addresses c ≡ None
   pub nodes : (n : ℕ) → node_at s.addresses n ≡ None
 
@@ -72,6 +75,19 @@ all_inputs pace received (bytes ∷ more) = inputs pace (one_more received) byte
 abbrev pub counted : ℕ → List (List ℕ) → ℕ
 counted received [] = received
 counted received (bytes ∷ more) = counted (one_more received) more
+
+-- the count of ticks after one more, which no count of 64 bits exceeds
+abbrev pub one_more_tick : ℕ → ℕ
+one_more_tick ticks = min (ticks + 1) 18446744073709551615
+
+-- the count of ticks after a replica was given this, and after all of these
+abbrev pub ticks_behind : ℕ → Option (List ℕ) → ℕ
+ticks_behind ticks None = one_more_tick ticks
+ticks_behind ticks (Some bytes) = ticks
+
+abbrev pub all_ticks : ℕ → List (Option (List ℕ)) → ℕ
+all_ticks ticks [] = ticks
+all_ticks ticks (one ∷ more) = all_ticks (ticks_behind ticks one) more
 
 -- a replica may be given this in a turn: these datagrams, one after another, and ticks as they may follow; where there
 -- are none a tick
@@ -152,14 +168,15 @@ pub record IsSameServer {R : Type 0} (old new : ServerValue R) : Type 0 where
   pub pace : new.pace ≡ old.pace
 
 -- Where letters of the node to itself wait, it takes the first 64 of them, in order, and nothing of the socket; else
--- what came. Its replica was given just that as one group, and a tick where one was due; whoever sent what came was
--- heard, and it goes on
+-- what came. Its replica was given just that as one group, and a tick where one was due, and each tick was counted;
+-- whoever sent what came was heard, and it goes on
 pub record Turn {R : Type 0} (Says : R → List (Option (List ℕ)) → List LetterValue → R → Type 0) (tells : Type 0) (came : List (SocketAddr × List ℕ)) (old new : ServerValue R) : Type 0 where
   pub takes : TakesFirst tells came old
   pub given : List (Option (List ℕ))
   pub may : Given old.pace old.received (datagrams_in (take 64 old.own) came) given
   pub hands_on : HandsOn Says tells given (drop 64 old.own) old new
   pub counted : new.received ≡ counted old.received (datagrams_in (take 64 old.own) came)
+  pub ticks : new.ticks ≡ all_ticks old.ticks given
   pub heard : HearsAll old.cluster came old.addresses new.addresses
   pub same : IsSameServer old new
   pub alive : new.failed ≡ false
@@ -174,6 +191,7 @@ pub record LastTurn {R : Type 0} (Says : R → List (Option (List ℕ)) → List
   pub first : GivenFirst old.pace old.received (datagrams_in (take count old.own) came) given
   pub hands_on : HandsOn Says tells given (drop count old.own) old new
   pub silent : hands_on.letters ≡ []
+  pub ticks : new.ticks ≡ all_ticks old.ticks given
   pub heard : HearsAll old.cluster came old.addresses new.addresses
   pub same : IsSameServer old new
   pub ended : new.failed ≡ true

@@ -15,9 +15,10 @@ ghost use Rattle.lk_server.specs.Gatherings.{Finds, TakesAll, EndsWithin, TakesO
 ghost use Rattle.lk_transport.specs.Hearing.{listed};
 ghost use Rattle.lk_transport.specs.Posts.{Hears, is_apart};
 ghost use Rattle.lk_transport.specs.Kept.{Keeps, KeepsOf};
-ghost use Rattle.lk_server.specs.Servers.{HasReceived, IsIdle};
+ghost use Rattle.lk_server.specs.Servers.{HasReceived, IsIdle, one_more_tick};
 
 use crate::group_fault::GroupFault;
+use crate::pausing::receive_or_pause;
 use crate::server::Server;
 use crate::watching::{log_changes, log_served};
 use lk_pace::metronome::Metronome;
@@ -65,36 +66,8 @@ impl<R: ServedReplica, S: DatagramSocket + Drop> Server<R, S> {
         self.post.receive(buffer);
     }
 
-    // The same for a datagram that is already waiting.
-    fn receive_waiting(&mut self, buffer: &mut ReceiveBuffer)
-        ensures comes { S.is_telling → self.old.coming ≡ listed buffer.new.last ++ self.new.coming }
-        ensures none { S.is_telling → buffer.new.last ≡ None → self.old.coming ≡ [] }
-        ensures asked { buffer.new.asked ≡ buffer.old.asked }
-        ensures reported { buffer.new.reported ≡ buffer.old.reported }
-        ensures others { self.new ≡ record self.old { coming = self.new.coming } }
-    {
-        self.post.receive_waiting(buffer);
-    }
-
-    // Lets a pause pass, if one is due before the group's sync, and then receives a datagram that is waiting.
-    fn receive_after_pause<C: Clock>(
-        &mut self,
-        buffer: &mut ReceiveBuffer,
-        metronome: &Metronome<C>,
-        group: &Group,
-    )
-        // What has come in the pause is in the buffer.
-        ensures comes { S.is_telling → buffer.old.last ≡ None → self.old.coming ≡ listed buffer.new.last ++ self.new.coming }
-        ensures asked { buffer.new.asked ≡ buffer.old.asked }
-        ensures reported { buffer.new.reported ≡ buffer.old.reported }
-        ensures others { self.new ≡ record self.old { coming = self.new.coming } }
-    {
-        if self.pauses(metronome, group) {
-            self.receive_waiting(buffer);
-        }
-    }
-
-    // The same, and where none is waiting, for one that comes in a pause, if one is due before the group's sync.
+    // Receives a datagram that is already waiting, and where none is, one that comes in a pause, if one is due before the
+    // group's sync.
     fn receive_or_pause<C: Clock>(
         &mut self,
         buffer: &mut ReceiveBuffer,
@@ -107,11 +80,13 @@ impl<R: ServedReplica, S: DatagramSocket + Drop> Server<R, S> {
         ensures reported { buffer.new.reported ≡ buffer.old.reported }
         ensures others { self.new ≡ record self.old { coming = self.new.coming } }
     {
-        self.receive_waiting(buffer);
-        if buffer.latest().is_some() {
-            return;
-        }
-        self.receive_after_pause(buffer, metronome, group);
+        receive_or_pause(
+            &mut self.post,
+            &mut self.sync_pause,
+            buffer,
+            metronome,
+            group,
+        );
     }
 
     // Records the source of a datagram of this cluster, and counts a datagram that means nothing to it.
@@ -160,11 +135,13 @@ impl<R: ServedReplica, S: DatagramSocket + Drop> Server<R, S> {
         }
     }
 
-    // Adds a tick to the group: some time has passed.
+    // Adds a tick to the group, and counts it: some time has passed.
     pub(crate) fn add_tick<L: Log>(&mut self, group: &mut Group, log: &L) -> Result<(), GroupFault>
         ensures gathers { OnOk result (GathersMore R.Gathers (None ∷ []) group.old group.new self.old.replica self.new.replica) }
         ensures silent { OnErr result (SaysNoMore R.Says R.Gathers (None ∷ []) group.old self.old.replica self.new.replica) }
-        ensures others { self.new ≡ record self.old { replica = self.new.replica; failed = self.new.failed } }
+        // However it ends, the tick is counted.
+        ensures ticks { self.new.ticks ≡ one_more_tick self.old.ticks }
+        ensures others { self.new ≡ record self.old { replica = self.new.replica; failed = self.new.failed; ticks = self.new.ticks } }
         ensures broken { OnErr result (self.new.failed ≡ true) }
     {
         self.ticks = self.ticks.saturating_add(1);
@@ -181,7 +158,7 @@ impl<R: ServedReplica, S: DatagramSocket + Drop> Server<R, S> {
     ) -> Result<(), GroupFault>
         ensures takes { OnOk result (TakesAll R.Gathers (datagram.entry ∷ []) group.old group.new self.old self.new) }
         ensures ends { OnErr result (EndsWithin R.Says R.Gathers (datagram.entry ∷ []) group.old self.old self.new) }
-        ensures others { self.new ≡ record self.old { replica = self.new.replica; failed = self.new.failed; received = self.new.received } }
+        ensures others { self.new ≡ record self.old { replica = self.new.replica; failed = self.new.failed; received = self.new.received; ticks = self.new.ticks } }
         ensures broken { OnErr result (self.new.failed ≡ true) }
     {
         self.received = self.received.wrapping_add(1);
@@ -197,7 +174,7 @@ impl<R: ServedReplica, S: DatagramSocket + Drop> Server<R, S> {
         ensures takes { IfOk result (λ some. some ≡ true → (l : LetterValue) × (self.old.own ≡ l ∷ self.new.own) × TakesAll R.Gathers (l.bytes ∷ []) group.old group.new self.old self.new) }
         ensures none { IfOk result (λ some. some ≡ false → (self.old.own ≡ []) × (self.new ≡ self.old) × (group.new ≡ group.old)) }
         ensures ends { OnErr result ((l : LetterValue) × (self.old.own ≡ l ∷ self.new.own) × EndsWithin R.Says R.Gathers (l.bytes ∷ []) group.old self.old self.new) }
-        ensures others { self.new ≡ record self.old { replica = self.new.replica; failed = self.new.failed; received = self.new.received; own = self.new.own } }
+        ensures others { self.new ≡ record self.old { replica = self.new.replica; failed = self.new.failed; received = self.new.received; ticks = self.new.ticks; own = self.new.own } }
         ensures broken { OnErr result (self.new.failed ≡ true) }
     {
         let Some(letter) = self.next_letter() else {
@@ -213,7 +190,7 @@ impl<R: ServedReplica, S: DatagramSocket + Drop> Server<R, S> {
     fn add_own_letters<L: Log>(&mut self, group: &mut Group, log: &L) -> Result<(), GroupFault>
         ensures takes { OnOk result (TakesOwn R.Gathers 63 group.old group.new self.old self.new) }
         ensures ends { OnErr result (EndsOwn R.Says R.Gathers 63 group.old self.old self.new) }
-        ensures others { self.new ≡ record self.old { replica = self.new.replica; failed = self.new.failed; received = self.new.received; own = self.new.own } }
+        ensures others { self.new ≡ record self.old { replica = self.new.replica; failed = self.new.failed; received = self.new.received; ticks = self.new.ticks; own = self.new.own } }
         ensures broken { OnErr result (self.new.failed ≡ true) }
     {
         'letters: for _ in 0..FURTHER {
@@ -239,7 +216,7 @@ impl<R: ServedReplica, S: DatagramSocket + Drop> Server<R, S> {
         ensures kept { IfOk result (λ found. found ≡ TurnInput.Beside → Keeps self.old.node self.old.addresses.seals buffer.old buffer.new) }
         ensures rest { IfOk result (λ found. (found ≡ TurnInput.Beside → ⊥) → buffer.new ≡ buffer.old) }
         ensures spares { OnErr result (buffer.new ≡ buffer.old) }
-        ensures others { self.new ≡ record self.old { replica = self.new.replica; failed = self.new.failed; received = self.new.received; addresses = self.new.addresses } }
+        ensures others { self.new ≡ record self.old { replica = self.new.replica; failed = self.new.failed; received = self.new.received; ticks = self.new.ticks; addresses = self.new.addresses } }
         ensures broken { OnErr result (self.new.failed ≡ true) }
     {
         let Some((frame, from)) = buffer.latest() else {
@@ -273,7 +250,7 @@ impl<R: ServedReplica, S: DatagramSocket + Drop> Server<R, S> {
         ensures takes { IfOk result (λ found. found ≡ TurnInput.Something → (frame : Address × List ℕ) × (is_apart (circle_of self.old.addresses) frame ≡ false) × TakesSocket R.Gathers S.is_telling (frame ∷ []) group.old group.new self.old self.new × KeepsOf self.old.node self.old.addresses.seals (frame ∷ []) buffer.old buffer.new) }
         ensures none { IfOk result (λ found. (found ≡ TurnInput.Something → ⊥) → (frames : List (Address × List ℕ)) × Finds S.is_telling found frames self.old self.new × (group.new ≡ group.old) × KeepsOf self.old.node self.old.addresses.seals frames buffer.old buffer.new) }
         ensures ends { OnErr result ((frame : Address × List ℕ) × (is_apart (circle_of self.old.addresses) frame ≡ false) × EndsSocket R.Says R.Gathers S.is_telling (frame ∷ []) group.old self.old self.new) }
-        ensures others { self.new ≡ record self.old { replica = self.new.replica; failed = self.new.failed; received = self.new.received; addresses = self.new.addresses; coming = self.new.coming } }
+        ensures others { self.new ≡ record self.old { replica = self.new.replica; failed = self.new.failed; received = self.new.received; ticks = self.new.ticks; addresses = self.new.addresses; coming = self.new.coming } }
         ensures broken { OnErr result (self.new.failed ≡ true) }
     {
         self.receive(buffer);
@@ -292,7 +269,7 @@ impl<R: ServedReplica, S: DatagramSocket + Drop> Server<R, S> {
         ensures takes { IfOk result (λ came. came ≡ true → (frame : Address × List ℕ) × TakesSocket R.Gathers S.is_telling (frame ∷ []) group.old group.new self.old self.new × KeepsOf self.old.node self.old.addresses.seals (frame ∷ []) buffer.old buffer.new) }
         ensures none { IfOk result (λ came. came ≡ false → (S.is_telling → self.new.coming ≡ self.old.coming) × (record self.new { coming = self.old.coming } ≡ self.old) × (group.new ≡ group.old) × (buffer.new.asked ≡ buffer.old.asked) × (buffer.new.reported ≡ buffer.old.reported)) }
         ensures ends { OnErr result ((frame : Address × List ℕ) × EndsSocket R.Says R.Gathers S.is_telling (frame ∷ []) group.old self.old self.new) }
-        ensures others { self.new ≡ record self.old { replica = self.new.replica; failed = self.new.failed; received = self.new.received; addresses = self.new.addresses; coming = self.new.coming } }
+        ensures others { self.new ≡ record self.old { replica = self.new.replica; failed = self.new.failed; received = self.new.received; ticks = self.new.ticks; addresses = self.new.addresses; coming = self.new.coming } }
         ensures broken { OnErr result (self.new.failed ≡ true) }
     {
         if group.letters().is_empty() {
@@ -317,7 +294,7 @@ impl<R: ServedReplica, S: DatagramSocket + Drop> Server<R, S> {
     ) -> Result<(), GroupFault>
         ensures takes { OnOk result ((frames : List (Address × List ℕ)) × (length frames ≤ 63) × TakesSocket R.Gathers S.is_telling frames group.old group.new self.old self.new × KeepsOf self.old.node self.old.addresses.seals frames buffer.old buffer.new) }
         ensures ends { OnErr result ((frames : List (Address × List ℕ)) × (length frames ≤ 63) × EndsSocket R.Says R.Gathers S.is_telling frames group.old self.old self.new) }
-        ensures others { self.new ≡ record self.old { replica = self.new.replica; failed = self.new.failed; received = self.new.received; addresses = self.new.addresses; coming = self.new.coming } }
+        ensures others { self.new ≡ record self.old { replica = self.new.replica; failed = self.new.failed; received = self.new.received; ticks = self.new.ticks; addresses = self.new.addresses; coming = self.new.coming } }
         ensures broken { OnErr result (self.new.failed ≡ true) }
     {
         'datagrams: for _ in 0..FURTHER {
@@ -340,7 +317,7 @@ impl<R: ServedReplica, S: DatagramSocket + Drop> Server<R, S> {
         ensures takes { IfOk result (λ found. found ≡ TurnInput.Something → (frames : List (Address × List ℕ)) × TakesWaiting R.Gathers S.is_telling frames group.old group.new self.old self.new × KeepsOf self.old.node self.old.addresses.seals frames buffer.old buffer.new) }
         ensures none { IfOk result (λ found. (found ≡ TurnInput.Something → ⊥) → (self.old.own ≡ []) × (frames : List (Address × List ℕ)) × Finds S.is_telling found frames self.old self.new × (group.new ≡ group.old) × KeepsOf self.old.node self.old.addresses.seals frames buffer.old buffer.new) }
         ensures ends { OnErr result ((frames : List (Address × List ℕ)) × EndsGroup R.Says R.Gathers S.is_telling frames group.old self.old self.new) }
-        ensures others { self.new ≡ record self.old { replica = self.new.replica; failed = self.new.failed; received = self.new.received; addresses = self.new.addresses; coming = self.new.coming } }
+        ensures others { self.new ≡ record self.old { replica = self.new.replica; failed = self.new.failed; received = self.new.received; ticks = self.new.ticks; addresses = self.new.addresses; coming = self.new.coming } }
         ensures broken { OnErr result (self.new.failed ≡ true) }
     {
         let found = self.add_first_datagram(buffer, group, log)?;
@@ -364,7 +341,7 @@ impl<R: ServedReplica, S: DatagramSocket + Drop> Server<R, S> {
         ensures takes { IfOk result (λ found. found ≡ TurnInput.Something → (frames : List (Address × List ℕ)) × TakesWaiting R.Gathers S.is_telling frames group.old group.new self.old self.new × KeepsOf self.old.node self.old.addresses.seals frames buffer.old buffer.new) }
         ensures none { IfOk result (λ found. (found ≡ TurnInput.Something → ⊥) → (self.old.own ≡ []) × (frames : List (Address × List ℕ)) × Finds S.is_telling found frames self.old self.new × (group.new ≡ group.old) × KeepsOf self.old.node self.old.addresses.seals frames buffer.old buffer.new) }
         ensures ends { OnErr result ((frames : List (Address × List ℕ)) × EndsGroup R.Says R.Gathers S.is_telling frames group.old self.old self.new) }
-        ensures others { self.new ≡ record self.old { replica = self.new.replica; failed = self.new.failed; received = self.new.received; own = self.new.own; addresses = self.new.addresses; coming = self.new.coming } }
+        ensures others { self.new ≡ record self.old { replica = self.new.replica; failed = self.new.failed; received = self.new.received; ticks = self.new.ticks; own = self.new.own; addresses = self.new.addresses; coming = self.new.coming } }
         ensures broken { OnErr result (self.new.failed ≡ true) }
     {
         if !self.add_own_letter(group, log)? {
@@ -385,7 +362,7 @@ impl<R: ServedReplica, S: DatagramSocket + Drop> Server<R, S> {
         ensures takes { IfOk result (λ some. some ≡ true → (frames : List (Address × List ℕ)) × TakesGroup R.Gathers S.is_telling frames group.old group.new self.old self.new × KeepsOf self.old.node self.old.addresses.seals frames buffer.old buffer.new) }
         ensures idle { IfOk result (λ some. some ≡ false → (frames : List (Address × List ℕ)) × HasReceived S.is_telling frames self.old self.new × IsIdle S.is_telling frames self.old self.new × KeepsOf self.old.node self.old.addresses.seals frames buffer.old buffer.new) }
         ensures ends { OnErr result ((frames : List (Address × List ℕ)) × EndsGroup R.Says R.Gathers S.is_telling frames group.old self.old self.new) }
-        ensures others { self.new ≡ record self.old { replica = self.new.replica; failed = self.new.failed; received = self.new.received; own = self.new.own; addresses = self.new.addresses; coming = self.new.coming } }
+        ensures others { self.new ≡ record self.old { replica = self.new.replica; failed = self.new.failed; received = self.new.received; ticks = self.new.ticks; own = self.new.own; addresses = self.new.addresses; coming = self.new.coming } }
         ensures broken { OnErr result (self.new.failed ≡ true) }
     {
         self.set_timeout(metronome.left());

@@ -96,7 +96,9 @@ impl<R: ServedReplica, S: DatagramSocket + Drop> Server<R, S> {
     }
 
     // The ticks that its replica was given since its start.
-    fn now(&self) -> u64 {
+    fn now(&self) -> u64
+        ensures { result ≡ self.now.ticks }
+    {
         self.ticks
     }
 

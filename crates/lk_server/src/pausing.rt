@@ -1,30 +1,82 @@
 //! The pauses of a server before a sync.
 
-ghost use Rattle.std.specs.Prelude.{◌≡◌, true};
+ghost use Rattle.std.specs.Prelude.{◌≡◌, ◌↔◌, ◌+◌, ◌++◌, [], None, true, IsTrue};
+ghost use Rattle.lk_server.specs.Pauses.{IsPauseDue};
+ghost use Rattle.lk_transport.specs.Hearing.{listed};
 
 use crate::server::Server;
 use lk_pace::metronome::Metronome;
+use lk_pace::sync_pause::SyncPause;
 use lk_replica::Group;
 use lk_served_replica::ServedReplica;
+use lk_transport::post::SocketPost;
+use lk_transport::receive_buffer::ReceiveBuffer;
 use lk_transport::socket::DatagramSocket;
 use std::time::{Clock, Instant};
 
-impl<R: ServedReplica, S: DatagramSocket + Drop> Server<R, S> {
-    // Lets a pause pass, if one is due before the sync of this group. Returns whether it was.
-    pub(crate) fn pauses<C: Clock>(&mut self, metronome: &Metronome<C>, group: &Group) -> bool
-        ensures waits { result ≡ true → group.now.waits ≡ true }
-        ensures unchanged { self.new ≡ self.old }
-    {
-        if !group.waits() {
-            return false;
-        }
-        let Some(time) = self.sync_pause.next_pause(group.letters().len()) else {
-            return false;
-        };
-        metronome.pass(time);
-        true
+// Lets a pause pass, if one is due before the sync of this group. Returns whether it was.
+fn pauses<C: Clock>(pause: &mut SyncPause, metronome: &Metronome<C>, group: &Group) -> bool
+    ensures due { IsTrue result ↔ IsPauseDue pause.old group.now }
+    // The group may have one pause less then.
+    ensures fewer { result ≡ true → pause.new.left + 1 ≡ pause.old.left }
+    ensures others { pause.new ≡ record pause.old { left = pause.new.left } }
+{
+    if !group.waits() {
+        return false;
     }
+    let Some(time) = pause.next_pause(group.letters().len()) else {
+        return false;
+    };
+    metronome.pass(time);
+    true
+}
 
+// Lets a pause pass, if one is due before the group's sync, and then receives a datagram that is waiting.
+fn receive_after_pause<S: DatagramSocket + Drop, C: Clock>(
+    post: &mut SocketPost<S>,
+    pause: &mut SyncPause,
+    buffer: &mut ReceiveBuffer,
+    metronome: &Metronome<C>,
+    group: &Group,
+)
+    // What has come in the pause is in the buffer.
+    ensures comes { S.is_telling → buffer.old.last ≡ None → post.old.coming ≡ listed buffer.new.last ++ post.new.coming }
+    ensures none { S.is_telling → IsPauseDue pause.old group.now → buffer.new.last ≡ None → post.old.coming ≡ [] }
+    ensures pauses { IsPauseDue pause.old group.now → pause.new.left + 1 ≡ pause.old.left }
+    ensures asked { buffer.new.asked ≡ buffer.old.asked }
+    ensures reported { buffer.new.reported ≡ buffer.old.reported }
+    ensures others { post.new ≡ record post.old { coming = post.new.coming } }
+{
+    if pauses(pause, metronome, group) {
+        post.receive_waiting(buffer);
+    }
+}
+
+// Receives a datagram that is already waiting, and where none is, one that comes in a pause, if one is due before the
+// group's sync.
+pub(crate) fn receive_or_pause<S: DatagramSocket + Drop, C: Clock>(
+    post: &mut SocketPost<S>,
+    pause: &mut SyncPause,
+    buffer: &mut ReceiveBuffer,
+    metronome: &Metronome<C>,
+    group: &Group,
+)
+    ensures comes { S.is_telling → post.old.coming ≡ listed buffer.new.last ++ post.new.coming }
+    ensures none { S.is_telling → buffer.new.last ≡ None → post.old.coming ≡ [] }
+    // Where none is waiting it pauses if that is due.
+    ensures pauses { S.is_telling → post.old.coming ≡ [] → IsPauseDue pause.old group.now → pause.new.left + 1 ≡ pause.old.left }
+    ensures asked { buffer.new.asked ≡ buffer.old.asked }
+    ensures reported { buffer.new.reported ≡ buffer.old.reported }
+    ensures others { post.new ≡ record post.old { coming = post.new.coming } }
+{
+    post.receive_waiting(buffer);
+    if buffer.latest().is_some() {
+        return;
+    }
+    receive_after_pause(post, pause, buffer, metronome, group);
+}
+
+impl<R: ServedReplica, S: DatagramSocket + Drop> Server<R, S> {
     // Notes how long it took since then to end this group, if it waited for a sync.
     pub(crate) fn note_sync<C: Clock>(
         &mut self,

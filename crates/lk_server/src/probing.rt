@@ -11,10 +11,10 @@ use lk_transport::asked::Asked;
 use lk_transport::socket::DatagramSocket;
 
 impl<R: ServedReplica, S: DatagramSocket + Drop> Server<R, S> {
-    /// What it reports of its node: what the replica shows, the digest of the genesis, what it has counted itself, and
-    /// the version of the lock table, as it was last read.
+    /// What it reports of its node: what the replica shows, the digest of the genesis, its count of ticks and what else
+    /// it has counted itself, and the version of the lock table, as it was last read.
     pub fn status(&self) -> Status
-        ensures { (shown : ShownValue) × R.Shows self.now.replica shown × Tells self.now.addresses.seals.genesis shown result }
+        ensures { (shown : ShownValue) × R.Shows self.now.replica shown × Tells self.now.addresses.seals.genesis self.now.ticks shown result }
     {
         let shown = self.replica.show();
         Status {
@@ -46,7 +46,7 @@ impl<R: ServedReplica, S: DatagramSocket + Drop> Server<R, S> {
 
     // The report that answers a probe.
     fn report(&self, asked: &Asked) -> [u8; LENGTH]
-        ensures { (shown : ShownValue) × R.Shows self.now.replica shown × IsAnswer self.now.node self.now.addresses.seals.genesis shown asked.now.probe result }
+        ensures { (shown : ShownValue) × R.Shows self.now.replica shown × IsAnswer self.now.node self.now.addresses.seals.genesis self.now.ticks shown asked.now.probe result }
     {
         asked
             .probe

@@ -7,7 +7,7 @@ ghost use Rattle.lk_server.specs.Gatherings.{Finds, HandsOnAll, SaysNothing};
 ghost use Rattle.lk_transport.specs.Posts.{all_taken_as};
 ghost use Rattle.lk_transport.specs.Kept.{KeepsOf};
 ghost use Rattle.lk_served_replica.specs.Refusals.{IsOfGroups};
-ghost use Rattle.lk_server.specs.Servers.{HandsOn, HandsNothing, HasHeardNobody, HasReceived, IsSameServer, LastTurn, Runs, ServesAs, ServesOn, TakesTurn, Turn};
+ghost use Rattle.lk_server.specs.Servers.{HandsOn, HandsNothing, HasHeardNobody, HasReceived, IsSameServer, LastTurn, Runs, ServesAs, ServesOn, TakesTurn, Turn, one_more_tick};
 
 use crate::group_fault::GroupFault;
 use crate::ignored::IgnoredCounts;
@@ -62,7 +62,7 @@ impl<R: ServedReplica, S: DatagramSocket + Drop> Model for Server<R, S> {
 
     ghost Value = { ServerValue R };
 
-    ghost view = { λ s. record { cluster = s.cluster; node = s.post.node; pace = s.pace; replica = s.replica; own = s.post.own; addresses = s.post.addresses; received = s.received; failed = R.failed s.replica; sent = s.post.sent; socket_failures = s.post.socket_failures; coming = s.post.coming } };
+    ghost view = { λ s. record { cluster = s.cluster; node = s.post.node; pace = s.pace; replica = s.replica; own = s.post.own; addresses = s.post.addresses; received = s.received; ticks = s.ticks; failed = R.failed s.replica; sent = s.post.sent; socket_failures = s.post.socket_failures; coming = s.post.coming } };
 }
 
 impl<R: ServedReplica, S: DatagramSocket + Drop> Server<R, S> {
@@ -157,6 +157,7 @@ impl<R: ServedReplica, S: DatagramSocket + Drop> Server<R, S> {
         ensures addresses { self.new.addresses ≡ self.old.addresses }
         ensures same { IsSameServer self.old self.new }
         ensures received { self.new.received ≡ self.old.received }
+        ensures ticks { self.new.ticks ≡ self.old.ticks }
         ensures still { S.is_telling → self.new.coming ≡ self.old.coming }
         ensures alive { OnOk result (self.new.failed ≡ false) }
         ensures broken { OnErr result (self.new.failed ≡ true) }
@@ -180,6 +181,7 @@ impl<R: ServedReplica, S: DatagramSocket + Drop> Server<R, S> {
         ensures addresses { self.new.addresses ≡ self.old.addresses }
         ensures same { IsSameServer self.old self.new }
         ensures received { self.new.received ≡ self.old.received }
+        ensures ticks { self.new.ticks ≡ self.old.ticks }
         ensures still { S.is_telling → self.new.coming ≡ self.old.coming }
         ensures alive { OnOk result (self.new.failed ≡ false) }
         ensures broken { OnErr result (self.new.failed ≡ true) }
@@ -203,6 +205,7 @@ impl<R: ServedReplica, S: DatagramSocket + Drop> Server<R, S> {
         ensures addresses { self.new.addresses ≡ self.old.addresses }
         ensures same { IsSameServer self.old self.new }
         ensures received { self.new.received ≡ self.old.received }
+        ensures ticks { self.new.ticks ≡ one_more_tick self.old.ticks }
         ensures alive { OnOk result (self.new.failed ≡ false) }
         ensures broken { OnErr result (self.new.failed ≡ true) }
     {

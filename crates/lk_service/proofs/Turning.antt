@@ -1,7 +1,7 @@
 -- The turns of a server, one after another, and one more.
 use Rattle.std.proofs.Common.{◌≡◌, ◌∙◌, ◌⊎◌, ◌<◌, ℕ, List, Option, Result, Ok, Err, inl, inr, refl, subst, sym}
 use Rattle.std.specs.declared.net.socket_addr.SocketAddr.{SocketAddr}
-use Rattle.std.specs.Prelude.{OnErr, IfErr, IsErrAnd}
+use Rattle.std.specs.Prelude.{OnOk, OnErr, IfErr, IsErrAnd}
 use Rattle.lk_state.specs.Meanings.{Meaning}
 use Rattle.lk_step.specs.Letters.{LetterValue}
 use Rattle.lk_replica.specs.ReplicaValue.{ReplicaValue}
@@ -56,6 +56,11 @@ turn_taken After frames kept left old mid new received turn keeps acts network f
   failure = failure;
   becomes = becomes;
 }
+
+-- one of both stands, however a call ends
+pub on_either : {T E P Q : Type 0} (r : Result T E) → OnOk r P → OnErr r Q → P ⊎ Q
+on_either (Ok x) p q = inl p
+on_either (Err e) p q = inr q
 
 -- what stands of a refusal stands beside what an error may be
 pub or_later : {T E A B : Type 0} (P : E → Type 0) (r : Result T E) → (A → B) → OnErr r A → IfErr r (λ e. P e ⊎ B)

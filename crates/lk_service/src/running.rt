@@ -10,6 +10,7 @@ ghost use Rattle.lk_server.specs.Servers.{ServerValue, ServesAs, ServesOn};
 ghost use Rattle.lk_transport.specs.Chains.{Repeats};
 ghost use Rattle.lk_service.specs.Revivals.{ComesUp, IsBegun, IsNotTakenUp, IsRefusedWith};
 ghost use Rattle.lk_service.specs.Turns.{TakesTurn, TakesTurnWith, GoesOn, LeavesOff, EndsTurn, BreaksOff, Leaves, AreSealsOf, Serves, EndsEarly, LeavesEarly, TellsFailure};
+ghost use Rattle.lk_service.specs.Warnings.{TakesTurnAndWarns, Warns, WarnsUntil, reminded};
 
 use crate::another_genesis::write_other_genesis;
 use crate::observing::{observe_start, observe_turn};
@@ -140,6 +141,8 @@ fn end_turn<M: Machine, D: LogDisk + Drop, S: DatagramSocket + Drop, L: Log, O: 
     ensures leaves { OnErr result (LeavesOff server.new) }
     ensures spent { (buffer.new.asked ≡ None) × (buffer.new.reported ≡ None) }
     ensures failure { TellsFailure server.new }
+    // While the node goes on nothing is written.
+    ensures quiet { OnOk result (E.contents err.new ≡ E.contents err.old) }
 {
     let leader = server.handle_probes(buffer, log);
     let _ = server.replica();
@@ -174,6 +177,8 @@ fn take_turn<
     // came. No node of another genesis has led it.
     ensures turn { OnOk result (TakesTurnWith ⟦<Replica<M, D> as ServedReplica>⟧.Says S.is_telling buffer.old.asked buffer.old.reported GoesOn server.old server.new) }
     ensures spent { OnOk result ((buffer.new.asked ≡ None) × (buffer.new.reported ≡ None)) }
+    // While the node goes on nothing is written.
+    ensures quiet { OnOk result (E.contents err.new ≡ E.contents err.old) }
     // The turn ended the replica, and after that nothing is sent and no probe is answered; or it is such a turn, and a
     // node of another genesis has led the node.
     ensures ends { OnErr result (EndsTurn ⟦<Replica<M, D> as ServedReplica>⟧.Says S.is_telling server.old server.new ⊎ TakesTurnWith ⟦<Replica<M, D> as ServedReplica>⟧.Says S.is_telling buffer.old.asked buffer.old.reported LeavesOff server.old server.new) }
@@ -187,7 +192,20 @@ fn take_turn<
     }
 }
 
-// Takes 2^48 turns, and reports them to an observer. If the device failed, writes why.
+// Warns after a turn if a warning is due, by the server's own status. A warning that cannot be written is lost.
+fn warn_if_due<M: Machine, D: LogDisk + Drop, S: DatagramSocket + Drop, E: Write>(
+    server: &NodeServer<M, D, S>,
+    reminder: &mut PortReminder,
+    plan: &NodePlan<'_>,
+    err: &mut E,
+)
+    ensures { Warns plan.now.header.node plan.now.port server.now reminder.old reminder.new (E.contents err.old) (E.contents err.new) }
+{
+    let status = server.status();
+    let _ = reminder.remind(&status, plan, err);
+}
+
+// Takes 2^48 turns, warns after each if that is due, and reports them to an observer. If the device failed, writes why.
 fn take_turns<
     M: Machine,
     D: LogDisk + FailureCause + Drop,
@@ -210,6 +228,10 @@ fn take_turns<
     // At an error it has taken fewer, and then one that ended the replica, or after which a node of another genesis had
     // led the node.
     ensures err { OnErr result (BreaksOff ⟦<Replica<M, D> as ServedReplica>⟧.Says S.is_telling (2 ^ 48) server.old server.new ⊎ Leaves ⟦<Replica<M, D> as ServedReplica>⟧.Says S.is_telling (2 ^ 48) server.old server.new) }
+    // After each of its turns, but the last at an error, it warns by the server's own status if that is due, and nothing
+    // else is written.
+    ensures warns { OnOk result ((last : PortReminder) × Repeats (TakesTurnAndWarns ⟦<Replica<M, D> as ServedReplica>⟧.Says S.is_telling plan.now.header.node plan.now.port) (2 ^ 48) (reminded server.old reminder (E.contents err.old)) (reminded server.new last (E.contents err.new))) }
+    ensures warned { OnErr result (WarnsUntil ⟦<Replica<M, D> as ServedReplica>⟧.Says S.is_telling plan.now.header.node plan.now.port (2 ^ 48) (reminded server.old reminder (E.contents err.old)) server.new) }
 {
     let mut buffer = ReceiveBuffer::new();
     let mut metronome = Metronome::new(clock);
@@ -224,8 +246,7 @@ fn take_turns<
             observer,
             err,
         )?;
-        let status = server.status();
-        let _ = reminder.remind(&status, plan, err);
+        warn_if_due(server, &mut reminder, plan, err);
     }
     Ok(())
 }

@@ -22,7 +22,7 @@ returns-clause-turn g c =
       t.0,
       received_on tells t.0 c.args.server.now c.fill_group.new.self c.end_group.new.self e.still t.1.received,
       inl (turn_of r.Says r.Gathers tells t.0 c.begin_group-group.result c.fill_group.new.group c.args.server.now c.fill_group.new.self c.end_group.new.self c.begin_group-group.ensures t.1 c.in_ok-end_group.ensures.gives
-          (ap (λ (s : ServerValue _). s.sent) o) (ap (λ (s : ServerValue _). s.socket_failures) o) (same_by c.args.server.now c.fill_group.new.self o) e.addresses e.received e.same c.in_ok-end_group.ensures.alive),
+          (ap (λ (s : ServerValue _). s.sent) o) (ap (λ (s : ServerValue _). s.socket_failures) o) (same_by c.args.server.now c.fill_group.new.self o) e.addresses e.received e.ticks e.same c.in_ok-end_group.ensures.alive),
       t.2,
     )
 
@@ -37,7 +37,7 @@ returns-in_err-end_group-clause-ends g c =
       t.0,
       received_on tells t.0 c.args.server.now c.fill_group.new.self c.end_group.new.self e.still t.1.received,
       last_of r.Says r.Gathers tells t.0 c.begin_group-group.result c.fill_group.new.group c.args.server.now c.fill_group.new.self c.end_group.new.self c.begin_group-group.ensures t.1 c.in_err-end_group.ensures.silent
-          (ap (λ (s : ServerValue _). s.sent) o) (ap (λ (s : ServerValue _). s.socket_failures) o) (same_by c.args.server.now c.fill_group.new.self o) e.addresses e.same c.in_err-end_group.ensures.broken,
+          (ap (λ (s : ServerValue _). s.sent) o) (ap (λ (s : ServerValue _). s.socket_failures) o) (same_by c.args.server.now c.fill_group.new.self o) e.addresses e.ticks e.same c.in_err-end_group.ensures.broken,
     )
 
 pub returns-in_err-fill_group-clause-ends : goal.returns-in_err-fill_group-clause-ends

@@ -24,7 +24,7 @@ datagrams-preserved g c =
       omega (arith, i.1, length-append i.0 (t.0 ∷ [])),
       socket_more g.R.ServedReplica.Gathers g.S.DatagramSocket.is_telling i.0 (t.0 ∷ []) c.args.group.now c.datagrams.group c.add_next_datagram.new.group c.args.self.now c.datagrams.self new (ap (λ (s : ServerValue _). s.cluster) i.3) i.2 t.1,
       c.add_next_datagram.ensures.others
-          ∙ ap (λ (s : ServerValue _). record s { replica = new.replica; failed = new.failed; received = new.received; addresses = new.addresses; coming = new.coming }) i.3,
+          ∙ ap (λ (s : ServerValue _). record s { replica = new.replica; failed = new.failed; received = new.received; ticks = new.ticks; addresses = new.addresses; coming = new.coming }) i.3,
       keeps_more c.args.self.now.node c.datagrams.self.node c.args.self.now.addresses.seals c.datagrams.self.addresses.seals i.0 (t.0 ∷ []) c.args.buffer.now c.datagrams.buffer c.add_next_datagram.new.buffer
           (ap (λ (s : ServerValue _). s.node) i.3) (ap (λ (c : Circle). c.seals) i.2.takes.network.1) i.4 t.2,
     )

@@ -13,7 +13,7 @@ letters-preserved g c =
       i.1 ∙ ap (λ l. i.0 ++ l) t.1 ∙ sym (append_assoc i.0 (t.0 ∷ []) new.own),
       omega (arith, i.2, length-append i.0 (t.0 ∷ [])),
       own_goes g.R.ServedReplica.Gathers i.0 t.0 c.args.group.now c.letters.group c.add_own_letter.new.group c.args.self.now c.letters.self new i.3 t.2,
-      c.add_own_letter.ensures.others ∙ ap (λ (s : ServerValue _). record s { replica = new.replica; failed = new.failed; received = new.received; own = new.own }) i.4,
+      c.add_own_letter.ensures.others ∙ ap (λ (s : ServerValue _). record s { replica = new.replica; failed = new.failed; received = new.received; ticks = new.ticks; own = new.own }) i.4,
     )
 
 pub returns-then-not-branch-clause-takes : goal.returns-then-not-branch-clause-takes

@@ -1,4 +1,4 @@
-use Rattle.std.proofs.Common.{rules, ◌≡◌, false, Some}
+use Rattle.std.proofs.Common.{rules, ◌≡◌, false}
 use Rattle.lk_probe.specs.Neighbours.{is_stranger}
 use Rattle.lk_seal.specs.Seals.{heard}
 use Rattle.lk_transport.specs.Addresses.{circle_of}
@@ -18,7 +18,7 @@ returns-clause-takes g c = λ yes.
       c.in-Some.ensures.some,
       apart,
       heard_one g.R.ServedReplica.Gathers (c.in-Some.from, c.in-Some.frame.now) (c.in-Some.from, c.of-viewed.result) c.args.group.now c.add_datagram.new.group c.args.self.now c.record_sender-came.new.self c.add_datagram.new.self
-          (search rules) apart (search rules) (search rules) (search rules) (search rules) (search rules) (search rules) c.in_ok-add_datagram.ensures.takes,
+          (search rules) apart (search rules) (search rules) (search rules) (search rules) (search rules) (search rules) (search rules) c.in_ok-add_datagram.ensures.takes,
     )
 
 pub returns-in_err-add_datagram-clause-ends : goal.returns-in_err-add_datagram-clause-ends
@@ -31,7 +31,7 @@ returns-in_err-add_datagram-clause-ends g c =
       c.in-Some.ensures.some,
       apart,
       ends_heard g.R.ServedReplica.Says g.R.ServedReplica.Gathers (c.in-Some.from, c.in-Some.frame.now) (c.in-Some.from, c.of-viewed.result) c.args.group.now c.args.self.now c.record_sender-came.new.self c.add_datagram.new.self
-          (search rules) apart (search rules) (search rules) (search rules) (search rules) (search rules) (search rules) c.in_err-add_datagram.ensures.ends,
+          (search rules) apart (search rules) (search rules) (search rules) (search rules) (search rules) (search rules) (search rules) c.in_err-add_datagram.ensures.ends,
     )
 
 pub returns-in-Some-stranger-clause-kept : goal.returns-in-Some-stranger-clause-kept

@@ -32,7 +32,7 @@ returns-clause-takes g c = λ is.
     let pace : c.self.inside.pace ≡ c.add_pending.new.self.pace = search rules in
     subst (λ (s : ServerValue _). (frames : List (SocketAddr × List ℕ)) × TakesGroup r.Gathers tells frames c.args.group.now c.add_tick.new.group s c.add_tick.new.self × KeepsOf s.node s.addresses.seals frames c.args.buffer.now c.add_pending.new.buffer) c.set_timeout.ensures
     (tick_turn r.Says r.Gathers tells (λ frames. KeepsOf c.set_timeout.new.self.node c.set_timeout.new.self.addresses.seals frames c.args.buffer.now c.add_pending.new.buffer) c.is_due.result c.args.group.now c.add_pending.new.group c.set_timeout.new.self c.add_pending.new.self c.add_tick.new.self (ap (λ (s : ServerValue _). s.pace) c.add_pending.ensures.others)
-    (cc c.if-not-is_due.false) c.add_tick.ensures.others c.in_ok-found.found c.add_tick.new.group a.takes a.none (λ same. c.is_due.ensures.given (pace ∙ same)) c.in_ok-add_tick.ensures.gathers)
+    (cc c.if-not-is_due.false) c.add_tick.ensures.others c.add_tick.ensures.ticks c.in_ok-found.found c.add_tick.new.group a.takes a.none (λ same. c.is_due.ensures.given (pace ∙ same)) c.in_ok-add_tick.ensures.gathers)
 
 pub returns-in_err-found-clause-ends : goal.returns-in_err-found-clause-ends
 returns-in_err-found-clause-ends g c =
@@ -50,4 +50,4 @@ returns-in_err-add_tick-clause-ends g c =
     on_err c.from_residual-in_err-add_tick.result
     (subst (λ (s : ServerValue _). (frames : List (SocketAddr × List ℕ)) × EndsGroup r.Says r.Gathers tells frames c.args.group.now s c.add_tick.new.self) c.set_timeout.ensures
     (tick_turn_ends r.Says r.Gathers tells (λ frames. KeepsOf c.set_timeout.new.self.node c.set_timeout.new.self.addresses.seals frames c.args.buffer.now c.add_pending.new.buffer) c.is_due.result c.args.group.now c.add_pending.new.group c.set_timeout.new.self c.add_pending.new.self c.add_tick.new.self (ap (λ (s : ServerValue _). s.pace) c.add_pending.ensures.others)
-    (cc c.if-not-is_due.false) c.add_tick.ensures.others c.in_ok-found.found a.takes a.none (λ same. c.is_due.ensures.given (pace ∙ same)) c.in_err-add_tick.ensures.silent))
+    (cc c.if-not-is_due.false) c.add_tick.ensures.others c.add_tick.ensures.ticks c.in_ok-found.found a.takes a.none (λ same. c.is_due.ensures.given (pace ∙ same)) c.in_err-add_tick.ensures.silent))
