@@ -183,7 +183,7 @@ class LagTest(unittest.TestCase):
         self.leads(2.0)
         self.node.process.kill()
         told = re.findall(r"node 2 (is behind.*|has caught up.*)", self.node.process.stderr.read())
-        self.assertEqual(told, ["is behind, asks node 1", "has caught up, 1 positions"])
+        self.assertEqual(told, ["is behind, asks node 1", "has caught up, 1 position"])
 
     def test_a_leader_is_followed_again_after_a_silence(self):
         self.node.start()
@@ -200,8 +200,9 @@ class LagTest(unittest.TestCase):
             self.node.send(self.node.bytes_of(FOREIGN))
             time.sleep(1.1)
         self.node.process.kill()
-        told = re.findall(r"node 2 (heard \d+ datagrams of another cluster)", self.node.process.stderr.read())
-        self.assertEqual(told, [f"heard {count} datagrams of another cluster" for count in (1, 2, 4)])
+        told = re.findall(r"node 2 (heard \d+ datagrams? of another cluster)", self.node.process.stderr.read())
+        counts = ("1 datagram", "2 datagrams", "4 datagrams")
+        self.assertEqual(told, [f"heard {count} of another cluster" for count in counts])
 
 
 if __name__ == "__main__":

@@ -37,6 +37,8 @@ def report(
     silence=1,
     promised=3,
     executed=10,
+    waiting=2,
+    unsent=6,
     members=MEMBERS,
     client=0,
     cluster=5,
@@ -45,7 +47,7 @@ def report(
     head = f"4c50010a {cluster:016x} {node:08x} {client:04x} {token:016x} {genesis} {build}"
     leadership = f"{leads:02x} {leader:08x} {silence:016x} {promised:016x} {1:08x}"
     progress = f"{executed:016x} {4:016x} 01"
-    traffic = f"{2:04x} {5:016x} {6:016x} {100:016x}"
+    traffic = f"{waiting:04x} {5:016x} {unsent:016x} {100:016x}"
     return bytes_of(head, leadership, progress, traffic, members).ljust(LENGTH, b"\0")
 
 
@@ -126,7 +128,7 @@ class StatusTest(unittest.TestCase):
     def test_three_nodes_are_a_line_each(self):
         lines = self.tells([node(1, leads=1, silence=0, executed=12), node(2), node(3, executed=12)], 0)
         tail = (
-            "promised 3.1, snapshot 4, members 1 2 3, a change takes effect in 1 positions,"
+            "promised 3.1, snapshot 4, members 1 2 3, a change takes effect in 1 position,"
             " 2 requests wait, 6 sends failed"
         )
         self.assertEqual(lines, [
@@ -135,6 +137,9 @@ class StatusTest(unittest.TestCase):
             f"node 3, port c: follows 1, heard 1 tick ago, executed 12, {tail}",
             "majority: 3 of 3 up",
         ])
+
+    def test_one_of_a_kind_is_told_in_the_singular(self):
+        self.tells([node(1, leads=1, waiting=1, unsent=1), node(2), node(3)], 0, ", 1 request waits, 1 send failed\n")
 
     def test_a_raised_table_is_told(self):
         self.tells([node(1, leads=1, build=RAISED), node(2), node(3)], 0, "majority: 3 of 3 up; raised")

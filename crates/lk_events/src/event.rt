@@ -1,6 +1,6 @@
 //! The events of a node that an operator wants to know.
 
-ghost use Rattle.std.specs.Prelude.{◌≡◌, ◌<◌};
+ghost use Rattle.std.specs.Prelude.{◌≡◌, ◌≢◌, ◌<◌};
 ghost use Rattle.lk_events.specs.Kinds.{kind_of, kinds, is_warning};
 
 use lk_types::{Executed, Members, NodeNo, RealBallot};
@@ -138,41 +138,71 @@ fn write_lead<W: fmt::Write>(
     }
 }
 
+// The word for a count: `one` for 1, else `many`.
+fn one_or_many<'a>(count: u64, one: &'a str, many: &'a str) -> &'a str
+    ensures single { count ≡ 1 → result.now ≡ one.now }
+    ensures several { count ≢ 1 → result.now ≡ many.now }
+{
+    if count == 1 { one } else { many }
+}
+
+// Writes after a comma how many positions: `, 1 position`, `, 2 positions`.
+fn write_positions<W: fmt::Write>(number: Executed, f: &mut fmt::Formatter<W>) -> fmt::Result {
+    let number = number.get();
+    let word = one_or_many(number, "position", "positions");
+    write!(f, ", {number} {word}")
+}
+
+// Writes what was done, and how many positions it covers.
+fn write_done<W: fmt::Write>(
+    done: &str,
+    number: Executed,
+    f: &mut fmt::Formatter<W>,
+) -> fmt::Result {
+    f.write_str(done)?;
+    write_positions(number, f)
+}
+
+// Writes how many positions the store that was found holds.
+fn write_found<W: fmt::Write>(executed: Executed, f: &mut fmt::Formatter<W>) -> fmt::Result {
+    write_done("found its store", executed, f)?;
+    f.write_str(" executed")
+}
+
 // Writes which snapshot was installed.
 fn write_installed<W: fmt::Write>(
     position: Executed,
     node: NodeNo,
     f: &mut fmt::Formatter<W>,
 ) -> fmt::Result {
-    let (position, node) = (position.get(), node.get());
-    write!(
-        f,
-        "installed a snapshot of node {node}, {position} positions"
-    )
+    write!(f, "installed a snapshot of node {}", node.get())?;
+    write_positions(position, f)
+}
+
+// Writes how many datagrams of another cluster have come.
+fn write_foreign<W: fmt::Write>(count: u64, f: &mut fmt::Formatter<W>) -> fmt::Result {
+    let word = one_or_many(count, "datagram", "datagrams");
+    write!(f, "heard {count} {word} of another cluster")
 }
 
 impl fmt::Display for Event {
     fn fmt<W: fmt::Write>(&self, f: &mut fmt::Formatter<W>) -> fmt::Result {
         match self {
             Event::Begun => f.write_str("began with an empty store"),
-            Event::Found(executed) => write!(
-                f,
-                "found its store, {} positions executed",
-                executed.get()
-            ),
+            Event::Found(executed) => write_found(*executed, f),
             Event::Leads(ballot) => write_lead(*ballot, None, f),
             Event::Ended(ballot, why) => write_lead(*ballot, Some(*why), f),
             Event::Follows(node) => write!(f, "follows node {}", node.get()),
             Event::Leaderless(seconds) => write!(f, "has heard of no leader for {seconds} s"),
             Event::Joined(node, members) => write_change(*node, "joined", members, f),
             Event::Left(node, members) => write_change(*node, "left", members, f),
-            Event::Wrote(position) => write!(f, "wrote a snapshot, {} positions", position.get()),
+            Event::Wrote(position) => write_done("wrote a snapshot", *position, f),
             Event::Installed(position, node) => write_installed(*position, *node, f),
             Event::Unsent(node) => write!(f, "could not send to node {}", node.get()),
             Event::Behind(node) => write!(f, "is behind, asks node {}", node.get()),
-            Event::CaughtUp(executed) => write!(f, "has caught up, {} positions", executed.get()),
+            Event::CaughtUp(executed) => write_done("has caught up", *executed, f),
             Event::OtherGenesis(node) => write!(f, "hears node {} of another genesis", node.get()),
-            Event::OtherCluster(count) => write!(f, "heard {count} datagrams of another cluster"),
+            Event::OtherCluster(count) => write_foreign(*count, f),
         }
     }
 }

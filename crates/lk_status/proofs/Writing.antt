@@ -36,7 +36,9 @@ writes_more f front a b c xs i x more first second =
 
 -- the counts of a node
 pub traffic_as : (a z : Option (List ℕ)) (r : Report) (p w : ℕ)
-    → Appends a z (count_text (codes "a change takes effect in ") p (codes "positions") ++ (count_text [] w (codes "requests wait") ++ count_text [] r.status.traffic.unsent (codes "sends failed")))
+    → Appends a z (count_text (codes "a change takes effect in ") p (codes "position") (codes "positions")
+    ++ (count_text [] w (codes "request waits") (codes "requests wait")
+    ++ count_text [] r.status.traffic.unsent (codes "send failed") (codes "sends failed")))
     → p ≡ r.status.progress.pending → w ≡ r.status.traffic.waiting → Appends a z (traffic_text r)
 traffic_as a z r p w printed ps ws = rw (sym ps, sym ws) printed
 

@@ -12,18 +12,31 @@ use Rattle.lk_health.specs.Rounds.{report_of}
 use Rattle.lk_health.specs.Verdicts.{seeks_votes, up, one_genesis}
 use Rattle.lk_health.specs.declared.target.Target.{Target}
 
+-- ---- counts
+
+-- the words for a count: these for 1, else the others
+abbrev pub one_or_many : ℕ → List ℕ → List ℕ → List ℕ
+one_or_many count one many = if count == 1 then one else many
+
+abbrev pub ticks_word : ℕ → List ℕ
+ticks_word ticks = one_or_many ticks (codes "tick") (codes "ticks")
+
+-- a count and its words after a front, unless it is 0
+abbrev pub count_text : List ℕ → ℕ → List ℕ → List ℕ → List ℕ
+count_text front count one many =
+    if count == 0 then [] else codes ", " ++ (front ++ (decimal count ++ (32 ∷ one_or_many count one many)))
+
 -- ---- of a node
 
 -- whom it follows, and how many ticks ago it heard of that leader
 abbrev pub heard_text : ℕ → ℕ → List ℕ
 heard_text leader ticks =
-    if ticks == 1 then codes "follows " ++ (decimal leader ++ codes ", heard 1 tick ago")
-    else codes "follows " ++ (decimal leader ++ (codes ", heard " ++ (decimal ticks ++ codes " ticks ago")))
+    codes "follows " ++ (decimal leader
+    ++ (codes ", heard " ++ (decimal ticks ++ (32 ∷ (ticks_word ticks ++ codes " ago")))))
 
 -- for how many ticks it knows no leader
 abbrev pub unled_text : ℕ → List ℕ
-unled_text ticks =
-    if ticks == 1 then codes "knows no leader for 1 tick" else codes "knows no leader for " ++ (decimal ticks ++ codes " ticks")
+unled_text ticks = codes "knows no leader for " ++ (decimal ticks ++ (32 ∷ ticks_word ticks))
 
 -- whom a node follows
 abbrev pub following : Option ℕ → ℕ → List ℕ
@@ -55,14 +68,12 @@ progress_text r most = executed_text r ++ (behind_text r.status.progress.execute
 abbrev pub members_text : List Member → List ℕ
 members_text ms = codes ", members" ++ flat_map (λ (m : Member). 32 ∷ decimal m.node) ms
 
--- a count between words, unless it is 0
-abbrev pub count_text : List ℕ → ℕ → List ℕ → List ℕ
-count_text front count behind = if count == 0 then [] else codes ", " ++ (front ++ (decimal count ++ (32 ∷ behind)))
-
+-- what waits and what failed
 abbrev pub traffic_text : Report → List ℕ
 traffic_text r =
-    count_text (codes "a change takes effect in ") r.status.progress.pending (codes "positions")
-    ++ (count_text [] r.status.traffic.waiting (codes "requests wait") ++ count_text [] r.status.traffic.unsent (codes "sends failed"))
+    count_text (codes "a change takes effect in ") r.status.progress.pending (codes "position") (codes "positions")
+    ++ (count_text [] r.status.traffic.waiting (codes "request waits") (codes "requests wait")
+    ++ count_text [] r.status.traffic.unsent (codes "send failed") (codes "sends failed"))
 
 -- its number and its port
 abbrev pub name_text : ℕ → ℕ → List ℕ

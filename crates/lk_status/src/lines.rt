@@ -1,6 +1,7 @@
 ghost use Rattle.std.specs.Io.KnownBytes.{Appends};
 ghost use Rattle.std.specs.Option.{option_copied};
-ghost use Rattle.std.specs.Prelude.{OnOk};
+ghost use Rattle.std.specs.Prelude.{◌≡◌, OnOk};
+ghost use Rattle.lk_status.specs.Lines.{one_or_many};
 ghost use Rattle.lk_status.specs.Lines.{heard_text, unled_text, following_text, leadership_text, executed_text, snapshot_text, behind_text, promised_text, progress_text, members_text, count_text, traffic_text, node_line, target_line, target_lines, stranger_word, strangers_text, raised_text, majority_text, cluster_line, status_text};
 
 use lk_health::measure::executed_of;
@@ -11,29 +12,27 @@ use lk_types::{Ballot, Member, NodeNo};
 use std::io;
 use std::io::Write;
 
+// The words for a count: `one` for 1, else `many`.
+fn one_or_many<'a>(count: u64, one: &'a str, many: &'a str) -> &'a str
+    ensures { result.now ≡ one_or_many count one.now many.now }
+{
+    if count == 1 { one } else { many }
+}
+
 // Writes whom a node follows and when it heard of that leader: `follows 1, heard 2 ticks ago`.
 fn write_heard<W: Write>(leader: NodeNo, ticks: u64, out: &mut W) -> io::Result<()>
     ensures { OnOk result (Appends (W.contents out.old) (W.contents out.new) (heard_text leader ticks)) }
 {
-    let leader = leader.get();
-    if ticks == 1 {
-        write!(out, "follows {leader}, heard 1 tick ago")?;
-    } else {
-        write!(out, "follows {leader}, heard {ticks} ticks ago")?;
-    }
-    Ok(())
+    let (leader, unit) = (leader.get(), one_or_many(ticks, "tick", "ticks"));
+    write!(out, "follows {leader}, heard {ticks} {unit} ago")
 }
 
 // Writes how long a node has known no leader: `knows no leader for 28 ticks`.
 fn write_unled<W: Write>(ticks: u64, out: &mut W) -> io::Result<()>
     ensures { OnOk result (Appends (W.contents out.old) (W.contents out.new) (unled_text ticks)) }
 {
-    if ticks == 1 {
-        out.write_all(b"knows no leader for 1 tick")?;
-    } else {
-        write!(out, "knows no leader for {ticks} ticks")?;
-    }
-    Ok(())
+    let unit = one_or_many(ticks, "tick", "ticks");
+    write!(out, "knows no leader for {ticks} {unit}")
 }
 
 // Writes that a node leads, whom it follows, or that it knows no leader.
@@ -116,12 +115,20 @@ fn write_progress<W: Write>(report: &Report, most: u64, out: &mut W) -> io::Resu
     Ok(())
 }
 
-// Writes a count between words, unless it is 0.
-fn write_count<W: Write>(front: &str, count: u64, behind: &str, out: &mut W) -> io::Result<()>
-    ensures { OnOk result (Appends (W.contents out.old) (W.contents out.new) (count_text front.now count behind.now)) }
+// Writes a count and its words after a front, unless it is 0: `, 1 request waits`, `, 2 requests wait`.
+fn write_count<W: Write>(
+    front: &str,
+    count: u64,
+    one: &str,
+    many: &str,
+    out: &mut W,
+) -> io::Result<()>
+    ensures { OnOk result (Appends (W.contents out.old) (W.contents out.new)
+        (count_text front.now count one.now many.now)) }
 {
     if count > 0 {
-        write!(out, ", {front}{count} {behind}")?;
+        let words = one_or_many(count, one, many);
+        write!(out, ", {front}{count} {words}")?;
     }
     Ok(())
 }
@@ -132,9 +139,21 @@ fn write_traffic<W: Write>(report: &Report, out: &mut W) -> io::Result<()>
 {
     let traffic = &report.status.traffic;
     let pending = u64::from(report.status.progress.pending);
-    write_count("a change takes effect in ", pending, "positions", out)?;
-    write_count("", u64::from(traffic.waiting), "requests wait", out)?;
-    write_count("", traffic.unsent, "sends failed", out)?;
+    write_count(
+        "a change takes effect in ",
+        pending,
+        "position",
+        "positions",
+        out,
+    )?;
+    write_count(
+        "",
+        u64::from(traffic.waiting),
+        "request waits",
+        "requests wait",
+        out,
+    )?;
+    write_count("", traffic.unsent, "send failed", "sends failed", out)?;
     Ok(())
 }
 
