@@ -1,5 +1,8 @@
 //! Invalid arguments of a command line, and what they have to be.
 
+ghost use Rattle.std.specs.Prelude.{codes};
+ghost use Rattle.lk_options.specs.Arguments.{word_of, Names};
+
 use clap::ArgMatches;
 use lk_arguments::member::{member_of, read_members};
 use lk_arguments::number::read_number;
@@ -62,7 +65,9 @@ fn wanted_of(argument: &str) -> &'static str {
 }
 
 /// The error of an invalid word of an argument.
-pub fn invalid_word<'a>(argument: &'a str, value: &'a str) -> ArgumentError<'a> {
+pub fn invalid_word<'a>(argument: &'a str, value: &'a str) -> ArgumentError<'a>
+    ensures { Names argument.now value.now result }
+{
     ArgumentError {
         argument,
         value,
@@ -71,8 +76,13 @@ pub fn invalid_word<'a>(argument: &'a str, value: &'a str) -> ArgumentError<'a> 
 }
 
 /// The error of an invalid argument, with the word that was given for it, the first if there are several.
-pub fn invalid_argument<'a>(matches: &ArgMatches<'a>, argument: &'a str) -> ArgumentError<'a> {
-    invalid_word(argument, matches.get_str(argument).unwrap_or(""))
+pub fn invalid_argument<'a>(matches: &ArgMatches<'a>, argument: &'a str) -> ArgumentError<'a>
+    ensures { Names argument.now (word_of matches.now argument.now) result }
+{
+    match matches.get_str(argument) {
+        Some(value) => invalid_word(argument, value),
+        None => invalid_word(argument, ""),
+    }
 }
 
 // What the members of a genesis have to be.
@@ -112,7 +122,9 @@ fn wanted_genesis(text: &[u8]) -> &'static str {
 }
 
 /// The error of an invalid genesis.
-pub fn invalid_genesis<'a>(text: &'a str) -> ArgumentError<'a> {
+pub fn invalid_genesis<'a>(text: &'a str) -> ArgumentError<'a>
+    ensures { Names (codes "genesis") text.now result }
+{
     ArgumentError {
         argument: "genesis",
         value: text,

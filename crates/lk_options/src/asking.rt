@@ -1,5 +1,8 @@
 //! What `locks ask` is to send, and to which ports.
 
+ghost use Rattle.std.specs.Prelude.{IfOk, IfErr};
+ghost use Rattle.lk_options.specs.Questions.{AsksAs, IsFirstError};
+
 use crate::argument_error::ArgumentError;
 use crate::values::{client_in, number_in, port_in, read_port, request_in};
 use clap::ArgMatches;
@@ -9,7 +12,11 @@ use lk_types::{Op, Port, Request};
 use std::alloc::{AllocError, Global};
 
 /// The question of an operation that `locks ask` is to send.
-pub fn question_of<'a>(matches: &ArgMatches<'a>, op: Op) -> Result<Question, ArgumentError<'a>> {
+pub fn question_of<'a>(matches: &ArgMatches<'a>, op: Op) -> Result<Question, ArgumentError<'a>>
+    ensures ok { IfOk result (AsksAs matches.now op) }
+    // The first of the four numbers that is invalid is refused.
+    ensures err { IfErr result (IsFirstError matches.now) }
+{
     let cluster = number_in(matches, "cluster", u64::MAX)?;
     let port = port_in(matches)?;
     let client = client_in(matches)?;

@@ -1,5 +1,8 @@
 //! The operations of `locks ask`, and what the words of each have to be.
 
+ghost use Rattle.std.specs.Prelude.{codes};
+ghost use Rattle.lk_options.specs.Arguments.{Names};
+
 use crate::argument_error::ArgumentError;
 use lk_locks::Name;
 use std::io::Write;
@@ -33,7 +36,9 @@ fn form_of(first: &str) -> &'static str {
 }
 
 /// The error of an invalid operation, with its first word.
-pub fn invalid_operation<'a>(first: &'a str) -> ArgumentError<'a> {
+pub fn invalid_operation<'a>(first: &'a str) -> ArgumentError<'a>
+    ensures { Names (codes "op") first.now result }
+{
     ArgumentError {
         argument: "op",
         value: first,

@@ -1,7 +1,16 @@
 //! What the words of `locks status` ask for.
 
+ghost use Rattle.std.specs.Prelude.{◌≡◌, ◌≤◌, ℕ, [], None, Ok, true, false, map, codes};
+ghost use Rattle.std.specs.Prelude.{IfOk, IfErr, IsErrAnd, IfSome, IsNone};
+ghost use Rattle.clap.specs.Matches.{found_of, first_value};
+ghost use Rattle.lk_types.specs.Ranges.{IsClient};
+ghost use Rattle.lk_options.specs.Arguments.{IsSet, IsUnset, Names, is_given, word_of, words_of};
+ghost use Rattle.lk_options.specs.Spellings.{IsRefused, Spells, SpellsNone};
+ghost use Rattle.lk_options.specs.StatusPlans.{IsAsker, IsNoTime, IsTime, IsTimeOf, PlansFor, SpellsReady};
+ghost use Rattle.lk_options.specs.StatusPlans.{IsPatience, IsPatienceOf, IsWait, receives_of};
+
 use crate::argument_error::{ArgumentError, invalid_word};
-use crate::values::{client_in, number_in};
+use crate::values::{number_in, read_client, read_number_up_to};
 use clap::ArgMatches;
 use lk_arguments::number::read_number;
 use lk_client::destination::Destination;
@@ -22,28 +31,65 @@ const PATIENCE: u32 = 5;
 // The most seconds until nodes are ready.
 const MOST_SECONDS: u64 = 86_400;
 
-// How many receives may bring nothing.
-fn patience_in<'a>(matches: &ArgMatches<'a>) -> Result<u32, ArgumentError<'a>> {
-    if matches.get_str("wait").is_none() {
-        return Ok(PATIENCE);
+// How many receives last so many milliseconds, one at least.
+fn receives_of(wait: u64) -> u64
+    ensures value { result ≡ receives_of wait }
+    ensures few { wait ≤ 60000 → result ≤ 600 }
+{
+    if wait == 0 {
+        return 1;
     }
-    let wait = number_in(matches, "wait", MOST_WAIT)?;
-    Ok(u32::try_from(wait.div_ceil(A_RECEIVE).max(1)).unwrap_or(PATIENCE))
+    wait.div_ceil(A_RECEIVE)
+}
+
+// How many receives last as many milliseconds as a word spells.
+fn read_patience<'a>(word: &'a str) -> Result<u32, ArgumentError<'a>>
+    ensures ok { IfOk result (IsPatience word.now) }
+    ensures err { IfErr result (IsRefused IsWait (codes "wait") word.now) }
+{
+    let wait = read_number_up_to("wait", word, MOST_WAIT)?;
+    Ok(receives_of(wait) as u32)
+}
+
+// How many receives may bring nothing.
+fn patience_in<'a>(matches: &ArgMatches<'a>) -> Result<u32, ArgumentError<'a>>
+    ensures ok { IfOk result (IsPatienceOf (first_value (found_of matches.now) (codes "wait"))) }
+    ensures err { IfErr result (IsRefused IsWait (codes "wait") (word_of matches.now (codes "wait"))) }
+{
+    match matches.get_str("wait") {
+        Some(word) => read_patience(word),
+        None => Ok(PATIENCE),
+    }
+}
+
+// The seconds that a word spells, at most a day, or `None` if it spells none.
+fn time_of(word: &[u8]) -> Option<u32>
+    ensures some { IfSome result (Spells IsTime word.now) }
+    ensures none { IsNone result → SpellsNone IsTime word.now }
+{
+    let seconds = read_number(word, MOST_SECONDS)?;
+    if seconds == 0 {
+        return None;
+    }
+    Some(seconds as u32)
 }
 
 // The seconds in the words after `--until`: `ready SECONDS`.
-fn seconds_of(words: &[&str]) -> Option<u32> {
+fn seconds_of(words: &[&str]) -> Option<u32>
+    ensures some { IfSome result (SpellsReady (map (λ word. word.now) words.now)) }
+    ensures none { IsNone result → (n : ℕ) → SpellsReady (map (λ word. word.now) words.now) n → ⊥ }
+{
     match words {
-        ["ready", seconds] => {
-            let seconds = read_number(seconds.as_bytes(), MOST_SECONDS)?;
-            (seconds > 0).then_some(seconds as u32)
-        }
+        ["ready", seconds] => time_of(seconds.as_bytes()),
         _ => None,
     }
 }
 
 // The seconds until all are ready, 0 where that is not waited for.
-fn seconds_in<'a>(matches: &ArgMatches<'a>) -> Result<u32, ArgumentError<'a>> {
+fn seconds_in<'a>(matches: &ArgMatches<'a>) -> Result<u32, ArgumentError<'a>>
+    ensures ok { IfOk result (IsTimeOf (words_of matches.now (codes "until"))) }
+    ensures err { IfErr result (IsNoTime (words_of matches.now (codes "until"))) }
+{
     let Some(words) = matches.get_strs("until") else {
         return Ok(0);
     };
@@ -54,7 +100,17 @@ fn seconds_in<'a>(matches: &ArgMatches<'a>) -> Result<u32, ArgumentError<'a>> {
 }
 
 // How the reports are printed.
-fn form_in<'a>(matches: &ArgMatches<'a>) -> Result<Form, ArgumentError<'a>> {
+fn form_in<'a>(matches: &ArgMatches<'a>) -> Result<Form, ArgumentError<'a>>
+    ensures lines { IsUnset matches.now (codes "json") → IsUnset matches.now (codes "prometheus")
+        → result ≡ Ok Form.Lines }
+    ensures json { IsSet matches.now (codes "json") → IsUnset matches.now (codes "prometheus")
+        → result ≡ Ok Form.Json }
+    ensures metrics { IsUnset matches.now (codes "json") → IsSet matches.now (codes "prometheus")
+        → result ≡ Ok Form.Prometheus }
+    // Both are refused.
+    ensures both { IsSet matches.now (codes "json") → IsSet matches.now (codes "prometheus")
+        → IsErrAnd result (Names (codes "prometheus") (codes "--json")) }
+{
     match (matches.get_flag("json"), matches.get_flag("prometheus")) {
         (false, false) => Ok(Form::Lines),
         (true, false) => Ok(Form::Json),
@@ -64,10 +120,19 @@ fn form_in<'a>(matches: &ArgMatches<'a>) -> Result<Form, ArgumentError<'a>> {
 }
 
 // The client whose key is given, which has to be named then.
-fn asker_in<'a>(matches: &ArgMatches<'a>) -> Result<Option<ClientNo>, ArgumentError<'a>> {
+fn asker_in<'a>(matches: &ArgMatches<'a>) -> Result<Option<ClientNo>, ArgumentError<'a>>
+    ensures ok { IfOk result (IsAsker (first_value (found_of matches.now) (codes "client"))) }
+    // Without a client no key may be given.
+    ensures keyless { is_given matches.now (codes "client") ≡ false → is_given matches.now (codes "client-key") ≡ false
+        → result ≡ Ok None }
+    ensures keyed { is_given matches.now (codes "client") ≡ false → is_given matches.now (codes "client-key") ≡ true
+        → IsErrAnd result (Names (codes "client") []) }
+    ensures err { is_given matches.now (codes "client") ≡ true
+        → IfErr result (IsRefused IsClient (codes "client") (word_of matches.now (codes "client"))) }
+{
     match (matches.get_str("client"), matches.get_str("client-key")) {
         (None, None) => Ok(None),
-        (Some(_), _) => Ok(Some(client_in(matches)?)),
+        (Some(word), _) => Ok(Some(read_client(word)?)),
         (None, Some(_)) => Err(ArgumentError {
             argument: "client",
             value: "",
@@ -77,7 +142,9 @@ fn asker_in<'a>(matches: &ArgMatches<'a>) -> Result<Option<ClientNo>, ArgumentEr
 }
 
 // What `locks status` is to ask of these places.
-fn plan_of<'a>(matches: &ArgMatches<'a>, targets: Vec<Target>) -> Result<Plan, ArgumentError<'a>> {
+fn plan_of<'a>(matches: &ArgMatches<'a>, targets: Vec<Target>) -> Result<Plan, ArgumentError<'a>>
+    ensures { IfOk result (PlansFor matches.now targets.items) }
+{
     let cluster = number_in(matches, "cluster", u64::MAX)?;
     let (patience, seconds) = (patience_in(matches)?, seconds_in(matches)?);
     let (form, client) = (form_in(matches)?, asker_in(matches)?);
@@ -96,7 +163,9 @@ fn plan_of<'a>(matches: &ArgMatches<'a>, targets: Vec<Target>) -> Result<Plan, A
 }
 
 // The error of the first of these words that names no place. If each names one, they are too many.
-fn invalid_places<'a>(alloc: Global, words: &[&'a str]) -> Result<ArgumentError<'a>, ServiceFault> {
+fn invalid_places<'a>(alloc: Global, words: &[&'a str]) -> Result<ArgumentError<'a>, ServiceFault>
+    ensures { IfOk result (λ e. e.argument.now ≡ codes "port") }
+{
     for word in words {
         if targets_of(alloc, &[*word])?.is_none() {
             return Ok(ArgumentError {

@@ -1,6 +1,13 @@
 //! The values of a subcommand's arguments, or the error of an invalid one.
 
-use crate::argument_error::{ArgumentError, invalid_argument, invalid_genesis, invalid_word};
+ghost use Rattle.std.specs.Net.Grammar.{IsIpText};
+ghost use Rattle.std.specs.Prelude.{◌≡◌, ◌≤◌, IfOk, IfErr, IfSome, IsNone, is_some, codes};
+ghost use Rattle.lk_types.specs.Ranges.{IsClient, IsCount, IsNode, IsPort};
+ghost use Rattle.lk_arguments.specs.Geneses.{SpellsGenesis};
+ghost use Rattle.lk_options.specs.Arguments.{is_given, word_of};
+ghost use Rattle.lk_options.specs.Spellings.{IsNoAddress, IsNoGenesis, IsRefused, Spells, SpellsNone};
+
+use crate::argument_error::{ArgumentError, invalid_genesis, invalid_word};
 use clap::ArgMatches;
 use lk_arguments::genesis::read_genesis;
 use lk_arguments::number::read_number;
@@ -10,8 +17,28 @@ use lk_types::{ClientNo, Genesis, NodeNo, Port, RequestNumber};
 use std::net::IpAddr;
 
 /// The word of an argument, empty if it was not given.
-pub fn word<'a>(matches: &ArgMatches<'a>, name: &str) -> &'a str {
-    matches.get_str(name).unwrap_or("")
+pub fn word<'a>(matches: &ArgMatches<'a>, name: &str) -> &'a str
+    ensures { result.now ≡ word_of matches.now name.now }
+{
+    match matches.get_str(name) {
+        Some(word) => word,
+        None => "",
+    }
+}
+
+/// The number that the word of an argument spells, up to the greatest.
+pub fn read_number_up_to<'a>(
+    argument: &'a str,
+    word: &'a str,
+    greatest: u64,
+) -> Result<u64, ArgumentError<'a>>
+    ensures ok { IfOk result (Spells (λ n. n ≤ greatest) word.now) }
+    ensures err { IfErr result (IsRefused (λ n. n ≤ greatest) argument.now word.now) }
+{
+    match read_number(word.as_bytes(), greatest) {
+        Some(number) => Ok(number),
+        None => Err(invalid_word(argument, word)),
+    }
 }
 
 /// The number of an argument, up to the greatest.
@@ -19,29 +46,36 @@ pub fn number_in<'a>(
     matches: &ArgMatches<'a>,
     name: &'a str,
     greatest: u64,
-) -> Result<u64, ArgumentError<'a>> {
-    match read_number(word(matches, name).as_bytes(), greatest) {
-        Some(number) => Ok(number),
-        None => Err(invalid_argument(matches, name)),
-    }
+) -> Result<u64, ArgumentError<'a>>
+    ensures ok { IfOk result (Spells (λ n. n ≤ greatest) (word_of matches.now name.now)) }
+    ensures err { IfErr result (IsRefused (λ n. n ≤ greatest) name.now (word_of matches.now name.now)) }
+{
+    read_number_up_to(name, word(matches, name), greatest)
 }
 
 /// The address of an argument, if it was given.
 pub fn address_in<'a>(
     matches: &ArgMatches<'a>,
     name: &'a str,
-) -> Result<Option<IpAddr>, ArgumentError<'a>> {
+) -> Result<Option<IpAddr>, ArgumentError<'a>>
+    ensures given { IfOk result (λ address. is_some address ≡ is_given matches.now name.now) }
+    ensures ok { IfOk result (λ address. IfSome address (IsIpText (word_of matches.now name.now))) }
+    ensures err { IfErr result (IsNoAddress name.now (word_of matches.now name.now)) }
+{
     let Some(word) = matches.get_str(name) else {
         return Ok(None);
     };
     match IpAddr::parse_ascii(word.as_bytes()) {
         Ok(address) => Ok(Some(address)),
-        Err(_) => Err(invalid_argument(matches, name)),
+        Err(_) => Err(invalid_word(name, word)),
     }
 }
 
 /// The genesis.
-pub fn genesis_in<'a>(matches: &ArgMatches<'a>) -> Result<Genesis, ArgumentError<'a>> {
+pub fn genesis_in<'a>(matches: &ArgMatches<'a>) -> Result<Genesis, ArgumentError<'a>>
+    ensures ok { IfOk result (λ g. SpellsGenesis (word_of matches.now (codes "genesis")) g.cluster g.alpha g.members) }
+    ensures err { IfErr result (IsNoGenesis (word_of matches.now (codes "genesis"))) }
+{
     let text = word(matches, "genesis");
     match read_genesis(text.as_bytes()) {
         Some(genesis) => Ok(genesis),
@@ -49,16 +83,30 @@ pub fn genesis_in<'a>(matches: &ArgMatches<'a>) -> Result<Genesis, ArgumentError
     }
 }
 
-/// The number of the node.
-pub fn node_in<'a>(matches: &ArgMatches<'a>) -> Result<NodeNo, ArgumentError<'a>> {
-    match node_of(word(matches, "number").as_bytes()) {
+// The node whose number a word spells.
+fn read_node<'a>(word: &'a str) -> Result<NodeNo, ArgumentError<'a>>
+    ensures ok { IfOk result (Spells IsNode word.now) }
+    ensures err { IfErr result (IsRefused IsNode (codes "number") word.now) }
+{
+    match node_of(word.as_bytes()) {
         Some(node) => Ok(node),
-        None => Err(invalid_argument(matches, "number")),
+        None => Err(invalid_word("number", word)),
     }
 }
 
+/// The number of the node.
+pub fn node_in<'a>(matches: &ArgMatches<'a>) -> Result<NodeNo, ArgumentError<'a>>
+    ensures ok { IfOk result (Spells IsNode (word_of matches.now (codes "number"))) }
+    ensures err { IfErr result (IsRefused IsNode (codes "number") (word_of matches.now (codes "number"))) }
+{
+    read_node(word(matches, "number"))
+}
+
 /// The port that a word spells.
-pub fn read_port<'a>(word: &'a str) -> Result<Port, ArgumentError<'a>> {
+pub fn read_port<'a>(word: &'a str) -> Result<Port, ArgumentError<'a>>
+    ensures ok { IfOk result (Spells IsPort word.now) }
+    ensures err { IfErr result (IsRefused IsPort (codes "port") word.now) }
+{
     match port_of(word.as_bytes()) {
         Some(port) => Ok(port),
         None => Err(invalid_word("port", word)),
@@ -66,24 +114,65 @@ pub fn read_port<'a>(word: &'a str) -> Result<Port, ArgumentError<'a>> {
 }
 
 /// The port, the first where there are several.
-pub fn port_in<'a>(matches: &ArgMatches<'a>) -> Result<Port, ArgumentError<'a>> {
+pub fn port_in<'a>(matches: &ArgMatches<'a>) -> Result<Port, ArgumentError<'a>>
+    ensures ok { IfOk result (Spells IsPort (word_of matches.now (codes "port"))) }
+    ensures err { IfErr result (IsRefused IsPort (codes "port") (word_of matches.now (codes "port"))) }
+{
     read_port(word(matches, "port"))
 }
 
-/// The client.
-pub fn client_in<'a>(matches: &ArgMatches<'a>) -> Result<ClientNo, ArgumentError<'a>> {
-    let number = number_in(matches, "client", u64::from(MAX_CLIENT))?;
-    match ClientNo::of(u16::try_from(number).unwrap_or(0)) {
+// The client whose number a word spells, or `None` if it spells none.
+fn client_of(word: &[u8]) -> Option<ClientNo>
+    ensures some { IfSome result (Spells IsClient word.now) }
+    ensures none { IsNone result → SpellsNone IsClient word.now }
+{
+    let number = read_number(word, u64::from(MAX_CLIENT))?;
+    ClientNo::of(number as u16)
+}
+
+/// The client whose number a word spells.
+pub fn read_client<'a>(word: &'a str) -> Result<ClientNo, ArgumentError<'a>>
+    ensures ok { IfOk result (Spells IsClient word.now) }
+    ensures err { IfErr result (IsRefused IsClient (codes "client") word.now) }
+{
+    match client_of(word.as_bytes()) {
         Some(client) => Ok(client),
-        None => Err(invalid_argument(matches, "client")),
+        None => Err(invalid_word("client", word)),
+    }
+}
+
+/// The client.
+pub fn client_in<'a>(matches: &ArgMatches<'a>) -> Result<ClientNo, ArgumentError<'a>>
+    ensures ok { IfOk result (Spells IsClient (word_of matches.now (codes "client"))) }
+    ensures err { IfErr result (IsRefused IsClient (codes "client") (word_of matches.now (codes "client"))) }
+{
+    read_client(word(matches, "client"))
+}
+
+// The number of a request that a word spells, or `None` if it spells none.
+fn request_of(word: &[u8]) -> Option<RequestNumber>
+    ensures some { IfSome result (Spells IsCount word.now) }
+    ensures none { IsNone result → SpellsNone IsCount word.now }
+{
+    let number = read_number(word, MAX_COUNT)?;
+    RequestNumber::of(number)
+}
+
+// The number of a request that a word spells.
+fn read_request<'a>(word: &'a str) -> Result<RequestNumber, ArgumentError<'a>>
+    ensures ok { IfOk result (Spells IsCount word.now) }
+    ensures err { IfErr result (IsRefused IsCount (codes "request") word.now) }
+{
+    match request_of(word.as_bytes()) {
+        Some(number) => Ok(number),
+        None => Err(invalid_word("request", word)),
     }
 }
 
 /// The number of the request.
-pub fn request_in<'a>(matches: &ArgMatches<'a>) -> Result<RequestNumber, ArgumentError<'a>> {
-    let number = number_in(matches, "request", MAX_COUNT)?;
-    match RequestNumber::of(number) {
-        Some(number) => Ok(number),
-        None => Err(invalid_argument(matches, "request")),
-    }
+pub fn request_in<'a>(matches: &ArgMatches<'a>) -> Result<RequestNumber, ArgumentError<'a>>
+    ensures ok { IfOk result (Spells IsCount (word_of matches.now (codes "request"))) }
+    ensures err { IfErr result (IsRefused IsCount (codes "request") (word_of matches.now (codes "request"))) }
+{
+    read_request(word(matches, "request"))
 }

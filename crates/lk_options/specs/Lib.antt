@@ -1,0 +1,4 @@
+pub mod Arguments
+pub mod Spellings
+pub mod Questions
+pub mod StatusPlans
