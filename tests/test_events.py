@@ -14,7 +14,7 @@ from harness.cluster import Cluster, free_ports
 
 PROGRAM = os.environ.get("LOCKS_PROGRAM")
 
-LINE = re.compile(r"\[(INFO |WARN ) locks\] (\d{4}-\d\d-\d\dT\d\d:\d\d:\d\d\.\d{3}Z) node (\d+) (.*)")
+LINE = re.compile(r"\[(INFO |WARN |ERROR) locks\] (\d{4}-\d\d-\d\dT\d\d:\d\d:\d\d\.\d{3}Z) node (\d+) (.*)")
 
 # Node 1 leads in its first ballot and has executed one position, which is a no-op.
 LEAD = "4c4b010d 0000000000000005 00000001 0000000000000001 00000001 0000000000000001"
@@ -22,6 +22,11 @@ LEAD = "4c4b010d 0000000000000005 00000001 0000000000000001 00000001 00000000000
 LATER = "4c4b010d 0000000000000005 00000001 0000000000000009 00000001 0000000000000001"
 FOREIGN = "4c4b010d 0000000000000006 00000001 0000000000000001 00000001 0000000000000001"
 DECIDED = "4c4b0106 0000000000000005 00000001 0000000000000001 01 00"
+# It has executed two positions, at which nodes 4 and 5 join.
+JOINS = (
+    "4c4b0106 0000000000000005 00000001 0000000000000001 02"
+    " 01 0007 0000000000000001 01 00000004 1b5c 01 0008 0000000000000001 01 00000005 1b5d"
+)
 
 
 class Told(Cluster):
@@ -184,6 +189,31 @@ class LagTest(unittest.TestCase):
         self.node.process.kill()
         told = re.findall(r"node 2 (is behind.*|has caught up.*)", self.node.process.stderr.read())
         self.assertEqual(told, ["is behind, asks node 1", "has caught up, 1 position"])
+
+    def test_two_nodes_that_join_in_one_turn_are_told(self):
+        self.node.start()
+        self.leads(0.5)
+        self.node.send(self.node.bytes_of(JOINS))
+        self.leads(0.5)
+        self.node.process.kill()
+        told = re.findall(r"node 2 (node \d joined.*)", self.node.process.stderr.read())
+        members = " ".join(f"{node}:{port}" for node, port in enumerate(self.node.ports, 1))
+        self.assertEqual(told, [f"node 5 joined, members {members} 4:7004 5:7005 .. and 1 more"])
+
+    def ends(self):
+        """The last two lines of node 1 on the folder of node 2."""
+        place = ["--port", str(*free_ports(1)), "--dir", self.node.folder]
+        command = [PROGRAM, "node", "--genesis", self.node.genesis, "--number", "1", *place, "--events"]
+        done = subprocess.run(command, stdin=subprocess.DEVNULL, stderr=subprocess.PIPE, text=True)
+        return done.stderr.splitlines()[-2:]
+
+    def test_a_fault_is_told_with_its_time(self):
+        self.node.start()
+        self.node.kill()
+        told, last = self.ends()
+        it = LINE.fullmatch(told)
+        self.assertTrue(it, told)
+        self.assertEqual((it[1], it[3], it[4], last), ("ERROR", "1", "ends: fault 10", "fault 10"))
 
     def test_a_leader_is_followed_again_after_a_silence(self):
         self.node.start()

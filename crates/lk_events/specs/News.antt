@@ -1,6 +1,6 @@
 -- What is news of a node, by what was told of it and what is seen of it.
 use Rattle.std.specs.Prelude.{◌≡◌, ◌≢◌, ◌<◌, ◌==◌, ℕ, Bool, true, false, List, [], ◌∷◌, ◌++◌, Option, Some, None}
-use Rattle.std.specs.List.{list_any, list_all}
+use Rattle.std.specs.List.{list_any}
 use Rattle.lk_types.specs.declared.member.Member.{Member}
 use Rattle.lk_types.specs.BallotValue.{BallotValue}
 use Rattle.lk_events.specs.Views.{why_of}
@@ -12,10 +12,6 @@ use Rattle.lk_events.specs.declared.view.View.{View}
 
 abbrev pub is_one_of : ℕ → List Member → Bool
 is_one_of node members = list_any (λ m. m.node == node) members
-
--- each of these members is one of the others
-abbrev pub has_all : List Member → List Member → Bool
-has_all others members = list_all (λ m. is_one_of m.node others) members
 
 -- the newer one, where there is one
 abbrev pub newer : Option ℕ → Option ℕ → Option ℕ
@@ -55,15 +51,15 @@ story_of view = record { leads = view.leads; follows = view.follows; members = v
 
 -- ---- news by what it is about
 
--- who leads: that it leads no more, that it leads, and whom it follows; who is a member: who joined, and who left; and
--- its work: a snapshot that it wrote, one that it installed, what it could not send, whom it heard of another genesis,
--- and what it heard of another cluster
+-- who leads: that it leads no more, that it leads, and whom it follows; who is a member: that a node joined, and that
+-- one left; and its work: a snapshot that it wrote, one that it installed, what it could not send, whom it heard of
+-- another genesis, and what it heard of another cluster
 pub data Topic : Type 0 where
   ending : Topic
   leading : Topic
   following : Topic
-  joining : Topic
-  leaving : Topic
+  joining : ℕ → Topic
+  leaving : ℕ → Topic
   writing : Topic
   installing : Topic
   failing : Topic
@@ -73,22 +69,35 @@ pub data Topic : Type 0 where
 abbrev pub lead_topics : List Topic
 lead_topics = ending ∷ leading ∷ following ∷ []
 
-abbrev pub member_topics : List Topic
-member_topics = joining ∷ leaving ∷ []
+-- each member may have joined
+abbrev pub joins : List Member → List Topic
+joins [] = []
+joins (m ∷ ms) = joining m.node ∷ joins ms
+
+-- each may have left
+abbrev pub leaves : List Member → List Topic
+leaves [] = []
+leaves (m ∷ ms) = leaving m.node ∷ leaves ms
+
+-- those that are seen may have joined, and those that were told may have left
+abbrev pub member_topics : Story → View → List Topic
+member_topics story view = joins view.members ++ leaves story.members
 
 abbrev pub work_topics : List Topic
 work_topics = writing ∷ installing ∷ failing ∷ meeting ∷ straying ∷ []
 
-abbrev pub topics : List Topic
-topics = lead_topics ++ (member_topics ++ work_topics)
+abbrev pub topics : Story → View → List Topic
+topics story view = lead_topics ++ (member_topics story view ++ work_topics)
 
 -- the event is about that, and is news
 abbrev pub IsNewsOf : Topic → Story → View → Event → Type 0
 IsNewsOf ending story view event = (ballot : BallotValue) × (why : Why) × (event ≡ Ended ballot why) × IsNews story view (Ended ballot why)
 IsNewsOf leading story view event = (ballot : BallotValue) × (event ≡ Leads ballot) × IsNews story view (Leads ballot)
 IsNewsOf following story view event = (node : ℕ) × (event ≡ Follows node) × IsNews story view (Follows node)
-IsNewsOf joining story view event = (node : ℕ) × (members : List Member) × (event ≡ Joined node members) × IsNews story view (Joined node members)
-IsNewsOf leaving story view event = (node : ℕ) × (members : List Member) × (event ≡ Left node members) × IsNews story view (Left node members)
+IsNewsOf (joining node) story view event =
+    (members : List Member) × (event ≡ Joined node members) × IsNews story view (Joined node members)
+IsNewsOf (leaving node) story view event =
+    (members : List Member) × (event ≡ Left node members) × IsNews story view (Left node members)
 IsNewsOf writing story view event = (position : ℕ) × (event ≡ Wrote position) × IsNews story view (Wrote position)
 IsNewsOf installing story view event = (position : ℕ) × (node : ℕ) × (event ≡ Installed position node) × IsNews story view (Installed position node)
 IsNewsOf failing story view event = (node : ℕ) × (event ≡ Unsent node) × IsNews story view (Unsent node)

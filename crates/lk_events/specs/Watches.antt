@@ -50,7 +50,7 @@ pub record TurnsTimes (now : ℕ) (view : View) (old new : Watch) : Type 0 where
 pub record Turns (now : ℕ) (view : View) (old new : Watch) : Type 0 where
   pub timed : Watch
   pub times : TurnsTimes now view old timed
-  pub news : PutsNews now timed.story view topics timed.slots.all new.slots.all
+  pub news : PutsNews now timed.story view (topics timed.story view) timed.slots.all new.slots.all
   pub becomes : new ≡ record { story = told_with view timed.story; quiet = timed.quiet; lag = timed.lag; slots = new.slots }
 
 -- whoever watches a node does so on after such a turn, and may have told some of what waits

@@ -10,7 +10,7 @@ use crate::view::View;
 use crate::watch::Watch;
 use jiff::Timestamp;
 use lk_types::NodeNo;
-use log::{Log, info, warn};
+use log::{Log, error, info, warn};
 use std::fmt;
 use std::time::{Clock, SystemTime};
 
@@ -24,6 +24,9 @@ pub trait Observer {
 
     /// Observes the node after a turn.
     fn observe(&mut self, view: View);
+
+    /// The node ends with this fault.
+    fn end(&mut self, fault: &str);
 }
 
 /// Observes nothing.
@@ -38,6 +41,8 @@ impl Observer for Unobserved {
     fn begin(&mut self, _is_empty: bool, _view: View) {}
 
     fn observe(&mut self, _view: View) {}
+
+    fn end(&mut self, _fault: &str) {}
 }
 
 /// Writes the events of a node to a log.
@@ -57,6 +62,12 @@ impl fmt::Display for Line {
         }
         Ok(())
     }
+}
+
+// The time of a line, by the milliseconds since 1970.
+fn timestamp(milliseconds: u64) -> Option<Timestamp> {
+    let milliseconds = i64::try_from(milliseconds).unwrap_or(0);
+    Timestamp::from_millisecond(milliseconds).ok()
 }
 
 impl<C: Clock + Drop, L: Log + Drop> Events<C, L> {
@@ -87,8 +98,7 @@ impl<C: Clock + Drop, L: Log + Drop> Events<C, L> {
     // Logs a line with its time and node, as a warning if its event is one.
     fn log_line(&self, line: &Line) {
         let node = self.node.get();
-        let time = i64::try_from(line.time).unwrap_or(0);
-        let Ok(time) = Timestamp::from_millisecond(time) else {
+        let Some(time) = timestamp(line.time) else {
             return;
         };
         if line.event.is_warning() {
@@ -145,5 +155,14 @@ impl<C: Clock + Drop, L: Log + Drop> Observer for Events<C, L> {
         watch.observe(now, view);
         self.log_due(&mut watch, now);
         self.watch = Some(watch);
+    }
+
+    fn end(&mut self, fault: &str)
+        ensures { self.new ≡ self.old }
+    {
+        let node = self.node.get();
+        if let Some(time) = timestamp(self.now()) {
+            error!(self.log; target: "locks", "{time:.3} node {node} ends: {fault}");
+        }
     }
 }

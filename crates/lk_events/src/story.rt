@@ -1,7 +1,10 @@
 //! What was reported of a node, and what is news compared with that.
 
-ghost use Rattle.std.specs.Prelude.{◌≡◌, true, false, IfSome, IsNone};
-ghost use Rattle.lk_events.specs.News.{Gives, ending, leading, following, joining, leaving, writing, installing, failing, meeting, straying, lead_topics, member_topics, work_topics, topics, story_of, forgetting, told_with, has_all, is_one_of};
+ghost use Rattle.std.specs.Prelude.{◌≡◌};
+ghost use Rattle.lk_events.specs.News.{Gives, story_of, forgetting, told_with, is_one_of};
+ghost use Rattle.lk_events.specs.News.{ending, leading, following, joining, leaving};
+ghost use Rattle.lk_events.specs.News.{writing, installing, failing, meeting, straying};
+ghost use Rattle.lk_events.specs.News.{lead_topics, joins, leaves, member_topics, work_topics, topics};
 ghost use Rattle.lk_events.specs.Watches.{PutsNews};
 
 use crate::event::Event;
@@ -27,19 +30,6 @@ fn is_one_of(node: NodeNo, members: &[Member]) -> bool
     ensures { result ≡ is_one_of node members.now }
 {
     members.iter().any(|member| member.node == node)
-}
-
-// The first of these members that is none of the others.
-fn missing(members: &Members, others: &Members) -> Option<NodeNo>
-    ensures some { IfSome result (λ node. (is_one_of node members.now ≡ true) × (is_one_of node others.now ≡ false)) }
-    ensures none { IsNone result → has_all others.now members.now ≡ true }
-{
-    for member in members.as_slice() {
-        if !is_one_of(member.node, others.as_slice()) {
-            return Some(member.node);
-        }
-    }
-    None
 }
 
 impl Story {
@@ -95,19 +85,27 @@ impl Story {
         Some(Event::Follows(node))
     }
 
-    /// A node that has become a member.
-    pub fn joined(&self, view: &View) -> Option<Event>
-        ensures { Gives joining self.now view.now result }
+    /// That this node has become a member.
+    pub fn joined(&self, view: &View, node: NodeNo) -> Option<Event>
+        ensures { Gives (joining node) self.now view.now result }
     {
-        let node = missing(&view.members, &self.members)?;
+        let was = is_one_of(node, self.members.as_slice());
+        let is = is_one_of(node, view.members.as_slice());
+        if was || !is {
+            return None;
+        }
         Some(Event::Joined(node, view.members.copy()))
     }
 
-    /// A node that is no longer a member.
-    pub fn left(&self, view: &View) -> Option<Event>
-        ensures { Gives leaving self.now view.now result }
+    /// That this node is no longer a member.
+    pub fn left(&self, view: &View, node: NodeNo) -> Option<Event>
+        ensures { Gives (leaving node) self.now view.now result }
     {
-        let node = missing(&self.members, &view.members)?;
+        let was = is_one_of(node, self.members.as_slice());
+        let is = is_one_of(node, view.members.as_slice());
+        if is || !was {
+            return None;
+        }
         Some(Event::Left(node, view.members.copy()))
     }
 
@@ -162,12 +160,30 @@ impl Story {
         slots.put_some(now, self.follows(view));
     }
 
-    // Puts news of the members.
-    fn put_members(&self, now: u64, view: &View, slots: &mut Slots)
-        ensures { PutsNews now self.now view.now member_topics slots.old.all slots.new.all }
+    // Puts which of these members have joined.
+    fn put_joined(&self, now: u64, view: &View, members: &[Member], slots: &mut Slots)
+        ensures { PutsNews now self.now view.now (joins members.now) slots.old.all slots.new.all }
     {
-        slots.put_some(now, self.joined(view));
-        slots.put_some(now, self.left(view));
+        'members: for member in members {
+            slots.put_some(now, self.joined(view, member.node));
+        }
+    }
+
+    // Puts which of these members have left.
+    fn put_left(&self, now: u64, view: &View, members: &[Member], slots: &mut Slots)
+        ensures { PutsNews now self.now view.now (leaves members.now) slots.old.all slots.new.all }
+    {
+        'members: for member in members {
+            slots.put_some(now, self.left(view, member.node));
+        }
+    }
+
+    // Puts news of the members: several nodes may join or leave in one turn.
+    fn put_members(&self, now: u64, view: &View, slots: &mut Slots)
+        ensures { PutsNews now self.now view.now (member_topics self.now view.now) slots.old.all slots.new.all }
+    {
+        self.put_joined(now, view, view.members.as_slice(), slots);
+        self.put_left(now, view, self.members.as_slice(), slots);
     }
 
     // Puts news of its snapshots, of failed sends and of strangers.
@@ -183,7 +199,7 @@ impl Story {
 
     // Puts all news.
     fn put_all(&self, now: u64, view: &View, slots: &mut Slots)
-        ensures { PutsNews now self.now view.now topics slots.old.all slots.new.all }
+        ensures { PutsNews now self.now view.now (topics self.now view.now) slots.old.all slots.new.all }
     {
         self.put_leads(now, view, slots);
         self.put_members(now, view, slots);
@@ -218,7 +234,7 @@ impl Story {
 
     /// Observes the node after a turn, and puts what is news into the slots.
     pub fn observe(&mut self, now: u64, view: View, slots: &mut Slots)
-        ensures news { PutsNews now self.old view topics slots.old.all slots.new.all }
+        ensures news { PutsNews now self.old view (topics self.old view) slots.old.all slots.new.all }
         ensures told { self.new ≡ told_with view self.old }
     {
         self.put_all(now, &view, slots);

@@ -6,7 +6,7 @@ pub mod client_key;
 pub mod demo;
 pub mod digest;
 pub mod network;
-mod observing;
+pub mod observing;
 mod own_probe;
 mod port_reminder;
 pub mod resources;

@@ -10,6 +10,7 @@ use lk_replica::Replica;
 use lk_server::server::Server;
 use lk_server::turn_events::TurnEvents;
 use lk_state::Machine;
+use lk_transport::fault::ServiceFault;
 use lk_transport::socket::DatagramSocket;
 use lk_types::{Members, NodeNo};
 
@@ -79,5 +80,20 @@ pub fn observe_turn<M: Machine, D: LogDisk + Drop, S: DatagramSocket + Drop, O: 
     if observer.is_on() {
         let events = server.take_events();
         observer.observe(view_of(server.replica().node(), &events));
+    }
+}
+
+// The words for a fault.
+fn words_for(fault: ServiceFault) -> &'static str {
+    match fault {
+        ServiceFault::OtherGenesis => "another genesis",
+        _ => fault.text().trim_end(),
+    }
+}
+
+/// Reports to an observer that a node ends with a fault.
+pub fn observe_end<O: Observer>(fault: ServiceFault, observer: &mut O) {
+    if observer.is_on() {
+        observer.end(words_for(fault));
     }
 }

@@ -13,7 +13,7 @@ ghost use Rattle.lk_service.specs.Turns.{TakesTurn, TakesTurnWith, GoesOn, Leave
 ghost use Rattle.lk_service.specs.Warnings.{TakesTurnAndWarns, Warns, WarnsUntil, reminded};
 
 use crate::another_genesis::write_other_genesis;
-use crate::observing::{observe_start, observe_turn};
+use crate::observing::{observe_end, observe_start, observe_turn};
 use crate::port_reminder::PortReminder;
 use crate::resources::{NodePlan, Resources};
 use lk_disk::LogDisk;
@@ -339,6 +339,9 @@ pub fn run_node<
 {
     match serve::<M, D, S, C, L, O, E>(clock, alloc, plan, resources, log, observer, err) {
         Ok(()) => 0,
-        Err(fault) => fault.write_to(err),
+        Err(fault) => {
+            observe_end(fault, observer);
+            fault.write_to(err)
+        }
     }
 }

@@ -1,5 +1,14 @@
-use Rattle.lk_events.specs.Watches.{nothing, news}
+use Rattle.std.proofs.Common.{rules}
+use Rattle.lk_events.specs.News.{joins, leaves}
+use Rattle.lk_events.specs.Watches.{PutsNews}
+use Rattle.lk_events.proofs.Putting.{puts_both}
 use Rattle.lk_events.proofs.story.Story.put_members.Goals as goal
 
 pub returns : goal.returns
-returns c = news c.joined.result c.joined.ensures c.put_some.ensures (news c.left.result c.left.ensures c.put_some-2.ensures nothing)
+returns c =
+    let story = c.args.self.now in
+    let view = c.args.view.now in
+    let mid = c.put_joined.new.slots.all in
+    let joined : PutsNews c.args.now story view (joins view.members) c.args.slots.now.all mid = search rules in
+    let left : PutsNews c.args.now story view (leaves story.members) mid c.put_left.new.slots.all = search rules in
+    puts_both joined left
