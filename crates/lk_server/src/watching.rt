@@ -96,7 +96,7 @@ pub fn log_changes<L: Log>(log: &L, came: &Arrival, before: &ReplicaStatus, afte
 /// Logs how many datagrams answer another node's Want.
 pub fn log_served<L: Log>(log: &L, came: &Arrival, said: usize) {
     if let Arrival::Want(node) = came {
-        debug!(log; "Want of node {} served by {said} datagrams", node.get());
+        debug!(log; "datagrams for the Want of node {}: {said}", node.get());
     }
 }
 
@@ -111,7 +111,7 @@ fn log_wants<L: Log>(log: &L, sends: &SendSummary) {
 fn log_lost<L: Log>(log: &L, lost: u64, cause: Option<io::Error>) {
     match cause {
         _ if lost == 0 => {}
-        Some(cause) => debug!(log; "lost {lost} sends: {cause}"),
+        Some(cause) => debug!(log; "lost sends: {lost}, {cause}"),
         None => log_number(log, "lost sends:", lost),
     }
 }
