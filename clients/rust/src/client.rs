@@ -19,18 +19,18 @@ const DROP_PATIENCE: Duration = Duration::from_secs(2);
 /// Who holds a name.
 ///
 /// ```
-/// use locks_client::Standing;
+/// use locks_client::LockState;
 ///
-/// fn last_fence(standing: Standing) -> u64 {
-///     match standing {
-///         Standing::Free { fence } => fence,
-///         Standing::Held { fence, .. } | Standing::HeldShared { fence, .. } => fence,
+/// fn last_fence(state: LockState) -> u64 {
+///     match state {
+///         LockState::Free { fence } => fence,
+///         LockState::Held { fence, .. } | LockState::HeldShared { fence, .. } => fence,
 ///     }
 /// }
-/// assert_eq!(last_fence(Standing::Free { fence: 3 }), 3);
+/// assert_eq!(last_fence(LockState::Free { fence: 3 }), 3);
 /// ```
 #[derive(Clone, Copy, Debug, PartialEq, Eq)]
-pub enum Standing {
+pub enum LockState {
     /// Nobody holds it.
     Free {
         /// The last fence, 0 where it was never granted.
@@ -61,7 +61,7 @@ pub enum Standing {
 ///
 #[doc = asks_a_node!()]
 /// # mod support { include!(concat!(env!("CARGO_MANIFEST_DIR"), "/tests/support/cluster.rs")); }
-/// use locks_client::{Client, ClientId, ClusterId, Error, Numbers, Standing, milliseconds};
+/// use locks_client::{Client, ClientId, ClusterId, Error, LockState, Numbers, milliseconds};
 ///
 /// # fn main() -> Result<(), Error> {
 /// # let cluster = support::Cluster::start(1);
@@ -71,7 +71,7 @@ pub enum Standing {
 /// let fence = client.acquire("db")?;
 /// assert!(client.check("db", fence)?);
 /// client.release("db", fence)?;
-/// assert_eq!(client.ask("db")?, Standing::Free { fence });
+/// assert_eq!(client.ask("db")?, LockState::Free { fence });
 /// # Ok(())
 /// # }
 /// ```
@@ -309,7 +309,7 @@ impl Client {
     ///     // writes with lock.fence()
     ///     Ok(lock.fence())
     /// })?;
-    /// assert_eq!(client.ask("db")?, Standing::Free { fence: written });
+    /// assert_eq!(client.ask("db")?, LockState::Free { fence: written });
     /// # Ok(())
     /// # }
     /// ```
@@ -334,8 +334,8 @@ impl Client {
     }
 
     /// Who holds the name.
-    pub fn ask(&mut self, name: &str) -> Result<Standing, Error> {
-        self.standing(name, Use::Request)
+    pub fn ask(&mut self, name: &str) -> Result<LockState, Error> {
+        self.lock_state(name, Use::Request)
     }
 
     /// Whether the name was held at that fence when this was executed.
@@ -345,11 +345,11 @@ impl Client {
     }
 
     /// Who holds the name.
-    pub(crate) fn standing(&mut self, name: &str, used_for: Use) -> Result<Standing, Error> {
+    pub(crate) fn lock_state(&mut self, name: &str, used_for: Use) -> Result<LockState, Error> {
         match self.request(Op::Ask(name), used_for)? {
-            Answer::Free(fence) => Ok(Standing::Free { fence }),
-            Answer::Held { holder, fence } => Ok(Standing::Held { holder, fence }),
-            Answer::HeldShared { holders, fence } => Ok(Standing::HeldShared { holders, fence }),
+            Answer::Free(fence) => Ok(LockState::Free { fence }),
+            Answer::Held { holder, fence } => Ok(LockState::Held { holder, fence }),
+            Answer::HeldShared { holders, fence } => Ok(LockState::HeldShared { holders, fence }),
             other => Err(Error::OtherAnswer(other)),
         }
     }

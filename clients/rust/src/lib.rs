@@ -39,7 +39,7 @@ mod state;
 mod waits;
 
 pub use answer::Answer;
-pub use client::{Client, Standing};
+pub use client::{Client, LockState};
 pub use error::{Error, StateFault};
 pub use ids::{ClientId, ClusterId};
 pub use key::Keys;

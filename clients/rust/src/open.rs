@@ -3,7 +3,7 @@
 use crate::holding::granted;
 use crate::numbers::Use;
 use crate::op::Kind;
-use crate::{Answer, Client, Error, Standing};
+use crate::{Answer, Client, Error, LockState};
 
 /// A lock that was granted, and is not held any more; somebody may have broken it meanwhile.
 fn given_back(released: Result<(), Error>) -> Result<bool, Error> {
@@ -70,9 +70,9 @@ impl Client {
     /// # Ok(())
     /// # }
     /// ```
-    pub fn give_up(&mut self, name: &str) -> Result<Standing, Error> {
+    pub fn give_up(&mut self, name: &str) -> Result<LockState, Error> {
         self.forget_open();
-        self.standing(name, Use::Freeing)
+        self.lock_state(name, Use::Freeing)
     }
 
     /// Gives up an acquire or a share that has no answer, and releases the lock where it was
@@ -97,7 +97,7 @@ impl Client {
     ///     # client.set_patience(Duration::from_secs(30));
     ///     client.withdraw()?;
     /// }
-    /// assert!(matches!(client.ask("db")?, Standing::Free { .. }));
+    /// assert!(matches!(client.ask("db")?, LockState::Free { .. }));
     /// # Ok(())
     /// # }
     /// ```

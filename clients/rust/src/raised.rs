@@ -19,7 +19,7 @@ impl Client {
     /// one.raise_table()?; // once for a cluster
     /// let fence = one.share("db")?;
     /// assert_eq!(two.share("db")?, fence);
-    /// assert_eq!(two.ask("db")?, Standing::HeldShared { holders: 2, fence });
+    /// assert_eq!(two.ask("db")?, LockState::HeldShared { holders: 2, fence });
     /// # Ok(())
     /// # }
     /// ```
@@ -52,7 +52,7 @@ impl Client {
     /// # let (mut dead, mut client) = (cluster.client(1), cluster.client(2));
     /// # client.raise_table()?;
     /// # dead.acquire("db")?;
-    /// if let Standing::Held { fence, .. } = client.ask("db")? {
+    /// if let LockState::Held { fence, .. } = client.ask("db")? {
     ///     // once nothing of its holder runs any more, or the resource knows the next fence
     ///     assert!(client.break_lock("db", fence)?);
     ///     assert_eq!(client.acquire("db")?, fence + 1);

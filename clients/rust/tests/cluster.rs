@@ -3,7 +3,7 @@
 #[path = "support/cluster.rs"]
 mod support;
 
-use locks_client::{Client, ClientId, ClusterId, Error, Numbers, Standing};
+use locks_client::{Client, ClientId, ClusterId, Error, LockState, Numbers};
 use std::time::Duration;
 use support::{Cluster, free_ports};
 
@@ -13,7 +13,7 @@ fn a_lock_goes_from_hand_to_hand() {
     let cluster = Cluster::start(3);
     let (mut one, mut two) = (cluster.client(1), cluster.client(2));
     assert_eq!(one.acquire("db").unwrap(), 1);
-    let held = Standing::Held {
+    let held = LockState::Held {
         holder: one.id(),
         fence: 1,
     };
@@ -27,7 +27,7 @@ fn a_lock_goes_from_hand_to_hand() {
     assert_eq!(lock.fence(), 2);
     assert!(!one.check("db", 1).unwrap());
     lock.release().unwrap();
-    assert_eq!(one.ask("db").unwrap(), Standing::Free { fence: 2 });
+    assert_eq!(one.ask("db").unwrap(), LockState::Free { fence: 2 });
 }
 
 #[test]
@@ -78,7 +78,7 @@ fn a_raised_table_is_shared_and_broken() {
     assert!(!two.raise_table().unwrap());
     assert_eq!(one.share("db").unwrap(), 1);
     assert_eq!(two.share_within("db", Duration::ZERO).unwrap(), 1);
-    let both = Standing::HeldShared {
+    let both = LockState::HeldShared {
         holders: 2,
         fence: 1,
     };
@@ -117,7 +117,7 @@ fn a_share_that_has_no_answer_is_withdrawn_alone() {
     cluster.up(1);
     two.set_patience(Duration::from_secs(30));
     assert!(two.withdraw().unwrap());
-    let alone = Standing::HeldShared {
+    let alone = LockState::HeldShared {
         holders: 1,
         fence: 1,
     };

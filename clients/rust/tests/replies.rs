@@ -3,7 +3,7 @@
 #[path = "support/scripted.rs"]
 mod support;
 
-use locks_client::{Client, ClientId, ClusterId, Error, Numbers, Standing};
+use locks_client::{Client, ClientId, ClusterId, Error, LockState, Numbers};
 use std::sync::{Arc, Mutex};
 use std::time::{Duration, Instant};
 use support::{
@@ -55,14 +55,14 @@ fn elsewheres_are_counted_anew_after_each_wait() {
 }
 
 #[test]
-fn refusals_and_standings_are_told() {
+fn refusals_and_states_are_told() {
     let asked = |fields: &str| client(&[Node::new(vec![vec![answer(1, fields)]]).port]);
     let busy = asked(BUSY).acquire("db");
     assert_eq!(busy.unwrap_err().to_string(), "busy 8 3");
     let free = asked("05 0000000000000000").ask("db").unwrap();
-    assert_eq!(free, Standing::Free { fence: 0 });
+    assert_eq!(free, LockState::Free { fence: 0 });
     let shared = asked("0d 02 0000000000000001").ask("db").unwrap();
-    let both = Standing::HeldShared {
+    let both = LockState::HeldShared {
         holders: 2,
         fence: 1,
     };
@@ -138,7 +138,7 @@ fn what_has_no_answer_is_asked_again_or_given_up() {
     assert!(matches!(client.ask("db"), Err(Error::Unanswered)));
     assert!(matches!(client.again(), Err(Error::NoAnswer)));
     client.set_patience(Duration::from_secs(5));
-    let held = Standing::Held {
+    let held = LockState::Held {
         holder: client.id(),
         fence: 3,
     };

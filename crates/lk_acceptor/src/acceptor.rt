@@ -148,7 +148,7 @@ impl Acceptor {
     }
 
     // Promises a ballot that is not below the promised one, and returns its entry if it is above.
-    fn raise(&mut self, ballot: RealBallot) -> Option<Entry>
+    fn promise_ballot(&mut self, ballot: RealBallot) -> Option<Entry>
         requires { IsAtMost self.old.state.promised ballot }
         ensures entry { (IsBelow self.old.state.promised ballot × (result ≡ Some (entry.Promise ballot))) ⊎ ((self.old.state.promised ≡ ballot) × (result ≡ None)) }
         ensures state { self.new ≡ with_state self.old (with_promise self.old.state ballot) }
@@ -195,7 +195,7 @@ impl Acceptor {
         }
         let votes = votes_from(self.alloc, &self.votes, first)?;
         let promise = Promise::of(ballot, first, votes).unwrap();
-        let entry = self.raise(ballot);
+        let entry = self.promise_ballot(ballot);
         Ok(Response {
             reply: NodeMessage::Promise(promise),
             entry,

@@ -34,7 +34,7 @@ fn body_of(kind: u8, name: &[u8], rest: &[u8]) -> Option<Payload>
 }
 
 // An operation on a name, as a body with this first byte.
-fn of_name(kind: u8, words: &[u8]) -> Option<Op>
+fn read_name_op(kind: u8, words: &[u8]) -> Option<Op>
     ensures some { IfSome result (AsksOfName kind words.now) }
     ensures none { IsNone result → (o : OpValue) → AsksOfName kind words.now o → ⊥ }
 {
@@ -46,7 +46,7 @@ fn of_name(kind: u8, words: &[u8]) -> Option<Op>
 
 // An operation on a name and a fence, as a body with this first byte.
 #[tactic(auto, unfolding(lk_fields::specs::Fields::eight))]
-fn of_fence(kind: u8, words: &[u8]) -> Option<Op>
+fn read_fence_op(kind: u8, words: &[u8]) -> Option<Op>
     ensures some { IfSome result (AsksOfFence kind words.now) }
     ensures none { IsNone result → (o : OpValue) → AsksOfFence kind words.now o → ⊥ }
 {
@@ -77,7 +77,7 @@ pub fn port_of(word: &[u8]) -> Option<Port>
 }
 
 // A join of the node and the port.
-fn to_join(words: &[u8]) -> Option<Op>
+fn read_join(words: &[u8]) -> Option<Op>
     ensures some { IfSome result (AsksToJoin words.now) }
     ensures none { IsNone result → (o : OpValue) → AsksToJoin words.now o → ⊥ }
 {
@@ -92,7 +92,7 @@ fn to_join(words: &[u8]) -> Option<Op>
 }
 
 // A leave of the node.
-fn to_leave(words: &[u8]) -> Option<Op>
+fn read_leave(words: &[u8]) -> Option<Op>
     ensures some { IfSome result (AsksToLeave words.now) }
     ensures none { IsNone result → (o : OpValue) → AsksToLeave words.now o → ⊥ }
 {
@@ -103,7 +103,7 @@ fn to_leave(words: &[u8]) -> Option<Op>
 }
 
 // The version to which the machine is raised.
-fn to_raise(words: &[u8]) -> Option<Op>
+fn read_raise(words: &[u8]) -> Option<Op>
     ensures some { IfSome result (AsksToRaise words.now) }
     ensures none { IsNone result → (o : OpValue) → AsksToRaise words.now o → ⊥ }
 {
@@ -114,7 +114,7 @@ fn to_raise(words: &[u8]) -> Option<Op>
 }
 
 // The body that hex digits spell.
-fn in_hex(digits: &[u8]) -> Option<Op>
+fn read_hex(digits: &[u8]) -> Option<Op>
     ensures some { IfSome result (AsksInHex digits.now) }
     ensures none { IsNone result → (o : OpValue) → AsksInHex digits.now o → ⊥ }
 {
@@ -133,16 +133,16 @@ fn op_of(verb: Verb, words: &[u8]) -> Option<Op>
     ensures none { IsNone result → (o : OpValue) → Asks verb words.now o → ⊥ }
 {
     match verb {
-        Verb::Acquire => of_name(1, words),
-        Verb::Release => of_fence(2, words),
-        Verb::Ask => of_name(3, words),
-        Verb::Check => of_fence(4, words),
-        Verb::Share => of_name(5, words),
-        Verb::Break => of_fence(6, words),
-        Verb::Join => to_join(words),
-        Verb::Leave => to_leave(words),
-        Verb::Raise => to_raise(words),
-        Verb::Raw => in_hex(words),
+        Verb::Acquire => read_name_op(1, words),
+        Verb::Release => read_fence_op(2, words),
+        Verb::Ask => read_name_op(3, words),
+        Verb::Check => read_fence_op(4, words),
+        Verb::Share => read_name_op(5, words),
+        Verb::Break => read_fence_op(6, words),
+        Verb::Join => read_join(words),
+        Verb::Leave => read_leave(words),
+        Verb::Raise => read_raise(words),
+        Verb::Raw => read_hex(words),
     }
 }
 

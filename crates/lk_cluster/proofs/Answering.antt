@@ -14,8 +14,8 @@ use Rattle.lk_messages.specs.declared.message.NodeMessage.TheVariants as message
 use Rattle.lk_messages.proofs.Spellings.{one_message}
 use Rattle.lk_agreement.specs.Datagrams.{Datagram, HasSent}
 use Rattle.lk_agreement.proofs.Histories.{cons_cases, contains_more, filter_from}
-use Rattle.lk_step.specs.declared.note.Note.{Note}
-use Rattle.lk_step.specs.declared.note.Note.TheVariants as note
+use Rattle.lk_node_io.specs.declared.note.Note.{Note}
+use Rattle.lk_node_io.specs.declared.note.Note.TheVariants as note
 use Rattle.lk_client.specs.declared.question.Question.{Question}
 use Rattle.lk_promise.specs.Promise.{is_reply, AreReplies, nothing_more, an_answer, a_pass, no_reply, is_told, AreTold}
 use Rattle.lk_cluster.specs.Asking.{Tells, MayReach, HasAnswer}

@@ -13,8 +13,8 @@ use Rattle.lk_messages.specs.declared.message.Content.TheVariants as content
 use Rattle.lk_messages.specs.declared.message.Message.{Message}
 use Rattle.lk_messages.proofs.Spellings.{one_message}
 use Rattle.lk_agreement.proofs.Histories.{cons_cases}
-use Rattle.lk_step.specs.declared.note.Note.{Note}
-use Rattle.lk_step.specs.declared.note.Note.TheVariants as note
+use Rattle.lk_node_io.specs.declared.note.Note.{Note}
+use Rattle.lk_node_io.specs.declared.note.Note.TheVariants as note
 use Rattle.lk_client.specs.Questions.{IsAsked}
 use Rattle.lk_client.specs.declared.question.Question.{Question}
 use Rattle.lk_promise.specs.ExactlyOnce.{Asks, WasAnswered, AsksAfter, FollowsRule}

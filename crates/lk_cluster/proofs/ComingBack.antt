@@ -15,7 +15,7 @@ use Rattle.lk_promise.specs.ComingBack.{IsExcused}
 use Rattle.lk_cluster.specs.Clusters.{Cluster, Network, ServerStands, IsReachable, server_disks}
 use Rattle.lk_cluster.specs.Continuing.{node_of, HasNode}
 use Rattle.lk_cluster.proofs.Keeping.{Unforged, reachable_sound}
-use Rattle.lk_step.specs.Faults.{IsNumberOfRevival}
+use Rattle.lk_node_io.specs.Faults.{IsNumberOfRevival}
 use Rattle.lk_recovery.specs.Revivals.{IsRefusedFor}
 
 excused : (disks left : Side → Disk) (n : ℕ) (genesis : Genesis) (number : ℕ) → IsNumberOfRevival number → IsRefusedFor table_meaning IsTableText disks (header_of genesis n) number left → IsExcused disks number

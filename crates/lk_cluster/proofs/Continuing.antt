@@ -6,15 +6,15 @@ use Rattle.lk_disk.specs.Disk.{Disk, kept_by}
 use Rattle.lk_simulated_disk.specs.Memory.{Memory, disk_of}
 use Rattle.lk_disk.specs.declared.device.Side.{Side}
 use Rattle.lk_locks.specs.Meaning.{table_meaning}
-use Rattle.lk_step.specs.Letters.{LetterValue, batch_of, datagram_of}
-use Rattle.lk_step.specs.declared.note.Note.{Note}
+use Rattle.lk_node_io.specs.Letters.{LetterValue, batch_of, datagram_of}
+use Rattle.lk_node_io.specs.declared.note.Note.{Note}
 use Rattle.lk_node.specs.Histories.{Genesis, Datagram}
 use Rattle.lk_replica.specs.ReplicaValue.{ReplicaValue}
 use Rattle.lk_server.specs.ProbeHandling.{HandlesProbes}
 use Rattle.lk_served_replica.specs.Showing.{IsShown}
 use Rattle.lk_server.specs.Servers.{ServerValue, Turn, LastTurn, IsIdle}
 use Rattle.lk_probe.specs.declared.reported.Reported.{Reported}
-use Rattle.lk_transport.specs.declared.asked.Asked.{Asked}
+use Rattle.lk_transport.specs.declared.received_probe.ReceivedProbe.{ReceivedProbe}
 use Rattle.lk_transport.specs.Chains.{Chain}
 use Rattle.lk_service.specs.Turns.{TakesTurn as ServerTurn, TakesTurnWith, GoesOn, TellsFailure, letters_in}
 use Rattle.lk_sim.specs.Networks.{Rests, RestsBy, Stops, nothing}
@@ -54,7 +54,7 @@ module _ (May : Network) (Metered tells : Type 0) where
       let begun : IsBegun old.genesis n (disk_of device) server = subst (λ (d : Side → Disk). IsBegun old.genesis n d server) path is in
       let new = continued old place n (Up server) [] begun.notes in
       let starts : Starts old new = record {
-        rises = record {
+        restarts = record {
           seat = node_of n (Down device);
           next = node_of n (Up server);
           turns = record { place = place; at = at; number = refl; seats = refl };
@@ -63,7 +63,7 @@ module _ (May : Network) (Metered tells : Type 0) where
           replica = server;
           up = refl;
           notes = begun.notes;
-          rises = begun.rises;
+          restarts = begun.restarts;
           adds = record { genesis = refl; sent = refl; trace = refl };
         };
         own = begun.own;
@@ -113,7 +113,7 @@ module _ (May : Network) (Metered tells : Type 0) where
 
   -- an idle turn, or what is done beside the protocol
   rest_comes : (genesis : Genesis) (old : Cluster) → IsReachable May Metered tells genesis old → (place n : ℕ) (server after : ServerValue ReplicaValue) → HasNode old place n (Up server)
-      → ((frames : List (SocketAddr × List ℕ)) × IsIdle tells frames server after) ⊎ ((asked : Option Asked) × (reported : Option Reported) × HandlesProbes IsShown tells asked reported server after)
+      → ((frames : List (SocketAddr × List ℕ)) × IsIdle tells frames server after) ⊎ ((asked : Option ReceivedProbe) × (reported : Option Reported) × HandlesProbes IsShown tells asked reported server after)
       → IsReachable May Metered tells genesis (continued old place n (Up after) [] [])
   rest_comes genesis old all place n server after at idle =
       let new = continued old place n (Up after) [] [] in
@@ -258,7 +258,7 @@ module _ (May : Network) (Metered tells : Type 0) where
     -- turns, one after another, of a replica that says so
     module _ (S : ReplicaValue → List (Option (List ℕ)) → List LetterValue → ReplicaValue → Type 0) (so : (old : ReplicaValue) (given : List (Option (List ℕ))) (letters : List LetterValue) (new : ReplicaValue) → S old given letters new → Says Metered old given letters new) where
       -- whether a call has ended the replica is told before what is done beside the protocol as after it
-      mid_failure : (mid next : ServerValue ReplicaValue) (asked : Option Asked) (reported : Option Reported) → HandlesProbes IsShown tells asked reported mid next → TellsFailure next → TellsFailure mid
+      mid_failure : (mid next : ServerValue ReplicaValue) (asked : Option ReceivedProbe) (reported : Option Reported) → HandlesProbes IsShown tells asked reported mid next → TellsFailure next → TellsFailure mid
       mid_failure mid next asked reported acts failure =
           let as_was : next ≡ record mid { addresses = next.addresses; sent = next.sent; socket_failures = next.socket_failures; coming = next.coming } = acts.same in
           sym (ap (λ (s : ServerValue ReplicaValue). s.failed) as_was) ∙ failure ∙ ap (λ (s : ServerValue ReplicaValue). s.replica.failed) as_was
@@ -272,7 +272,7 @@ module _ (May : Network) (Metered tells : Type 0) where
       taken_comes genesis old all place n first next at came frames may (inr idle) failure = ([], idle_comes genesis old all place n first next at frames idle)
 
       -- one of them with what is done beside the protocol after it
-      module _ (kept : Option Asked) (told : Option Reported) (After : ServerValue ReplicaValue → Type 0) (genesis : Genesis) (old : Cluster) (all : IsReachable May Metered tells genesis old) (place n : ℕ) (first next : ServerValue ReplicaValue) (at : HasNode old place n (Up first))
+      module _ (kept : Option ReceivedProbe) (told : Option Reported) (After : ServerValue ReplicaValue → Type 0) (genesis : Genesis) (old : Cluster) (all : IsReachable May Metered tells genesis old) (place n : ℕ) (first next : ServerValue ReplicaValue) (at : HasNode old place n (Up first))
           (turn : TakesTurnWith S tells kept told After first next) (may : May old.genesis old.sent first turn.came) where
         turn_and_acts : (trace : List Note) × IsReachable May Metered tells genesis (continued (continued old place n (Up turn.mid) (letters_in S tells turn.turn) trace) place n (Up next) [] [])
         turn_and_acts =

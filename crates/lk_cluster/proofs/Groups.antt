@@ -13,10 +13,10 @@ use Rattle.lk_log.proofs.Room.{never_longer}
 use Rattle.lk_messages.specs.declared.message.NodeMessage.TheVariants as kinds
 use Rattle.lk_agreement.specs.Snapshots.{IsSlice}
 use Rattle.lk_agreement.proofs.Histories.{beginning_slice, still_sent}
-use Rattle.lk_step.specs.Letters.{LetterValue, batch_of, datagram_of}
-use Rattle.lk_step.specs.declared.input.Input.{Input}
-use Rattle.lk_step.specs.declared.input.Input.TheVariants.{Tick, Datagram as Heard}
-use Rattle.lk_step.specs.declared.note.Note.{Note}
+use Rattle.lk_node_io.specs.Letters.{LetterValue, batch_of, datagram_of}
+use Rattle.lk_node_io.specs.declared.input.Input.{Input}
+use Rattle.lk_node_io.specs.declared.input.Input.TheVariants.{Tick, Datagram as Heard}
+use Rattle.lk_node_io.specs.declared.note.Note.{Note}
 use Rattle.lk_node.specs.Calls.{heard_by, InputFits, NodeFits, Goes}
 use Rattle.lk_node.specs.Histories.{History, Genesis, Datagram, RequestValue, IsLawful, later, text}
 use Rattle.lk_node.specs.Keeping.{Stands}

@@ -9,8 +9,8 @@ use Rattle.lk_simulated_disk.specs.Memory.{Memory, disk_of}
 use Rattle.lk_disk.specs.declared.device.Side.{Side}
 use Rattle.lk_locks.specs.Meaning.{table_meaning}
 use Rattle.lk_agreement.proofs.Histories.{heard_was_sent, cons_cases, contains_more}
-use Rattle.lk_step.specs.Letters.{LetterValue, batch_of, datagram_of}
-use Rattle.lk_step.specs.declared.note.Note.{Note}
+use Rattle.lk_node_io.specs.Letters.{LetterValue, batch_of, datagram_of}
+use Rattle.lk_node_io.specs.declared.note.Note.{Note}
 use Rattle.lk_node.specs.Histories.{Genesis, Datagram}
 use Rattle.lk_node.specs.Leavings.{DisksFit}
 use Rattle.lk_replica.specs.Posts.{CarriesAll}
@@ -21,7 +21,7 @@ use Rattle.lk_pace.specs.Paces.{ticks_after, MayFollow}
 use Rattle.lk_server.specs.ProbeHandling.{HandlesProbes}
 use Rattle.lk_served_replica.specs.Showing.{IsShown}
 use Rattle.lk_probe.specs.declared.reported.Reported.{Reported}
-use Rattle.lk_transport.specs.declared.asked.Asked.{Asked}
+use Rattle.lk_transport.specs.declared.received_probe.ReceivedProbe.{ReceivedProbe}
 use Rattle.lk_server.specs.Servers.{ServerValue, HandsOn, Given, IsIdle, one_more, inputs, all_inputs, datagrams_in, IsFront, tray_at}
 use Rattle.lk_pace.specs.declared.pace.Pace.{Pace}
 use Rattle.lk_pace.specs.declared.pace.Pace.TheVariants.{Datagrams, Clock}
@@ -196,7 +196,7 @@ at_rest server after = record after { addresses = server.addresses; coming = ser
 
 -- by an idle turn and beside the protocol nothing else changes
 at_rest_by : {tells : Type 0} (server after : ServerValue ReplicaValue)
-    → ((frames : List (SocketAddr × List ℕ)) × IsIdle tells frames server after) ⊎ ((asked : Option Asked) × (reported : Option Reported) × HandlesProbes IsShown tells asked reported server after) → at_rest server after ≡ server
+    → ((frames : List (SocketAddr × List ℕ)) × IsIdle tells frames server after) ⊎ ((asked : Option ReceivedProbe) × (reported : Option Reported) × HandlesProbes IsShown tells asked reported server after) → at_rest server after ≡ server
 at_rest_by server after (inl i) = ap (λ (s : ServerValue ReplicaValue). record s { addresses = server.addresses; sent = server.sent; socket_failures = server.socket_failures }) i.1.same
 at_rest_by server after (inr a) = ap (λ (s : ServerValue ReplicaValue). at_rest server s) a.2.same
 
@@ -225,7 +225,7 @@ module _ (May : Network) (Metered tells : Type 0) (unforged : Unforged May) wher
 
     starts : Starts old new → IsSound new
     starts a =
-        let r = a.rises in
+        let r = a.restarts in
         record {
           holds = by_step (inr (inl r));
           own = own_moved r.seat r.next r.turns [] r.adds.sent (λ q up.

@@ -8,7 +8,7 @@ use Rattle.lk_disk.specs.declared.device.Side.TheVariants.{A, B}
 use Rattle.lk_locks.specs.Meaning.{table_meaning}
 use Rattle.lk_log.specs.StoreValue.{StoreValue, disks}
 use Rattle.lk_agreement.specs.Nodes.{View}
-use Rattle.lk_step.specs.declared.note.Note.{Note}
+use Rattle.lk_node_io.specs.declared.note.Note.{Note}
 use Rattle.lk_node.specs.Histories.{History, Genesis, Datagram}
 use Rattle.lk_node.specs.Holdings.{Holding}
 use Rattle.lk_node.specs.Keeping.{Stands}

@@ -13,7 +13,7 @@ use Rattle.lk_messages.specs.declared.message.Content.TheVariants as content
 use Rattle.lk_messages.specs.declared.message.Message.{Message}
 use Rattle.lk_messages.proofs.Spellings.{one_message}
 use Rattle.lk_agreement.proofs.Histories.{contains_more}
-use Rattle.lk_step.specs.declared.note.Note.{Note}
+use Rattle.lk_node_io.specs.declared.note.Note.{Note}
 use Rattle.lk_node.specs.Histories.{Datagram, RequestValue}
 use Rattle.lk_sim.specs.Networks.{IsRequestIn, AreAsking, TellsOf}
 use Rattle.lk_world_nodes.specs.Told.{told_by}

@@ -2,9 +2,9 @@
 use Rattle.std.proofs.Common.{ℕ, List, Option, Result, Ok, Err, inl, inr}
 use Rattle.std.specs.Prelude.{OnOk, OnErr}
 use Rattle.std.specs.declared.net.socket_addr.SocketAddr.{SocketAddr}
-use Rattle.lk_step.specs.Letters.{LetterValue}
-use Rattle.lk_transport.specs.Addresses.{Circle, circle_of}
-use Rattle.lk_transport.specs.Posts.{all_taken_as}
+use Rattle.lk_node_io.specs.Letters.{LetterValue}
+use Rattle.lk_transport.specs.Addresses.{Filter, filter_of}
+use Rattle.lk_transport.specs.Posts.{all_filtered}
 use Rattle.lk_server.specs.Servers.{ServerValue, HandsOn, HasReceived, Turn, LastTurn, TakesTurn}
 
 module _ {R : Type 0} (S T : R → List (Option (List ℕ)) → List LetterValue → R → Type 0) (so : (old : R) (given : List (Option (List ℕ))) (letters : List LetterValue) (new : R) → S old given letters new → T old given letters new) where
@@ -25,7 +25,7 @@ module _ {R : Type 0} (S T : R → List (Option (List ℕ)) → List LetterValue
   }
 
   pub taken_so : (tells : Type 0) (frames : List (SocketAddr × List ℕ)) (old new : ServerValue R) → TakesTurn S tells frames old new → TakesTurn T tells frames old new
-  taken_so tells frames old new (inl t) = inl (turn_so tells (all_taken_as (circle_of old.addresses) frames) old new t)
+  taken_so tells frames old new (inl t) = inl (turn_so tells (all_filtered (filter_of old.addresses) frames) old new t)
   taken_so tells frames old new (inr idle) = inr idle
 
   abbrev pub last_so : (tells : Type 0) (came : List (SocketAddr × List ℕ)) (old new : ServerValue R) → LastTurn S tells came old new → LastTurn T tells came old new
@@ -48,7 +48,7 @@ module _ {R : Type 0} (S T : R → List (Option (List ℕ)) → List LetterValue
   on_ok_so Keeps (Ok x) tells old new t = (t.0, t.1, taken_so tells t.0 old new t.2, t.3)
   on_ok_so Keeps (Err e) tells old new t = tt
 
-  pub on_err_so : {A E : Type 0} (r : Result A E) (tells : Type 0) (circle : Circle) (old new : ServerValue R) → OnErr r ((frames : List (SocketAddr × List ℕ)) × HasReceived tells frames old new × LastTurn S tells (all_taken_as circle frames) old new)
-      → OnErr r ((frames : List (SocketAddr × List ℕ)) × HasReceived tells frames old new × LastTurn T tells (all_taken_as circle frames) old new)
-  on_err_so (Ok x) tells circle old new t = tt
-  on_err_so (Err e) tells circle old new t = (t.0, t.1, last_so tells (all_taken_as circle t.0) old new t.2)
+  pub on_err_so : {A E : Type 0} (r : Result A E) (tells : Type 0) (filter : Filter) (old new : ServerValue R) → OnErr r ((frames : List (SocketAddr × List ℕ)) × HasReceived tells frames old new × LastTurn S tells (all_filtered filter frames) old new)
+      → OnErr r ((frames : List (SocketAddr × List ℕ)) × HasReceived tells frames old new × LastTurn T tells (all_filtered filter frames) old new)
+  on_err_so (Ok x) tells filter old new t = tt
+  on_err_so (Err e) tells filter old new t = (t.0, t.1, last_so tells (all_filtered filter t.0) old new t.2)

@@ -9,13 +9,13 @@ use Rattle.lk_messages.specs.declared.message.Content.TheVariants as content
 use Rattle.lk_messages.specs.declared.message.NodeMessage.{NodeMessage}
 use Rattle.lk_agreement.specs.Datagrams.{said_by}
 use Rattle.lk_agreement.proofs.Histories.{heard_was_sent}
-use Rattle.lk_step.specs.Letters.{LetterValue, batch_of}
+use Rattle.lk_node_io.specs.Letters.{LetterValue, batch_of}
 use Rattle.lk_node.specs.Histories.{Genesis, Datagram}
 use Rattle.lk_replica.specs.ReplicaValue.{ReplicaValue}
 use Rattle.lk_seal.specs.Seals.{key_list, heard}
 use Rattle.lk_seal.specs.declared.seals.Seals.{Seals}
-use Rattle.lk_transport.specs.Addresses.{Circle, circle_of}
-use Rattle.lk_transport.specs.Posts.{all_taken_as, is_apart}
+use Rattle.lk_transport.specs.Addresses.{Filter, filter_of}
+use Rattle.lk_transport.specs.Posts.{all_filtered, is_filtered_out}
 use Rattle.lk_server.specs.Premises.{IsToldByANode}
 use Rattle.lk_server.specs.Servers.{ServerValue}
 use Rattle.lk_transport.specs.Chains.{Chain}
@@ -37,22 +37,22 @@ taken_unforged c w s frame (inl sealed) only n x spelled =
 taken_unforged c w s frame (inr free) only n x spelled = let r = free (said_by c.genesis n x) spelled in absurd (no_request c.genesis n x r.0 r.1)
 
 module _ (told : (s : Seals) (frame : List ℕ) → key_list s.nodes ≢ [] → IsToldByANode s frame) where
-  what_comes : (c : Cluster) → IsSound c → (s : Circle) → key_list s.seals.nodes ≢ [] → (frames : List (SocketAddr × List ℕ)) → OnlyNodesSealWhatComes c.sent s.seals frames
-      → AllByRecursion (λ (d : SocketAddr × List ℕ). MayCome c.genesis c.sent (Some d.1)) (all_taken_as s frames)
+  what_comes : (c : Cluster) → IsSound c → (s : Filter) → key_list s.seals.nodes ≢ [] → (frames : List (SocketAddr × List ℕ)) → OnlyNodesSealWhatComes c.sent s.seals frames
+      → AllByRecursion (λ (d : SocketAddr × List ℕ). MayCome c.genesis c.sent (Some d.1)) (all_filtered s frames)
   what_comes c w s key [] only = tt
-  what_comes c w s key (frame ∷ frames) only = elim (cases_Bool (is_apart s frame)) [
+  what_comes c w s key (frame ∷ frames) only = elim (cases_Bool (is_filtered_out s frame)) [
     | inl e ↦ rw e (what_comes c w s key frames only.1)
     | inr e ↦ rw e (taken_unforged c w s.seals frame.1 (told s.seals frame.1 key) only.0, what_comes c w s key frames only.1)
   ]
 
   pub seals_forge_nothing : Unforged IsSealed
   seals_forge_nothing c w server came may =
-      subst (λ (l : List (SocketAddr × List ℕ)). ForgesNothing c.genesis c.sent server l) (sym may.opened) (what_comes c w (circle_of server.addresses) may.has_key may.frames may.only_nodes_seal)
+      subst (λ (l : List (SocketAddr × List ℕ)). ForgesNothing c.genesis c.sent server l) (sym may.opened) (what_comes c w (filter_of server.addresses) may.has_key may.frames may.only_nodes_seal)
 
 -- ---- turns of a server that has the key
 
 -- what comes in frames
-pub frames_sealed : (s : Seals) → key_list s.nodes ≢ [] → (genesis : Genesis) (sent : List Datagram) (server : ServerValue ReplicaValue) → server.addresses.seals ≡ s → (frames came : List (SocketAddr × List ℕ)) → came ≡ all_taken_as (circle_of server.addresses) frames → OnlyNodesSealWhatComes sent s frames
+pub frames_sealed : (s : Seals) → key_list s.nodes ≢ [] → (genesis : Genesis) (sent : List Datagram) (server : ServerValue ReplicaValue) → server.addresses.seals ≡ s → (frames came : List (SocketAddr × List ℕ)) → came ≡ all_filtered (filter_of server.addresses) frames → OnlyNodesSealWhatComes sent s frames
     → IsSealed genesis sent server came
 frames_sealed s key genesis sent server same frames came opened only = record {
   frames = frames;

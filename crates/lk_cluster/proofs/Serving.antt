@@ -7,7 +7,7 @@ use Rattle.lk_locks.specs.Meaning.{table_meaning}
 use Rattle.lk_locks.specs.Packed.{IsTableText}
 use Rattle.lk_log.specs.StoreValue.{disks}
 use Rattle.lk_log.proofs.Room.{refused_room, never_longer}
-use Rattle.lk_step.specs.Letters.{LetterValue, batch_of}
+use Rattle.lk_node_io.specs.Letters.{LetterValue, batch_of}
 use Rattle.lk_node.specs.Histories.{Genesis, Datagram}
 use Rattle.lk_node.specs.Leavings.{header_of}
 use Rattle.lk_replica.specs.ReplicaValue.{ReplicaValue}
@@ -32,7 +32,7 @@ begun_in Honest genesis n old s honest begun =
     let up = begun.comes_up honest in
     record {
       notes = up.notes;
-      rises = record {
+      restarts = record {
         goes = λ h is lawful fit. up.goes h n (ap (λ (z : Genesis). header_of z n) (sym is)) lawful fit;
         short = λ short. never_longer old (disks s.replica.store) (refused_room old (disks s.replica.store) up.room) short;
       };

@@ -6,8 +6,8 @@ use Rattle.lk_types.specs.declared.command.Request.{Request}
 use Rattle.lk_types.specs.declared.genesis.Genesis.{Genesis}
 use Rattle.lk_seal.specs.Seals.{key_list, replied}
 use Rattle.lk_agreement.specs.Datagrams.{Datagram}
-use Rattle.lk_step.specs.declared.note.Note.{Note}
-use Rattle.lk_step.specs.declared.note.Note.TheVariants as note
+use Rattle.lk_node_io.specs.declared.note.Note.{Note}
+use Rattle.lk_node_io.specs.declared.note.Note.TheVariants as note
 use Rattle.lk_sim.specs.Networks.{MayCome}
 use Rattle.lk_client.specs.Questions.{IsAsked, IsReply}
 use Rattle.lk_client.specs.Rules.{SendsOnly}

@@ -12,8 +12,8 @@ use Rattle.lk_disk.specs.declared.device.Side.{Side}
 use Rattle.lk_locks.specs.Meaning.{table_meaning}
 use Rattle.lk_locks.specs.Packed.{IsTableText}
 use Rattle.lk_log.specs.StoreValue.{disks}
-use Rattle.lk_step.specs.Letters.{LetterValue, batch_of}
-use Rattle.lk_step.specs.declared.note.Note.{Note}
+use Rattle.lk_node_io.specs.Letters.{LetterValue, batch_of}
+use Rattle.lk_node_io.specs.declared.note.Note.{Note}
 use Rattle.lk_node.specs.Histories.{Datagram, RequestValue}
 use Rattle.lk_node.specs.Holdings.{Holding}
 use Rattle.lk_node.specs.Keeping.{Stands}
@@ -24,9 +24,9 @@ use Rattle.lk_server.specs.ProbeHandling.{HandlesProbes}
 use Rattle.lk_served_replica.specs.Showing.{IsShown}
 use Rattle.lk_server.specs.Servers.{ServerValue, Turn, LastTurn, IsIdle}
 use Rattle.lk_probe.specs.declared.reported.Reported.{Reported}
-use Rattle.lk_transport.specs.declared.asked.Asked.{Asked}
+use Rattle.lk_transport.specs.declared.received_probe.ReceivedProbe.{ReceivedProbe}
 use Rattle.lk_sim.specs.Events.{Turns, Adds}
-use Rattle.lk_sim.specs.Networks.{MayCome, AreAsking, TellsOf, RisesBy, Appears, Rises, Rests, Stops, nothing}
+use Rattle.lk_sim.specs.Networks.{MayCome, AreAsking, TellsOf, RestartsBy, Appears, Restarts, Rests, Stops, nothing}
 use Rattle.lk_sim.specs.Scenes.{Scene}
 use Rattle.lk_sim.specs.Traces.{asked_note}
 use Rattle.lk_world_nodes.specs.declared.seat.Life.{Life}
@@ -63,7 +63,7 @@ server_disks s = disks s.replica.store
 -- it is up as the server of that node with what these disks have, and no letter to itself is waiting
 pub record IsBegun (genesis : Genesis) (n : ℕ) (old : Side → Disk) (s : ServerValue ReplicaValue) : Type 0 where
   pub notes : List Note
-  pub rises : RisesBy ServerStands server_disks table_meaning genesis n old s notes
+  pub restarts : RestartsBy ServerStands server_disks table_meaning genesis n old s notes
   pub own : s.own ≡ []
   pub alive : s.replica.failed ≡ false
 
@@ -113,9 +113,9 @@ Joins n (o ∷ given) said trace = (here : List Note) × (rest : List Note) × (
 
 -- a node that was down is up as a server with what its disks have, and no letter to itself is waiting
 pub record Starts (old new : Cluster) : Type 0 where
-  pub rises : Rises ServerStands server_disks table_meaning old new
-  pub own : rises.replica.own ≡ []
-  pub alive : rises.replica.replica.failed ≡ false
+  pub restarts : Restarts ServerStands server_disks table_meaning old new
+  pub own : restarts.replica.own ≡ []
+  pub alive : restarts.replica.replica.failed ≡ false
 
 -- a node that is up takes an idle turn, or handles probes: its replica is given nothing, and nothing is given
 -- to be sent as a datagram of the node. Only what it knows of the nodes at other addresses, what is to come to its
@@ -129,7 +129,7 @@ pub record Idles (tells : Type 0) (old new : Cluster) : Type 0 where
   pub was : node.life ≡ Up server
   pub after : ServerValue ReplicaValue
   pub up : next.life ≡ Up after
-  pub idle : ((frames : List (SocketAddr × List ℕ)) × IsIdle tells frames server after) ⊎ ((asked : Option Asked) × (reported : Option Reported) × HandlesProbes IsShown tells asked reported server after)
+  pub idle : ((frames : List (SocketAddr × List ℕ)) × IsIdle tells frames server after) ⊎ ((asked : Option ReceivedProbe) × (reported : Option Reported) × HandlesProbes IsShown tells asked reported server after)
   pub adds : Adds old new [] []
 
 -- `May` says what the network may bring, `Metered` that the devices count their calls, and `tells` that the sockets

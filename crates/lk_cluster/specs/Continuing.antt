@@ -8,7 +8,7 @@ use Rattle.lk_transport.specs.Chains.{Chain}
 use Rattle.lk_service.specs.Turns.{TakesTurn as ServerTurn, letters_in}
 use Rattle.lk_world_nodes.specs.Seats.{At}
 use Rattle.lk_world_nodes.specs.declared.seat.Life.{Life}
-use Rattle.lk_step.specs.Letters.{LetterValue, batch_of}
+use Rattle.lk_node_io.specs.Letters.{LetterValue, batch_of}
 use Rattle.lk_cluster.specs.Clusters.{Node, Cluster, Network, IsReachable}
 
 -- the node of that number, up or down

@@ -6,7 +6,7 @@ use Rattle.lk_simulated_disk.specs.Memory.{Memory, disk_of}
 use Rattle.lk_disk.specs.declared.device.Side.{Side}
 use Rattle.lk_locks.specs.Meaning.{table_meaning}
 use Rattle.lk_locks.specs.Packed.{IsTableText}
-use Rattle.lk_step.specs.Letters.{LetterValue, batch_of}
+use Rattle.lk_node_io.specs.Letters.{LetterValue, batch_of}
 use Rattle.lk_node.specs.Leavings.{header_of}
 use Rattle.lk_replica.specs.ReplicaValue.{ReplicaValue}
 use Rattle.lk_seal.specs.declared.seals.Seals.{Seals}

@@ -3,13 +3,13 @@ use Rattle.std.specs.Prelude.{◌≡◌, ◌≢◌, ℕ, Option, List, [], ◌�
 use Rattle.std.specs.List.{AllByRecursion}
 use Rattle.std.specs.declared.net.socket_addr.SocketAddr.{SocketAddr}
 use Rattle.lk_types.specs.declared.genesis.Genesis.{Genesis}
-use Rattle.lk_step.specs.Letters.{LetterValue, batch_of}
+use Rattle.lk_node_io.specs.Letters.{LetterValue, batch_of}
 use Rattle.lk_node.specs.Histories.{Datagram}
 use Rattle.lk_replica.specs.ReplicaValue.{ReplicaValue}
 use Rattle.lk_seal.specs.Seals.{key_list, to_node, IsSealedBy}
 use Rattle.lk_seal.specs.declared.seals.Seals.{Seals}
-use Rattle.lk_transport.specs.Addresses.{circle_of}
-use Rattle.lk_transport.specs.Posts.{all_taken_as}
+use Rattle.lk_transport.specs.Addresses.{filter_of}
+use Rattle.lk_transport.specs.Posts.{all_filtered}
 use Rattle.lk_server.specs.Servers.{ServerValue}
 use Rattle.lk_transport.specs.Chains.{Chain}
 use Rattle.lk_service.specs.Turns.{TakesTurn as ServerTurn, letters_in}
@@ -33,7 +33,7 @@ OnlyNodesSealWhatComes sent s frames = AllByRecursion (λ (frame : SocketAddr ×
 -- what it opens
 pub record IsSealed (genesis : Genesis) (sent : List Datagram) (server : ServerValue ReplicaValue) (came : List (SocketAddr × List ℕ)) : Type 0 where
   pub frames : List (SocketAddr × List ℕ)
-  pub opened : came ≡ all_taken_as (circle_of server.addresses) frames
+  pub opened : came ≡ all_filtered (filter_of server.addresses) frames
   pub has_key : key_list server.addresses.seals.nodes ≢ []
   pub only_nodes_seal : OnlyNodesSealWhatComes sent server.addresses.seals frames
 

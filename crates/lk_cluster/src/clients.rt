@@ -2,7 +2,7 @@
 ghost use Rattle.std.specs.Prelude.{◌≡◌, ℕ, List, [], ◌++◌};
 ghost use Rattle.std.specs.declared.net.socket_addr.SocketAddr.{SocketAddr};
 ghost use Rattle.lk_types.specs.declared.answer.Answer.{Answer};
-ghost use Rattle.lk_step.specs.declared.note.Note.{Note};
+ghost use Rattle.lk_node_io.specs.declared.note.Note.{Note};
 ghost use Rattle.lk_replica.specs.ReplicaValue.{ReplicaValue};
 ghost use Rattle.lk_sim.specs.Scenes.{Scene};
 ghost use Rattle.lk_client.specs.Rules.{SendsOnly};

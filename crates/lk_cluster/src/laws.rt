@@ -9,13 +9,13 @@ ghost use Rattle.lk_messages.specs.declared.message.NodeMessage.{NodeMessage};
 ghost use Rattle.lk_locks.specs.Meaning.{table_meaning};
 ghost use Rattle.lk_locks.specs.Packed.{IsTableText};
 ghost use Rattle.lk_agreement.specs.Datagrams.{HasSent};
-ghost use Rattle.lk_step.specs.Letters.{batch_of};
+ghost use Rattle.lk_node_io.specs.Letters.{batch_of};
 ghost use Rattle.lk_node.specs.Leavings.{header_of};
 ghost use Rattle.lk_seal.specs.Seals.{key_list, heard};
 ghost use Rattle.lk_seal.specs.declared.seals.Seals.{Seals};
 ghost use Rattle.lk_replica.specs.ReplicaValue.{ReplicaValue};
-ghost use Rattle.lk_transport.specs.Addresses.{circle_of};
-ghost use Rattle.lk_transport.specs.Posts.{all_taken_as};
+ghost use Rattle.lk_transport.specs.Addresses.{filter_of};
+ghost use Rattle.lk_transport.specs.Posts.{all_filtered};
 ghost use Rattle.lk_server.specs.Servers.{ServerValue, Turn, LastTurn, IsIdle};
 ghost use Rattle.lk_transport.specs.declared.fault.ServiceFault.{ServiceFault};
 ghost use Rattle.lk_transport.specs.Chains.{Repeats};
@@ -138,7 +138,7 @@ pub fn a_sealed_turn_continues_a_cluster<D: LogDisk, S: DatagramSocket>()
     ensures { (genesis : GenesisValue) (cluster : Cluster) → IsReachable IsSealed D.is_metered S.is_telling genesis cluster
         → (place n : ℕ) (server after : ServerValue ReplicaValue) → HasNode cluster place n (Up server)
         → key_list server.addresses.seals.nodes ≢ [] → (frames : List (SocketAddr × List ℕ)) → OnlyNodesSealWhatComes cluster.sent server.addresses.seals frames
-        → (turn : Turn (Says D.is_metered) S.is_telling (all_taken_as (circle_of server.addresses) frames) server after) → after.replica.failed ≡ false
+        → (turn : Turn (Says D.is_metered) S.is_telling (all_filtered (filter_of server.addresses) frames) server after) → after.replica.failed ≡ false
         → Continues IsSealed D.is_metered S.is_telling genesis cluster place n (Up after) turn.hands_on.letters }
 {
     is_told_by_a_node();

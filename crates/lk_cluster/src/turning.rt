@@ -4,8 +4,8 @@ ghost use Rattle.std.specs.declared.net.socket_addr.SocketAddr.{SocketAddr as Ad
 ghost use Rattle.lk_types.specs.declared.genesis.Genesis.{Genesis as GenesisValue};
 ghost use Rattle.lk_node.specs.Leavings.{header_of};
 ghost use Rattle.lk_cluster.specs.Clusters.{IsBegun, Says};
-ghost use Rattle.lk_transport.specs.Addresses.{circle_of};
-ghost use Rattle.lk_transport.specs.Posts.{all_taken_as};
+ghost use Rattle.lk_transport.specs.Addresses.{filter_of};
+ghost use Rattle.lk_transport.specs.Posts.{all_filtered};
 ghost use Rattle.lk_transport.specs.Kept.{KeepsOf};
 ghost use Rattle.lk_server.specs.Servers.{HasReceived, TakesTurn, LastTurn};
 
@@ -34,7 +34,7 @@ pub fn serve_turn<D: LogDisk + Drop, S: DatagramSocket + Drop, C: Clock, L: Log>
     log: &L,
 ) -> Result<(), GroupFault>
     ensures turn { D.is_honest → OnOk result ((frames : List (Address × List ℕ)) × HasReceived S.is_telling frames server.old server.new × TakesTurn (Says D.is_metered) S.is_telling frames server.old server.new × KeepsOf server.old.node server.old.addresses.seals frames buffer.old buffer.new) }
-    ensures ends { D.is_honest → OnErr result ((frames : List (Address × List ℕ)) × HasReceived S.is_telling frames server.old server.new × LastTurn (Says D.is_metered) S.is_telling (all_taken_as (circle_of server.old.addresses) frames) server.old server.new) }
+    ensures ends { D.is_honest → OnErr result ((frames : List (Address × List ℕ)) × HasReceived S.is_telling frames server.old server.new × LastTurn (Says D.is_metered) S.is_telling (all_filtered (filter_of server.old.addresses) frames) server.old server.new) }
     ensures failed { server.new.failed ≡ server.new.replica.failed }
 {
     let taken = node_turn(server, buffer, metronome, log);

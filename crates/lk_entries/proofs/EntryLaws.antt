@@ -26,8 +26,8 @@ use Rattle.lk_entries.specs.Headers.{IsHeader}
 use Rattle.lk_entries.specs.Entries.{header, snapshot, votes, pairs, standing, base, kind, fields, body, spelling, IsPair, are_pairs_above, IsStanding, IsBase, IsEntry, IsStored}
 use Rattle.lk_entries.specs.Parsing.{read_alpha, read_format, read_header, read_snapshot, read_few, read_votes, read_pairs, is_in_order, read_standing, read_base, read_fields, read_body, read_size, within, read_entry, Gives}
 use Rattle.lk_entries.specs.Files.{NoneBegins}
-use Rattle.lk_entries.specs.declared.unread.Unread.{Unread}
-use Rattle.lk_entries.specs.declared.unread.Unread.TheVariants.{NoEntry, NoMemory}
+use Rattle.lk_entries.specs.declared.entry_fault.EntryFault.{EntryFault}
+use Rattle.lk_entries.specs.declared.entry_fault.EntryFault.TheVariants.{NoEntry, NoMemory}
 use Rattle.lk_entries.specs.declared.stored.Stored.{Stored}
 use Rattle.lk_entries.specs.declared.stored.Stored.TheVariants.{Base, Plain}
 
@@ -222,14 +222,14 @@ body_short e f = (fits_stored e f).1
 
 -- ---- the entry in front
 
-pub is_found : {Y : Type 0} (view : Y → Stored × List ℕ) (bytes : List ℕ) (result : Result Y Unread) → IsBytes bytes → Gives view result (read_entry bytes) → IfOk result (λ y. IsStored (view y).0 × (bytes ≡ spelling (view y).0 ++ (view y).1))
+pub is_found : {Y : Type 0} (view : Y → Stored × List ℕ) (bytes : List ℕ) (result : Result Y EntryFault) → IsBytes bytes → Gives view result (read_entry bytes) → IfOk result (λ y. IsStored (view y).0 × (bytes ≡ spelling (view y).0 ++ (view y).1))
 is_found view bytes (Ok y) h given = let t = entry_reads.takes bytes (view y).0 (view y).1 h given in (t.fits, t.parts)
 is_found view bytes (Err e) h given = tt
 
 pub none_at : (bytes : List ℕ) → read_entry bytes ≡ None → NoneBegins bytes
 none_at bytes none e more fits is = let some : read_entry bytes ≡ Some (e, more) = ap read_entry is ∙ entry_reads.again e more fits in absurd cc
 
-pub is_none : {Y : Type 0} (view : Y → Stored × List ℕ) (bytes : List ℕ) (result : Result Y Unread) → Gives view result (read_entry bytes) → result ≡ Err NoEntry → NoneBegins bytes
+pub is_none : {Y : Type 0} (view : Y → Stored × List ℕ) (bytes : List ℕ) (result : Result Y EntryFault) → Gives view result (read_entry bytes) → result ≡ Err NoEntry → NoneBegins bytes
 is_none view bytes (Ok y) given bad = absurd cc
 is_none view bytes (Err NoEntry) given bad = none_at bytes given
 is_none view bytes (Err NoMemory) given bad = absurd cc

@@ -9,18 +9,18 @@ use Rattle.lk_fields.specs.FieldReading.{is_from_1_to, read_two, read_four, read
 use Rattle.lk_types.specs.Votes.{are_votes_above}
 use Rattle.lk_entries.specs.Entries.{are_pairs_above}
 use Rattle.lk_entries.specs.Values.{HeaderValue, StandingValue, BaseValue}
-use Rattle.lk_entries.specs.declared.unread.Unread.{Unread}
-use Rattle.lk_entries.specs.declared.unread.Unread.TheVariants.{NoEntry, NoMemory}
+use Rattle.lk_entries.specs.declared.entry_fault.EntryFault.{EntryFault}
+use Rattle.lk_entries.specs.declared.entry_fault.EntryFault.TheVariants.{NoEntry, NoMemory}
 use Rattle.lk_entries.specs.declared.stored.Stored.{Stored}
 use Rattle.lk_entries.specs.declared.stored.Stored.TheVariants.{Base, Plain}
 
 -- there is none, unless memory ran out
-abbrev pub Fails : {Y : Type 0} → Unread → Option Y → Type 0
+abbrev pub Fails : {Y : Type 0} → EntryFault → Option Y → Type 0
 Fails NoEntry read = read ≡ None
 Fails NoMemory read = Unit {0}
 
 -- what a function returned, seen by view, is what reading gives, unless memory ran out
-abbrev pub Gives : {X Y : Type 0} → (X → Y) → Result X Unread → Option Y → Type 0
+abbrev pub Gives : {X Y : Type 0} → (X → Y) → Result X EntryFault → Option Y → Type 0
 Gives view (Ok x) read = read ≡ Some (view x)
 Gives view (Err e) read = Fails e read
 

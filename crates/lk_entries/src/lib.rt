@@ -3,23 +3,23 @@
 #![tactic(auto)]
 
 mod base;
+mod entry_fault;
 mod formats;
 mod header;
 pub mod laws;
 mod reading;
 mod standing;
 mod stored;
-mod unread;
 mod votes;
 mod writing;
 
 pub use base::Base;
+pub use entry_fault::EntryFault;
 pub use formats::{format_of, is_mixed};
 pub use header::Header;
 pub use lk_fields::put_members;
 pub use reading::first_entry;
 pub use standing::Standing;
 pub use stored::Stored;
-pub use unread::Unread;
 pub use votes::{keep_vote, votes_below};
 pub use writing::{entries_facts, spelled, spelled_base, spelled_parts};

@@ -9,10 +9,10 @@ ghost use Rattle.lk_entries.specs.Files.{NoneBegins};
 ghost use Rattle.lk_entries.specs.Parsing.{Gives, read_alpha, read_format, read_header, read_snapshot, read_few, read_votes, read_pairs, is_in_order, read_standing, read_base, read_fields, read_body, read_size, read_entry};
 
 use crate::base::Base;
+use crate::entry_fault::EntryFault;
 use crate::header::Header;
 use crate::standing::Standing;
 use crate::stored::Stored;
-use crate::unread::Unread;
 use lk_fields::{
     read_ballot, read_command, read_executed, read_mark, read_members, read_node, read_position,
     read_u8, read_u16, read_u32, read_u64, read_vote,
@@ -65,15 +65,15 @@ fn read_header(bytes: &[u8]) -> Option<(Header, &[u8])>
 }
 
 #[tactic(auto, unfolding(crate::specs::Parsing::read_snapshot))]
-fn read_snapshot(alloc: Global, bytes: &[u8]) -> Result<(Vec<u8>, &[u8]), Unread>
+fn read_snapshot(alloc: Global, bytes: &[u8]) -> Result<(Vec<u8>, &[u8]), EntryFault>
     ensures { Gives (λ x. (x.0.items, x.1.now)) result (read_snapshot bytes.now) }
 {
     let Some((length, rest)) = read_u32(bytes) else {
-        return Err(Unread::NoEntry);
+        return Err(EntryFault::NoEntry);
     };
     let length = length as usize;
     if length < 1 || length > MAX_BASE || rest.len() < length {
-        return Err(Unread::NoEntry);
+        return Err(EntryFault::NoEntry);
     }
     let (text, rest) = rest.split_at(length);
     Ok((text.to_vec(alloc)?, rest))
@@ -90,14 +90,14 @@ fn read_few(bytes: &[u8]) -> Option<(u16, &[u8])>
     Some((count, rest))
 }
 
-fn many_votes(alloc: Global, count: u16, bytes: &[u8]) -> Result<(Vec<Vote>, &[u8]), Unread>
+fn many_votes(alloc: Global, count: u16, bytes: &[u8]) -> Result<(Vec<Vote>, &[u8]), EntryFault>
     ensures { Gives (λ x. (x.0.items, x.1.now)) result (many read_vote count bytes.now) }
 {
     let mut votes = Vec::new(alloc);
     let mut rest = bytes;
     for _ in 0..count {
         let Some((vote, after)) = read_vote(rest) else {
-            return Err(Unread::NoEntry);
+            return Err(EntryFault::NoEntry);
         };
         votes.push(vote)?;
         rest = after;
@@ -106,11 +106,11 @@ fn many_votes(alloc: Global, count: u16, bytes: &[u8]) -> Result<(Vec<Vote>, &[u
 }
 
 #[tactic(auto, unfolding(crate::specs::Parsing::read_votes))]
-fn read_votes(alloc: Global, bytes: &[u8]) -> Result<(Vec<Vote>, &[u8]), Unread>
+fn read_votes(alloc: Global, bytes: &[u8]) -> Result<(Vec<Vote>, &[u8]), EntryFault>
     ensures { Gives (λ x. (x.0.items, x.1.now)) result (read_votes bytes.now) }
 {
     let Some((count, rest)) = read_few(bytes) else {
-        return Err(Unread::NoEntry);
+        return Err(EntryFault::NoEntry);
     };
     many_votes(alloc, count, rest)
 }
@@ -132,14 +132,14 @@ fn many_pairs(
     alloc: Global,
     count: u16,
     bytes: &[u8],
-) -> Result<(Vec<(Position, Command)>, &[u8]), Unread>
+) -> Result<(Vec<(Position, Command)>, &[u8]), EntryFault>
     ensures { Gives (λ x. (x.0.items, x.1.now)) result (many read_pair count bytes.now) }
 {
     let mut pairs = Vec::new(alloc);
     let mut rest = bytes;
     for _ in 0..count {
         let Some((pair, after)) = read_pair(rest) else {
-            return Err(Unread::NoEntry);
+            return Err(EntryFault::NoEntry);
         };
         pairs.push(pair)?;
         rest = after;
@@ -148,11 +148,11 @@ fn many_pairs(
 }
 
 #[tactic(auto, unfolding(crate::specs::Parsing::read_pairs))]
-fn read_pairs(alloc: Global, bytes: &[u8]) -> Result<(Vec<(Position, Command)>, &[u8]), Unread>
+fn read_pairs(alloc: Global, bytes: &[u8]) -> Result<(Vec<(Position, Command)>, &[u8]), EntryFault>
     ensures { Gives (λ x. (x.0.items, x.1.now)) result (read_pairs bytes.now) }
 {
     let Some((count, rest)) = read_few(bytes) else {
-        return Err(Unread::NoEntry);
+        return Err(EntryFault::NoEntry);
     };
     many_pairs(alloc, count, rest)
 }
@@ -196,14 +196,14 @@ fn is_in_order(standing: &Standing) -> bool
 }
 
 #[tactic(auto, unfolding(crate::specs::Parsing::read_standing))]
-fn read_standing(alloc: Global, bytes: &[u8]) -> Result<(Standing, &[u8]), Unread>
+fn read_standing(alloc: Global, bytes: &[u8]) -> Result<(Standing, &[u8]), EntryFault>
     ensures { Gives (λ x. (x.0, x.1.now)) result (read_standing bytes.now) }
 {
     let Some((promised, rest)) = read_mark(bytes) else {
-        return Err(Unread::NoEntry);
+        return Err(EntryFault::NoEntry);
     };
     let Some((position, rest)) = read_executed(rest) else {
-        return Err(Unread::NoEntry);
+        return Err(EntryFault::NoEntry);
     };
     let (snapshot, rest) = read_snapshot(alloc, rest)?;
     let (votes, rest) = read_votes(alloc, rest)?;
@@ -216,23 +216,23 @@ fn read_standing(alloc: Global, bytes: &[u8]) -> Result<(Standing, &[u8]), Unrea
         pairs,
     };
     if !is_in_order(&standing) {
-        return Err(Unread::NoEntry);
+        return Err(EntryFault::NoEntry);
     }
     Ok((standing, rest))
 }
 
 #[tactic(auto, unfolding(crate::specs::Parsing::read_base))]
-fn read_base(alloc: Global, bytes: &[u8]) -> Result<(Base, &[u8]), Unread>
+fn read_base(alloc: Global, bytes: &[u8]) -> Result<(Base, &[u8]), EntryFault>
     ensures { Gives (λ x. (x.0, x.1.now)) result (read_base bytes.now) }
 {
     let Some((generation, rest)) = read_position(bytes) else {
-        return Err(Unread::NoEntry);
+        return Err(EntryFault::NoEntry);
     };
     let Some((format, rest)) = read_format(rest) else {
-        return Err(Unread::NoEntry);
+        return Err(EntryFault::NoEntry);
     };
     let Some((header, rest)) = read_header(rest) else {
-        return Err(Unread::NoEntry);
+        return Err(EntryFault::NoEntry);
     };
     let (standing, rest) = read_standing(alloc, rest)?;
     let base = Base {
@@ -246,7 +246,7 @@ fn read_base(alloc: Global, bytes: &[u8]) -> Result<(Base, &[u8]), Unread>
 
 // What follows the tag of an entry's kind.
 #[tactic(auto, unfolding(crate::specs::Parsing::read_fields))]
-fn read_fields(alloc: Global, kind: u8, bytes: &[u8]) -> Result<(Stored, &[u8]), Unread>
+fn read_fields(alloc: Global, kind: u8, bytes: &[u8]) -> Result<(Stored, &[u8]), EntryFault>
     ensures { Gives (λ x. (x.0, x.1.now)) result (read_fields kind bytes.now) }
 {
     match kind {
@@ -256,50 +256,50 @@ fn read_fields(alloc: Global, kind: u8, bytes: &[u8]) -> Result<(Stored, &[u8]),
         }
         2 => {
             let Some((ballot, rest)) = read_ballot(bytes) else {
-                return Err(Unread::NoEntry);
+                return Err(EntryFault::NoEntry);
             };
             Ok((Stored::Plain(Entry::Promise(ballot)), rest))
         }
         3 => {
             let Some((vote, rest)) = read_vote(bytes) else {
-                return Err(Unread::NoEntry);
+                return Err(EntryFault::NoEntry);
             };
             Ok((Stored::Plain(Entry::Vote(vote)), rest))
         }
         4 => {
             let Some(((position, command), rest)) = read_pair(bytes) else {
-                return Err(Unread::NoEntry);
+                return Err(EntryFault::NoEntry);
             };
             Ok((Stored::Plain(Entry::Decided(position, command)), rest))
         }
-        _ => Err(Unread::NoEntry),
+        _ => Err(EntryFault::NoEntry),
     }
 }
 
 // The entry of which these bytes are the whole body.
-fn body_of(alloc: Global, bytes: &[u8]) -> Result<Stored, Unread>
+fn body_of(alloc: Global, bytes: &[u8]) -> Result<Stored, EntryFault>
     ensures { Gives (λ e. e) result (whole read_body bytes.now) }
 {
     let Some((kind, rest)) = read_u8(bytes) else {
-        return Err(Unread::NoEntry);
+        return Err(EntryFault::NoEntry);
     };
     let (entry, rest) = read_fields(alloc, kind, rest)?;
     if !rest.is_empty() {
-        return Err(Unread::NoEntry);
+        return Err(EntryFault::NoEntry);
     }
     Ok(entry)
 }
 
 #[tactic(auto, unfolding(crate::specs::Parsing::read_entry, crate::specs::Parsing::read_size))]
-fn read_entry(alloc: Global, bytes: &[u8]) -> Result<(Stored, &[u8]), Unread>
+fn read_entry(alloc: Global, bytes: &[u8]) -> Result<(Stored, &[u8]), EntryFault>
     ensures { Gives (λ x. (x.0, x.1.now)) result (read_entry bytes.now) }
 {
     let Some((length, rest)) = read_u32(bytes) else {
-        return Err(Unread::NoEntry);
+        return Err(EntryFault::NoEntry);
     };
     let length = length as usize;
     if length > MAX_BASE - 4 || rest.len() < length {
-        return Err(Unread::NoEntry);
+        return Err(EntryFault::NoEntry);
     }
     let (text, rest) = rest.split_at(length);
     Ok((body_of(alloc, text)?, rest))
@@ -307,9 +307,9 @@ fn read_entry(alloc: Global, bytes: &[u8]) -> Result<(Stored, &[u8]), Unread>
 
 /// The entry at the start of the bytes, and the bytes after it.
 #[tactic(auto, using(crate::proofs::EntryLaws::is_found, crate::proofs::EntryLaws::is_none))]
-pub fn first_entry(alloc: Global, bytes: &[u8]) -> Result<(Stored, &[u8]), Unread>
+pub fn first_entry(alloc: Global, bytes: &[u8]) -> Result<(Stored, &[u8]), EntryFault>
     ensures found { IfOk result (λ x. IsStored x.0 × (bytes.now ≡ spelling x.0 ++ x.1.now)) }
-    ensures none { result ≡ Err Unread.NoEntry → NoneBegins bytes.now }
+    ensures none { result ≡ Err EntryFault.NoEntry → NoneBegins bytes.now }
 {
     read_entry(alloc, bytes)
 }

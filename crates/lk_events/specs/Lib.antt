@@ -2,5 +2,5 @@ pub mod Kinds
 pub mod News
 pub mod Quiets
 pub mod Slots
-pub mod Views
+pub mod Observations
 pub mod Watches

@@ -8,9 +8,9 @@ use Rattle.lk_events.specs.declared.event.Event.{Event}
 use Rattle.lk_events.specs.declared.slot.Line.{Line}
 use Rattle.lk_events.specs.declared.slot.Slot.{Slot}
 use Rattle.lk_events.specs.declared.story.Story.{Story}
-use Rattle.lk_events.specs.declared.view.View.{View}
+use Rattle.lk_events.specs.declared.observation.Observation.{Observation}
 use Rattle.lk_events.specs.declared.watch.Watch.{Watch}
-use Rattle.lk_events.specs.Views.{has_leader}
+use Rattle.lk_events.specs.Observations.{has_leader}
 
 -- the event waits in the slot of its kind, and all other slots are as they were
 pub record Puts (now : ℕ) (event : Event) (old new : List Slot) : Type 0 where
@@ -24,10 +24,10 @@ PutsSome now None old new = new ≡ old
 PutsSome now (Some event) old new = Puts now event old new
 
 -- about one thing after another, what is news waits then
-pub data PutsNews (now : ℕ) (story : Story) (view : View) : List Topic → List Slot → List Slot → Type 0 where
-  nothing : {slots : List Slot} → PutsNews now story view [] slots slots
-  news : {topic : Topic} {rest : List Topic} (event : Option Event) {old mid new : List Slot} → Gives topic story view event → PutsSome now event old mid
-      → PutsNews now story view rest mid new → PutsNews now story view (topic ∷ rest) old new
+pub data PutsNews (now : ℕ) (story : Story) (seen : Observation) : List Topic → List Slot → List Slot → Type 0 where
+  nothing : {slots : List Slot} → PutsNews now story seen [] slots slots
+  news : {topic : Topic} {rest : List Topic} (event : Option Event) {old mid new : List Slot} → Gives topic story seen event → PutsSome now event old mid
+      → PutsNews now story seen rest mid new → PutsNews now story seen (topic ∷ rest) old new
 
 -- the line is that of the slot of the kind, which then waits for nothing, and all other slots are as they were
 pub record TakesOut (kind now : ℕ) (line : Line) (old new : List Slot) : Type 0 where
@@ -37,23 +37,23 @@ pub record TakesOut (kind now : ℕ) (line : Line) (old new : List Slot) : Type 
   pub becomes : new ≡ slice_set old kind (having_told now)
 
 -- a turn, after which this is seen: what the time brings waits to be told, and then what is news of what is seen
-pub record TurnsTimes (now : ℕ) (view : View) (old new : Watch) : Type 0 where
+pub record TurnsTimes (now : ℕ) (seen : Observation) (old new : Watch) : Type 0 where
   pub leaderless : Option Event
-  pub quiet : TurnsQuiet old.quiet now (has_leader view) leaderless new.quiet
+  pub quiet : TurnsQuiet old.quiet now (has_leader seen) leaderless new.quiet
   pub behind : Option Event
-  pub lag : TurnsLag old.lag now view.wanted view.executed behind new.lag
+  pub lag : TurnsLag old.lag now seen.wanted seen.executed behind new.lag
   pub mid : List Slot
   pub first : PutsSome now leaderless old.slots.all mid
   pub second : PutsSome now behind mid new.slots.all
   pub story : new.story ≡ forgetting leaderless old.story
 
-pub record Turns (now : ℕ) (view : View) (old new : Watch) : Type 0 where
+pub record Turns (now : ℕ) (seen : Observation) (old new : Watch) : Type 0 where
   pub timed : Watch
-  pub times : TurnsTimes now view old timed
-  pub news : PutsNews now timed.story view (topics timed.story view) timed.slots.all new.slots.all
-  pub becomes : new ≡ record { story = told_with view timed.story; quiet = timed.quiet; lag = timed.lag; slots = new.slots }
+  pub times : TurnsTimes now seen old timed
+  pub news : PutsNews now timed.story seen (topics timed.story seen) timed.slots.all new.slots.all
+  pub becomes : new ≡ record { story = told_with seen timed.story; quiet = timed.quiet; lag = timed.lag; slots = new.slots }
 
 -- whoever watches a node does so on after such a turn, and may have told some of what waits
-abbrev pub WatchesOn : View → Option Watch → Option Watch → Type 0
-WatchesOn view None new = new ≡ None
-WatchesOn view (Some old) new = (now : ℕ) × (mid : Watch) × Turns now view old mid × IsSomeAnd new (λ watch. watch ≡ record mid { slots = watch.slots })
+abbrev pub WatchesOn : Observation → Option Watch → Option Watch → Type 0
+WatchesOn seen None new = new ≡ None
+WatchesOn seen (Some old) new = (now : ℕ) × (mid : Watch) × Turns now seen old mid × IsSomeAnd new (λ watch. watch ≡ record mid { slots = watch.slots })

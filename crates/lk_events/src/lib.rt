@@ -4,9 +4,9 @@
 
 pub mod event;
 pub mod line;
+pub mod observation;
 pub mod quiet;
 pub mod slot;
 pub mod slots;
 pub mod story;
-pub mod view;
 pub mod watch;

@@ -5,8 +5,8 @@ ghost use Rattle.lk_events.specs.News.{story_of};
 ghost use Rattle.lk_events.specs.Watches.{WatchesOn};
 
 use crate::event::{Event, KINDS};
+use crate::observation::Observation;
 use crate::slot::Line;
-use crate::view::View;
 use crate::watch::Watch;
 use jiff::Timestamp;
 use lk_types::NodeNo;
@@ -20,10 +20,10 @@ pub trait Observer {
     fn is_on(&self) -> bool;
 
     /// The node has started, with an empty store or one that holds entries.
-    fn begin(&mut self, is_empty: bool, view: View);
+    fn begin(&mut self, is_empty: bool, seen: Observation);
 
     /// Observes the node after a turn.
-    fn observe(&mut self, view: View);
+    fn observe(&mut self, seen: Observation);
 
     /// The node ends with this fault.
     fn end(&mut self, fault: &str);
@@ -38,9 +38,9 @@ impl Observer for Unobserved {
         false
     }
 
-    fn begin(&mut self, _is_empty: bool, _view: View) {}
+    fn begin(&mut self, _is_empty: bool, _seen: Observation) {}
 
-    fn observe(&mut self, _view: View) {}
+    fn observe(&mut self, _seen: Observation) {}
 
     fn end(&mut self, _fault: &str) {}
 }
@@ -127,12 +127,12 @@ impl<C: Clock + Drop, L: Log + Drop> Observer for Events<C, L> {
         true
     }
 
-    fn begin(&mut self, is_empty: bool, view: View)
-        ensures { IsSomeAnd self.new.watch (λ watch. watch.story ≡ story_of view) }
+    fn begin(&mut self, is_empty: bool, seen: Observation)
+        ensures { IsSomeAnd self.new.watch (λ watch. watch.story ≡ story_of seen) }
     {
         let now = self.now();
-        let executed = view.executed;
-        let mut watch = Watch::new(view);
+        let executed = seen.executed;
+        let mut watch = Watch::new(seen);
         watch.put(
             now,
             if is_empty {
@@ -145,14 +145,14 @@ impl<C: Clock + Drop, L: Log + Drop> Observer for Events<C, L> {
         self.watch = Some(watch);
     }
 
-    fn observe(&mut self, view: View)
-        ensures { WatchesOn view self.old.watch self.new.watch }
+    fn observe(&mut self, seen: Observation)
+        ensures { WatchesOn seen self.old.watch self.new.watch }
     {
         let now = self.now();
         let Some(mut watch) = self.watch.take() else {
             return;
         };
-        watch.observe(now, view);
+        watch.observe(now, seen);
         self.log_due(&mut watch, now);
         self.watch = Some(watch);
     }

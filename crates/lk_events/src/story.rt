@@ -8,8 +8,8 @@ ghost use Rattle.lk_events.specs.News.{lead_topics, joins, leaves, member_topics
 ghost use Rattle.lk_events.specs.Watches.{PutsNews};
 
 use crate::event::Event;
+use crate::observation::Observation;
 use crate::slots::Slots;
-use crate::view::View;
 use lk_types::{Executed, Member, Members, NodeNo, RealBallot};
 
 /// What was last reported of a node.
@@ -33,17 +33,17 @@ fn is_one_of(node: NodeNo, members: &[Member]) -> bool
 }
 
 impl Story {
-    /// A story that begins with this view.
-    pub fn of(view: View) -> Story
-        ensures { result ≡ story_of view }
+    /// A story that begins with this observation.
+    pub fn of(seen: Observation) -> Story
+        ensures { result ≡ story_of seen }
     {
-        let View {
+        let Observation {
             leads,
             follows,
             members,
             snapshot,
             ..
-        } = view;
+        } = seen;
         Story {
             leads,
             follows,
@@ -53,157 +53,157 @@ impl Story {
     }
 
     /// The ballot in which it no longer leads.
-    pub fn ended(&self, view: &View) -> Option<Event>
-        ensures { Gives ending self.now view.now result }
+    pub fn ended(&self, seen: &Observation) -> Option<Event>
+        ensures { Gives ending self.now seen.now result }
     {
         let ballot = self.leads?;
-        if view.leads == self.leads {
+        if seen.leads == self.leads {
             return None;
         }
-        Some(Event::Ended(ballot, view.why(ballot)))
+        Some(Event::Ended(ballot, seen.why(ballot)))
     }
 
     /// The ballot in which it leads now.
-    pub fn leads(&self, view: &View) -> Option<Event>
-        ensures { Gives leading self.now view.now result }
+    pub fn leads(&self, seen: &Observation) -> Option<Event>
+        ensures { Gives leading self.now seen.now result }
     {
-        let ballot = view.leads?;
-        if view.leads == self.leads {
+        let ballot = seen.leads?;
+        if seen.leads == self.leads {
             return None;
         }
         Some(Event::Leads(ballot))
     }
 
     /// The node that it follows now.
-    pub fn follows(&self, view: &View) -> Option<Event>
-        ensures { Gives following self.now view.now result }
+    pub fn follows(&self, seen: &Observation) -> Option<Event>
+        ensures { Gives following self.now seen.now result }
     {
-        let node = view.follows?;
-        if view.follows == self.follows {
+        let node = seen.follows?;
+        if seen.follows == self.follows {
             return None;
         }
         Some(Event::Follows(node))
     }
 
     /// That this node has become a member.
-    pub fn joined(&self, view: &View, node: NodeNo) -> Option<Event>
-        ensures { Gives (joining node) self.now view.now result }
+    pub fn joined(&self, seen: &Observation, node: NodeNo) -> Option<Event>
+        ensures { Gives (joining node) self.now seen.now result }
     {
         let was = is_one_of(node, self.members.as_slice());
-        let is = is_one_of(node, view.members.as_slice());
+        let is = is_one_of(node, seen.members.as_slice());
         if was || !is {
             return None;
         }
-        Some(Event::Joined(node, view.members.copy()))
+        Some(Event::Joined(node, seen.members.copy()))
     }
 
     /// That this node is no longer a member.
-    pub fn left(&self, view: &View, node: NodeNo) -> Option<Event>
-        ensures { Gives (leaving node) self.now view.now result }
+    pub fn left(&self, seen: &Observation, node: NodeNo) -> Option<Event>
+        ensures { Gives (leaving node) self.now seen.now result }
     {
         let was = is_one_of(node, self.members.as_slice());
-        let is = is_one_of(node, view.members.as_slice());
+        let is = is_one_of(node, seen.members.as_slice());
         if is || !was {
             return None;
         }
-        Some(Event::Left(node, view.members.copy()))
+        Some(Event::Left(node, seen.members.copy()))
     }
 
     /// Its own new snapshot.
-    pub fn wrote(&self, view: &View) -> Option<Event>
-        ensures { Gives writing self.now view.now result }
+    pub fn wrote(&self, seen: &Observation) -> Option<Event>
+        ensures { Gives writing self.now seen.now result }
     {
-        if view.installed.is_some() || view.snapshot.get() <= self.snapshot.get() {
+        if seen.installed.is_some() || seen.snapshot.get() <= self.snapshot.get() {
             return None;
         }
-        Some(Event::Wrote(view.snapshot))
+        Some(Event::Wrote(seen.snapshot))
     }
 
     /// Another node's snapshot that it installed.
-    pub fn installed(&self, view: &View) -> Option<Event>
-        ensures { Gives installing self.now view.now result }
+    pub fn installed(&self, seen: &Observation) -> Option<Event>
+        ensures { Gives installing self.now seen.now result }
     {
-        let (position, node) = view.installed?;
+        let (position, node) = seen.installed?;
         Some(Event::Installed(position, node))
     }
 
     /// A node to which a send failed.
-    pub fn unsent(&self, view: &View) -> Option<Event>
-        ensures { Gives failing self.now view.now result }
+    pub fn unsent(&self, seen: &Observation) -> Option<Event>
+        ensures { Gives failing self.now seen.now result }
     {
-        let node = view.unsent?;
+        let node = seen.unsent?;
         Some(Event::Unsent(node))
     }
 
     /// A node of another genesis from which it received.
-    pub fn stranger(&self, view: &View) -> Option<Event>
-        ensures { Gives meeting self.now view.now result }
+    pub fn stranger(&self, seen: &Observation) -> Option<Event>
+        ensures { Gives meeting self.now seen.now result }
     {
-        let node = view.stranger?;
+        let node = seen.stranger?;
         Some(Event::OtherGenesis(node))
     }
 
     /// The datagrams that it received from another cluster.
-    pub fn foreign(&self, view: &View) -> Option<Event>
-        ensures { Gives straying self.now view.now result }
+    pub fn foreign(&self, seen: &Observation) -> Option<Event>
+        ensures { Gives straying self.now seen.now result }
     {
-        let count = view.foreign?;
+        let count = seen.foreign?;
         Some(Event::OtherCluster(count))
     }
 
     // Puts news of the leader.
-    fn put_leads(&self, now: u64, view: &View, slots: &mut Slots)
-        ensures { PutsNews now self.now view.now lead_topics slots.old.all slots.new.all }
+    fn put_leads(&self, now: u64, seen: &Observation, slots: &mut Slots)
+        ensures { PutsNews now self.now seen.now lead_topics slots.old.all slots.new.all }
     {
-        slots.put_some(now, self.ended(view));
-        slots.put_some(now, self.leads(view));
-        slots.put_some(now, self.follows(view));
+        slots.put_some(now, self.ended(seen));
+        slots.put_some(now, self.leads(seen));
+        slots.put_some(now, self.follows(seen));
     }
 
     // Puts which of these members have joined.
-    fn put_joined(&self, now: u64, view: &View, members: &[Member], slots: &mut Slots)
-        ensures { PutsNews now self.now view.now (joins members.now) slots.old.all slots.new.all }
+    fn put_joined(&self, now: u64, seen: &Observation, members: &[Member], slots: &mut Slots)
+        ensures { PutsNews now self.now seen.now (joins members.now) slots.old.all slots.new.all }
     {
         'members: for member in members {
-            slots.put_some(now, self.joined(view, member.node));
+            slots.put_some(now, self.joined(seen, member.node));
         }
     }
 
     // Puts which of these members have left.
-    fn put_left(&self, now: u64, view: &View, members: &[Member], slots: &mut Slots)
-        ensures { PutsNews now self.now view.now (leaves members.now) slots.old.all slots.new.all }
+    fn put_left(&self, now: u64, seen: &Observation, members: &[Member], slots: &mut Slots)
+        ensures { PutsNews now self.now seen.now (leaves members.now) slots.old.all slots.new.all }
     {
         'members: for member in members {
-            slots.put_some(now, self.left(view, member.node));
+            slots.put_some(now, self.left(seen, member.node));
         }
     }
 
     // Puts news of the members: several nodes may join or leave in one turn.
-    fn put_members(&self, now: u64, view: &View, slots: &mut Slots)
-        ensures { PutsNews now self.now view.now (member_topics self.now view.now) slots.old.all slots.new.all }
+    fn put_members(&self, now: u64, seen: &Observation, slots: &mut Slots)
+        ensures { PutsNews now self.now seen.now (member_topics self.now seen.now) slots.old.all slots.new.all }
     {
-        self.put_joined(now, view, view.members.as_slice(), slots);
-        self.put_left(now, view, self.members.as_slice(), slots);
+        self.put_joined(now, seen, seen.members.as_slice(), slots);
+        self.put_left(now, seen, self.members.as_slice(), slots);
     }
 
     // Puts news of its snapshots, of failed sends and of strangers.
-    fn put_work(&self, now: u64, view: &View, slots: &mut Slots)
-        ensures { PutsNews now self.now view.now work_topics slots.old.all slots.new.all }
+    fn put_work(&self, now: u64, seen: &Observation, slots: &mut Slots)
+        ensures { PutsNews now self.now seen.now work_topics slots.old.all slots.new.all }
     {
-        slots.put_some(now, self.wrote(view));
-        slots.put_some(now, self.installed(view));
-        slots.put_some(now, self.unsent(view));
-        slots.put_some(now, self.stranger(view));
-        slots.put_some(now, self.foreign(view));
+        slots.put_some(now, self.wrote(seen));
+        slots.put_some(now, self.installed(seen));
+        slots.put_some(now, self.unsent(seen));
+        slots.put_some(now, self.stranger(seen));
+        slots.put_some(now, self.foreign(seen));
     }
 
     // Puts all news.
-    fn put_all(&self, now: u64, view: &View, slots: &mut Slots)
-        ensures { PutsNews now self.now view.now (topics self.now view.now) slots.old.all slots.new.all }
+    fn put_all(&self, now: u64, seen: &Observation, slots: &mut Slots)
+        ensures { PutsNews now self.now seen.now (topics self.now seen.now) slots.old.all slots.new.all }
     {
-        self.put_leads(now, view, slots);
-        self.put_members(now, view, slots);
-        self.put_work(now, view, slots);
+        self.put_leads(now, seen, slots);
+        self.put_members(now, seen, slots);
+        self.put_work(now, seen, slots);
     }
 
     /// Forgets whom the node follows if no leader is reported: then any leader is news, even the same one.
@@ -215,17 +215,17 @@ impl Story {
         }
     }
 
-    // Remembers a view as reported.
-    fn become_told(&mut self, view: View)
-        ensures { self.new ≡ told_with view self.old }
+    // Remembers an observation as reported.
+    fn become_told(&mut self, seen: Observation)
+        ensures { self.new ≡ told_with seen self.old }
     {
-        let View {
+        let Observation {
             leads,
             follows,
             members,
             snapshot,
             ..
-        } = view;
+        } = seen;
         self.leads = leads;
         self.follows = follows.or(self.follows);
         self.members = members;
@@ -233,11 +233,11 @@ impl Story {
     }
 
     /// Observes the node after a turn, and puts what is news into the slots.
-    pub fn observe(&mut self, now: u64, view: View, slots: &mut Slots)
-        ensures news { PutsNews now self.old view (topics self.old view) slots.old.all slots.new.all }
-        ensures told { self.new ≡ told_with view self.old }
+    pub fn observe(&mut self, now: u64, seen: Observation, slots: &mut Slots)
+        ensures news { PutsNews now self.old seen (topics self.old seen) slots.old.all slots.new.all }
+        ensures told { self.new ≡ told_with seen self.old }
     {
-        self.put_all(now, &view, slots);
-        self.become_told(view);
+        self.put_all(now, &seen, slots);
+        self.become_told(seen);
     }
 }

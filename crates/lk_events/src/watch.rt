@@ -9,11 +9,11 @@ ghost use Rattle.lk_events.specs.declared.slot.Slot.{Slot as SlotValue};
 ghost use Rattle.lk_events.specs.Watches.{Puts, TakesOut, TurnsTimes, Turns};
 
 use crate::event::Event;
+use crate::observation::Observation;
 use crate::quiet::{Lag, Quiet};
 use crate::slot::Line;
 use crate::slots::Slots;
 use crate::story::Story;
-use crate::view::View;
 
 /// What was reported of a node, and what waits to be logged. Times are milliseconds since 1970.
 #[derive(Drop)]
@@ -25,15 +25,15 @@ pub struct Watch {
 }
 
 impl Watch {
-    /// A watch that begins with this view. Nothing waits.
-    pub fn new(view: View) -> Watch
-        ensures story { result.story ≡ story_of view }
+    /// A watch that begins with this observation. Nothing waits.
+    pub fn new(seen: Observation) -> Watch
+        ensures story { result.story ≡ story_of seen }
         ensures quiet { result.quiet ≡ record { since = None; told = 0 } }
         ensures lag { result.lag ≡ no_lag }
         ensures slots { result.slots.all ≡ replicate kinds empty }
     {
         Watch {
-            story: Story::of(view),
+            story: Story::of(seen),
             quiet: Quiet::NONE,
             lag: Lag::NONE,
             slots: Slots::new(),
@@ -49,22 +49,22 @@ impl Watch {
     }
 
     // Puts the events that come with time.
-    fn put_times(&mut self, now: u64, view: &View)
-        ensures { TurnsTimes now view.now self.old self.new }
+    fn put_times(&mut self, now: u64, seen: &Observation)
+        ensures { TurnsTimes now seen.now self.old self.new }
     {
-        let leaderless = self.quiet.observe(now, view.has_leader());
+        let leaderless = self.quiet.observe(now, seen.has_leader());
         self.story.forget(&leaderless);
         self.slots.put_some(now, leaderless);
-        let lag = self.lag.observe(now, view.wanted, view.executed);
+        let lag = self.lag.observe(now, seen.wanted, seen.executed);
         self.slots.put_some(now, lag);
     }
 
     /// Observes the node after a turn.
-    pub fn observe(&mut self, now: u64, view: View)
-        ensures { Turns now view self.old self.new }
+    pub fn observe(&mut self, now: u64, seen: Observation)
+        ensures { Turns now seen self.old self.new }
     {
-        self.put_times(now, &view);
-        self.story.observe(now, view, &mut self.slots);
+        self.put_times(now, &seen);
+        self.story.observe(now, seen, &mut self.slots);
     }
 
     /// Takes out the line that waits of that kind, if one is due.

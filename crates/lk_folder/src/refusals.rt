@@ -7,7 +7,7 @@ ghost use Rattle.lk_folder.specs.Ends.{EndsAt};
 
 use crate::causes::{FailureCause, write_failed_calls};
 use lk_disk::{LogDisk, Side};
-use lk_entries::{Header, Stored, Unread, first_entry};
+use lk_entries::{EntryFault, Header, Stored, first_entry};
 use lk_transport::fault::ServiceFault;
 use std::alloc::Global;
 use std::io;
@@ -35,8 +35,8 @@ fn end_of(alloc: Global, bytes: &[u8]) -> Option<usize>
     'entries: loop {
         match first_entry(alloc, rest) {
             Ok((_entry, more)) => rest = more,
-            Err(Unread::NoEntry) => return Some(bytes.len().saturating_sub(rest.len())),
-            Err(Unread::NoMemory) => return None,
+            Err(EntryFault::NoEntry) => return Some(bytes.len().saturating_sub(rest.len())),
+            Err(EntryFault::NoMemory) => return None,
         }
     }
 }

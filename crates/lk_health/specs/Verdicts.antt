@@ -20,13 +20,13 @@ has_answered node [] = false
 has_answered node (r ∷ rs) = r.node == node || has_answered node rs
 
 -- how many of the members report
-abbrev pub up : List Member → List Report → ℕ
-up [] rs = 0
-up (m ∷ ms) rs = if has_answered m.node rs then suc (up ms rs) else up ms rs
+abbrev pub count_reporting : List Member → List Report → ℕ
+count_reporting [] rs = 0
+count_reporting (m ∷ ms) rs = if has_answered m.node rs then suc (count_reporting ms rs) else count_reporting ms rs
 
 -- a majority of the members of the next position report, as this one knows them
 abbrev pub has_majority : Report → List Report → Bool
-has_majority r rs = nat_lt (length r.status.members) (2 * up r.status.members rs)
+has_majority r rs = nat_lt (length r.status.members) (2 * count_reporting r.status.members rs)
 
 -- the cluster is served: somebody leads, a majority of the members of its next position report, and nobody tells
 -- another genesis
@@ -34,7 +34,7 @@ pub record IsServed (rs : List Report) : Type 0 where
   pub leader : Report
   pub is_there : IsAmong leader rs
   pub leads : leader.status.leadership.leads ≡ true
-  pub majority : length leader.status.members < 2 * up leader.status.members rs
+  pub majority : length leader.status.members < 2 * count_reporting leader.status.members rs
   pub one_genesis : AllByRecursion (λ (r : Report). r.status.identity.genesis ≡ leader.status.identity.genesis) rs
 
 -- ---- the same as a test

@@ -1,7 +1,7 @@
 //! What the reports of nodes come to.
 
 ghost use Rattle.std.specs.Prelude.{◌≡◌, ◌↔◌, ◌≤◌, IsTrue, length};
-ghost use Rattle.lk_health.specs.Verdicts.{IsServed, seeks_votes, has_answered, up, has_majority, some_leads, tells, one_genesis, is_served, all_have, is_ready};
+ghost use Rattle.lk_health.specs.Verdicts.{IsServed, seeks_votes, has_answered, count_reporting, has_majority, some_leads, tells, one_genesis, is_served, all_have, is_ready};
 
 use lk_probe::{DIGEST, Report};
 use lk_types::{Member, NodeNo};
@@ -19,8 +19,8 @@ pub fn has_answered(node: NodeNo, reports: &[Report]) -> bool
 }
 
 /// How many of the members report.
-pub fn up(members: &[Member], reports: &[Report]) -> usize
-    ensures value { result ≡ up members.now reports.now }
+pub fn count_reporting(members: &[Member], reports: &[Report]) -> usize
+    ensures value { result ≡ count_reporting members.now reports.now }
     ensures most { result ≤ length members.now }
 {
     let mut count = 0;
@@ -46,7 +46,7 @@ pub fn has_majority(report: &Report, reports: &[Report]) -> bool
     ensures { result ≡ has_majority report.now reports.now }
 {
     let members = report.status.members.as_slice();
-    members.len() < 2 * up(members, reports)
+    members.len() < 2 * count_reporting(members, reports)
 }
 
 // Whether one of these leads, and a majority of its members report.

@@ -5,5 +5,5 @@ mod BestLaws
 mod TermLaws
 mod ValueLaws
 mod Elements
-mod StandingLaws
+mod LedTermLaws
 pub mod Leaderships

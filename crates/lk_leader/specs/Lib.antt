@@ -3,4 +3,4 @@ pub mod Terms
 pub mod Values
 pub mod Proposing
 pub mod Acceptances
-pub mod Standing
+pub mod LedTerms

@@ -17,7 +17,7 @@ ghost use Rattle.lk_leader.specs.Values.{IsLeadersValue};
 ghost use Rattle.lk_leader.specs.Proposing.{IsNext, Proposes, proposed};
 ghost use Rattle.lk_leader.specs.Acceptances.{members_among, heard, heard_at, IsVoteFor, GainsMajority};
 ghost use Rattle.lk_leader.specs.Waits.{asked, left_by, AreOneEach};
-ghost use Rattle.lk_leader.specs.Standing.{LeadsTerm};
+ghost use Rattle.lk_leader.specs.LedTerms.{LeadsTerm};
 
 /// What a leader proposes is what a sound history permits its term to propose, if its roster stands for the executed
 /// list. A proposed command was reported, or waits, or is a no-op: nothing is ever proposed that was not asked.
@@ -39,8 +39,8 @@ pub fn what_gains_a_majority_was_accepted()
         → Contains (with_acceptance t (record { node = node; position = i; command = v })).accepted (record { node = n; position = i; command = v })) }
 {}
 
-/// A leader continues to stand for its term, whatever it hears, proposes or decides, and as more is executed.
-pub fn a_leader_stands_for_its_term()
+/// A leader continues to lead its term, whatever it hears, proposes or decides, and as more is executed.
+pub fn a_leader_keeps_its_term()
     ensures begins { (executed alpha : ℕ) (b : BallotValue) → LeadsTerm executed alpha (new_term b) (begun b) }
     ensures later { (executed later alpha : ℕ) (t : Term) (k : TermValue) → executed ≤ later → LeadsTerm executed alpha t k → LeadsTerm later alpha t k }
     ensures hears { (executed alpha : ℕ) (t : Term) (k : TermValue) (r : Report) → LeadsTerm executed alpha t k → LeadsTerm executed alpha (with_report t r) (terms.with_report r k) }

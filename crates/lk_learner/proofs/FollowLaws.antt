@@ -15,7 +15,7 @@ use Rattle.lk_state.specs.Packed.{packed}
 use Rattle.lk_state.specs.States.{SumsUp, whole_after}
 use Rattle.lk_state.specs.Runs.{ran}
 use Rattle.lk_state.proofs.Wholes.{ran-whole_after}
-use Rattle.lk_learner.specs.Learners.{Command, Pair, WholeValue, LearnerValue, executed, begun, keeping, IsNext, advanced, IsServed, news_from, standing_here}
+use Rattle.lk_learner.specs.Learners.{Command, Pair, WholeValue, LearnerValue, executed, begun, keeping, IsNext, advanced, IsServed, decided_from, with_snapshot}
 use Rattle.lk_learner.specs.Installing.{pairs_above, installed}
 use Rattle.lk_learner.specs.Following.{Follows}
 use Rattle.lk_learner.proofs.PairLaws.{with_has, with_others, with_only, without_from}
@@ -94,7 +94,7 @@ module _ (m : Meaning) (genesis : Genesis) where
       }
 
   -- with a snapshot of its state in the place of what it has executed
-  pub here_follows : (done : List Command) (pairs : List Pair) (l : LearnerValue) → Follows m genesis done pairs l → Follows m genesis done pairs (standing_here l)
+  pub here_follows : (done : List Command) (pairs : List Pair) (l : LearnerValue) → Follows m genesis done pairs l → Follows m genesis done pairs (with_snapshot l)
   here_follows done pairs l f =
       let e = executed_is done l.whole f.sums in
       record {
@@ -184,7 +184,7 @@ module _ (m : Meaning) (genesis : Genesis) where
       ap (command_at done) place ∙ sym (got_behind s done j) ∙ ap (λ (xs : List Command). slice_get xs j) (sym f.served) ∙ h
 
   pub served_chosen : (sent : List Datagram) (done : List Command) (pairs : List Pair) (l : LearnerValue) (first : ℕ) → Chosen genesis sent done → Follows m genesis done pairs l → IsServed l first
-      → AreChosenFrom genesis sent first (news_from first l).commands
+      → AreChosenFrom genesis sent first (decided_from first l).commands
   served_chosen sent done pairs l first chosen f is k v h =
       let s : ℕ = l.snapshot_position in
       let j : ℕ = first - (s + 1) in

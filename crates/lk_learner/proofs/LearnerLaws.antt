@@ -12,7 +12,7 @@ use Rattle.lk_state.specs.Packed.{packed}
 use Rattle.lk_state.specs.Runs.{ran, served_by, in_effect_now}
 use Rattle.lk_state.specs.declared.whole.Ran.{Ran}
 use Rattle.lk_learner.specs.Pairs.{without}
-use Rattle.lk_learner.specs.Learners.{Command, Pair, WholeValue, LearnerValue, IsLearner, executed, alpha, IsWanted, keeping, advanced, IsServed, news_from}
+use Rattle.lk_learner.specs.Learners.{Command, Pair, WholeValue, LearnerValue, IsLearner, executed, alpha, IsWanted, keeping, advanced, IsServed, decided_from}
 use Rattle.lk_learner.specs.Installing.{pairs_above, installed}
 use Rattle.lk_learner.proofs.PairLaws.{kept_with, kept_without, kept_above}
 
@@ -59,10 +59,10 @@ installed_fits w l f above sets some room = record {
 -- ---- what is served
 
 -- what is served fits into a message
-pub news_fit : (first : ℕ) (l : LearnerValue) → IsLearner l → executed l ≤ 281474976710656 → IsServed l first → are_commands_from first (news_from first l).commands ≡ true
-news_fit first l f small is =
+pub decided_fits : (first : ℕ) (l : LearnerValue) → IsLearner l → executed l ≤ 281474976710656 → IsServed l first → are_commands_from first (decided_from first l).commands ≡ true
+decided_fits first l f small is =
     let k : ℕ = first - (l.snapshot_position + 1) in
-    let vs : List Command = (news_from first l).commands in
+    let vs : List Command = (decided_from first l).commands in
     let rest = length-drop k l.served in
     let len = length-take 16 (drop k l.served) in
     let some : 1 ≤ length vs = omega (arith, rest, len, f.reaches, is.0, is.1) in

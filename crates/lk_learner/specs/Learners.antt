@@ -72,16 +72,16 @@ advanced m v l = record {
 }
 
 -- a snapshot of its state replaces the commands that it has executed
-abbrev pub standing_here : LearnerValue → LearnerValue
-standing_here l = record { whole = l.whole; snapshot_position = executed l; snapshot = packed l.whole; served = []; pairs = l.pairs; gathered = l.gathered }
+abbrev pub with_snapshot : LearnerValue → LearnerValue
+with_snapshot l = record { whole = l.whole; snapshot_position = executed l; snapshot = packed l.whole; served = []; pairs = l.pairs; gathered = l.gathered }
 
 -- the position is executed, and above the snapshot
 abbrev pub IsServed : LearnerValue → ℕ → Type 0
 IsServed l i = (l.snapshot_position < i) × (i ≤ executed l)
 
 -- the commands from there on, up to the last executed one, up to 16
-abbrev pub news_from : ℕ → LearnerValue → DecidedValue
-news_from first l = record { first = first; commands = take max_commands (drop (first - (l.snapshot_position + 1)) l.served) }
+abbrev pub decided_from : ℕ → LearnerValue → DecidedValue
+decided_from first l = record { first = first; commands = take max_commands (drop (first - (l.snapshot_position + 1)) l.served) }
 
 -- how many bytes of a snapshot are gathered
 abbrev pub gathered_bytes : Option GatheredValue → ℕ

@@ -11,7 +11,7 @@ ghost use Rattle.lk_agreement.specs.Changes.{with_done, Changes};
 ghost use Rattle.lk_state.specs.Meanings.{Meaning};
 ghost use Rattle.lk_state.specs.States.{SumsUp};
 ghost use Rattle.lk_learner.specs.Pairs.{AreKept, without};
-ghost use Rattle.lk_learner.specs.Learners.{Command, Pair, WholeValue, LearnerValue, executed, begun, keeping, IsNext, advanced, IsServed, news_from};
+ghost use Rattle.lk_learner.specs.Learners.{Command, Pair, WholeValue, LearnerValue, executed, begun, keeping, IsNext, advanced, IsServed, decided_from};
 ghost use Rattle.lk_learner.specs.Following.{Follows};
 ghost use Rattle.lk_learner.specs.Learners.{GatheredValue};
 ghost use Rattle.lk_learner.specs.Gathering.{heard};
@@ -59,7 +59,7 @@ pub fn a_learner_changes_as_it_may()
 /// A node may send what a learner serves, and it is the list's.
 pub fn what_is_served_is_chosen()
     ensures may { (m : Meaning) (genesis : Genesis) (sent : List Datagram) (w : View) (l : LearnerValue) (first : ℕ) → Stems genesis sent w → Follows m genesis w.done w.pairs l
-        → IsServed l first → MaySend genesis sent w (Decided (news_from first l)) }
+        → IsServed l first → MaySend genesis sent w (Decided (decided_from first l)) }
     ensures there { (m : Meaning) (genesis : Genesis) (done : List Command) (pairs : List Pair) (l : LearnerValue) (i : ℕ) (v : Command) → Follows m genesis done pairs l
         → l.snapshot_position < i → slice_get l.served (i - (l.snapshot_position + 1)) ≡ Some v → command_at done i ≡ Some v }
 {}

@@ -44,7 +44,7 @@ impl<M: Machine> Learner<M> {
     ghost use Rattle.lk_members.specs.Rosters.{Genesis};
     ghost use Rattle.lk_state.specs.States.{SumsUp, reply_of};
     ghost use Rattle.lk_state.specs.Runs.{run_answer};
-    ghost use Rattle.lk_learner.specs.Learners.{IsLearner, executed, alpha, begun, IsWanted, keeping, IsNext, advanced, standing_here, IsServed, news_from, gathered_bytes, wanted};
+    ghost use Rattle.lk_learner.specs.Learners.{IsLearner, executed, alpha, begun, IsWanted, keeping, IsNext, advanced, with_snapshot, IsServed, decided_from, gathered_bytes, wanted};
 
     /// The learner for this state, right after a snapshot with this packed text. Takes no memory.
     pub fn new(alloc: Global, whole: Whole<M>, snapshot: Vec<u8>) -> Learner<M>
@@ -168,9 +168,9 @@ impl<M: Machine> Learner<M> {
     }
 
     /// A snapshot of the state, with this packed text, replaces the executed commands. Takes no memory.
-    pub fn stand_here(&mut self, snapshot: Vec<u8>)
+    pub fn set_snapshot(&mut self, snapshot: Vec<u8>)
         requires text { snapshot.items ≡ packed self.old.whole }
-        ensures { self.new ≡ standing_here self.old }
+        ensures { self.new ≡ with_snapshot self.old }
     {
         self.whole.facts();
         self.snapshot_position = self.whole.executed();
@@ -217,7 +217,7 @@ impl<M: Machine> Learner<M> {
 
     // The executed commands from the position on, up to 16, if the snapshot has not replaced them.
     fn commands_from(&self, first: Position) -> Option<&[Command]>
-        ensures { MatchOption result (IsServed self.now first → ⊥) (λ vs. IsServed self.now first × (vs.now ≡ (news_from first self.now).commands)) }
+        ensures { MatchOption result (IsServed self.now first → ⊥) (λ vs. IsServed self.now first × (vs.now ≡ (decided_from first self.now).commands)) }
     {
         let start = self.place(first)?;
         let count = self.served.len();
@@ -231,7 +231,7 @@ impl<M: Machine> Learner<M> {
     /// The reply to a node that asks for the commands from `first` on: up to 16 of them, up to the last executed one.
     /// `None` if `first` is not executed, or the snapshot has replaced it: see `parts`.
     pub fn serve(&self, first: Position) -> Result<Option<Decided>, NoMemory>
-        ensures some { IsServed self.now first → IfOk result (λ d. d ≡ Some (news_from first self.now)) }
+        ensures some { IsServed self.now first → IfOk result (λ d. d ≡ Some (decided_from first self.now)) }
         ensures none { (IsServed self.now first → ⊥) → result ≡ Ok None }
         ensures memory { OnErr result (IsServed self.now first) }
     {

@@ -11,8 +11,8 @@ use Rattle.lk_sim.specs.declared.event.Turn.{Turn}
 use Rattle.lk_sim.specs.declared.event.Turn.TheVariants as turn
 use Rattle.lk_lines.specs.declared.event_verb.EventVerb.{EventVerb}
 use Rattle.lk_lines.specs.declared.event_verb.EventVerb.TheVariants as verb
-use Rattle.lk_lines.specs.declared.order.Order.{Order}
-use Rattle.lk_lines.specs.declared.order.Order.TheVariants.{Ticks, Once}
+use Rattle.lk_lines.specs.declared.instruction.Instruction.{Instruction}
+use Rattle.lk_lines.specs.declared.instruction.Instruction.TheVariants.{Ticks, Once}
 
 -- the word spells a number from `least` to `most`
 abbrev pub IsWord : ℕ → ℕ → ℕ → List ℕ → Type 0
@@ -32,23 +32,23 @@ NodeLeads = Leads 1 max_node
 -- ---- what the words after each verb ask for
 
 -- `N`
-abbrev pub AsksToStart : List ℕ → Order → Type 0
+abbrev pub AsksToStart : List ℕ → Instruction → Type 0
 AsksToStart words o = (n : ℕ) × IsNodeWord n words × (o ≡ Once (event.Start n))
 
-abbrev pub AsksToRestart : List ℕ → Order → Type 0
+abbrev pub AsksToRestart : List ℕ → Instruction → Type 0
 AsksToRestart words o = (n : ℕ) × IsNodeWord n words × (o ≡ Once (event.Restart n))
 
 -- `N`, or `N TIMES`
-abbrev pub AsksForTicks : List ℕ → Order → Type 0
+abbrev pub AsksForTicks : List ℕ → Instruction → Type 0
 AsksForTicks words o = ((n : ℕ) × IsNodeWord n words × (o ≡ Ticks n 1))
     ⊎ ((n : ℕ) × (times : ℕ) × (word : List ℕ) × NodeLeads n word words × IsWord 1 10000 times word × (o ≡ Ticks n times))
 
 -- `N`
-abbrev pub AsksToCompact : List ℕ → Order → Type 0
+abbrev pub AsksToCompact : List ℕ → Instruction → Type 0
 AsksToCompact words o = (n : ℕ) × IsNodeWord n words × (o ≡ Once (event.Compact n))
 
 -- `K`
-abbrev pub AsksToDeliver : List ℕ → Order → Type 0
+abbrev pub AsksToDeliver : List ℕ → Instruction → Type 0
 AsksToDeliver words o = (k : ℕ) × IsWord 1 max_count k words × (o ≡ Once (event.Deliver k))
 
 -- `t`, or `K`
@@ -67,7 +67,7 @@ Groups n turns (event.Group m taken) = (m ≡ n) × (taken.items ≡ turns)
 Groups n turns e = ⊥
 
 -- `N WORD ..`
-abbrev pub AsksForGroup : List ℕ → Order → Type 0
+abbrev pub AsksForGroup : List ℕ → Instruction → Type 0
 AsksForGroup words o = (n : ℕ) × (rest : List ℕ) × (turns : List Turn) × (e : Event) × NodeLeads n rest words × SpellsTurns rest turns × Groups n turns e × (o ≡ Once e)
 
 -- `C NUMBER OP`
@@ -75,7 +75,7 @@ abbrev pub SpellsRequest : List ℕ → RequestValue → Type 0
 SpellsRequest words r = (rest : List ℕ) × (text : List ℕ) × Leads 1 max_client r.client rest words × Leads 1 max_count r.number text rest × SpellsOp text r.op
 
 -- `N C NUMBER OP`
-abbrev pub AsksOfClient : List ℕ → Order → Type 0
+abbrev pub AsksOfClient : List ℕ → Instruction → Type 0
 AsksOfClient words o = (n : ℕ) × (r : RequestValue) × (rest : List ℕ) × NodeLeads n rest words × SpellsRequest rest r × (o ≡ Once (event.Client n r))
 
 -- the node takes these bytes
@@ -84,21 +84,21 @@ Injects n bytes (event.Inject m handed) = (m ≡ n) × (handed.items ≡ bytes)
 Injects n bytes e = ⊥
 
 -- `N HEX`
-abbrev pub AsksToInject : List ℕ → Order → Type 0
+abbrev pub AsksToInject : List ℕ → Instruction → Type 0
 AsksToInject words o = (n : ℕ) × (digits : List ℕ) × (bytes : List ℕ) × (e : Event) × NodeLeads n digits words × (decode_of digits ≡ Ok bytes) × (bytes ≢ [])
     × Injects n bytes e × (o ≡ Once e)
 
 -- `N X Y`
-abbrev pub AsksToStop : List ℕ → Order → Type 0
+abbrev pub AsksToStop : List ℕ → Instruction → Type 0
 AsksToStop words o = (n : ℕ) × (x : ℕ) × (y : ℕ) × (more : List ℕ) × (word : List ℕ)
     × NodeLeads n more words × Leads 0 max_count x word more × IsWord 0 max_count y word × (o ≡ Once (event.Stop n x y))
 
 -- `N COUNT`
-abbrev pub AsksToFail : List ℕ → Order → Type 0
+abbrev pub AsksToFail : List ℕ → Instruction → Type 0
 AsksToFail words o = (n : ℕ) × (count : ℕ) × (word : List ℕ) × NodeLeads n word words × IsWord 1 max_count count word × (o ≡ Once (event.FailAt n count))
 
 -- `N COUNT BYTES`
-abbrev pub AsksToArm : List ℕ → Order → Type 0
+abbrev pub AsksToArm : List ℕ → Instruction → Type 0
 AsksToArm words o = (n : ℕ) × (count : ℕ) × (bytes : ℕ) × (more : List ℕ) × (word : List ℕ)
     × NodeLeads n more words × Leads 1 max_count count word more × IsWord 0 max_count bytes word × (o ≡ Once (event.Arm n count bytes))
 
@@ -117,7 +117,7 @@ word_of verb.Stop = codes "stop"
 word_of verb.Fail = codes "fail"
 word_of verb.Arm = codes "arm"
 
-abbrev pub Asks : EventVerb → List ℕ → Order → Type 0
+abbrev pub Asks : EventVerb → List ℕ → Instruction → Type 0
 Asks verb.Start = AsksToStart
 Asks verb.Restart = AsksToRestart
 Asks verb.Tick = AsksForTicks
@@ -131,5 +131,5 @@ Asks verb.Fail = AsksToFail
 Asks verb.Arm = AsksToArm
 
 -- a verb, a space, and words of that verb
-abbrev pub SpellsOrder : List ℕ → Order → Type 0
-SpellsOrder line o = (v : EventVerb) × (words : List ℕ) × (line ≡ word_of v ++ 32 ∷ words) × Asks v words o
+abbrev pub SpellsInstruction : List ℕ → Instruction → Type 0
+SpellsInstruction line o = (v : EventVerb) × (words : List ℕ) × (line ≡ word_of v ++ 32 ∷ words) × Asks v words o

@@ -4,13 +4,13 @@ ghost use Rattle.std.specs.Prelude.{◌≡◌, ◌≢◌, ◌≤◌, ℕ, List, 
 ghost use Rattle.hex.specs.Hex.{decode_of};
 ghost use Rattle.lk_types.specs.Limits.{max_node};
 ghost use Rattle.lk_members.specs.Effects.{RequestValue};
-ghost use Rattle.lk_lines.specs.declared.order.Order.TheVariants as order;
-ghost use Rattle.lk_lines.specs.declared.order.Order.{Order as OrderValue};
-ghost use Rattle.lk_lines.specs.WorldLines.{IsNodeWord, AsksToStart, AsksToRestart, AsksForTicks, AsksToCompact, AsksToDeliver, AsksForGroup, SpellsRequest, AsksOfClient, AsksToInject, AsksToStop, AsksToFail, AsksToArm, Asks, SpellsOrder};
+ghost use Rattle.lk_lines.specs.declared.instruction.Instruction.TheVariants as instruction;
+ghost use Rattle.lk_lines.specs.declared.instruction.Instruction.{Instruction as InstructionValue};
+ghost use Rattle.lk_lines.specs.WorldLines.{IsNodeWord, AsksToStart, AsksToRestart, AsksForTicks, AsksToCompact, AsksToDeliver, AsksForGroup, SpellsRequest, AsksOfClient, AsksToInject, AsksToStop, AsksToFail, AsksToArm, Asks, SpellsInstruction};
 
 use crate::event_verb::EventVerb;
 use crate::fault::LineFault;
-use crate::order::Order;
+use crate::instruction::Instruction;
 use crate::turn_words::read_turns;
 use crate::world_words::{first_number, number_of};
 use lk_arguments::operation::read_operation;
@@ -36,32 +36,32 @@ fn node_of(word: &[u8]) -> Option<NodeNo>
     Some(NodeNo::of(number as u32).unwrap())
 }
 
-// The order `start N`.
-fn to_start(words: &[u8]) -> Option<Order>
+// The instruction `start N`.
+fn read_start(words: &[u8]) -> Option<Instruction>
     ensures some { IfSome result (AsksToStart words.now) }
-    ensures none { IsNone result → (o : OrderValue) → AsksToStart words.now o → ⊥ }
+    ensures none { IsNone result → (o : InstructionValue) → AsksToStart words.now o → ⊥ }
 {
     let Some(node) = node_of(words) else {
         return None;
     };
-    Some(Order::Once(Event::Start(node)))
+    Some(Instruction::Once(Event::Start(node)))
 }
 
-// The order `restart N`.
-fn to_restart(words: &[u8]) -> Option<Order>
+// The instruction `restart N`.
+fn read_restart(words: &[u8]) -> Option<Instruction>
     ensures some { IfSome result (AsksToRestart words.now) }
-    ensures none { IsNone result → (o : OrderValue) → AsksToRestart words.now o → ⊥ }
+    ensures none { IsNone result → (o : InstructionValue) → AsksToRestart words.now o → ⊥ }
 {
     let Some(node) = node_of(words) else {
         return None;
     };
-    Some(Order::Once(Event::Restart(node)))
+    Some(Instruction::Once(Event::Restart(node)))
 }
 
 // The number of the node, and how many times it ticks.
 fn ticks(words: &[u8]) -> Option<(u64, u64)>
-    ensures some { IfSome result (λ p. (1 ≤ p.0) × (p.0 ≤ max_node) × (p.1 ≤ 10000) × AsksForTicks words.now (order.Ticks p.0 p.1)) }
-    ensures none { IsNone result → (o : OrderValue) → AsksForTicks words.now o → ⊥ }
+    ensures some { IfSome result (λ p. (1 ≤ p.0) × (p.0 ≤ max_node) × (p.1 ≤ 10000) × AsksForTicks words.now (instruction.Ticks p.0 p.1)) }
+    ensures none { IsNone result → (o : InstructionValue) → AsksForTicks words.now o → ⊥ }
 {
     if let Some((number, word)) = first_number(words, 1, LAST_NODE) {
         let times = number_of(word, 1, MAX_TIMES)?;
@@ -71,34 +71,34 @@ fn ticks(words: &[u8]) -> Option<(u64, u64)>
     Some((number, 1))
 }
 
-// The order `tick N` or `tick N TIMES`.
-fn to_tick(words: &[u8]) -> Option<Order>
+// The instruction `tick N` or `tick N TIMES`.
+fn read_tick(words: &[u8]) -> Option<Instruction>
     ensures some { IfSome result (AsksForTicks words.now) }
-    ensures none { IsNone result → (o : OrderValue) → AsksForTicks words.now o → ⊥ }
+    ensures none { IsNone result → (o : InstructionValue) → AsksForTicks words.now o → ⊥ }
 {
     let (number, times) = ticks(words)?;
     let node = NodeNo::of(number as u32).unwrap();
-    Some(Order::Ticks(node, times as u16))
+    Some(Instruction::Ticks(node, times as u16))
 }
 
-// The order `compact N`.
-fn to_compact(words: &[u8]) -> Option<Order>
+// The instruction `compact N`.
+fn read_compact(words: &[u8]) -> Option<Instruction>
     ensures some { IfSome result (AsksToCompact words.now) }
-    ensures none { IsNone result → (o : OrderValue) → AsksToCompact words.now o → ⊥ }
+    ensures none { IsNone result → (o : InstructionValue) → AsksToCompact words.now o → ⊥ }
 {
     let Some(node) = node_of(words) else {
         return None;
     };
-    Some(Order::Once(Event::Compact(node)))
+    Some(Instruction::Once(Event::Compact(node)))
 }
 
-// The order `deliver K`.
-fn to_deliver(words: &[u8]) -> Option<Order>
+// The instruction `deliver K`.
+fn read_deliver(words: &[u8]) -> Option<Instruction>
     ensures some { IfSome result (AsksToDeliver words.now) }
-    ensures none { IsNone result → (o : OrderValue) → AsksToDeliver words.now o → ⊥ }
+    ensures none { IsNone result → (o : InstructionValue) → AsksToDeliver words.now o → ⊥ }
 {
     let k = number_of(words, 1, MAX_COUNT)?;
-    Some(Order::Once(Event::Deliver(k as usize)))
+    Some(Instruction::Once(Event::Deliver(k as usize)))
 }
 
 // The request that a client asks.
@@ -116,56 +116,56 @@ fn request(words: &[u8]) -> Option<Request>
     Some(Request { client, number, op })
 }
 
-// The order `client N C NUMBER OP`.
-fn to_ask(words: &[u8]) -> Option<Order>
+// The instruction `client N C NUMBER OP`.
+fn read_ask(words: &[u8]) -> Option<Instruction>
     ensures some { IfSome result (AsksOfClient words.now) }
-    ensures none { IsNone result → (o : OrderValue) → AsksOfClient words.now o → ⊥ }
+    ensures none { IsNone result → (o : InstructionValue) → AsksOfClient words.now o → ⊥ }
 {
     let (number, words) = first_number(words, 1, LAST_NODE)?;
     let Some(request) = request(words) else {
         return None;
     };
     let node = NodeNo::of(number as u32).unwrap();
-    Some(Order::Once(Event::Client(node, request)))
+    Some(Instruction::Once(Event::Client(node, request)))
 }
 
-// The order `stop N X Y`.
-fn to_stop(words: &[u8]) -> Option<Order>
+// The instruction `stop N X Y`.
+fn read_stop(words: &[u8]) -> Option<Instruction>
     ensures some { IfSome result (AsksToStop words.now) }
-    ensures none { IsNone result → (o : OrderValue) → AsksToStop words.now o → ⊥ }
+    ensures none { IsNone result → (o : InstructionValue) → AsksToStop words.now o → ⊥ }
 {
     let (number, words) = first_number(words, 1, LAST_NODE)?;
     let (x, word) = first_number(words, 0, MAX_COUNT)?;
     let y = number_of(word, 0, MAX_COUNT)?;
     let node = NodeNo::of(number as u32).unwrap();
-    Some(Order::Once(Event::Stop(node, x as usize, y as usize)))
+    Some(Instruction::Once(Event::Stop(node, x as usize, y as usize)))
 }
 
-// The order `fail N COUNT`.
-fn to_fail(words: &[u8]) -> Option<Order>
+// The instruction `fail N COUNT`.
+fn read_fail(words: &[u8]) -> Option<Instruction>
     ensures some { IfSome result (AsksToFail words.now) }
-    ensures none { IsNone result → (o : OrderValue) → AsksToFail words.now o → ⊥ }
+    ensures none { IsNone result → (o : InstructionValue) → AsksToFail words.now o → ⊥ }
 {
     let (number, word) = first_number(words, 1, LAST_NODE)?;
     let count = number_of(word, 1, MAX_COUNT)?;
     let node = NodeNo::of(number as u32).unwrap();
-    Some(Order::Once(Event::FailAt(node, count)))
+    Some(Instruction::Once(Event::FailAt(node, count)))
 }
 
-// The order `arm N COUNT BYTES`.
-fn to_arm(words: &[u8]) -> Option<Order>
+// The instruction `arm N COUNT BYTES`.
+fn read_arm(words: &[u8]) -> Option<Instruction>
     ensures some { IfSome result (AsksToArm words.now) }
-    ensures none { IsNone result → (o : OrderValue) → AsksToArm words.now o → ⊥ }
+    ensures none { IsNone result → (o : InstructionValue) → AsksToArm words.now o → ⊥ }
 {
     let (number, words) = first_number(words, 1, LAST_NODE)?;
     let (count, word) = first_number(words, 1, MAX_COUNT)?;
     let bytes = number_of(word, 0, MAX_COUNT)?;
     let node = NodeNo::of(number as u32).unwrap();
-    Some(Order::Once(Event::Arm(node, count, bytes as usize)))
+    Some(Instruction::Once(Event::Arm(node, count, bytes as usize)))
 }
 
 // The bytes that an even number of hex digits, two or more, spell.
-fn in_hex(alloc: Global, digits: &[u8]) -> Result<Vec<u8>, LineFault>
+fn read_hex(alloc: Global, digits: &[u8]) -> Result<Vec<u8>, LineFault>
     ensures ok { IfOk result (λ b. (decode_of digits.now ≡ Ok b.items) × (b.items ≢ [])) }
     ensures not_understood { IsErrOf result LineFault.NotUnderstood → (bytes : List ℕ) → decode_of digits.now ≡ Ok bytes → bytes ≢ [] → ⊥ }
 {
@@ -177,70 +177,70 @@ fn in_hex(alloc: Global, digits: &[u8]) -> Result<Vec<u8>, LineFault>
     }
 }
 
-// The order `inject N HEX`.
-fn to_inject(alloc: Global, words: &[u8]) -> Result<Order, LineFault>
+// The instruction `inject N HEX`.
+fn read_inject(alloc: Global, words: &[u8]) -> Result<Instruction, LineFault>
     ensures ok { IfOk result (AsksToInject words.now) }
-    ensures not_understood { IsErrOf result LineFault.NotUnderstood → (o : OrderValue) → AsksToInject words.now o → ⊥ }
+    ensures not_understood { IsErrOf result LineFault.NotUnderstood → (o : InstructionValue) → AsksToInject words.now o → ⊥ }
 {
     let Some((number, digits)) = first_number(words, 1, LAST_NODE) else {
         return Err(LineFault::NotUnderstood);
     };
-    let bytes = in_hex(alloc, digits)?;
+    let bytes = read_hex(alloc, digits)?;
     let node = NodeNo::of(number as u32).unwrap();
-    Ok(Order::Once(Event::Inject(node, bytes)))
+    Ok(Instruction::Once(Event::Inject(node, bytes)))
 }
 
-// The order `group N WORD ..`.
-fn to_group(alloc: Global, words: &[u8]) -> Result<Order, LineFault>
+// The instruction `group N WORD ..`.
+fn read_group(alloc: Global, words: &[u8]) -> Result<Instruction, LineFault>
     ensures ok { IfOk result (AsksForGroup words.now) }
-    ensures not_understood { IsErrOf result LineFault.NotUnderstood → (o : OrderValue) → AsksForGroup words.now o → ⊥ }
+    ensures not_understood { IsErrOf result LineFault.NotUnderstood → (o : InstructionValue) → AsksForGroup words.now o → ⊥ }
 {
     let Some((number, words)) = first_number(words, 1, LAST_NODE) else {
         return Err(LineFault::NotUnderstood);
     };
     let turns = read_turns(alloc, words)?;
     let node = NodeNo::of(number as u32).unwrap();
-    Ok(Order::Once(Event::Group(node, turns)))
+    Ok(Instruction::Once(Event::Group(node, turns)))
 }
 
-// An order, or the fault that there is none.
-fn understood(order: Option<Order>) -> Result<Order, LineFault>
-    ensures ok { IfOk result (λ o. order ≡ Some o) }
-    ensures not_understood { IsErrOf result LineFault.NotUnderstood → IsNone order }
+// An instruction, or the fault that there is none.
+fn understood(instruction: Option<Instruction>) -> Result<Instruction, LineFault>
+    ensures ok { IfOk result (λ o. instruction ≡ Some o) }
+    ensures not_understood { IsErrOf result LineFault.NotUnderstood → IsNone instruction }
 {
-    order.ok_or(LineFault::NotUnderstood)
+    instruction.ok_or(LineFault::NotUnderstood)
 }
 
 // What the words after a verb ask for.
-fn order_of(alloc: Global, verb: EventVerb, words: &[u8]) -> Result<Order, LineFault>
+fn instruction_of(alloc: Global, verb: EventVerb, words: &[u8]) -> Result<Instruction, LineFault>
     ensures ok { IfOk result (Asks verb words.now) }
-    ensures not_understood { IsErrOf result LineFault.NotUnderstood → (o : OrderValue) → Asks verb words.now o → ⊥ }
+    ensures not_understood { IsErrOf result LineFault.NotUnderstood → (o : InstructionValue) → Asks verb words.now o → ⊥ }
 {
     match verb {
-        EventVerb::Start => understood(to_start(words)),
-        EventVerb::Restart => understood(to_restart(words)),
-        EventVerb::Tick => understood(to_tick(words)),
-        EventVerb::Compact => understood(to_compact(words)),
-        EventVerb::Deliver => understood(to_deliver(words)),
-        EventVerb::Group => to_group(alloc, words),
-        EventVerb::Client => understood(to_ask(words)),
-        EventVerb::Inject => to_inject(alloc, words),
-        EventVerb::Stop => understood(to_stop(words)),
-        EventVerb::Fail => understood(to_fail(words)),
-        EventVerb::Arm => understood(to_arm(words)),
+        EventVerb::Start => understood(read_start(words)),
+        EventVerb::Restart => understood(read_restart(words)),
+        EventVerb::Tick => understood(read_tick(words)),
+        EventVerb::Compact => understood(read_compact(words)),
+        EventVerb::Deliver => understood(read_deliver(words)),
+        EventVerb::Group => read_group(alloc, words),
+        EventVerb::Client => understood(read_ask(words)),
+        EventVerb::Inject => read_inject(alloc, words),
+        EventVerb::Stop => understood(read_stop(words)),
+        EventVerb::Fail => understood(read_fail(words)),
+        EventVerb::Arm => understood(read_arm(words)),
     }
 }
 
 /// What a line asks for.
-pub fn read_order(alloc: Global, line: &[u8]) -> Result<Order, LineFault>
-    ensures ok { IfOk result (SpellsOrder line.now) }
-    ensures not_understood { IsErrOf result LineFault.NotUnderstood → (o : OrderValue) → SpellsOrder line.now o → ⊥ }
+pub fn read_instruction(alloc: Global, line: &[u8]) -> Result<Instruction, LineFault>
+    ensures ok { IfOk result (SpellsInstruction line.now) }
+    ensures not_understood { IsErrOf result LineFault.NotUnderstood → (o : InstructionValue) → SpellsInstruction line.now o → ⊥ }
 {
     let Some((word, words)) = split_word(line) else {
         return Err(LineFault::NotUnderstood);
     };
     match EventVerb::of(word) {
-        Some(verb) => order_of(alloc, verb, words),
+        Some(verb) => instruction_of(alloc, verb, words),
         None => Err(LineFault::NotUnderstood),
     }
 }

@@ -109,7 +109,7 @@ impl Machine for LockTable {
     /// Raises the table.
     fn raise(&mut self) -> Answer {
         self.facts();
-        self.raise_it()
+        self.raise_version()
     }
 
     /// Appends how many names there are, and then in rising order each name with its last fence and its holders; after

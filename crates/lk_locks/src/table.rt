@@ -202,7 +202,7 @@ impl LockTable {
     }
 
     /// Raises the table: from then on it knows shared names and Break. Takes no memory.
-    pub fn raise_it(&mut self) -> Answer
+    pub fn raise_version(&mut self) -> Answer
         ensures answer { result ≡ raise_answer self.old }
         ensures next { self.new ≡ raised self.old }
     {

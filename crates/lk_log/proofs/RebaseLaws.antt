@@ -150,8 +150,8 @@ module _ (old new : Side → Disk) (live : Side) (b : BaseValue) (ks ls : List S
       (older_front (old live) b.generation (holds_older (old live) (old (other live)) ks ls b.generation h less) (image live) at.0 at.1))
 
 -- the Base stands alone, and the file that was left is empty
-pub gone_over : (d o : Disk) (b : BaseValue) → b.format ≡ 2 → IsStored (Base b) → d ≡ record { synced = spelling (Base b); unsynced = [] } → o ≡ record { synced = []; unsynced = [] } → HoldsOn d o (Base b ∷ []) []
-gone_over d o b two fits is left = record {
+pub files_switched : (d o : Disk) (b : BaseValue) → b.format ≡ 2 → IsStored (Base b) → d ≡ record { synced = spelling (Base b); unsynced = [] } → o ≡ record { synced = []; unsynced = [] } → HoldsOn d o (Base b ∷ []) []
+files_switched d o b two fits is left = record {
   synced = ap (λ (e : Disk). e.synced) is ∙ sym (append-nil (spelling (Base b)));
   unsynced = ap (λ (e : Disk). e.unsynced) is;
   fit = (fits, tt);

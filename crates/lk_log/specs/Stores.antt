@@ -89,9 +89,9 @@ next_base s t = record { generation = s.generation + 1; format = 2; header = s.h
 
 -- after a rebase the store has the next generation, format 2 and the same header; after an error the same file is
 -- live, with the same generation, format and header
-abbrev pub GoesOver : {T : Type 0} → StoreValue → StoreValue → Result T StoreFault → Type 0
-GoesOver old new (Ok _) = (new.generation ≡ old.generation + 1) × (new.format ≡ 2) × (new.header ≡ old.header)
-GoesOver old new (Err e) = KeepsItsFile old new
+abbrev pub SwitchesFiles : {T : Type 0} → StoreValue → StoreValue → Result T StoreFault → Type 0
+SwitchesFiles old new (Ok _) = (new.generation ≡ old.generation + 1) × (new.format ≡ 2) × (new.header ≡ old.header)
+SwitchesFiles old new (Err e) = KeepsItsFile old new
 
 -- the old file is empty, and the live one is no longer than a Base
 abbrev pub LeavesEmpty : StoreValue → Type 0

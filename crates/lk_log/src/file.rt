@@ -10,7 +10,7 @@ ghost use Rattle.lk_log.specs.OpenCauses.{IsCaused, IsMetered};
 
 use crate::fault::OpenFault;
 use lk_disk::{LogDisk, Side};
-use lk_entries::{Stored, Unread, first_entry, is_mixed};
+use lk_entries::{EntryFault, Stored, first_entry, is_mixed};
 use lk_fields::read_u32;
 use lk_types::NoMemory;
 use lk_types::limits::MAX_TORN;
@@ -62,8 +62,8 @@ fn file_of(alloc: Global, bytes: &[u8]) -> Result<File, NoMemory>
                 entries.push(entry)?;
                 rest = more;
             }
-            Err(Unread::NoEntry) => break,
-            Err(Unread::NoMemory) => return Err(NoMemory),
+            Err(EntryFault::NoEntry) => break,
+            Err(EntryFault::NoMemory) => return Err(NoMemory),
         }
     }
     let is_damaged = is_damaged(&entries, rest);

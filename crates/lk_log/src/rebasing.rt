@@ -25,7 +25,7 @@ pub fn other(side: Side) -> Side
 }
 
 /// Replaces the other file with these bytes of a Base, syncs it, and truncates the live file to nothing.
-pub fn go_over<D: LogDisk>(device: &mut D, live: Side, bytes: &[u8]) -> Result<(), DeviceFault>
+pub fn switch_files<D: LogDisk>(device: &mut D, live: Side, bytes: &[u8]) -> Result<(), DeviceFault>
     ensures holds { D.is_honest → (b : BaseValue) → b.format ≡ 2 → IsStored (base_entry b) → bytes.now ≡ spelling (base_entry b)
         → OnOk result (HoldsOn (D.disk device.new (other live)) (D.disk device.new live) (base_entry b ∷ []) []) }
     ensures left { D.is_honest → OnOk result (D.disk device.new live ≡ record { synced = []; unsynced = [] }) }

@@ -10,11 +10,11 @@ ghost use Rattle.lk_entries.specs.declared.stored.Stored.TheVariants.{Base};
 ghost use Rattle.lk_log.specs.Causes.{FailuresRise, IsOfDevice, IsOfDeviceOrMemory, RefusesFor, RefusesOrIsLast, FailsByRefusing, FailsUnlessLast, IsMetered, put_calls, rebase_calls};
 ghost use Rattle.lk_log.specs.Rooms.{StaysWithin};
 ghost use Rattle.lk_log.specs.StoreValue.{disks};
-ghost use Rattle.lk_log.specs.Stores.{Holds, KeepsAtLeast, KeepsItsFile, KeepsBothDisks, KeepsOtherDisk, MayBegin, next_base, GoesOver, LeavesEmpty, KeepsOrIs};
+ghost use Rattle.lk_log.specs.Stores.{Holds, KeepsAtLeast, KeepsItsFile, KeepsBothDisks, KeepsOtherDisk, MayBegin, next_base, SwitchesFiles, LeavesEmpty, KeepsOrIs};
 
 use crate::adding::add;
 use crate::fault::StoreFault;
-use crate::rebasing::{go_over, other};
+use crate::rebasing::{other, switch_files};
 use lk_disk::{LogDisk, Side, Trap, Trapped};
 use lk_entries::{Header, Standing, spelled_parts};
 use lk_types::Entry;
@@ -156,7 +156,7 @@ impl<D: LogDisk + Drop> Store<D> {
         ensures no_memory { D.is_honest → IsErrOf result StoreFault.NoMemory → (s : Side) → disks self.new s ≡ disks self.old s }
         // However it ends, neither file has grown, except up to the size of a Base.
         ensures room { D.is_honest → StaysWithin max_base (disks self.old) (disks self.new) }
-        ensures file { GoesOver self.old self.new result }
+        ensures file { SwitchesFiles self.old self.new result }
         ensures failing { FailsUnlessLast self.old self.new result }
         ensures refuses { RefusesOrIsLast IsOfDeviceOrMemory self.old self.new result }
         ensures cause { FailuresRise self.old.failures self.new.failures result }
@@ -170,7 +170,7 @@ impl<D: LogDisk + Drop> Store<D> {
         standing.facts();
         self.failed = true;
         let bytes = spelled_parts(self.alloc, self.generation + 1, 2, &self.header, standing)?;
-        go_over(&mut self.device, self.live, &bytes)?;
+        switch_files(&mut self.device, self.live, &bytes)?;
         self.live = other(self.live);
         self.generation += 1;
         self.format = 2;

@@ -11,4 +11,4 @@ mod window;
 pub use majority::is_majority;
 pub use nodes::{is_among, nodes_of};
 pub use roster::Roster;
-pub use window::{Place, Window};
+pub use window::{Window, WindowSet};

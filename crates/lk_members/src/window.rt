@@ -11,11 +11,11 @@ use std::marker::Model;
 
 /// The set of one position.
 #[derive(Drop)]
-pub struct Place {
+pub struct WindowSet {
     set: Members,
 }
 
-impl Model for Place {
+impl Model for WindowSet {
     ghost use Rattle.std.specs.Prelude.{List};
     ghost use Rattle.lk_types.specs.declared.member.Member.{Member};
 
@@ -24,17 +24,17 @@ impl Model for Place {
     ghost view = { λ p. p.set };
 }
 
-impl Default for Place {
+impl Default for WindowSet {
     ghost is_default = { λ p. length p ≡ 1 };
 
     /// A set of one node.
     fn default() -> Self {
         let set = Members::of(&[Member::default()]).unwrap();
-        Place { set }
+        WindowSet { set }
     }
 }
 
-impl Place {
+impl WindowSet {
     /// The set.
     pub fn set(&self) -> &Members
         ensures { result.now ≡ self.now }
@@ -63,7 +63,7 @@ impl Place {
 /// The sets of the next positions, the nearest first: at most 16. No call takes memory.
 #[derive(Drop)]
 pub struct Window {
-    places: ArrayVec<Place, 16>,
+    places: ArrayVec<WindowSet, 16>,
 }
 
 impl Model for Window {
@@ -89,7 +89,7 @@ impl Window {
     }
 
     /// The sets, the nearest first.
-    pub fn as_slice(&self) -> &[Place]
+    pub fn as_slice(&self) -> &[WindowSet]
         ensures value { result.now ≡ self.now }
         ensures fits { IsWindow self.now }
     {
@@ -170,7 +170,7 @@ impl Window {
         ensures { self.new ≡ self.old ++ set ∷ [] }
     {
         facts_of(&set);
-        self.places.push(Place { set });
+        self.places.push(WindowSet { set });
     }
 
     /// The set at this index, the nearest at 0.

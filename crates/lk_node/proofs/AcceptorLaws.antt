@@ -22,11 +22,11 @@ use Rattle.lk_acceptor.specs.Answers.{Promises, Votes, Agrees, AnswersPrepare, A
 use Rattle.lk_acceptor.specs.States.{IsOrdered, with_vote, with_state, with_written}
 use Rattle.lk_acceptor.specs.declared.response.Response.{Response}
 use Rattle.lk_acceptor.proofs.Acceptors.{prepare_may, accept_may, prepare_covered, accept_covered, prepare_written, accept_written, takes_vote}
-use Rattle.lk_step.specs.Grants.{is_granted}
-use Rattle.lk_step.specs.Letters.{LetterValue, batch_of}
-use Rattle.lk_step.specs.Outboxes.{OutboxValue, nothing, with_optional}
-use Rattle.lk_step.specs.Saying.{saying}
-use Rattle.lk_step.specs.declared.note.Note.{Note}
+use Rattle.lk_node_io.specs.Grants.{is_granted}
+use Rattle.lk_node_io.specs.Letters.{LetterValue, batch_of}
+use Rattle.lk_node_io.specs.Outboxes.{OutboxValue, nothing, with_optional}
+use Rattle.lk_node_io.specs.Saying.{saying}
+use Rattle.lk_node_io.specs.declared.note.Note.{Note}
 use Rattle.lk_node.specs.Answering.{with_acceptor, replied, reply_to, Responds}
 use Rattle.lk_node.specs.Entries.{Rests}
 use Rattle.lk_node.specs.Histories.{History, Genesis, Datagram, IsLawful}

@@ -15,8 +15,8 @@ use Rattle.lk_state.specs.declared.whole.Seen.TheVariants as seen
 use Rattle.lk_state.proofs.Wholes.{same_is, passed_is, last_is_replied, seen_last}
 use Rattle.lk_leader.specs.Terms.{TermValue}
 use Rattle.lk_leader.specs.Waits.{newer, asked}
-use Rattle.lk_step.specs.Outboxes.{OutboxValue, nothing}
-use Rattle.lk_step.specs.declared.to.To.TheVariants as to
+use Rattle.lk_node_io.specs.Outboxes.{OutboxValue, nothing}
+use Rattle.lk_node_io.specs.declared.to.To.TheVariants as to
 use Rattle.lk_node.specs.Asking.{with_waiting, leader_in, PointsTo, TakesNew, TakesAs, HearsRequest}
 use Rattle.lk_node.specs.Histories.{History, Genesis, Command}
 use Rattle.lk_node.specs.NodeValue.{NodeValue}

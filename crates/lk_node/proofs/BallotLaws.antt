@@ -14,11 +14,11 @@ use Rattle.lk_agreement.proofs.Histories.{change_fits}
 use Rattle.lk_acceptor.specs.States.{acceptor_with}
 use Rattle.lk_acceptor.proofs.Acceptors.{own_written}
 use Rattle.lk_leader.specs.Terms.{TermValue, begun}
-use Rattle.lk_leader.proofs.Leaderships.{begun_stands}
-use Rattle.lk_leader.specs.Standing.{LeadsTerm}
+use Rattle.lk_leader.proofs.Leaderships.{begun_leads}
+use Rattle.lk_leader.specs.LedTerms.{LeadsTerm}
 use Rattle.lk_learner.specs.Learners.{executed}
-use Rattle.lk_step.specs.Outboxes.{OutboxValue, nothing, with_entry}
-use Rattle.lk_step.specs.Saying.{saying}
+use Rattle.lk_node_io.specs.Outboxes.{OutboxValue, nothing, with_entry}
+use Rattle.lk_node_io.specs.Saying.{saying}
 use Rattle.lk_node.specs.Beginning.{beginning, Begins}
 use Rattle.lk_node.specs.Histories.{History}
 use Rattle.lk_node.specs.NodeValue.{NodeValue}
@@ -60,7 +60,7 @@ begins_goes_on m Heard node b own below = record {
     held = record {
       acceptor = ap (λ (a : AcceptorState). with_promise a b) s.held.acceptor;
       follows = s.held.follows;
-      leads = λ k at. (new_term b, refl, subst (LeadsTerm _ _ (new_term b)) (is_begun b k at) (begun_stands _ _ b));
+      leads = λ k at. (new_term b, refl, subst (LeadsTerm _ _ (new_term b)) (is_begun b k at) (begun_leads _ _ b));
       waiting = s.held.waiting;
       gathered = s.held.gathered;
     };

@@ -14,7 +14,7 @@ use Rattle.lk_acceptor.specs.AcceptorValue.{AcceptorValue}
 use Rattle.lk_leader.specs.Terms.{LeaderValue, TermValue, idle}
 use Rattle.lk_learner.specs.Following.{Follows}
 use Rattle.lk_learner.specs.Learners.{LearnerValue}
-use Rattle.lk_step.specs.Outboxes.{OutboxValue}
+use Rattle.lk_node_io.specs.Outboxes.{OutboxValue}
 use Rattle.lk_node.specs.Histories.{History, Genesis, Datagram}
 use Rattle.lk_node.specs.Keeping.{IsKnown, IsHeld, LeadsOn}
 use Rattle.lk_node.specs.Calls.{MayGo}

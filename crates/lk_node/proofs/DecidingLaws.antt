@@ -26,17 +26,17 @@ use Rattle.lk_state.specs.States.{WholeValue, SumsUp, whole_after}
 use Rattle.lk_state.specs.declared.session.Session.{Session}
 use Rattle.lk_leader.specs.Acceptances.{heard_at, IsVoteFor, GainsMajority}
 use Rattle.lk_leader.specs.Proposing.{AreMembersAt}
-use Rattle.lk_leader.specs.Standing.{LeadsTerm}
+use Rattle.lk_leader.specs.LedTerms.{LeadsTerm}
 use Rattle.lk_leader.specs.Terms.{TermValue, LeaderValue, ProposalValue, with_term, with_proposals}
-use Rattle.lk_leader.proofs.Leaderships.{majority_rests, accepted_by, majority_stands}
+use Rattle.lk_leader.proofs.Leaderships.{majority_rests, accepted_by, majority_leads}
 use Rattle.lk_learner.specs.Learners.{executed, advanced}
-use Rattle.lk_step.specs.KeptReplies.{session_by}
-use Rattle.lk_step.specs.News.{news_of}
-use Rattle.lk_step.specs.Letters.{LetterValue}
-use Rattle.lk_step.specs.Outboxes.{OutboxValue, nothing, with_note, with_letter, with_letters}
-use Rattle.lk_step.specs.Saying.{saying}
-use Rattle.lk_step.specs.declared.note.Note.TheVariants as note
-use Rattle.lk_node.specs.Deciding.{IsForProposal, with_vote, BringsMajority, IsOnlyHeard, HearsVote, AreNews, HearsAccepted, Decides}
+use Rattle.lk_node_io.specs.KeptReplies.{session_by}
+use Rattle.lk_node_io.specs.DecidedMessages.{decided_message}
+use Rattle.lk_node_io.specs.Letters.{LetterValue}
+use Rattle.lk_node_io.specs.Outboxes.{OutboxValue, nothing, with_note, with_letter, with_letters}
+use Rattle.lk_node_io.specs.Saying.{saying}
+use Rattle.lk_node_io.specs.declared.note.Note.TheVariants as note
+use Rattle.lk_node.specs.Deciding.{IsForProposal, with_vote, BringsMajority, IsOnlyHeard, HearsVote, AreDecidedLetters, HearsAccepted, Decides}
 use Rattle.lk_node.specs.Executing.{SettlesAny, is_outside, while_named, Executes, Runs, stays, goes_on}
 use Rattle.lk_node.specs.Histories.{History}
 use Rattle.lk_node.specs.Keeping.{IsKnown}
@@ -158,7 +158,7 @@ vote_goes_on m from x node out k =
           more,
           refl,
           subst (LeadsTerm r.executed (length r.sets) more) (some_kept (with_proposals (heard_at k.set from x.position k.term.proposals) k.term) j e)
-              (majority_stands r.executed (length r.sets) t k.term r x.ballot from x.position x.command k.set k.proposal k.vote u.2),
+              (majority_leads r.executed (length r.sets) t k.term r x.ballot from x.position x.command k.set k.proposal k.vote u.2),
         );
         waiting = s.held.waiting;
         gathered = s.held.gathered;
@@ -246,19 +246,19 @@ chosen_alone h i v chosen (suc k) u at = absurd (nothing k at)
 abbrev lettered : OutboxValue → List LetterValue → OutboxValue
 lettered out ls = record { rebase = out.rebase; entries = out.entries; sync = out.sync; notes = out.notes; letters = ls }
 
-news_go_on : (m : Meaning) (i : ℕ) (v : Command) (was node : NodeValue) (out : OutboxValue) (nodes : List ℕ) → node.header ≡ was.header → IsMessage (saying was.header (news_of (i, v)))
-    → GoesOn m (Chooses i v) node node out (with_letters (map (letter_to was (news_of (i, v))) nodes) out)
-news_go_on m i v was node out [] same fits = subst (λ (ls : List LetterValue). GoesOn m (Chooses i v) node node out (lettered out ls)) (sym (append-nil out.letters)) (rests_here m (Chooses i v) node out)
-news_go_on m i v was node out (k ∷ nodes) same fits =
-    let one : LetterValue = letter_to was (news_of (i, v)) k in
+decided_go_on : (m : Meaning) (i : ℕ) (v : Command) (was node : NodeValue) (out : OutboxValue) (nodes : List ℕ) → node.header ≡ was.header → IsMessage (saying was.header (decided_message (i, v)))
+    → GoesOn m (Chooses i v) node node out (with_letters (map (letter_to was (decided_message (i, v))) nodes) out)
+decided_go_on m i v was node out [] same fits = subst (λ (ls : List LetterValue). GoesOn m (Chooses i v) node node out (lettered out ls)) (sym (append-nil out.letters)) (rests_here m (Chooses i v) node out)
+decided_go_on m i v was node out (k ∷ nodes) same fits =
+    let one : LetterValue = letter_to was (decided_message (i, v)) k in
     let sent : OutboxValue = with_letter one out in
-    let bytes : spelling (saying node.header (news_of (i, v))) ≡ spelling (saying was.header (news_of (i, v))) = ap (λ (w : HeaderValue). spelling (saying w (news_of (i, v)))) same in
-    subst (λ (ls : List LetterValue). GoesOn m (Chooses i v) node node out (lettered out ls)) (append_assoc out.letters (one ∷ []) (map (letter_to was (news_of (i, v))) nodes))
-    (then_goes_on m (Chooses i v) node node node out sent (with_letters (map (letter_to was (news_of (i, v))) nodes) sent)
+    let bytes : spelling (saying node.header (decided_message (i, v))) ≡ spelling (saying was.header (decided_message (i, v))) = ap (λ (w : HeaderValue). spelling (saying w (decided_message (i, v)))) same in
+    subst (λ (ls : List LetterValue). GoesOn m (Chooses i v) node node out (lettered out ls)) (append_assoc out.letters (one ∷ []) (map (letter_to was (decided_message (i, v))) nodes))
+    (then_goes_on m (Chooses i v) node node node out sent (with_letters (map (letter_to was (decided_message (i, v))) nodes) sent)
     (subst (λ (bs : List ℕ). GoesOn m (Chooses i v) node node out (with_letter (record { to = to_node was k; bytes = bs }) out)) bytes
-    (says m (Chooses i v) node out (to_node was k) (news_of (i, v)) (subst (λ (w : HeaderValue). IsMessage (saying w (news_of (i, v)))) (sym same) fits) tt (λ e. tt)
+    (says m (Chooses i v) node out (to_node was k) (decided_message (i, v)) (subst (λ (w : HeaderValue). IsMessage (saying w (decided_message (i, v)))) (sym same) fits) tt (λ e. tt)
     (λ h n loose s heard. (chosen_alone h i v heard, record { under = s.holding.view.done; chosen = s.fits.view.stems.done; bears = tt }))))
-    (news_go_on m i v was node sent nodes same fits))
+    (decided_go_on m i v was node sent nodes same fits))
 
 -- ---- the header stays
 
@@ -290,7 +290,7 @@ runs_header m old before new after (goes_on {mid} {between} runs one) = executes
 -- ---- in all
 
 pub decides_goes_on : (m : Meaning) (set : List Member) (i : ℕ) (v : Command) (whose : ℕ) (old learned new : NodeValue) (before written ran : OutboxValue) (letters : List LetterValue) → AreMembersAt old.learner.whole.roster i set
-    → AreNews old (i, v) letters → Learns (i, v) old (with_note (note.Counted whose i set v) before) learned written → Runs m learned written new ran
+    → AreDecidedLetters old (i, v) letters → Learns (i, v) old (with_note (note.Counted whose i set v) before) learned written → Runs m learned written new ran
     → GoesOn m (Chooses i v) old learned (with_note (note.Counted whose i set v) before) written → GoesOn m (λ h. Unit {0}) learned new written ran
     → GoesOn m (Chooses i v) old new before (with_letters letters ran)
 decides_goes_on m set i v whose old learned new before written ran letters at news learns runs f g =
@@ -299,7 +299,7 @@ decides_goes_on m set i v whose old learned new before written ran letters at ne
     then_goes_on m (Chooses i v) old old new before noted (with_letters letters ran) (notes_counted m old before whose i set v at)
     (then_goes_on m (Chooses i v) old learned new noted written (with_letters letters ran) f
     (then_goes_on m (Chooses i v) learned new new written ran (with_letters letters ran) (unheard m (Chooses i v) learned new written ran g)
-    (subst (λ (ls : List LetterValue). GoesOn m (Chooses i v) new new ran (with_letters ls ran)) (sym news.comes_to) (news_go_on m i v old new ran news.nodes same news.fits))))
+    (subst (λ (ls : List LetterValue). GoesOn m (Chooses i v) new new ran (with_letters ls ran)) (sym news.comes_to) (decided_go_on m i v old new ran news.nodes same news.fits))))
 
 pub only_heard_goes_on : (m : Meaning) (from : ℕ) (x : Vote) (old new : NodeValue) (out : OutboxValue) → IsOnlyHeard from x old new → GoesOn m (Accepts from x) old new out out
 only_heard_goes_on m from x old new out (inl k) = subst (λ (node : NodeValue). GoesOn m (Accepts from x) old node out out) (sym k.2) (vote_goes_on m from x old out k.0)

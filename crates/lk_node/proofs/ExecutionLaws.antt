@@ -21,18 +21,18 @@ use Rattle.lk_state.specs.declared.session.Session.{Session}
 use Rattle.lk_state.specs.declared.whole.Ran.{Ran}
 use Rattle.lk_state.specs.States.{WholeValue, reply}
 use Rattle.lk_state.proofs.Wholes.{last_is_replied, seen_last}
-use Rattle.lk_leader.specs.Standing.{LeadsTerm}
+use Rattle.lk_leader.specs.LedTerms.{LeadsTerm}
 use Rattle.lk_leader.specs.Waits.{left_by, number_up_to, waiting_of}
-use Rattle.lk_leader.proofs.Leaderships.{later_stands}
+use Rattle.lk_leader.proofs.Leaderships.{later_leads}
 use Rattle.lk_learner.specs.Following.{Follows}
 use Rattle.lk_learner.specs.Learners.{LearnerValue, IsLearner, executed, IsNext, advanced, IsServed}
 use Rattle.lk_learner.specs.Pairs.{without}
 use Rattle.lk_learner.proofs.Learnerships.{ran_moves, advanced_follows, next_stands, running_changes, served_stands}
-use Rattle.lk_step.specs.KeptReplies.{session_reply, session_by}
-use Rattle.lk_step.specs.Outboxes.{OutboxValue, with_note, with_letter}
-use Rattle.lk_step.specs.Saying.{saying}
-use Rattle.lk_step.specs.declared.note.Note.TheVariants as note
-use Rattle.lk_step.specs.declared.to.To.TheVariants as to
+use Rattle.lk_node_io.specs.KeptReplies.{session_reply, session_by}
+use Rattle.lk_node_io.specs.Outboxes.{OutboxValue, with_note, with_letter}
+use Rattle.lk_node_io.specs.Saying.{saying}
+use Rattle.lk_node_io.specs.declared.note.Note.TheVariants as note
+use Rattle.lk_node_io.specs.declared.to.To.TheVariants as to
 use Rattle.lk_node.specs.Executing.{waiting_number, with_told, settled, Settles, SettlesAny, RunsNext, is_outside, while_named, Executes, ExecutesOne, Runs, goes_on, RunsAll}
 use Rattle.lk_node.specs.Histories.{History}
 use Rattle.lk_node.specs.Keeping.{IsKnown}
@@ -144,7 +144,7 @@ advances_goes_on m Heard node out v is next =
               u.0,
               u.1,
               subst₂ (λ (e a : ℕ). LeadsTerm e a u.0 k) (sym moves.0) (sym moves.1)
-                  (later_stands l.whole.roster.executed (l.whole.roster.executed + 1) (length l.whole.roster.sets) u.0 k (omega arith) u.2),
+                  (later_leads l.whole.roster.executed (l.whole.roster.executed + 1) (length l.whole.roster.sets) u.0 k (omega arith) u.2),
             );
         waiting = s.held.waiting;
         gathered = s.held.gathered;

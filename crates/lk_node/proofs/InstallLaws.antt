@@ -21,12 +21,12 @@ use Rattle.lk_state.specs.Meanings.{Meaning, KeepsTexts}
 use Rattle.lk_state.specs.States.{WholeValue, SumsUp, whole_after}
 use Rattle.lk_state.proofs.Wholes.{one_packed, states_fit}
 use Rattle.lk_acceptor.specs.AcceptorValue.{AcceptorValue}
-use Rattle.lk_leader.specs.Standing.{LeadsTerm}
-use Rattle.lk_leader.proofs.Leaderships.{later_stands}
+use Rattle.lk_leader.specs.LedTerms.{LeadsTerm}
+use Rattle.lk_leader.proofs.Leaderships.{later_leads}
 use Rattle.lk_learner.specs.Installing.{with_gathered, hearing, MayInstall, pairs_above, installed, Installs}
 use Rattle.lk_learner.specs.Learners.{LearnerValue, GatheredValue, executed, alpha}
 use Rattle.lk_learner.proofs.Learnerships.{filter_has, executed_is, heard_front, installed_follows}
-use Rattle.lk_step.specs.Outboxes.{OutboxValue}
+use Rattle.lk_node_io.specs.Outboxes.{OutboxValue}
 use Rattle.lk_node.specs.Histories.{History, Genesis, Datagram, text}
 use Rattle.lk_node.specs.Holdings.{Holding, HoldingFits}
 use Rattle.lk_node.specs.Installing.{Gathers}
@@ -160,7 +160,7 @@ module _ (m : Meaning) (h : History) (n : ℕ) (node : NodeValue) (x : Holding) 
             t.0,
             t.1,
             subst (λ (a : ℕ). LeadsTerm w.roster.executed a t.0 k) (sym window)
-                (later_stands (executed node.learner) w.roster.executed (alpha node.learner) t.0 k (omega (arith, farther, far)) t.2),
+                (later_leads (executed node.learner) w.roster.executed (alpha node.learner) t.0 k (omega (arith, farther, far)) t.2),
           );
       waiting = held.waiting;
       gathered = refl;

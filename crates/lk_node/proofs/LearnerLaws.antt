@@ -23,7 +23,7 @@ use Rattle.lk_agreement.proofs.Histories.{change_fits}
 use Rattle.lk_acceptor.specs.States.{acceptor_with}
 use Rattle.lk_learner.specs.Learners.{IsWanted, keeping}
 use Rattle.lk_learner.proofs.Learnerships.{with_has, keeping_follows, learning_changes}
-use Rattle.lk_step.specs.Outboxes.{OutboxValue, with_entry}
+use Rattle.lk_node_io.specs.Outboxes.{OutboxValue, with_entry}
 use Rattle.lk_node.specs.Entries.{Rests}
 use Rattle.lk_node.specs.Executing.{RunsAll}
 use Rattle.lk_node.specs.Histories.{History}

@@ -12,13 +12,13 @@ use Rattle.lk_agreement.specs.Acceptors.{Covers}
 use Rattle.lk_agreement.specs.Nodes.{Pair, View, MaySend}
 use Rattle.lk_state.specs.Meanings.{Meaning}
 use Rattle.lk_learner.specs.Following.{Follows}
-use Rattle.lk_learner.specs.Learners.{LearnerValue, news_from, wanted}
+use Rattle.lk_learner.specs.Learners.{LearnerValue, decided_from, wanted}
 use Rattle.lk_learner.specs.Parts.{start_of}
 use Rattle.lk_learner.proofs.Learnerships.{served_chosen, parts_slice}
-use Rattle.lk_step.specs.Letters.{LetterValue}
-use Rattle.lk_step.specs.Outboxes.{OutboxValue, nothing, with_letter}
-use Rattle.lk_step.specs.Saying.{saying}
-use Rattle.lk_step.specs.declared.to.To.{To}
+use Rattle.lk_node_io.specs.Letters.{LetterValue}
+use Rattle.lk_node_io.specs.Outboxes.{OutboxValue, nothing, with_letter}
+use Rattle.lk_node_io.specs.Saying.{saying}
+use Rattle.lk_node_io.specs.declared.to.To.{To}
 use Rattle.lk_node.specs.CatchingUp.{sending_parts, FeedsParts, Feeds, AsksOn, Levels, HearsNack, following, AsksWhereMore, refusal, HearsLead}
 use Rattle.lk_node.specs.Histories.{History, Command, text}
 use Rattle.lk_node.specs.NodeValue.{NodeValue}
@@ -92,7 +92,7 @@ feeds_parts_goes_on m Heard node other offset out k =
 
 feeds_goes_on : (m : Meaning) (Heard : History → Type 0) (node : NodeValue) (other first offset : ℕ) (out : OutboxValue) → Feeds node other first offset out → GoesOn m Heard node node nothing out
 feeds_goes_on m Heard node other first offset out (inl served) =
-    alone_goes_on m Heard node (to_node node other) (kinds.Decided (news_from first node.learner)) out served.1 tt
+    alone_goes_on m Heard node (to_node node other) (kinds.Decided (decided_from first node.learner)) out served.1 tt
     (λ h n loose s. (served_chosen m h.genesis h.sent s.holding.view.done s.holding.view.pairs node.learner first s.fits.view.stems.done s.held.follows served.0, tt))
 feeds_goes_on m Heard node other first offset out (inr (inl parts)) = feeds_parts_goes_on m Heard node other offset out parts.1
 feeds_goes_on m Heard node other first offset out (inr (inr none)) = idles m Heard node out none.1

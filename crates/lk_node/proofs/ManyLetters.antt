@@ -6,9 +6,9 @@ use Rattle.lk_messages.specs.declared.message.NodeMessage.{NodeMessage}
 use Rattle.lk_agreement.specs.Acceptors.{Covers}
 use Rattle.lk_agreement.specs.Nodes.{MaySend}
 use Rattle.lk_state.specs.Meanings.{Meaning}
-use Rattle.lk_step.specs.Letters.{LetterValue}
-use Rattle.lk_step.specs.Outboxes.{OutboxValue, with_letter}
-use Rattle.lk_step.specs.Saying.{saying}
+use Rattle.lk_node_io.specs.Letters.{LetterValue}
+use Rattle.lk_node_io.specs.Outboxes.{OutboxValue, with_letter}
+use Rattle.lk_node_io.specs.Saying.{saying}
 use Rattle.lk_node.specs.Histories.{History}
 use Rattle.lk_node.specs.NodeValue.{NodeValue}
 use Rattle.lk_node.specs.Saying.{to_node}

@@ -14,7 +14,7 @@ use Rattle.lk_acceptor.specs.States.{IsAcceptor, without_votes_to, with_state}
 use Rattle.lk_acceptor.specs.VoteLists.{votes_above}
 use Rattle.lk_acceptor.specs.declared.response.Response.{Response}
 use Rattle.lk_acceptor.proofs.Acceptors.{rising_count, above_rises, from_with, takes_snapshot}
-use Rattle.lk_learner.specs.Learners.{Command, Pair, LearnerValue, IsLearner, executed, alpha, keeping, advanced, standing_here}
+use Rattle.lk_learner.specs.Learners.{Command, Pair, LearnerValue, IsLearner, executed, alpha, keeping, advanced, with_snapshot}
 use Rattle.lk_learner.specs.Pairs as pairs
 use Rattle.lk_learner.proofs.Learnerships.{ran_moves, kept_few}
 use Rattle.lk_node.specs.Executing.{RunsNext}
@@ -59,7 +59,7 @@ pub runs_near : (m : Meaning) (a : AcceptorValue) (was : NodeValue) (new : Learn
 runs_near m a was new None fits n k = subst (AreNear a) (sym (ap (λ (x : NodeValue). x.learner) k.1)) n
 runs_near m a was new (Some went) fits n k = subst (AreNear a) (sym (ap (λ (x : NodeValue). x.learner) k.1)) (advanced_near m a was.learner went.0 fits n)
 
-pub here_near : (a new : AcceptorValue) (l after : LearnerValue) (e : ℕ) → AreNear a l → e ≡ executed l → new ≡ with_state a (without_votes_to a.state e) → after ≡ standing_here l → AreNear new after
+pub here_near : (a new : AcceptorValue) (l after : LearnerValue) (e : ℕ) → AreNear a l → e ≡ executed l → new ≡ with_state a (without_votes_to a.state e) → after ≡ with_snapshot l → AreNear new after
 here_near a new l after e n at is become =
     subst (λ (x : AcceptorValue). AreNear x after) (sym is)
     (subst (AreNear (with_state a (without_votes_to a.state e))) (sym become) (record {

@@ -26,10 +26,10 @@ use Rattle.lk_agreement.specs.Soundness.{IsReported}
 use Rattle.lk_acceptor.specs.AcceptorValue.{AcceptorValue}
 use Rattle.lk_leader.specs.Proposing.{AreMembersAt, LeaderProposes, proposed}
 use Rattle.lk_leader.specs.Terms.{ProposalValue, TermValue, LeaderValue, RequestValue, with_term, proposal_at, in_window}
-use Rattle.lk_leader.proofs.Leaderships.{proposes_allowed, proposes_asked, proposed_stands}
+use Rattle.lk_leader.proofs.Leaderships.{proposes_allowed, proposes_asked, proposed_leads}
 use Rattle.lk_members.specs.Nodes.{nodes_of}
-use Rattle.lk_step.specs.Outboxes.{OutboxValue}
-use Rattle.lk_step.specs.Saying.{saying}
+use Rattle.lk_node_io.specs.Outboxes.{OutboxValue}
+use Rattle.lk_node_io.specs.Saying.{saying}
 use Rattle.lk_node.specs.Histories.{History, IsLawful, WasAsked}
 use Rattle.lk_node.specs.Holdings.{Holding, HoldingFits}
 use Rattle.lk_node.specs.Keeping.{IsHeld}
@@ -169,7 +169,7 @@ proposal_goes_on m old x p out promised fits =
     term_followed m h n old s.holding t (changes.with_proposal t (x.position, x.command)) (proposed roster x.position x.command k) s.held s.fits s.lawful lead.1
     (proposes t x.position x.command lead.1
     (proposes_allowed h.genesis s.holding.view.done t k old.leader.waiting roster x.position x.command (roster_sums m h.genesis s.holding.view.done old.learner.whole s.held.follows.sums) lead.2 p.proposes))
-    (proposed_stands t k roster x.position x.command p.proposes.next lead.2)
+    (proposed_leads t k roster x.position x.command p.proposes.next lead.2)
     refl
     (λ y c. Contains-append_left t.proposals ((x.position, x.command) ∷ []) y c)
     (λ i v c. elim (Contains-append_cases t.proposals ((x.position, x.command) ∷ []) (i, v) c) [

@@ -16,7 +16,7 @@ use Rattle.lk_state.specs.States.{WholeValue, SumsUp, whole_after}
 use Rattle.lk_node.proofs.Lists.{cons_cases, contains_more}
 use Rattle.lk_node.specs.Histories.{Genesis}
 use Rattle.lk_node.specs.NodeValue.{NodeValue}
-use Rattle.lk_node.specs.Packing.{standing_of, standing_here}
+use Rattle.lk_node.specs.Packing.{standing_of, with_snapshot}
 use Rattle.lk_node.specs.Reaching.{IsDecidedAt, Reaches, LiesNear, AllLieNear, EntryLiesNear, EntriesLieNear, TellsOf, IsTold, TellsOn, HoldsNear}
 use Rattle.lk_acceptor.proofs.Acceptors.{takes_snapshot}
 use Rattle.lk_learner.specs.Learners.{executed, alpha}
@@ -183,7 +183,7 @@ base_near node near = record {
   pairs = λ p c. (executed node.learner, none_above (standing_of node), near.1.near p c);
 }
 
-pub base_tells : (node : NodeValue) → HoldsNear node → 1 ≤ alpha node.learner → TellsOf (alpha node.learner) (standing_of node) (standing_here node)
+pub base_tells : (node : NodeValue) → HoldsNear node → 1 ≤ alpha node.learner → TellsOf (alpha node.learner) (standing_of node) (with_snapshot node)
 base_tells node near some = record {
   some = some;
   votes_ahead = near.0.alpha_is;

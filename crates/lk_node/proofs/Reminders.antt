@@ -13,7 +13,7 @@ use Rattle.lk_members.specs.Windows.{RosterValue}
 use Rattle.lk_leader.specs.Acceptances.{IsOpen, unheard}
 use Rattle.lk_leader.specs.Terms.{ProposalValue, TermValue, LeaderValue, proposal_at}
 use Rattle.lk_learner.specs.Learners.{executed}
-use Rattle.lk_step.specs.Outboxes.{OutboxValue}
+use Rattle.lk_node_io.specs.Outboxes.{OutboxValue}
 use Rattle.lk_node.specs.Histories.{History}
 use Rattle.lk_node.specs.NodeValue.{NodeValue}
 use Rattle.lk_node.specs.Promised.{HasPromised}

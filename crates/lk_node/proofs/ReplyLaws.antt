@@ -6,9 +6,9 @@ use Rattle.lk_state.specs.Runs.{seen_as}
 use Rattle.lk_state.specs.declared.session.Session.{Session}
 use Rattle.lk_state.specs.declared.whole.Seen.{Seen}
 use Rattle.lk_state.specs.declared.whole.Seen.TheVariants as seen
-use Rattle.lk_step.specs.KeptReplies.{kept_reply}
-use Rattle.lk_step.specs.Outboxes.{OutboxValue}
-use Rattle.lk_step.proofs.ReplyLaws.{answer_same, passed_same, none_is_new}
+use Rattle.lk_node_io.specs.KeptReplies.{kept_reply}
+use Rattle.lk_node_io.specs.Outboxes.{OutboxValue}
+use Rattle.lk_node_io.proofs.ReplyLaws.{answer_same, passed_same, none_is_new}
 use Rattle.lk_node.specs.Asking.{TellsClient, TakesNew, TakesAs}
 use Rattle.lk_node.specs.NodeValue.{NodeValue}
 

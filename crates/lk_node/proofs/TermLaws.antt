@@ -18,10 +18,10 @@ use Rattle.lk_agreement.specs.Datagrams.{HasSent}
 use Rattle.lk_agreement.specs.Nodes.{Pair, Term, View}
 use Rattle.lk_agreement.proofs.Histories.{change_fits}
 use Rattle.lk_acceptor.specs.AcceptorValue.{AcceptorValue}
-use Rattle.lk_leader.specs.Standing.{LeadsTerm}
+use Rattle.lk_leader.specs.LedTerms.{LeadsTerm}
 use Rattle.lk_leader.specs.Terms.{Report, TermValue, LeaderValue, with_term, with_report, is_promiser, IsFirstOf}
-use Rattle.lk_leader.proofs.Leaderships.{heard_stands}
-use Rattle.lk_step.specs.Outboxes.{OutboxValue, nothing}
+use Rattle.lk_leader.proofs.Leaderships.{heard_leads}
+use Rattle.lk_node_io.specs.Outboxes.{OutboxValue, nothing}
 use Rattle.lk_node.specs.Histories.{History, IsLawful, WasAsked}
 use Rattle.lk_node.specs.Holdings.{Holding, HoldingFits}
 use Rattle.lk_node.specs.Keeping.{IsKnown, IsHeld}
@@ -139,7 +139,7 @@ promise_goes_on m old new from p out (inl keeps, none) =
     term_followed m h n old s.holding t (changes.with_report t (report_of from p)) (with_report (report_of from p) k) s.held s.fits s.lawful lead.1
     (hears t (report_of from p) lead.1
     (subst (λ (b : BallotValue). HasSent h.genesis h.sent from (kinds.Promise (record { ballot = b; first = p.first; votes = p.votes }))) (sym (lead.2.ballot ∙ keeps.1.ballot)) heard))
-    (heard_stands old.learner.whole.roster.executed (length old.learner.whole.roster.sets) t k (report_of from p) lead.2)
+    (heard_leads old.learner.whole.roster.executed (length old.learner.whole.roster.sets) t k (report_of from p) lead.2)
     refl
     (λ q c. c)
     (λ i v c. s.fits.proposals t lead.1 i v c)))

@@ -31,11 +31,11 @@ use Rattle.lk_leader.specs.Terms.{TermValue}
 use Rattle.lk_learner.specs.Learners.{Command, Pair, LearnerValue, IsNext, IsWanted, executed, keeping, advanced}
 use Rattle.lk_learner.specs.Installing.{hearing, Installs}
 use Rattle.lk_learner.proofs.Learnerships.{ran_moves, with_only, without_from}
-use Rattle.lk_step.specs.Grants.{is_granted}
-use Rattle.lk_step.specs.KeptReplies.{session_by}
-use Rattle.lk_step.specs.Outboxes.{OutboxValue, nothing, with_entry, with_optional, with_rebase}
-use Rattle.lk_step.specs.declared.input.Input.{Input}
-use Rattle.lk_step.specs.declared.input.Input.TheVariants as input
+use Rattle.lk_node_io.specs.Grants.{is_granted}
+use Rattle.lk_node_io.specs.KeptReplies.{session_by}
+use Rattle.lk_node_io.specs.Outboxes.{OutboxValue, nothing, with_entry, with_optional, with_rebase}
+use Rattle.lk_node_io.specs.declared.input.Input.{Input}
+use Rattle.lk_node_io.specs.declared.input.Input.TheVariants as input
 use Rattle.lk_node.specs.Answering.{with_acceptor, replied, Responds}
 use Rattle.lk_node.specs.Asking.{leader_in, HearsRequest, PointsTo, TakesNew, TakesAs}
 use Rattle.lk_node.specs.Beginning.{next_ballot}

@@ -9,9 +9,9 @@ use Rattle.lk_agreement.specs.Changes.{with_promise}
 use Rattle.lk_acceptor.specs.States.{with_state}
 use Rattle.lk_leader.specs.Terms.{begun, with_term}
 use Rattle.lk_learner.specs.Learners.{executed}
-use Rattle.lk_step.specs.Outboxes.{OutboxValue, nothing, with_entry}
-use Rattle.lk_step.specs.Rounds.{greater_round, ballot_above}
-use Rattle.lk_step.specs.Saying.{saying}
+use Rattle.lk_node_io.specs.Outboxes.{OutboxValue, nothing, with_entry}
+use Rattle.lk_node_io.specs.Rounds.{greater_round, ballot_above}
+use Rattle.lk_node_io.specs.Saying.{saying}
 use Rattle.lk_node.specs.NodeValue.{NodeValue}
 use Rattle.lk_node.specs.Telling.{AreWindowNodes, telling}
 

@@ -8,9 +8,9 @@ use Rattle.lk_state.specs.Meanings.{Meaning}
 use Rattle.lk_agreement.specs.declared.party.Party.TheVariants as party
 use Rattle.lk_agreement.specs.Datagrams.{said_by}
 use Rattle.lk_agreement.specs.Nodes.{View, MaySend}
-use Rattle.lk_step.specs.declared.note.Note.{Note}
-use Rattle.lk_step.specs.declared.input.Input.{Input}
-use Rattle.lk_step.specs.declared.input.Input.TheVariants.{Tick, Datagram as Heard}
+use Rattle.lk_node_io.specs.declared.note.Note.{Note}
+use Rattle.lk_node_io.specs.declared.input.Input.{Input}
+use Rattle.lk_node_io.specs.declared.input.Input.TheVariants.{Tick, Datagram as Heard}
 use Rattle.lk_node.specs.Histories.{History, Datagram, later, IsLawful, IsHeard}
 use Rattle.lk_node.specs.Served.{IsOfNode, IsBorneOut, IsServed}
 use Rattle.lk_node.specs.Holdings.{Holding, HoldingFits}

@@ -7,10 +7,10 @@ use Rattle.lk_messages.specs.Grammar.{IsMessage}
 use Rattle.lk_messages.specs.Values.{WantValue, PartValue}
 use Rattle.lk_messages.specs.declared.message.Nack.{Nack}
 use Rattle.lk_messages.specs.declared.message.NodeMessage.TheVariants as kinds
-use Rattle.lk_learner.specs.Learners.{executed, IsServed, news_from, wanted}
+use Rattle.lk_learner.specs.Learners.{executed, IsServed, decided_from, wanted}
 use Rattle.lk_learner.specs.Parts.{start_of, AreParts}
-use Rattle.lk_step.specs.Outboxes.{OutboxValue, nothing, with_letters}
-use Rattle.lk_step.specs.Saying.{saying}
+use Rattle.lk_node_io.specs.Outboxes.{OutboxValue, nothing, with_letters}
+use Rattle.lk_node_io.specs.Saying.{saying}
 use Rattle.lk_node.specs.NodeValue.{NodeValue}
 use Rattle.lk_node.specs.Replying.{SaysAlone}
 use Rattle.lk_node.specs.Saying.{to_node}
@@ -32,7 +32,7 @@ pub record FeedsParts (node : NodeValue) (other offset : ℕ) (out : OutboxValue
 -- snapshot from the offset on if the snapshot has replaced it, and nothing if it is not executed
 abbrev pub Feeds : NodeValue → ℕ → ℕ → ℕ → OutboxValue → Type 0
 Feeds node other first offset out =
-    (IsServed node.learner first × SaysAlone node (to_node node other) (kinds.Decided (news_from first node.learner)) out)
+    (IsServed node.learner first × SaysAlone node (to_node node other) (kinds.Decided (decided_from first node.learner)) out)
     ⊎ ((first ≤ node.learner.snapshot_position) × FeedsParts node other offset out)
     ⊎ ((executed node.learner < first) × (out ≡ nothing))
 

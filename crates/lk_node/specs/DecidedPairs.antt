@@ -3,7 +3,7 @@ use Rattle.std.specs.Prelude.{◌≡◌, ℕ, ◌+◌, Some, List, ◌∷◌, sl
 use Rattle.lk_state.specs.Meanings.{Meaning}
 use Rattle.lk_agreement.specs.Chosen.{ChosenAt}
 use Rattle.lk_learner.specs.Learners.{Command, Pair}
-use Rattle.lk_step.specs.Outboxes.{OutboxValue}
+use Rattle.lk_node_io.specs.Outboxes.{OutboxValue}
 use Rattle.lk_node.specs.Executing.{RunsAll}
 use Rattle.lk_node.specs.Learning.{Learns}
 use Rattle.lk_node.specs.NodeValue.{NodeValue}

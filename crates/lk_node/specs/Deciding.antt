@@ -7,11 +7,11 @@ use Rattle.lk_state.specs.Meanings.{Meaning}
 use Rattle.lk_leader.specs.Acceptances.{IsVoteFor, heard_at, GainsMajority}
 use Rattle.lk_leader.specs.Terms.{TermValue, ProposalValue, with_term, with_proposals}
 use Rattle.lk_learner.specs.Learners.{Pair}
-use Rattle.lk_step.specs.Letters.{LetterValue}
-use Rattle.lk_step.specs.News.{news_of}
-use Rattle.lk_step.specs.Outboxes.{OutboxValue, nothing, with_note, with_letters}
-use Rattle.lk_step.specs.Saying.{saying}
-use Rattle.lk_step.specs.declared.note.Note.TheVariants as note
+use Rattle.lk_node_io.specs.Letters.{LetterValue}
+use Rattle.lk_node_io.specs.DecidedMessages.{decided_message}
+use Rattle.lk_node_io.specs.Outboxes.{OutboxValue, nothing, with_note, with_letters}
+use Rattle.lk_node_io.specs.Saying.{saying}
+use Rattle.lk_node_io.specs.declared.note.Note.TheVariants as note
 use Rattle.lk_node.specs.Executing.{RunsAll}
 use Rattle.lk_node.specs.Learning.{Learns}
 use Rattle.lk_node.specs.NodeValue.{NodeValue}
@@ -47,11 +47,11 @@ HearsVote from x old new (Some set) = (k : IsForProposal old x) × BringsMajorit
 -- ---- the pair is decided
 
 -- letters to the window's other nodes that tell them of the pair
-pub record AreNews (node : NodeValue) (p : Pair) (letters : List LetterValue) : Type 0 where
+pub record AreDecidedLetters (node : NodeValue) (p : Pair) (letters : List LetterValue) : Type 0 where
   pub nodes : List ℕ
   pub others : AreOthers node nodes
-  pub fits : IsMessage (saying node.header (news_of p))
-  pub comes_to : letters ≡ map (letter_to node (news_of p)) nodes
+  pub fits : IsMessage (saying node.header (decided_message p))
+  pub comes_to : letters ≡ map (letter_to node (decided_message p)) nodes
 
 -- The pair is decided, by a majority of this set: that is noted, the pair is learned, everything that can be is
 -- executed, and the other nodes of the earlier window are told.
@@ -62,7 +62,7 @@ pub record Decides (m : Meaning) (set : List Member) (p : Pair) (old : NodeValue
   pub ran : OutboxValue
   pub runs : RunsAll m learned written new ran
   pub letters : List LetterValue
-  pub news : AreNews old p letters
+  pub told : AreDecidedLetters old p letters
   pub comes_to : after ≡ with_letters letters ran
 
 -- a node was heard to accept: if with that a majority has, the pair is decided; otherwise nothing follows

@@ -5,7 +5,7 @@ use Rattle.lk_state.specs.Meanings.{Meaning}
 use Rattle.lk_state.specs.declared.session.Session.{Session}
 use Rattle.lk_learner.specs.Installing.{hearing, Installs}
 use Rattle.lk_learner.specs.Learners.{LearnerValue}
-use Rattle.lk_step.specs.Outboxes.{OutboxValue, nothing, with_rebase}
+use Rattle.lk_node_io.specs.Outboxes.{OutboxValue, nothing, with_rebase}
 use Rattle.lk_node.specs.Executing.{Settles, while_named, RunsAll}
 use Rattle.lk_node.specs.Learning.{with_learner}
 use Rattle.lk_node.specs.NodeValue.{NodeValue}
@@ -27,7 +27,7 @@ SettlesAll ss old before new after = SettlesFirst ss old before (length ss) new 
 -- The learner has installed a state: the store is to be rebased, waiting requests are answered from the state in
 -- rising order of clients, the term ends if no set of its window names the node, and everything that can be is
 -- executed.
-pub record TakesUp (m : Meaning) (old new : NodeValue) (out : OutboxValue) : Type 0 where
+pub record InstallsGathered (m : Meaning) (old new : NodeValue) (out : OutboxValue) : Type 0 where
   pub told : NodeValue
   pub said : OutboxValue
   pub settles : SettlesAll old.learner.whole.sessions old (with_rebase nothing) told said
@@ -36,5 +36,5 @@ pub record TakesUp (m : Meaning) (old new : NodeValue) (out : OutboxValue) : Typ
 -- a part is heard: if that installs a state, the node adopts it, and otherwise nothing follows
 abbrev pub HearsPart : Meaning → (List ℕ → Type 0) → NodeValue → PartValue → NodeValue → OutboxValue → Type 0
 HearsPart m IsText old p new out =
-    ((mid : NodeValue) × Gathers IsText true p old mid × TakesUp m mid new out)
+    ((mid : NodeValue) × Gathers IsText true p old mid × InstallsGathered m mid new out)
     ⊎ (Gathers IsText false p old new × (out ≡ nothing))

@@ -16,7 +16,7 @@ use Rattle.lk_agreement.specs.Nodes.{Term, View}
 use Rattle.lk_leader.specs.Terms.{TermValue, LeaderValue}
 use Rattle.lk_learner.specs.Following.{Follows}
 use Rattle.lk_learner.specs.Learners.{LearnerValue}
-use Rattle.lk_leader.specs.Standing.{LeadsTerm}
+use Rattle.lk_leader.specs.LedTerms.{LeadsTerm}
 use Rattle.lk_node.specs.Histories.{Genesis}
 use Rattle.lk_node.specs.Holdings.{Holding}
 use Rattle.lk_node.specs.Leavings.{header_of, acceptor_of}

@@ -6,7 +6,7 @@ use Rattle.lk_messages.specs.declared.message.NodeMessage.TheVariants as kinds
 use Rattle.lk_leader.specs.Proposing.{Proposes, LeaderProposes, proposed}
 use Rattle.lk_leader.specs.Terms.{Command, Report, TermValue, LeaderValue, with_term, with_report, IsFirstOf}
 use Rattle.lk_members.specs.Nodes.{nodes_of}
-use Rattle.lk_step.specs.Outboxes.{OutboxValue, nothing}
+use Rattle.lk_node_io.specs.Outboxes.{OutboxValue, nothing}
 use Rattle.lk_node.specs.NodeValue.{NodeValue}
 use Rattle.lk_node.specs.Telling.{telling}
 

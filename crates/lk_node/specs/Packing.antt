@@ -18,8 +18,8 @@ standing_of node = record {
 }
 
 -- the node after that snapshot has replaced the votes and the executed commands up to there
-abbrev pub standing_here : NodeValue → NodeValue
-standing_here node = record node {
+abbrev pub with_snapshot : NodeValue → NodeValue
+with_snapshot node = record node {
   acceptor = with_state node.acceptor (without_votes_to node.acceptor.state (executed node.learner));
-  learner = learners.standing_here node.learner;
+  learner = learners.with_snapshot node.learner;
 }

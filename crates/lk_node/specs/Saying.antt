@@ -1,7 +1,7 @@
 -- To whom a node sends a message.
 use Rattle.std.specs.Prelude.{ℕ}
-use Rattle.lk_step.specs.declared.to.To.{To}
-use Rattle.lk_step.specs.Recipients as recipients
+use Rattle.lk_node_io.specs.declared.to.To.{To}
+use Rattle.lk_node_io.specs.Recipients as recipients
 use Rattle.lk_node.specs.NodeValue.{NodeValue}
 
 -- a node, and its port in the node's window

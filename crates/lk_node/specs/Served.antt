@@ -1,6 +1,6 @@
 -- What a node's notes and the datagrams to clients rest on: a chosen list that bears them out.
-use Rattle.lk_step.specs.declared.note.Note.{Note}
-use Rattle.lk_step.specs.declared.note.Note.TheVariants as note
+use Rattle.lk_node_io.specs.declared.note.Note.{Note}
+use Rattle.lk_node_io.specs.declared.note.Note.TheVariants as note
 pub use Rattle.lk_node.specs.Histories.{text}
 use Rattle.std.specs.Prelude.{◌≡◌, ◌+◌, ◌≤◌, ◌<◌, List, length, take, drop, Some, Contains}
 use Rattle.lk_types.specs.declared.answer.Answer.{Answer}

@@ -9,10 +9,10 @@ use Rattle.lk_entries.specs.Values.{HeaderValue}
 use Rattle.lk_state.specs.Meanings.{Meaning}
 use Rattle.lk_agreement.specs.Acceptors.{AcceptorState, Covers}
 use Rattle.lk_acceptor.specs.States.{acceptor_with}
-use Rattle.lk_step.specs.Letters.{LetterValue, batch_of}
-use Rattle.lk_step.specs.Outboxes.{OutboxValue}
-use Rattle.lk_step.specs.Saying.{saying}
-use Rattle.lk_step.specs.declared.note.Note.{Note}
+use Rattle.lk_node_io.specs.Letters.{LetterValue, batch_of}
+use Rattle.lk_node_io.specs.Outboxes.{OutboxValue}
+use Rattle.lk_node_io.specs.Saying.{saying}
+use Rattle.lk_node_io.specs.declared.note.Note.{Note}
 use Rattle.lk_node.specs.Calls.{MayGo}
 use Rattle.lk_node.specs.Entries.{Rests}
 use Rattle.lk_node.specs.Histories.{History, Datagram, IsLawful}

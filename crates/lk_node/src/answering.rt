@@ -4,16 +4,16 @@ ghost use Rattle.lk_messages.specs.Grammar.{IsMessage};
 ghost use Rattle.lk_messages.specs.declared.message.NodeMessage.TheVariants as kinds;
 ghost use Rattle.lk_acceptor.specs.Answers.{AnswersPrepare, AnswersAccept};
 ghost use Rattle.lk_agreement.specs.Datagrams.{HasSent};
-ghost use Rattle.lk_step.specs.Outboxes.{nothing};
-ghost use Rattle.lk_step.specs.Saying.{saying};
+ghost use Rattle.lk_node_io.specs.Outboxes.{nothing};
+ghost use Rattle.lk_node_io.specs.Saying.{saying};
 ghost use Rattle.lk_node.specs.Answering.{replied, reply_to, Responds};
 ghost use Rattle.lk_node.specs.Serving.{GoesOn};
 ghost use Rattle.lk_node.specs.Yielding.{yielded, with_round};
 
 use crate::node::Node;
 use lk_acceptor::Response;
+use lk_node_io::{Outbox, is_granted};
 use lk_state::Machine;
-use lk_step::{Outbox, is_granted};
 use lk_types::{NoMemory, NodeNo, Position, RealBallot, Vote};
 
 impl<M: Machine> Node<M> {

@@ -1,12 +1,12 @@
 // How a node handles a client's request.
 ghost use Rattle.std.specs.Prelude.{◌≡◌, Contains, IfOk};
-ghost use Rattle.lk_step.specs.Outboxes.{nothing};
+ghost use Rattle.lk_node_io.specs.Outboxes.{nothing};
 ghost use Rattle.lk_node.specs.Asking.{leader_in, PointsTo, TakesNew, HearsRequest};
 ghost use Rattle.lk_node.specs.Serving.{GoesOn};
 
 use crate::node::Node;
+use lk_node_io::{Outbox, To, kept_reply};
 use lk_state::Machine;
-use lk_step::{Outbox, To, kept_reply};
 use lk_types::{ClientNo, Member, NoMemory, Request};
 use lk_wire::{Elsewhere, NodeMessage};
 
@@ -28,12 +28,12 @@ impl<M: Machine> Node<M> {
             return Ok(Outbox::new(self.alloc));
         };
         let (client, number) = (request.client, request.number);
-        let news = Elsewhere {
+        let elsewhere = Elsewhere {
             client,
             number,
             member,
         };
-        let out = self.send_one(To::Client(client), NodeMessage::Elsewhere(news))?;
+        let out = self.send_one(To::Client(client), NodeMessage::Elsewhere(elsewhere))?;
         Ok(out)
     }
 

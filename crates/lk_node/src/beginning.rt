@@ -1,13 +1,13 @@
 // How a node begins a ballot.
 ghost use Rattle.std.specs.Prelude.{◌≡◌, IfOk};
 ghost use Rattle.lk_types.specs.Ballots.{IsBelow};
-ghost use Rattle.lk_step.specs.Outboxes.{nothing};
+ghost use Rattle.lk_node_io.specs.Outboxes.{nothing};
 ghost use Rattle.lk_node.specs.Beginning.{Begins};
 ghost use Rattle.lk_node.specs.Serving.{GoesOn};
 
 use crate::node::Node;
+use lk_node_io::Outbox;
 use lk_state::Machine;
-use lk_step::Outbox;
 use lk_types::{NoMemory, Position, RealBallot};
 use lk_wire::NodeMessage;
 

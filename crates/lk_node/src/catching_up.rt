@@ -3,16 +3,16 @@ ghost use Rattle.std.specs.Prelude.{◌≡◌, ◌<◌, ◌≤◌, Contains, IfO
 ghost use Rattle.lk_messages.specs.Grammar.{IsMessage};
 ghost use Rattle.lk_messages.specs.Values.{PartValue};
 ghost use Rattle.lk_messages.specs.declared.message.NodeMessage.TheVariants as kinds;
-ghost use Rattle.lk_step.specs.Outboxes.{nothing};
-ghost use Rattle.lk_step.specs.Saying.{saying};
+ghost use Rattle.lk_node_io.specs.Outboxes.{nothing};
+ghost use Rattle.lk_node_io.specs.Saying.{saying};
 ghost use Rattle.lk_node.specs.CatchingUp.{sending_parts, FeedsParts, Feeds, HearsWant, AsksOn, Levels, HearsNack, following, AsksWhereMore, refusal, HearsLead};
 ghost use Rattle.lk_node.specs.Replying.{SaysAlone};
 ghost use Rattle.lk_node.specs.Saying.{to_node};
 ghost use Rattle.lk_node.specs.Serving.{GoesOn};
 
 use crate::node::Node;
+use lk_node_io::Outbox;
 use lk_state::Machine;
-use lk_step::Outbox;
 use lk_types::{Executed, NoMemory, NodeNo, Position, RealBallot};
 use lk_wire::{Nack, NodeMessage, Part, Want};
 

@@ -4,13 +4,13 @@ ghost use Rattle.lk_messages.specs.declared.message.NodeMessage.TheVariants as k
 ghost use Rattle.lk_agreement.specs.Chosen.{ChosenAt};
 ghost use Rattle.lk_agreement.specs.Datagrams.{HasSent};
 ghost use Rattle.lk_leader.specs.Proposing.{AreMembersAt};
-ghost use Rattle.lk_step.specs.Outboxes.{nothing};
-ghost use Rattle.lk_node.specs.Deciding.{HearsVote, AreNews, Decides, HearsAccepted};
+ghost use Rattle.lk_node_io.specs.Outboxes.{nothing};
+ghost use Rattle.lk_node.specs.Deciding.{HearsVote, AreDecidedLetters, Decides, HearsAccepted};
 ghost use Rattle.lk_node.specs.Serving.{GoesOn};
 
 use crate::node::Node;
+use lk_node_io::{Letter, Note, Outbox, decided_message, letters_to};
 use lk_state::Machine;
-use lk_step::{Letter, Note, Outbox, letters_to, news_of};
 use lk_types::{Command, Members, NoMemory, NodeNo, Position, Vote};
 
 impl<M: Machine> Node<M> {
@@ -32,12 +32,16 @@ impl<M: Machine> Node<M> {
     }
 
     // The letters that tell the other nodes of the window of the pair.
-    fn news_to_others(&self, position: Position, command: &Command) -> Result<Vec<Letter>, NoMemory>
-        ensures { IfOk result (λ ls. AreNews self.now (position, command.now) ls.items) }
+    fn decided_letters(
+        &self,
+        position: Position,
+        command: &Command,
+    ) -> Result<Vec<Letter>, NoMemory>
+        ensures { IfOk result (λ ls. AreDecidedLetters self.now (position, command.now) ls.items) }
     {
         let others = self.others()?;
-        let news = news_of(self.alloc, position, command)?;
-        let letters = letters_to(self.alloc, &self.header, self.roster(), &others, news)?;
+        let message = decided_message(self.alloc, position, command)?;
+        let letters = letters_to(self.alloc, &self.header, self.roster(), &others, message)?;
         Ok(letters)
     }
 
@@ -53,10 +57,10 @@ impl<M: Machine> Node<M> {
         ensures goes_on { AreMembersAt self.old.learner.whole.roster position members → OnOk result (GoesOn M.meaning (λ h. ChosenAt h.genesis h.sent position command.now) self.old self.new out.old out.new) }
     {
         out.note(Note::Counted(self.header.node(), position, members, command.copy()))?;
-        let news = self.news_to_others(position, command)?;
+        let letters = self.decided_letters(position, command)?;
         self.learn(position, command, out)?;
         self.execute(out)?;
-        out.post(news)?;
+        out.add_letters(letters)?;
         Ok(())
     }
 

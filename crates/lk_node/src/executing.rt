@@ -4,8 +4,8 @@ ghost use Rattle.lk_node.specs.Executing.{Settles, SettlesAny, RunsNext, is_outs
 ghost use Rattle.lk_node.specs.Serving.{GoesOn};
 
 use crate::node::Node;
+use lk_node_io::{Note, Outbox, To, session_of, session_reply};
 use lk_state::{Machine, Ran, Session};
-use lk_step::{Note, Outbox, To, session_of, session_reply};
 use lk_types::{Command, NoMemory};
 
 impl<M: Machine> Node<M> {

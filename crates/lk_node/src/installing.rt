@@ -2,13 +2,13 @@
 ghost use Rattle.std.specs.Prelude.{◌≡◌, ℕ, IfOk, OnOk};
 ghost use Rattle.lk_messages.specs.declared.message.NodeMessage.TheVariants as kinds;
 ghost use Rattle.lk_agreement.specs.Datagrams.{HasSent};
-ghost use Rattle.lk_step.specs.Outboxes.{nothing};
-ghost use Rattle.lk_node.specs.Installing.{Gathers, SettlesAll, TakesUp, HearsPart};
+ghost use Rattle.lk_node_io.specs.Outboxes.{nothing};
+ghost use Rattle.lk_node.specs.Installing.{Gathers, SettlesAll, InstallsGathered, HearsPart};
 ghost use Rattle.lk_node.specs.Serving.{GoesOn};
 
 use crate::node::Node;
+use lk_node_io::Outbox;
 use lk_state::Machine;
-use lk_step::Outbox;
 use lk_types::NoMemory;
 use lk_wire::PartRef;
 
@@ -36,8 +36,8 @@ impl<M: Machine> Node<M> {
     }
 
     // The learner has installed a state: answers waiting requests from it, and executes what it can.
-    fn take_up(&mut self) -> Result<Outbox, NoMemory>
-        ensures exact { IfOk result (λ o. TakesUp M.meaning self.old self.new o) }
+    fn install_gathered(&mut self) -> Result<Outbox, NoMemory>
+        ensures exact { IfOk result (λ o. InstallsGathered M.meaning self.old self.new o) }
         ensures goes_on { IfOk result (λ o. GoesOn M.meaning (λ h. Unit {0}) self.old self.new nothing o) }
     {
         self.learner.whole().facts();
@@ -58,7 +58,7 @@ impl<M: Machine> Node<M> {
         if !self.add_part(part)? {
             return Ok(Outbox::new(self.alloc));
         }
-        let out = self.take_up()?;
+        let out = self.install_gathered()?;
         Ok(out)
     }
 }

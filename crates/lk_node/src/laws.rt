@@ -4,10 +4,10 @@ ghost use Rattle.lk_types.specs.declared.entry.Entry.{Entry};
 ghost use Rattle.lk_entries.specs.Standings.{with_all};
 ghost use Rattle.lk_entries.specs.Values.{StandingValue};
 ghost use Rattle.lk_learner.specs.Learners.{alpha};
-ghost use Rattle.lk_step.specs.Outboxes.{OutboxValue};
-ghost use Rattle.lk_step.specs.declared.input.Input.{Input};
+ghost use Rattle.lk_node_io.specs.Outboxes.{OutboxValue};
+ghost use Rattle.lk_node_io.specs.declared.input.Input.{Input};
 ghost use Rattle.lk_node.specs.NodeValue.{NodeValue};
-ghost use Rattle.lk_node.specs.Packing.{standing_of, standing_here};
+ghost use Rattle.lk_node.specs.Packing.{standing_of, with_snapshot};
 ghost use Rattle.lk_node.specs.Reaching.{AllLieNear, EntriesLieNear, HoldsNear, TellsOf, TellsOn};
 ghost use Rattle.lk_node.specs.Steps.{Steps};
 
@@ -23,7 +23,7 @@ pub fn a_step_tells_of_its_node<M: Machine>()
 /// So does the Base that a node writes: nothing in it lies farther, and it tells of the node.
 pub fn a_base_tells_of_its_node()
     ensures near { (node : NodeValue) → HoldsNear node → AllLieNear (alpha node.learner) (standing_of node) }
-    ensures tells { (node : NodeValue) → HoldsNear node → 1 ≤ alpha node.learner → TellsOf (alpha node.learner) (standing_of node) (standing_here node) }
+    ensures tells { (node : NodeValue) → HoldsNear node → 1 ≤ alpha node.learner → TellsOf (alpha node.learner) (standing_of node) (with_snapshot node) }
 {}
 
 /// Wherever a stop cuts such entries, no vote or pair lies farther: so far as this goes a restart is never refused.

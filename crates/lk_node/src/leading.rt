@@ -6,8 +6,8 @@ ghost use Rattle.lk_messages.specs.declared.message.NodeMessage.TheVariants as k
 ghost use Rattle.lk_agreement.specs.Datagrams.{HasSent};
 ghost use Rattle.lk_leader.specs.Proposing.{AreMembersAt};
 ghost use Rattle.lk_members.specs.Nodes.{nodes_of};
-ghost use Rattle.lk_step.specs.Outboxes.{nothing};
-ghost use Rattle.lk_step.specs.Saying.{saying};
+ghost use Rattle.lk_node_io.specs.Outboxes.{nothing};
+ghost use Rattle.lk_node_io.specs.Saying.{saying};
 ghost use Rattle.lk_node.specs.Leading.{KeepsPromise, DropsPromise, HearsPromise, ProposesVote, having_proposed, NothingOpen, ProposesNext, ProposesOpen};
 ghost use Rattle.lk_node.specs.Promised.{HasPromised};
 ghost use Rattle.lk_node.specs.Serving.{GoesOn};
@@ -15,8 +15,8 @@ ghost use Rattle.lk_node.specs.Telling.{telling};
 
 use crate::node::Node;
 use lk_members::nodes_of;
+use lk_node_io::Outbox;
 use lk_state::Machine;
-use lk_step::Outbox;
 use lk_types::{NoMemory, NodeNo, Vote};
 use lk_wire::{NodeMessage, PromiseRef};
 

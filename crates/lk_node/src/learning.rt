@@ -3,15 +3,15 @@ ghost use Rattle.std.specs.Prelude.{◌≡◌, ℕ, None, [], length, IfOk, IfSo
 ghost use Rattle.lk_messages.specs.declared.message.NodeMessage.TheVariants as kinds;
 ghost use Rattle.lk_agreement.specs.Chosen.{ChosenAt};
 ghost use Rattle.lk_agreement.specs.Datagrams.{HasSent};
-ghost use Rattle.lk_step.specs.Outboxes.{nothing};
+ghost use Rattle.lk_node_io.specs.Outboxes.{nothing};
 ghost use Rattle.lk_node.specs.DecidedPairs.{TakesPair, TakesFirst, TakesPairs};
 ghost use Rattle.lk_node.specs.Learning.{Learns};
 ghost use Rattle.lk_node.specs.Serving.{GoesOn};
 
 use crate::node::Node;
 use lk_learner::position_behind;
+use lk_node_io::Outbox;
 use lk_state::Machine;
-use lk_step::Outbox;
 use lk_types::{Command, Entry, NoMemory, Position};
 use lk_wire::{Commands, DecidedRef};
 

@@ -2,8 +2,8 @@
 ghost use Rattle.std.specs.Prelude.{◌≡◌, ◌∷◌, [], None, true, false, OnOk, OnErr, IsErr};
 ghost use Rattle.lk_messages.specs.Grammar.{spelling, IsMessage};
 ghost use Rattle.lk_leader.specs.Terms.{idle};
-ghost use Rattle.lk_step.specs.Outboxes.{nothing, with_letter};
-ghost use Rattle.lk_step.specs.Saying.{saying};
+ghost use Rattle.lk_node_io.specs.Outboxes.{nothing, with_letter};
+ghost use Rattle.lk_node_io.specs.Saying.{saying};
 ghost use Rattle.lk_node.specs.Nearness.{AreNear};
 ghost use Rattle.lk_node.specs.Saying.{to_node};
 
@@ -12,8 +12,8 @@ use lk_entries::Header;
 use lk_leader::Leader;
 use lk_learner::Learner;
 use lk_members::Roster;
+use lk_node_io::{Letter, Outbox, SeenRound, TickCount, To, spelled};
 use lk_state::Machine;
-use lk_step::{Letter, Outbox, SeenRound, TickCount, To, spelled};
 use lk_types::{NoMemory, NodeNo};
 use lk_wire::NodeMessage;
 use std::alloc::Global;

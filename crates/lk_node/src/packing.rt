@@ -3,7 +3,7 @@ ghost use Rattle.std.specs.Prelude.{◌≡◌, ◌+◌, ◌≤◌, ◌↔◌, Is
 ghost use Rattle.lk_learner.specs.Learners.{executed};
 ghost use Rattle.lk_log.specs.Stores.{MayBegin};
 ghost use Rattle.lk_state.specs.Packed.{packed};
-ghost use Rattle.lk_node.specs.Packing.{standing_of, standing_here};
+ghost use Rattle.lk_node.specs.Packing.{standing_of, with_snapshot};
 ghost use Rattle.lk_node.specs.Reaching.{HoldsNear};
 
 use crate::node::Node;
@@ -37,7 +37,7 @@ impl<M: Machine> Node<M> {
     }
 
     /// Whether 256 positions or more are executed above the snapshot.
-    pub fn is_far(&self) -> bool
+    pub fn is_snapshot_old(&self) -> bool
         ensures { IsTrue result ↔ (self.now.acceptor.state.snapshot_position + 256 ≤ executed self.now.learner) }
     {
         let snapshot = self.acceptor.snapshot_position().get();
@@ -45,12 +45,12 @@ impl<M: Machine> Node<M> {
     }
 
     /// The snapshot with this text replaces the votes and the executed commands up to there. Takes no memory.
-    pub fn stand_here(&mut self, snapshot: Vec<u8>)
+    pub fn set_snapshot(&mut self, snapshot: Vec<u8>)
         requires text { snapshot.items ≡ packed self.old.learner.whole }
-        ensures { self.new ≡ standing_here self.old }
+        ensures { self.new ≡ with_snapshot self.old }
     {
         let executed = self.learner.whole().executed();
         self.acceptor.forget(executed);
-        self.learner.stand_here(snapshot);
+        self.learner.set_snapshot(snapshot);
     }
 }

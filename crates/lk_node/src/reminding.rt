@@ -1,14 +1,14 @@
 // What a node with a term repeats as time passes.
 ghost use Rattle.std.specs.Prelude.{◌≡◌, ◌+◌, IfOk, OnOk};
-ghost use Rattle.lk_step.specs.Outboxes.{nothing};
+ghost use Rattle.lk_node_io.specs.Outboxes.{nothing};
 ghost use Rattle.lk_node.specs.Leading.{NothingOpen};
 ghost use Rattle.lk_node.specs.Reminding.{IsTermOf, AsksAgain, OffersAgain, OffersAll, TellsLead, Reminds};
 ghost use Rattle.lk_node.specs.Serving.{GoesOn};
 
 use crate::node::Node;
 use lk_leader::unheard;
+use lk_node_io::Outbox;
 use lk_state::Machine;
-use lk_step::Outbox;
 use lk_types::{NoMemory, Position, RealBallot, Vote};
 use lk_wire::NodeMessage;
 

@@ -4,8 +4,8 @@ ghost use Rattle.lk_node.specs.Replying.{SaysAlone};
 ghost use Rattle.lk_node.specs.Saying.{to_node};
 
 use crate::node::Node;
+use lk_node_io::{Outbox, To};
 use lk_state::Machine;
-use lk_step::{Outbox, To};
 use lk_types::{NoMemory, NodeNo};
 use lk_wire::NodeMessage;
 

@@ -1,12 +1,12 @@
 // Messages of a node to several nodes.
 ghost use Rattle.std.specs.Prelude.{◌≡◌, IfOk, OnOk};
 ghost use Rattle.lk_messages.specs.Grammar.{IsMessage};
-ghost use Rattle.lk_step.specs.Saying.{saying};
+ghost use Rattle.lk_node_io.specs.Saying.{saying};
 ghost use Rattle.lk_node.specs.Telling.{AreWindowNodes, AreOthers, telling};
 
 use crate::node::Node;
+use lk_node_io::{Outbox, letters_to, others, window_nodes};
 use lk_state::Machine;
-use lk_step::{Outbox, letters_to, others, window_nodes};
 use lk_types::{NoMemory, NodeNo};
 use lk_wire::NodeMessage;
 
@@ -36,7 +36,7 @@ impl<M: Machine> Node<M> {
         ensures fits { OnOk result (IsMessage (saying self.now.header message)) }
     {
         let letters = letters_to(self.alloc, &self.header, self.roster(), nodes, message)?;
-        out.post(letters)?;
+        out.add_letters(letters)?;
         Ok(())
     }
 }

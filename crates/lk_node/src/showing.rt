@@ -44,7 +44,7 @@ impl<M: Machine> Node<M> {
     }
 
     /// The node that it takes for the leader.
-    pub fn known(&self) -> Option<NodeNo>
+    pub fn presumed_leader(&self) -> Option<NodeNo>
         ensures { result ≡ self.now.known }
     {
         self.known

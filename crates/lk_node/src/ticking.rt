@@ -1,14 +1,14 @@
 // What a node does as time passes.
 ghost use Rattle.std.specs.Prelude.{◌≡◌, IfOk};
-ghost use Rattle.lk_step.specs.Outboxes.{nothing};
-ghost use Rattle.lk_step.specs.Ticks.{is_enough};
+ghost use Rattle.lk_node_io.specs.Outboxes.{nothing};
+ghost use Rattle.lk_node_io.specs.Ticks.{is_enough};
 ghost use Rattle.lk_node.specs.Reminding.{Ticks};
 ghost use Rattle.lk_node.specs.Serving.{GoesOn};
 ghost use Rattle.lk_node.specs.Waiting.{place_of, ticked, BeginsWhereDue};
 
 use crate::node::Node;
+use lk_node_io::{Outbox, place_of};
 use lk_state::Machine;
-use lk_step::{Outbox, place_of};
 use lk_types::NoMemory;
 
 impl<M: Machine> Node<M> {
@@ -43,7 +43,7 @@ impl<M: Machine> Node<M> {
         ensures exact { IfOk result (λ o. BeginsWhereDue (ticked self.old) self.new o) }
         ensures goes_on { IfOk result (λ o. GoesOn M.meaning (λ h. Unit {0}) self.old self.new nothing o) }
     {
-        self.ticks.rise();
+        self.ticks.count_tick();
         let out = self.begin_if_due()?;
         Ok(out)
     }

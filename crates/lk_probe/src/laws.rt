@@ -22,7 +22,7 @@ pub fn lengths()
 {}
 
 /// No datagram of the protocol is a probe or a report, and no probe is a report.
-pub fn apart()
+pub fn kinds_are_disjoint()
     ensures probe { (m : Message) (p : Probe) (bytes : List ℕ) → Spells m bytes → SpellsProbe p bytes → ⊥ }
     ensures report { (m : Message) (r : Report) (bytes : List ℕ) → Spells m bytes → SpellsReport r bytes → ⊥ }
     ensures both { (p : Probe) (r : Report) (bytes : List ℕ) → SpellsProbe p bytes → SpellsReport r bytes → ⊥ }

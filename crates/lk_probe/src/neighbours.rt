@@ -92,7 +92,7 @@ impl Knowledge {
     }
 
     // The origin of a node of another genesis.
-    fn other(&self) -> Option<Origin>
+    fn as_stranger(&self) -> Option<Origin>
         ensures { result ≡ other_of self.now }
     {
         match self {
@@ -152,24 +152,24 @@ fn stranger_at(place: SocketAddr, entry: &Option<Neighbour>) -> Option<NodeNo>
     ensures { is_some result ≡ is_stranger_at place entry.now }
 {
     match entry {
-        Some(neighbour) if neighbour.place == place => Some(neighbour.other()?.node),
+        Some(neighbour) if neighbour.place == place => Some(neighbour.as_stranger()?.node),
         _ => None,
     }
 }
 
 impl Neighbour {
     /// The origin of the node, where it is of another genesis.
-    pub fn other(&self) -> Option<Origin>
+    pub fn as_stranger(&self) -> Option<Origin>
         ensures { result ≡ other_of self.now.knowledge }
     {
-        self.knowledge.other()
+        self.knowledge.as_stranger()
     }
 
     /// The same where the node binds this one.
     pub fn followed_stranger(&self) -> Option<Origin>
         ensures { result ≡ bound_by self.now }
     {
-        if self.binds { self.other() } else { None }
+        if self.binds { self.as_stranger() } else { None }
     }
 }
 

@@ -8,7 +8,7 @@ use Rattle.lk_members.proofs.Memberships.{in_effect_after}
 use Rattle.lk_agreement.specs.Datagrams.{Datagram}
 use Rattle.lk_agreement.specs.Chosen.{Chosen}
 use Rattle.lk_locks.specs.Meaning.{table_meaning}
-use Rattle.lk_step.specs.declared.note.Note.{Note}
+use Rattle.lk_node_io.specs.declared.note.Note.{Note}
 use Rattle.lk_sim.specs.Explained.{Explains}
 use Rattle.lk_sim.specs.Orders.{IsEffectiveAt, InOrder}
 use Rattle.std.specs.Prelude.{Result, Ok, Err, OnOk, IfErr}

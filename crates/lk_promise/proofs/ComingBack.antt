@@ -9,7 +9,7 @@ use Rattle.lk_disk.specs.declared.meter.Meter.{Meter}
 use Rattle.lk_disk.specs.declared.trap.Trap.{Trap}
 use Rattle.lk_disk.specs.declared.trap.Trap.TheVariants.{Off}
 use Rattle.lk_log.specs.Images.{seen}
-use Rattle.lk_step.specs.Faults.{RefusedAfter}
+use Rattle.lk_node_io.specs.Faults.{RefusedAfter}
 use Rattle.lk_recovery.specs.Revivals.{IsLastOld}
 use Rattle.lk_replica.specs.ReplicaValue.{ReplicaValue}
 use Rattle.lk_sim.specs.Scenes.{Scene}

@@ -11,15 +11,15 @@ use Rattle.lk_messages.specs.declared.message.Content.{Content}
 use Rattle.lk_messages.specs.declared.message.Content.TheVariants as content
 use Rattle.lk_messages.specs.declared.message.NodeMessage.TheVariants as message
 use Rattle.lk_agreement.specs.declared.party.Party.TheVariants as party
-use Rattle.lk_step.specs.declared.note.Note.{Note}
-use Rattle.lk_step.specs.declared.note.Note.TheVariants as note
+use Rattle.lk_node_io.specs.declared.note.Note.{Note}
+use Rattle.lk_node_io.specs.declared.note.Note.TheVariants as note
 use Rattle.lk_node.specs.Histories.{Datagram, RequestValue}
 use Rattle.lk_node.specs.Leavings.{header_of}
 use Rattle.lk_node.specs.Served.{IsOfNode}
 use Rattle.lk_replica.specs.Behaviours.{Behaviour}
 use Rattle.lk_replica.specs.ReplicaValue.{ReplicaValue, device_of}
 use Rattle.lk_replica.specs.Revived.{RevivesTo}
-use Rattle.lk_sim.specs.Events.{Turns, AreOwn, AreAllOwn, Adds, IsGiven, IsGivenTogether, ComesUp, IsCompacted, Brings, Does, IsHalted, LeftBy, LeftByGroup, LeftByRevival, LeftByPacking, Wants, IsRefused}
+use Rattle.lk_sim.specs.Events.{Turns, AreOwn, AreAllOwn, Adds, IsGiven, IsGivenTogether, ComesUp, IsCompacted, Brings, Does, IsHalted, LeftBy, LeftByGroup, LeftByRevival, LeftByCompacting, Wants, IsRefused}
 use Rattle.lk_replica.specs.Together.{Said, sent_of, ComesToAll}
 use Rattle.lk_world_nodes.specs.Sends.{cut_short, left_over}
 use Rattle.lk_sim.specs.Groups.{AreNotesOf, given_by}
@@ -283,7 +283,7 @@ module _ (b : Behaviour ReplicaValue) where
   wants_falls old new (event.Start n) k = inl (same_seats old new k)
   wants_falls old new (event.Restart n) k = inr (n, refl, halted_falls (LeftByRevival b (header_of old.genesis n)) old new n k)
   wants_falls old new (event.Tick n) k = inr (n, refl, halted_falls (LeftBy b None) old new n k)
-  wants_falls old new (event.Compact n) k = inr (n, refl, halted_falls (LeftByPacking b) old new n k)
+  wants_falls old new (event.Compact n) k = inr (n, refl, halted_falls (LeftByCompacting b) old new n k)
   wants_falls old new (event.Client n r) k = inl (same_seats old new k)
   wants_falls old new (event.Deliver i) k = elim k [
     | inl same ↦ inl (same_seats old new same)

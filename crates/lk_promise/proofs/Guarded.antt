@@ -24,7 +24,7 @@ use Rattle.lk_locks.specs.declared.slot.Holders.{Holders}
 use Rattle.lk_locks.specs.declared.slot.Holders.TheVariants.{Nobody, Alone, Together}
 use Rattle.lk_locks.specs.declared.slot.Slot.{Slot as Lock}
 use Rattle.lk_agreement.specs.Datagrams.{Datagram}
-use Rattle.lk_step.specs.declared.note.Note.{Note}
+use Rattle.lk_node_io.specs.declared.note.Note.{Note}
 use Rattle.lk_promise.specs.Promise.{IsExplained}
 use Rattle.lk_promise.specs.Guarded.{Write, accepted, IsUnder, IsGuarded, AreListed}
 use Rattle.lk_promise.specs.Plain.{Locks, State, hold, give_again, give_first, acquire_known, acquire, and_one, share_known, share, is_held_by, is_free, is_held_at, release, without, break_lock, first, told_of, asks, use_locks, begin, serve, join, leave, raise, takes_effect, after_one, after, at}

@@ -13,8 +13,8 @@ use Rattle.lk_types.specs.declared.command.Request.{Request as Asking}
 use Rattle.lk_types.specs.declared.genesis.Genesis.{Genesis}
 use Rattle.lk_agreement.specs.Datagrams.{Datagram}
 use Rattle.lk_agreement.proofs.Histories.{cons_cases}
-use Rattle.lk_step.specs.declared.note.Note.{Note}
-use Rattle.lk_step.specs.declared.note.Note.TheVariants as note
+use Rattle.lk_node_io.specs.declared.note.Note.{Note}
+use Rattle.lk_node_io.specs.declared.note.Note.TheVariants as note
 use Rattle.lk_promise.specs.Linear.{Object, object, alone, Sequence, IsLegal, Linearizes, IsLinearizable}
 use Rattle.lk_promise.specs.Plain.{State, begin, serve, takes_effect, used, after_one, after, at, IsAnswered, TakesEffectAt}
 use Rattle.lk_promise.specs.Promise.{IsChosen, Explains, IsExplained, IsOrdered}

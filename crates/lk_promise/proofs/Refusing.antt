@@ -15,7 +15,7 @@ use Rattle.lk_messages.specs.declared.message.Message.{Message}
 use Rattle.lk_agreement.specs.declared.party.Party.{Party}
 use Rattle.lk_agreement.specs.declared.party.Party.TheVariants as party
 use Rattle.lk_agreement.proofs.Histories.{contains_more}
-use Rattle.lk_step.specs.declared.note.Note.{Note}
+use Rattle.lk_node_io.specs.declared.note.Note.{Note}
 use Rattle.lk_node.specs.Histories.{Datagram, RequestValue}
 use Rattle.lk_replica.specs.Behaviours.{Behaviour}
 use Rattle.lk_replica.specs.ReplicaValue.{ReplicaValue}

@@ -11,8 +11,8 @@ use Rattle.lk_messages.specs.declared.message.NodeMessage.TheVariants as message
 use Rattle.lk_messages.proofs.Spellings.{one_message}
 use Rattle.lk_agreement.specs.Datagrams.{Datagram}
 use Rattle.lk_agreement.proofs.Histories.{cons_cases, contains_more}
-use Rattle.lk_step.specs.declared.note.Note.{Note}
-use Rattle.lk_step.specs.declared.note.Note.TheVariants as note
+use Rattle.lk_node_io.specs.declared.note.Note.{Note}
+use Rattle.lk_node_io.specs.declared.note.Note.TheVariants as note
 use Rattle.lk_world_nodes.specs.Told.{told_by}
 use Rattle.lk_promise.specs.Promise.{is_reply, AreReplies, nothing_more, an_answer, a_pass, no_reply, is_told, AreTold, Explains}
 use Rattle.lk_promise.specs.Replies.{ExplainsReplies}

@@ -22,7 +22,7 @@ use Rattle.lk_recovery.specs.Revivals.{MayRevive, revived, notes_of, run_from}
 use Rattle.lk_replica.specs.Revived.{Revives}
 use Rattle.lk_state.specs.Packed.{Packs}
 use Rattle.lk_state.specs.States.{WholeValue}
-use Rattle.lk_step.specs.declared.note.Note.{Note}
+use Rattle.lk_node_io.specs.declared.note.Note.{Note}
 use Rattle.lk_promise.specs.Restarting.{ComesUp, StaysDown, IsLeftBy, Restarts, last_up, ReadsFormatTwo, IsIdempotent}
 
 -- a file with these entries, all of them synced

@@ -2,7 +2,7 @@
 ghost use Rattle.std.specs.Prelude.{ℕ, List};
 ghost use Rattle.lk_simulated_disk.specs.Memory.{Memory};
 ghost use Rattle.lk_entries.specs.Values.{HeaderValue};
-ghost use Rattle.lk_step.specs.declared.note.Note.{Note};
+ghost use Rattle.lk_node_io.specs.declared.note.Note.{Note};
 ghost use Rattle.lk_types.specs.declared.command.Command.{Command};
 ghost use Rattle.lk_types.specs.declared.genesis.Genesis.{Genesis};
 ghost use Rattle.lk_replica.specs.ReplicaValue.{ReplicaValue};

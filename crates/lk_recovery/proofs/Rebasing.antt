@@ -38,13 +38,13 @@ use Rattle.lk_node.specs.Holdings.{Holding, HoldingFits}
 use Rattle.lk_node.specs.Keeping.{Keeps, Stands, StandsBefore}
 use Rattle.lk_node.specs.Leavings.{header_of, acceptor_of, DisksFit, AllCover}
 use Rattle.lk_node.specs.NodeValue.{NodeValue}
-use Rattle.lk_node.specs.Packing.{standing_of, standing_here}
+use Rattle.lk_node.specs.Packing.{standing_of, with_snapshot}
 use Rattle.lk_node.specs.Reaching.{HoldsNear}
 use Rattle.lk_node.specs.Served.{text}
 use Rattle.lk_node.proofs.Nodes.{contains_more, window_is}
 use Rattle.lk_recovery.proofs.Growing.{grown_base}
 use Rattle.lk_recovery.specs.Compacting.{AllStandAt, IsDue, IsSameStore}
-use Rattle.lk_recovery.specs.Rebased.{HasGoneOver, StaysSafe, IsReadyToStep, LeavesDisks}
+use Rattle.lk_recovery.specs.Rebased.{HasSwitchedFiles, StaysSafe, IsReadyToStep, LeavesDisks}
 use Rattle.lk_recovery.specs.Remembering.{Remembers}
 use Rattle.lk_recovery.proofs.Images.{known_rest, grown_fit, held_fit, EntriesCover, entries_fit, cover_entries, entries_cover, cover_disks, none_asked, cover_more}
 use Rattle.lk_recovery.proofs.Ordered.{standing_ordered}
@@ -130,7 +130,7 @@ module _ (m : Meaning) (genesis : Genesis) (n : ℕ) (node : NodeValue) (old new
   rebase_syncs holds y c = cover_disks m genesis n new (Base base ∷ []) [] y holds (base_covers y c)
 
   -- and the store keeps what the acceptor then holds
-  pub rebase_keeps : node.header ≡ header_of genesis n → Holds new (Base base ∷ []) [] → Remembers (standing_here node) new genesis n
+  pub rebase_keeps : node.header ≡ header_of genesis n → Holds new (Base base ∷ []) [] → Remembers (with_snapshot node) new genesis n
   rebase_keeps whose holds = record {
     whose = whose;
     keeps = record {
@@ -161,7 +161,7 @@ module _ (m : Meaning) (genesis : Genesis) (n : ℕ) (node : NodeValue) (old new
   abbrev pub here : Holding
   here = record { view = view_with x.view (without_votes_to x.view.acceptor (executed node.learner)); waiting = x.waiting; gathered = x.gathered }
 
-  pub rebase_stands : Holds new (Base (next_base old (standing_of node)) ∷ []) [] → Stands m (standing_here node) new genesis n here
+  pub rebase_stands : Holds new (Base (next_base old (standing_of node)) ∷ []) [] → Stands m (with_snapshot node) new genesis n here
   unfolding rebase_keeps
   rebase_stands holds = record {
     whose = shown.whose;
@@ -246,7 +246,7 @@ module _ (m : Meaning) (h : History) (n : ℕ) (node : NodeValue) (old new : Sto
   }
 
   -- where it was made the node goes on, with nothing noted and nothing sent
-  pub rebase_goes : Holds new (Base (next_base old (standing_of node)) ∷ []) [] → DisksFit m h n (disks new) → Goes m h n (Stands m (standing_here node) new h.genesis n) (disks new) [] []
+  pub rebase_goes : Holds new (Base (next_base old (standing_of node)) ∷ []) [] → DisksFit m h n (disks new) → Goes m h n (Stands m (with_snapshot node) new h.genesis n) (disks new) [] []
   rebase_goes holds left = record {
     holding = here m h.genesis n node old new x shown may close;
     shown = rebase_stands m h.genesis n node old new x shown may close holds;
@@ -336,9 +336,9 @@ module _ (m : Meaning) (node : NodeValue) (old new : StoreValue) (may : MayBegin
   }
 
   -- where it was made
-  pub gone_over : (Metered : Type 0) → (new.generation ≡ old.generation + 1) → ((ks ls : List Stored) → Holds old ks ls → Holds new (Base (next_base old (standing_of node)) ∷ []) []) → (Metered → Passes old.meter new.meter rebase_calls) → length (contents new.live_disk) ≤ 49152
-      → HasGoneOver m Metered node old (standing_here node) new
-  gone_over Metered further writes calls short = record {
+  pub files_switched : (Metered : Type 0) → (new.generation ≡ old.generation + 1) → ((ks ls : List Stored) → Holds old ks ls → Holds new (Base (next_base old (standing_of node)) ∷ []) []) → (Metered → Passes old.meter new.meter rebase_calls) → length (contents new.live_disk) ≤ 49152
+      → HasSwitchedFiles m Metered node old (with_snapshot node) new
+  files_switched Metered further writes calls short = record {
     rebases = record { becomes = refl; generation = further; writes = writes };
     calls = calls;
     short = short;
@@ -387,7 +387,7 @@ module _ (m : Meaning) (node : NodeValue) (old mid : StoreValue) (same : IsSameS
   same_base : next_base mid (standing_of node) ≡ next_base old (standing_of node)
   same_base = λ i. record { generation = same.generation i + 1; format = 2; header = same.header i; standing = standing_of node }
 
-  pub ready_by_rebase : (Metered : Type 0) (new : NodeValue) (after : StoreValue) → IsDue node old → (Metered → Passes old.meter mid.meter 0) → HasGoneOver m Metered node mid new after → StaysSafe m node mid after → IsReadyToStep m Metered node old new after
+  pub ready_by_rebase : (Metered : Type 0) (new : NodeValue) (after : StoreValue) → IsDue node old → (Metered → Passes old.meter mid.meter 0) → HasSwitchedFiles m Metered node mid new after → StaysSafe m node mid after → IsReadyToStep m Metered node old new after
   ready_by_rebase Metered new after due calls done safe = record {
     rebases = record {
       due = λ _. record {

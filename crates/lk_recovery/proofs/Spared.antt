@@ -14,10 +14,10 @@ use Rattle.lk_log.specs.declared.fault.OpenFault.{OpenFault}
 use Rattle.lk_log.specs.declared.fault.OpenFault.TheVariants as opening
 use Rattle.lk_learner.specs.Learners.{executed}
 use Rattle.lk_node.specs.NodeValue.{NodeValue}
-use Rattle.lk_recovery.specs.Compacting.{AreSame, AreLeft, IsDue, IsSameStore, KeepsFileOrGoesOver, RebasesWhereDue}
-use Rattle.lk_step.specs.Faults.{IsStoreFault, fault_number, fault_of, open_fault, IfSpared}
-use Rattle.lk_step.specs.declared.fault.ReplicaFault.{ReplicaFault}
-use Rattle.lk_step.specs.declared.fault.ReplicaFault.TheVariants as fault
+use Rattle.lk_recovery.specs.Compacting.{AreSame, AreLeft, IsDue, IsSameStore, KeepsOrSwitchesFiles, RebasesWhereDue}
+use Rattle.lk_node_io.specs.Faults.{IsStoreFault, fault_number, fault_of, open_fault, IfSpared}
+use Rattle.lk_node_io.specs.declared.fault.ReplicaFault.{ReplicaFault}
+use Rattle.lk_node_io.specs.declared.fault.ReplicaFault.TheVariants as fault
 use Rattle.lk_recovery.proofs.Refusing.{put_refused}
 use Rattle.lk_recovery.proofs.Revivals.{picked}
 
@@ -120,7 +120,7 @@ left_after node mid old between new where_due same = elim (either_due node old) 
 pub kept_then : (old mid new : StoreValue) → KeepsItsFile old mid → KeepsItsFile mid new → KeepsItsFile old new
 kept_then old mid new a b = (b.0 ∙ a.0, b.1 ∙ a.1, b.2 ∙ a.2, b.3 ∙ a.3)
 
-pub file_after : (node mid : NodeValue) (old between new : StoreValue) → RebasesWhereDue node old mid between → KeepsItsFile between new → KeepsFileOrGoesOver node old new
+pub file_after : (node mid : NodeValue) (old between new : StoreValue) → RebasesWhereDue node old mid between → KeepsItsFile between new → KeepsOrSwitchesFiles node old new
 file_after node mid old between new where_due kept = elim (either_due node old) [
   | inl due ↦ inr (due, kept.1 ∙ (where_due.due due).generation)
   | inr none ↦ let same = (where_due.rests none).1 in inl (kept.0 ∙ same.live, kept.1 ∙ same.generation, kept.2 ∙ same.format, kept.3 ∙ same.header)

@@ -11,7 +11,7 @@ use Rattle.lk_log.specs.StoreValue.{StoreValue, disks}
 use Rattle.lk_log.specs.Stores.{Holds, KeepsItsFile, next_base}
 use Rattle.lk_learner.specs.Learners.{executed}
 use Rattle.lk_node.specs.NodeValue.{NodeValue}
-use Rattle.lk_node.specs.Packing.{standing_of, standing_here}
+use Rattle.lk_node.specs.Packing.{standing_of, with_snapshot}
 use Rattle.lk_state.specs.Meanings.{Meaning}
 use Rattle.lk_node.specs.Histories.{Genesis, Command}
 use Rattle.lk_node.specs.Leavings.{header_of, StandsAs}
@@ -38,7 +38,7 @@ pub record IsSameStore (old new : StoreValue) : Type 0 where
 
 -- the node's Base is alone in the store, which is one generation further, and the node matches it
 pub record Rebases (node : NodeValue) (store : StoreValue) (new : NodeValue) (after : StoreValue) : Type 0 where
-  pub becomes : new ≡ standing_here node
+  pub becomes : new ≡ with_snapshot node
   pub generation : after.generation ≡ store.generation + 1
   pub writes : (ks ls : List Stored) → Holds store ks ls → Holds after (Base (next_base store (standing_of node)) ∷ []) []
 
@@ -68,8 +68,8 @@ AreLeft node old new =
 
 -- the same file is live, with the same generation, format and header, or, after a rebase that was due, one of the next
 -- generation
-abbrev pub KeepsFileOrGoesOver : NodeValue → StoreValue → StoreValue → Type 0
-KeepsFileOrGoesOver node old new = KeepsItsFile old new ⊎ (IsDue node old × (new.generation ≡ old.generation + 1))
+abbrev pub KeepsOrSwitchesFiles : NodeValue → StoreValue → StoreValue → Type 0
+KeepsOrSwitchesFiles node old new = KeepsItsFile old new ⊎ (IsDue node old × (new.generation ≡ old.generation + 1))
 
 -- how many changing calls of the device that takes
 pub record CallsWhereDue (node : NodeValue) (store : StoreValue) (k : ℕ) : Type 0 where

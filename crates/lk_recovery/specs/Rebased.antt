@@ -19,20 +19,20 @@ use Rattle.lk_node.specs.Holdings.{Holding}
 use Rattle.lk_node.specs.Keeping.{Keeps, Stands, StandsBefore}
 use Rattle.lk_node.specs.Leavings.{header_of, DisksFit, AllCover}
 use Rattle.lk_node.specs.NodeValue.{NodeValue}
-use Rattle.lk_node.specs.Packing.{standing_of, standing_here}
-use Rattle.lk_step.specs.Faults.{IsStoreFault, fault_number, RefusedAfter, IfSpared}
+use Rattle.lk_node.specs.Packing.{standing_of, with_snapshot}
+use Rattle.lk_node_io.specs.Faults.{IsStoreFault, fault_number, RefusedAfter, IfSpared}
 use Rattle.lk_recovery.specs.Compacting.{AllStandAt, AreSame, Rebases, RebasesWhereDue, CallsWhereDue}
 use Rattle.lk_recovery.specs.Remembering.{Remembers}
 use Rattle.lk_recovery.specs.Rooms.{GrowsFromBase}
-use Rattle.lk_step.specs.declared.fault.ReplicaFault.{ReplicaFault}
-use Rattle.lk_step.specs.declared.fault.ReplicaFault.TheVariants as fault
+use Rattle.lk_node_io.specs.declared.fault.ReplicaFault.{ReplicaFault}
+use Rattle.lk_node_io.specs.declared.fault.ReplicaFault.TheVariants as fault
 
 -- ---- a rebase
 
 -- the node matches its Base, which its disks may begin with, and has executed what it could if it had before; and the
 -- store has the next generation and format 2, and has not failed
 pub record StandsOnBase (node : NodeValue) (store : StoreValue) (new : NodeValue) (after : StoreValue) : Type 0 where
-  pub becomes : new ≡ standing_here node
+  pub becomes : new ≡ with_snapshot node
   pub begins : MayBegin (standing_of node)
   pub runs : NothingToRun node → NothingToRun new
   pub generation : after.generation ≡ store.generation + 1
@@ -43,7 +43,7 @@ pub record StandsOnBase (node : NodeValue) (store : StoreValue) (new : NodeValue
 -- no longer than a Base may be. In each history that the node fitted it goes on, and sends and notes nothing; it holds
 -- something if it did before, and the store keeps what the acceptor holds if it did before; whatever a stop may leave
 -- of the disks covers what the node does, and stands for a snapshot of everything executed
-pub record HasGoneOver (m : Meaning) (Metered : Type 0) (node : NodeValue) (store : StoreValue) (new : NodeValue) (after : StoreValue) : Type 0 where
+pub record HasSwitchedFiles (m : Meaning) (Metered : Type 0) (node : NodeValue) (store : StoreValue) (new : NodeValue) (after : StoreValue) : Type 0 where
   pub rebases : Rebases node store new after
   pub calls : Metered → Passes store.meter after.meter rebase_calls
   pub short : length (contents after.live_disk) ≤ max_base

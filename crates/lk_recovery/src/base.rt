@@ -8,14 +8,14 @@ ghost use Rattle.lk_log.specs.Stores.{Holds, KeepsItsFile, KeepsOrIs, next_base}
 ghost use Rattle.lk_node.specs.Packing.{standing_of};
 ghost use Rattle.lk_node.specs.Reaching.{HoldsNear};
 ghost use Rattle.lk_recovery.specs.Compacting.{IsDue, IsSameStore};
-ghost use Rattle.lk_recovery.specs.Rebased.{StandsOnBase, HasGoneOver, StaysSafe, IsNotRebased, StaysAlive, IsReadyToStep, LeavesDisks};
-ghost use Rattle.lk_step.specs.Faults.{fault_number, RaisesFailures, PassesOr, WantsNoMemory};
+ghost use Rattle.lk_recovery.specs.Rebased.{StandsOnBase, HasSwitchedFiles, StaysSafe, IsNotRebased, StaysAlive, IsReadyToStep, LeavesDisks};
+ghost use Rattle.lk_node_io.specs.Faults.{fault_number, RaisesFailures, PassesOr, WantsNoMemory};
 
 use lk_disk::LogDisk;
 use lk_log::Store;
 use lk_node::Node;
+use lk_node_io::ReplicaFault;
 use lk_state::Machine;
-use lk_step::ReplicaFault;
 use lk_types::limits::MAX_COUNT;
 
 /// Writes what the node holds as the Base of the other file, and switches to that file: a snapshot of everything
@@ -26,7 +26,7 @@ pub fn write_base<M: Machine, D: LogDisk + Drop>(
     store: &mut Store<D>,
 ) -> Result<(), ReplicaFault>
     // At Ok it has switched: the Base alone is in the file, the node matches it, and goes on.
-    ensures done { D.is_honest → OnOk result (HasGoneOver M.meaning D.is_metered node.old store.old node.new store.new) }
+    ensures done { D.is_honest → OnOk result (HasSwitchedFiles M.meaning D.is_metered node.old store.old node.new store.new) }
     ensures becomes { OnOk result (StandsOnBase node.old store.old node.new store.new) }
     // However it ends, every image that a stop may leave fits and covers what every image covered before, and neither
     // file has grown, except up to the size of a Base.
@@ -48,13 +48,13 @@ pub fn write_base<M: Machine, D: LogDisk + Drop>(
     }
     let standing = packed?;
     store.rebase(&standing)?;
-    node.stand_here(standing.snapshot);
+    node.set_snapshot(standing.snapshot);
     Ok(())
 }
 
 /// Whether a rebase is due: the live file has grown to half of its maximum, or 256 positions are executed above the
 /// snapshot.
-pub fn is_due<M: Machine, D: LogDisk + Drop>(
+pub fn is_rebase_due<M: Machine, D: LogDisk + Drop>(
     node: &Node<M>,
     store: &mut Store<D>,
 ) -> Result<bool, ReplicaFault>
@@ -69,7 +69,7 @@ pub fn is_due<M: Machine, D: LogDisk + Drop>(
     ensures small { D.is_honest → IfOk result (λ due. due ≡ false → length (contents store.new.live_disk) < 131072) }
 {
     let length = store.live_length()?;
-    Ok(length >= 131_072 || node.is_far())
+    Ok(length >= 131_072 || node.is_snapshot_old())
 }
 
 /// Writes the node's Base if that is due.
@@ -89,7 +89,7 @@ pub fn rebase_if_due<M: Machine, D: LogDisk + Drop>(
     ensures last { D.is_honest → max_count ≤ store.old.generation → IsDue node.old store.old → IsErrAnd result (λ e. WantsNoMemory (fault_number e)) }
     ensures cause { RaisesFailures store.old.failures store.new.failures result }
 {
-    let due = is_due(node, store)?;
+    let due = is_rebase_due(node, store)?;
     if !due {
         return Ok(());
     }

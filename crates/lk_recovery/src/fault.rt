@@ -1,4 +1,4 @@
-use lk_step::ReplicaFault;
+use lk_node_io::ReplicaFault;
 
 /// Why a replica did not restart, and the device.
 #[derive(Drop)]

@@ -11,7 +11,7 @@ ghost use Rattle.lk_state.specs.States.{WholeValue};
 ghost use Rattle.lk_agreement.specs.Datagrams.{NodeMessage};
 ghost use Rattle.lk_node.specs.Calls.{Goes};
 ghost use Rattle.lk_recovery.specs.Remembering.{Remembers};
-ghost use Rattle.lk_step.specs.Faults.{fault_number, failures_by, RefusedAfter, IsNumberOfRevival};
+ghost use Rattle.lk_node_io.specs.Faults.{fault_number, failures_by, RefusedAfter, IsNumberOfRevival};
 ghost use Rattle.lk_node.specs.Executing.{NothingToRun};
 ghost use Rattle.lk_node.specs.Histories.{History, Genesis as GenesisValue, IsLawful};
 ghost use Rattle.lk_node.specs.Keeping.{Stands};
@@ -27,8 +27,8 @@ use lk_disk::LogDisk;
 use lk_entries::{Header, Standing};
 use lk_log::{Store, reopen};
 use lk_node::Node;
+use lk_node_io::{Note, ReplicaFault};
 use lk_state::{Machine, Whole};
-use lk_step::{Note, ReplicaFault};
 use lk_types::{Executed, Genesis, NoMemory, Vote};
 use std::alloc::Global;
 

@@ -17,10 +17,10 @@ use Rattle.lk_agreement.proofs.Histories.{still_stems, covers_both}
 use Rattle.lk_acceptor.specs.States.{without_votes_to}
 use Rattle.lk_acceptor.proofs.Acceptors.{takes_snapshot}
 use Rattle.lk_learner.specs.Learners.{executed}
-use Rattle.lk_step.specs.Letters.{LetterValue, batch_of}
-use Rattle.lk_step.specs.Outboxes.{OutboxValue, nothing}
-use Rattle.lk_step.specs.declared.input.Input.{Input}
-use Rattle.lk_step.specs.declared.note.Note.{Note}
+use Rattle.lk_node_io.specs.Letters.{LetterValue, batch_of}
+use Rattle.lk_node_io.specs.Outboxes.{OutboxValue, nothing}
+use Rattle.lk_node_io.specs.declared.input.Input.{Input}
+use Rattle.lk_node_io.specs.declared.note.Note.{Note}
 use Rattle.lk_node.specs.Calls.{InputFits, MayGo, NodeFits, Goes}
 use Rattle.lk_node.specs.Entries.{EntriesFit}
 use Rattle.lk_node.specs.Histories.{History, Genesis, Datagram, later, IsLawful}
@@ -28,7 +28,7 @@ use Rattle.lk_node.specs.Holdings.{Holding, HoldingFits}
 use Rattle.lk_node.specs.Keeping.{Keeps, Stands, StandsBefore}
 use Rattle.lk_node.specs.Leavings.{header_of, acceptor_of, view_of}
 use Rattle.lk_node.specs.NodeValue.{NodeValue}
-use Rattle.lk_node.specs.Packing.{standing_of, standing_here}
+use Rattle.lk_node.specs.Packing.{standing_of, with_snapshot}
 use Rattle.lk_node.specs.Reaching.{HoldsNear}
 use Rattle.lk_node.specs.Served.{IsOfNode, IsBorneOut}
 use Rattle.lk_node.specs.Serving.{IsLight, Tells, Serves, GoesOn}
@@ -85,7 +85,7 @@ module _ (m : Meaning) (h : History) (n : ℕ) (node : NodeValue) (old new : Sto
     near = base.near;
   }
 
-  pub rebased_goes : Goes m h n (Stands m (standing_here node) new h.genesis n) (disks new) out.notes (batch_of n sent)
+  pub rebased_goes : Goes m h n (Stands m (with_snapshot node) new h.genesis n) (disks new) out.notes (batch_of n sent)
   rebased_goes = record {
     holding = here m h.genesis n node old new x shown may close;
     shown = rebase_stands m h.genesis n node old new x shown may close holds;
@@ -150,7 +150,7 @@ module _ (m : Meaning) (h : History) (n : ℕ) (node stepped : NodeValue) (old :
 
   -- where its Base was written, these letters of it are sent
   pub installed_goes : (new : StoreValue) → MayBegin (standing_of stepped) → HoldsNear stepped → Holds new (Base (next_base old (standing_of stepped)) ∷ []) []
-      → (sent : List LetterValue) → AreOf sent out.letters → Goes m h n (Stands m (standing_here stepped) new h.genesis n) (disks new) out.notes (batch_of n sent)
+      → (sent : List LetterValue) → AreOf sent out.letters → Goes m h n (Stands m (with_snapshot stepped) new h.genesis n) (disks new) out.notes (batch_of n sent)
   installed_goes new may close holds sent among =
       let b = bound m (λ k. InputFits k i) node stepped out g in
       rebased_goes m h n stepped old new served.holding stepped_fits.shown may close f.lawful served.fits out b.tells served.may

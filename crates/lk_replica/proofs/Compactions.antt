@@ -8,17 +8,17 @@ use Rattle.lk_log.specs.declared.fault.StoreFault.TheVariants as store
 use Rattle.lk_learner.specs.Learners.{executed}
 use Rattle.lk_state.specs.Meanings.{Meaning}
 use Rattle.lk_replica.specs.Compacted.{IsCompacted, IsNotCompacted, CompactsTo}
-use Rattle.lk_step.specs.Faults.{IsStoreFault, fault_number, RaisesFailures, RefusedAfter}
+use Rattle.lk_node_io.specs.Faults.{IsStoreFault, fault_number, RaisesFailures, RefusedAfter}
 use Rattle.lk_recovery.specs.Compacting.{AllStandAt}
-use Rattle.lk_recovery.specs.Rebased.{StandsOnBase, HasGoneOver}
+use Rattle.lk_recovery.specs.Rebased.{StandsOnBase, HasSwitchedFiles}
 use Rattle.lk_replica.specs.ReplicaValue.{ReplicaValue}
-use Rattle.lk_step.specs.declared.fault.ReplicaFault.{ReplicaFault}
-use Rattle.lk_step.specs.declared.fault.ReplicaFault.TheVariants as fault
+use Rattle.lk_node_io.specs.declared.fault.ReplicaFault.{ReplicaFault}
+use Rattle.lk_node_io.specs.declared.fault.ReplicaFault.TheVariants as fault
 use Rattle.lk_replica.proofs.OnDevices.{on_device}
 use Rattle.lk_recovery.proofs.Recoveries.{same_error}
 
 -- it has compacted
-pub compacted : {T : Type 0} (m : Meaning) (old new : ReplicaValue) (r : Result T ReplicaFault) → OnOk r (HasGoneOver m ⊤ old.node old.store new.node new.store) → OnOk r (StandsOnBase old.node old.store new.node new.store) → OnOk r (new.failed ≡ false)
+pub compacted : {T : Type 0} (m : Meaning) (old new : ReplicaValue) (r : Result T ReplicaFault) → OnOk r (HasSwitchedFiles m ⊤ old.node old.store new.node new.store) → OnOk r (StandsOnBase old.node old.store new.node new.store) → OnOk r (new.failed ≡ false)
     → OnOk r (IsCompacted m old new)
 compacted m old new (Ok x) done becomes alive = record {
   rebases = done.rebases;
@@ -59,7 +59,7 @@ told old new (Ok x) why = tt
 told old new (Err e) why = why.of_store
 
 -- the calls of the device that it has made
-pub calls_ok : {T : Type 0} (m : Meaning) (old new : ReplicaValue) (r : Result T ReplicaFault) → OnOk r (HasGoneOver m ⊤ old.node old.store new.node new.store) → OnOk r (Passes old.store.meter new.store.meter rebase_calls)
+pub calls_ok : {T : Type 0} (m : Meaning) (old new : ReplicaValue) (r : Result T ReplicaFault) → OnOk r (HasSwitchedFiles m ⊤ old.node old.store new.node new.store) → OnOk r (Passes old.store.meter new.store.meter rebase_calls)
 calls_ok m old new (Ok x) done = done.calls tt
 calls_ok m old new (Err e) done = tt
 

@@ -23,9 +23,9 @@ use Rattle.lk_agreement.specs.Acceptors.{AcceptorState, Covers, CoversSent}
 use Rattle.lk_agreement.specs.Datagrams.{said_by}
 use Rattle.lk_agreement.specs.Nodes.{View}
 use Rattle.lk_agreement.proofs.Histories.{said_alike, still_stems, still_was, still_chosen_at, covers_both}
-use Rattle.lk_step.specs.Letters.{LetterValue, datagram_of, batch_of}
-use Rattle.lk_step.specs.Outboxes.{OutboxValue, nothing}
-use Rattle.lk_step.specs.declared.input.Input.{Input}
+use Rattle.lk_node_io.specs.Letters.{LetterValue, datagram_of, batch_of}
+use Rattle.lk_node_io.specs.Outboxes.{OutboxValue, nothing}
+use Rattle.lk_node_io.specs.declared.input.Input.{Input}
 use Rattle.lk_node.specs.Calls.{InputFits, NodeFits, Goes}
 use Rattle.lk_node.specs.Entries.{EntriesFit, Rests}
 use Rattle.lk_node.specs.Histories.{History, Genesis, Datagram, later}

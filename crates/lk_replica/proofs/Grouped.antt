@@ -32,10 +32,10 @@ use Rattle.lk_state.specs.Meanings.{Meaning}
 use Rattle.lk_agreement.specs.Acceptors.{AcceptorState}
 use Rattle.lk_agreement.specs.Datagrams.{said_by}
 use Rattle.lk_agreement.specs.Nodes.{View}
-use Rattle.lk_step.specs.Letters.{LetterValue, datagram_of, batch_of}
-use Rattle.lk_step.specs.Outboxes.{OutboxValue, nothing}
-use Rattle.lk_step.specs.declared.input.Input.{Input}
-use Rattle.lk_step.specs.declared.note.Note.{Note}
+use Rattle.lk_node_io.specs.Letters.{LetterValue, datagram_of, batch_of}
+use Rattle.lk_node_io.specs.Outboxes.{OutboxValue, nothing}
+use Rattle.lk_node_io.specs.declared.input.Input.{Input}
+use Rattle.lk_node_io.specs.declared.note.Note.{Note}
 use Rattle.lk_learner.specs.Learners.{executed}
 use Rattle.lk_node.specs.Calls.{InputFits, NodeFits, Goes}
 use Rattle.lk_node.specs.Entries.{Rests}
@@ -44,18 +44,18 @@ use Rattle.lk_node.specs.Holdings.{Holding}
 use Rattle.lk_node.specs.Keeping.{TellsDecided, IsKnown, Keeps, Stands}
 use Rattle.lk_node.specs.Leavings.{header_of, acceptor_of, DisksFit, AllCover}
 use Rattle.lk_node.specs.NodeValue.{NodeValue}
-use Rattle.lk_node.specs.Packing.{standing_of, standing_here}
+use Rattle.lk_node.specs.Packing.{standing_of, with_snapshot}
 use Rattle.lk_node.specs.Reaching.{EntriesLieNear, TellsOf, TellsOn, IsTold, HoldsNear}
 use Rattle.lk_node.specs.Served.{text}
 use Rattle.lk_node.specs.Serving.{with_entries, GoesOn}
 use Rattle.lk_node.proofs.Nodes.{with_all_behind, near_behind, told_behind, told_synced}
 use Rattle.lk_recovery.specs.Compacting.{IsDue, IsSameStore, Rebases}
-use Rattle.lk_replica.specs.Groups.{as_synced, as_sent, waits_after, Gathers, Recalls, Gathered, GroupFits, GroupGoes, GroupStays, Settles, GroupValue, Adds, IsCovered, IsRefusedInGroup, LeavesInGroup, IsSettled, MakesRoom, settle_calls, gather_calls}
-use Rattle.lk_step.specs.Faults.{IsStoreFault, fault_number, failures_by, WantsNoMemory}
+use Rattle.lk_replica.specs.Groups.{as_synced, as_sent, needs_sync_after, Gathers, Recalls, Gathered, GroupFits, GroupGoes, GroupStays, Settles, GroupValue, Adds, IsCovered, IsRefusedInGroup, LeavesInGroup, IsSettled, MakesRoom, settle_calls, gather_calls}
+use Rattle.lk_node_io.specs.Faults.{IsStoreFault, fault_number, failures_by, WantsNoMemory}
 use Rattle.lk_replica.specs.Posts.{AreOf}
 use Rattle.lk_replica.specs.ReplicaValue.{ReplicaValue}
 use Rattle.lk_replica.specs.Taking.{IsCutShort}
-use Rattle.lk_step.specs.declared.fault.ReplicaFault.{ReplicaFault}
+use Rattle.lk_node_io.specs.declared.fault.ReplicaFault.{ReplicaFault}
 use Rattle.lk_recovery.proofs.Recoveries.{err_as, failed_alone, known_rests, EntriesCover, held_fit, fit_disks, cover_entries, cover_disks, put_fits, put_covers, same_holds}
 use Rattle.lk_replica.proofs.Refusals.{number_of_calls, halted_alone}
 use Rattle.lk_replica.proofs.NoSend.{sends_not}
@@ -97,7 +97,7 @@ whole_keeps s ks more h image left = (length more, subst (λ (l : List Stored). 
 -- ---- what such a store keeps
 
 -- as it will be, it keeps what the acceptor holds
-abbrev pub group_keeps : (whose : HeaderValue) (s : StoreValue) (waits : Bool) (a : AcceptorState) → Gathers whose s waits a → Keeps whose (as_sent waits s) a
+abbrev pub group_keeps : (whose : HeaderValue) (s : StoreValue) (needs_sync : Bool) (a : AcceptorState) → Gathers whose s needs_sync a → Keeps whose (as_sent needs_sync s) a
 group_keeps whose s false a k = record {
   entries = k.entries;
   loose = k.loose;
@@ -132,12 +132,12 @@ group_begins whose s a k = record {
   remembers = decided_leave k.loose (acceptor_of k.standing) k.decided ∙ k.remembers;
 }
 
-abbrev pub group_stands : (m : Meaning) (node : NodeValue) (s : StoreValue) (waits : Bool) (genesis : Genesis) (n : ℕ) (x : Holding) → Gathered m node s waits genesis n x → Stands m node (as_sent waits s) genesis n x
+abbrev pub group_stands : (m : Meaning) (node : NodeValue) (s : StoreValue) (needs_sync : Bool) (genesis : Genesis) (n : ℕ) (x : Holding) → Gathered m node s needs_sync genesis n x → Stands m node (as_sent needs_sync s) genesis n x
 group_stands m node s false genesis n x g = record { whose = g.whose; keeps = group_keeps (header_of genesis n) s false node.acceptor.state g.keeps; known = g.known refl; held = g.held; told = record { near = g.near refl; tells = g.tells } }
 group_stands m node s true genesis n x g = record { whose = g.whose; keeps = group_keeps (header_of genesis n) s true node.acceptor.state g.keeps; known = tt; held = g.held; told = record { near = tt; tells = g.tells } }
 
-abbrev pub group_fits : (m : Meaning) (h : History) (n : ℕ) (node : NodeValue) (s : StoreValue) (waits : Bool) → GroupFits m h n node s waits → NodeFits m h n (Stands m node (as_sent waits s) h.genesis n) (disks (as_sent waits s))
-group_fits m h n node s waits f = record { lawful = f.lawful; holding = f.holding; shown = group_stands m node s waits h.genesis n f.holding f.shown; fits = f.fits; left = f.left }
+abbrev pub group_fits : (m : Meaning) (h : History) (n : ℕ) (node : NodeValue) (s : StoreValue) (needs_sync : Bool) → GroupFits m h n node s needs_sync → NodeFits m h n (Stands m node (as_sent needs_sync s) h.genesis n) (disks (as_sent needs_sync s))
+group_fits m h n node s needs_sync f = record { lawful = f.lawful; holding = f.holding; shown = group_stands m node s needs_sync h.genesis n f.holding f.shown; fits = f.fits; left = f.left }
 
 pub begin_fits : (m : Meaning) (h : History) (n : ℕ) (node : NodeValue) (s : StoreValue) → NodeFits m h n (Stands m node s h.genesis n) (disks s) → GroupStays m h n node s false
 begin_fits m h n node s f = record {
@@ -173,12 +173,12 @@ none_waits false true s is e = absurd (cc e)
 none_waits true w s is e = absurd (cc is)
 
 module _ (whose : HeaderValue) (old store : StoreValue) (a b : AcceptorState) (out : OutboxValue) (is : out.rebase ≡ false) (written : b ≡ with_entries out.entries a) (unsynced : out.sync ≡ false → AllByRecursion TellsDecided out.entries) where
-  abbrev pub gathers_more : (waits after : Bool) → after ≡ waits_after waits out → (k : Gathers whose old waits a) → Holds store k.entries (plain k.loose ++ plain out.entries) → Gathers whose store after b
-  gathers_more waits after e k added = record {
+  abbrev pub gathers_more : (needs_sync after : Bool) → after ≡ needs_sync_after needs_sync out → (k : Gathers whose old needs_sync a) → Holds store k.entries (plain k.loose ++ plain out.entries) → Gathers whose store after b
+  gathers_more needs_sync after e k added = record {
     entries = k.entries;
     loose = k.loose ++ out.entries;
     holds = subst (Holds store k.entries) (sym (plain_append k.loose out.entries)) added;
-    decided = λ none. let z = none_waits out.rebase waits out.sync is (sym none ∙ e) in all-append TellsDecided k.loose out.entries (k.decided z.0) (unsynced z.1);
+    decided = λ none. let z = none_waits out.rebase needs_sync out.sync is (sym none ∙ e) in all-append TellsDecided k.loose out.entries (k.decided z.0) (unsynced z.1);
     header = k.header;
     standing = k.standing;
     stands = k.stands;
@@ -186,8 +186,8 @@ module _ (whose : HeaderValue) (old store : StoreValue) (a b : AcceptorState) (o
   }
 
   -- of what it keeps as it will be, it then keeps all, and the entries
-  pub keeps_more : (waits after : Bool) → after ≡ waits_after waits out → (k : Gathers whose old waits a) → Holds store k.entries (plain k.loose ++ plain out.entries)
-      → KeepsAtLeast (as_sent after store) (group_keeps whose old waits a k).entries (plain (group_keeps whose old waits a k).loose ++ plain out.entries)
+  pub keeps_more : (needs_sync after : Bool) → after ≡ needs_sync_after needs_sync out → (k : Gathers whose old needs_sync a) → Holds store k.entries (plain k.loose ++ plain out.entries)
+      → KeepsAtLeast (as_sent after store) (group_keeps whose old needs_sync a k).entries (plain (group_keeps whose old needs_sync a k).loose ++ plain out.entries)
   keeps_more false false e k added = holds_keeps store k.entries (plain k.loose ++ plain out.entries) added
   keeps_more true false e k added = absurd (let z = none_waits out.rebase true out.sync is e in cc (z.0))
   keeps_more false true e k added = whole_keeps (as_synced store) k.entries (plain k.loose ++ plain out.entries) (as_synced_holds store k.entries (plain k.loose ++ plain out.entries) added)
@@ -196,13 +196,13 @@ module _ (whose : HeaderValue) (old store : StoreValue) (a b : AcceptorState) (o
       (subst (λ (l : List Stored). Holds (as_synced store) l []) (sym (append_assoc k.entries (plain k.loose) (plain out.entries))) (as_synced_holds store k.entries (plain k.loose ++ plain out.entries) added))
 
   -- and knows what it has written unsynced
-  pub known_more : (w : View) (waits after : Bool) → after ≡ waits_after waits out → (loose : List Entry) → (waits ≡ false → AllByRecursion (IsKnown w) loose) → (out.sync ≡ false → AllByRecursion (IsKnown w) out.entries)
+  pub known_more : (w : View) (needs_sync after : Bool) → after ≡ needs_sync_after needs_sync out → (loose : List Entry) → (needs_sync ≡ false → AllByRecursion (IsKnown w) loose) → (out.sync ≡ false → AllByRecursion (IsKnown w) out.entries)
       → after ≡ false → AllByRecursion (IsKnown w) (loose ++ out.entries)
-  known_more w waits after e loose known news none = let z = none_waits out.rebase waits out.sync is (sym none ∙ e) in all-append (IsKnown w) loose out.entries (known z.0) (news z.1)
+  known_more w needs_sync after e loose known news none = let z = none_waits out.rebase needs_sync out.sync is (sym none ∙ e) in all-append (IsKnown w) loose out.entries (known z.0) (news z.1)
 
   -- so it keeps too
-  pub keeps_too : (waits after : Bool) (e : after ≡ waits_after waits out) (k : Gathers whose old waits a) (added : Holds store k.entries (plain k.loose ++ plain out.entries))
-      → KeepsToo whose (as_sent after store) b (group_keeps whose old waits a k).standing (group_keeps whose old waits a k).loose out.entries out.sync
+  pub keeps_too : (needs_sync after : Bool) (e : after ≡ needs_sync_after needs_sync out) (k : Gathers whose old needs_sync a) (added : Holds store k.entries (plain k.loose ++ plain out.entries))
+      → KeepsToo whose (as_sent after store) b (group_keeps whose old needs_sync a k).standing (group_keeps whose old needs_sync a k).loose out.entries out.sync
   keeps_too false false e k added = record {
     keeps = group_keeps whose store false b (gathers_more false false e k added);
     known = λ w known news. known_more w false false e k.loose (λ none. known) news refl;
@@ -224,51 +224,51 @@ module _ (whose : HeaderValue) (old store : StoreValue) (a b : AcceptorState) (o
   }
 
 -- what it knew unsynced as it will be, it knew unsynced
-known_before : (m : Meaning) (h : History) (n : ℕ) (node : NodeValue) (s : StoreValue) (waits : Bool) (f : GroupFits m h n node s waits) (w : View)
-    → AllByRecursion (IsKnown w) (group_fits m h n node s waits f).shown.keeps.loose → waits ≡ false → AllByRecursion (IsKnown w) f.shown.keeps.loose
+known_before : (m : Meaning) (h : History) (n : ℕ) (node : NodeValue) (s : StoreValue) (needs_sync : Bool) (f : GroupFits m h n node s needs_sync) (w : View)
+    → AllByRecursion (IsKnown w) (group_fits m h n node s needs_sync f).shown.keeps.loose → needs_sync ≡ false → AllByRecursion (IsKnown w) f.shown.keeps.loose
 known_before m h n node s false f w known none = known
 known_before m h n node s true f w known none = absurd (cc none)
 
-module _ (m : Meaning) (h : History) (n : ℕ) (node new : NodeValue) (old store : StoreValue) (waits : Bool) (i : Input) (out : OutboxValue)
-    (f : GroupFits m h n node old waits) (heard : InputFits h i) (g : GoesOn m (λ k. InputFits k i) node new nothing out) (on : TellsOn node new out.entries) (is : out.rebase ≡ false)
+module _ (m : Meaning) (h : History) (n : ℕ) (node new : NodeValue) (old store : StoreValue) (needs_sync : Bool) (i : Input) (out : OutboxValue)
+    (f : GroupFits m h n node old needs_sync) (heard : InputFits h i) (g : GoesOn m (λ k. InputFits k i) node new nothing out) (on : TellsOn node new out.entries) (is : out.rebase ≡ false)
     (added : Holds store f.shown.keeps.entries (plain f.shown.keeps.loose ++ plain out.entries)) where
   abbrev mine : HeaderValue
   mine = header_of h.genesis n
 
   abbrev after : Bool
-  after = waits_after waits out
+  after = needs_sync_after needs_sync out
 
-  abbrev fits : NodeFits m h n (Stands m node (as_sent waits old) h.genesis n) (disks (as_sent waits old))
-  fits = group_fits m h n node old waits f
+  abbrev fits : NodeFits m h n (Stands m node (as_sent needs_sync old) h.genesis n) (disks (as_sent needs_sync old))
+  fits = group_fits m h n node old needs_sync f
 
   abbrev pub gathered_more : Gathers mine store after new.acceptor.state
-  gathered_more = let b = bound m (λ k. InputFits k i) node new out g in gathers_more mine old store node.acceptor.state new.acceptor.state out is b.written b.unsynced waits after refl f.shown.keeps added
+  gathered_more = let b = bound m (λ k. InputFits k i) node new out g in gathers_more mine old store node.acceptor.state new.acceptor.state out is b.written b.unsynced needs_sync after refl f.shown.keeps added
 
   at_least : KeepsAtLeast (as_sent after store) fits.shown.keeps.entries (plain fits.shown.keeps.loose ++ plain out.entries)
-  at_least = let b = bound m (λ k. InputFits k i) node new out g in by_waits b.written b.unsynced waits f added
+  at_least = let b = bound m (λ k. InputFits k i) node new out g in by_waits b.written b.unsynced needs_sync f added
     where
       by_waits : new.acceptor.state ≡ with_entries out.entries node.acceptor.state → (out.sync ≡ false → AllByRecursion TellsDecided out.entries) → (w : Bool) (k : GroupFits m h n node old w)
           → Holds store k.shown.keeps.entries (plain k.shown.keeps.loose ++ plain out.entries)
-          → KeepsAtLeast (as_sent (waits_after w out) store) (group_fits m h n node old w k).shown.keeps.entries (plain (group_fits m h n node old w k).shown.keeps.loose ++ plain out.entries)
-      by_waits written unsynced false k added = keeps_more mine old store node.acceptor.state new.acceptor.state out is written unsynced false (waits_after false out) refl k.shown.keeps added
-      by_waits written unsynced true k added = keeps_more mine old store node.acceptor.state new.acceptor.state out is written unsynced true (waits_after true out) refl k.shown.keeps added
+          → KeepsAtLeast (as_sent (needs_sync_after w out) store) (group_fits m h n node old w k).shown.keeps.entries (plain (group_fits m h n node old w k).shown.keeps.loose ++ plain out.entries)
+      by_waits written unsynced false k added = keeps_more mine old store node.acceptor.state new.acceptor.state out is written unsynced false (needs_sync_after false out) refl k.shown.keeps added
+      by_waits written unsynced true k added = keeps_more mine old store node.acceptor.state new.acceptor.state out is written unsynced true (needs_sync_after true out) refl k.shown.keeps added
 
   too : KeepsToo mine (as_sent after store) new.acceptor.state fits.shown.keeps.standing fits.shown.keeps.loose out.entries out.sync
-  too = let b = bound m (λ k. InputFits k i) node new out g in by_waits b.written b.unsynced waits f added
+  too = let b = bound m (λ k. InputFits k i) node new out g in by_waits b.written b.unsynced needs_sync f added
     where
       by_waits : new.acceptor.state ≡ with_entries out.entries node.acceptor.state → (out.sync ≡ false → AllByRecursion TellsDecided out.entries) → (w : Bool) (k : GroupFits m h n node old w)
           → Holds store k.shown.keeps.entries (plain k.shown.keeps.loose ++ plain out.entries)
-          → KeepsToo mine (as_sent (waits_after w out) store) new.acceptor.state (group_fits m h n node old w k).shown.keeps.standing (group_fits m h n node old w k).shown.keeps.loose out.entries out.sync
-      by_waits written unsynced false k added = keeps_too mine old store node.acceptor.state new.acceptor.state out is written unsynced false (waits_after false out) refl k.shown.keeps added
-      by_waits written unsynced true k added = keeps_too mine old store node.acceptor.state new.acceptor.state out is written unsynced true (waits_after true out) refl k.shown.keeps added
+          → KeepsToo mine (as_sent (needs_sync_after w out) store) new.acceptor.state (group_fits m h n node old w k).shown.keeps.standing (group_fits m h n node old w k).shown.keeps.loose out.entries out.sync
+      by_waits written unsynced false k added = keeps_too mine old store node.acceptor.state new.acceptor.state out is written unsynced false (needs_sync_after false out) refl k.shown.keeps added
+      by_waits written unsynced true k added = keeps_too mine old store node.acceptor.state new.acceptor.state out is written unsynced true (needs_sync_after true out) refl k.shown.keeps added
 
   pub leaves_as_sent : DisksFit m h n (disks (as_sent after store))
-  leaves_as_sent = put_leaves m h n node new (as_sent waits old) (as_sent after store) i out fits heard g on at_least
+  leaves_as_sent = put_leaves m h n node new (as_sent needs_sync old) (as_sent after store) i out fits heard g on at_least
 
   known_now : (w : View) → AllByRecursion (IsKnown w) fits.shown.keeps.loose → (out.sync ≡ false → AllByRecursion (IsKnown w) out.entries) → after ≡ false → AllByRecursion (IsKnown w) (f.shown.keeps.loose ++ out.entries)
   known_now w known news =
       let b = bound m (λ k. InputFits k i) node new out g in
-      known_more mine old store node.acceptor.state new.acceptor.state out is b.written b.unsynced w waits after refl f.shown.keeps.loose (known_before m h n node old waits f w known) news
+      known_more mine old store node.acceptor.state new.acceptor.state out is b.written b.unsynced w needs_sync after refl f.shown.keeps.loose (known_before m h n node old needs_sync f w known) news
 
   tells_now : TellsOf h.genesis.alpha (with_all (f.shown.keeps.loose ++ out.entries) f.shown.keeps.standing) new
   tells_now =
@@ -281,13 +281,13 @@ module _ (m : Meaning) (h : History) (n : ℕ) (node new : NodeValue) (old store
       near_behind h.genesis.alpha k.standing k.loose out.entries near (on h.genesis.alpha (with_all k.loose k.standing) f.shown.tells).0
 
   near_after : after ≡ false → EntriesLieNear h.genesis.alpha f.shown.keeps.standing (f.shown.keeps.loose ++ out.entries)
-  near_after none = near_now (f.shown.near (none_waits out.rebase waits out.sync is (sym none)).0)
+  near_after none = near_now (f.shown.near (none_waits out.rebase needs_sync out.sync is (sym none)).0)
 
   -- it goes on, and says these of its letters
   pub gather_goes : (sent : List LetterValue) → AreOf sent out.letters → GroupGoes m h n new store after out.notes (batch_of n sent)
   gather_goes sent among =
-      let s = serves m h n node new (as_sent waits old) (as_sent after store) i out fits heard g in
-      let p = put_goes m h n node new (as_sent waits old) (as_sent after store) i out fits heard g on too leaves_as_sent sent among in
+      let s = serves m h n node new (as_sent needs_sync old) (as_sent after store) i out fits heard g in
+      let p = put_goes m h n node new (as_sent needs_sync old) (as_sent after store) i out fits heard g on too leaves_as_sent sent among in
       record {
         holding = s.holding;
         shown = record { whose = s.whose; keeps = gathered_more; known = known_now s.holding.view s.known s.news; held = s.held; tells = tells_now; near = near_after };
@@ -299,14 +299,14 @@ module _ (m : Meaning) (h : History) (n : ℕ) (node new : NodeValue) (old store
 
 -- ---- the same in a history in which nothing of it is sent
 
-module _ (m : Meaning) (h : History) (n : ℕ) (node new : NodeValue) (old store : StoreValue) (waits : Bool) (i : Input) (out : OutboxValue)
-    (s : GroupStays m h n node old waits) (heard : InputFits h i) (g : GoesOn m (λ k. InputFits k i) node new nothing out) (on : TellsOn node new out.entries) where
-  abbrev pretended : NodeFits m h n (Stands m node (as_sent waits old) h.genesis n) (disks (as_sent waits old))
-  pretended = group_fits m h n node old waits s.fits
+module _ (m : Meaning) (h : History) (n : ℕ) (node new : NodeValue) (old store : StoreValue) (needs_sync : Bool) (i : Input) (out : OutboxValue)
+    (s : GroupStays m h n node old needs_sync) (heard : InputFits h i) (g : GoesOn m (λ k. InputFits k i) node new nothing out) (on : TellsOn node new out.entries) where
+  abbrev pretended : NodeFits m h n (Stands m node (as_sent needs_sync old) h.genesis n) (disks (as_sent needs_sync old))
+  pretended = group_fits m h n node old needs_sync s.fits
 
   -- what it writes rests on what was sent
   rests_too : AllByRecursion (Rests h) (s.fits.shown.keeps.loose ++ out.entries)
-  rests_too = all-append (Rests h) s.fits.shown.keeps.loose out.entries s.rests (serves m h n node new (as_sent waits old) old i out pretended heard g).rests
+  rests_too = all-append (Rests h) s.fits.shown.keeps.loose out.entries s.rests (serves m h n node new (as_sent needs_sync old) old i out pretended heard g).rests
 
   near_too : EntriesLieNear h.genesis.alpha s.fits.shown.keeps.standing (s.fits.shown.keeps.loose ++ out.entries)
   near_too =
@@ -320,23 +320,23 @@ module _ (m : Meaning) (h : History) (n : ℕ) (node new : NodeValue) (old store
       put_fits m h n old store k.entries k.standing k.loose out.entries k.holds k.stands keeps rests_too near_too s.left
 
   pub group_stays : out.rebase ≡ false → KeepsAtLeast store s.fits.shown.keeps.entries (plain s.fits.shown.keeps.loose ++ plain out.entries)
-      → Holds store s.fits.shown.keeps.entries (plain s.fits.shown.keeps.loose ++ plain out.entries) → GroupStays m h n new store (waits_after waits out)
+      → Holds store s.fits.shown.keeps.entries (plain s.fits.shown.keeps.loose ++ plain out.entries) → GroupStays m h n new store (needs_sync_after needs_sync out)
   group_stays is keeps added =
-      let v = serves m h n node new (as_sent waits old) old i out pretended heard g in
+      let v = serves m h n node new (as_sent needs_sync old) old i out pretended heard g in
       record {
         fits = record {
           lawful = s.fits.lawful;
           holding = v.holding;
           shown = record {
             whose = v.whose;
-            keeps = gathered_more m h n node new old store waits i out s.fits heard g on is added;
-            known = known_now m h n node new old store waits i out s.fits heard g on is added v.holding.view v.known v.news;
+            keeps = gathered_more m h n node new old store needs_sync i out s.fits heard g on is added;
+            known = known_now m h n node new old store needs_sync i out s.fits heard g on is added v.holding.view v.known v.news;
             held = v.held;
-            tells = tells_now m h n node new old store waits i out s.fits heard g on is added;
-            near = near_after m h n node new old store waits i out s.fits heard g on is added;
+            tells = tells_now m h n node new old store needs_sync i out s.fits heard g on is added;
+            near = near_after m h n node new old store needs_sync i out s.fits heard g on is added;
           };
           fits = v.fits;
-          left = leaves_as_sent m h n node new old store waits i out s.fits heard g on is added;
+          left = leaves_as_sent m h n node new old store needs_sync i out s.fits heard g on is added;
         };
         rests = rests_too;
         near = near_too;
@@ -346,40 +346,40 @@ module _ (m : Meaning) (h : History) (n : ℕ) (node new : NodeValue) (old store
 -- ---- sync before send, whatever has happened
 
 -- as it will be, it remembers
-abbrev pub recalled : (node : NodeValue) (s : StoreValue) (waits : Bool) (genesis : Genesis) (n : ℕ) → Recalls node s waits genesis n → Remembers node (as_sent waits s) genesis n
-recalled node s waits genesis n r = record { whose = r.whose; keeps = group_keeps (header_of genesis n) s waits node.acceptor.state r.keeps }
+abbrev pub recalled : (node : NodeValue) (s : StoreValue) (needs_sync : Bool) (genesis : Genesis) (n : ℕ) → Recalls node s needs_sync genesis n → Remembers node (as_sent needs_sync s) genesis n
+recalled node s needs_sync genesis n r = record { whose = r.whose; keeps = group_keeps (header_of genesis n) s needs_sync node.acceptor.state r.keeps }
 
-module _ (m : Meaning) (genesis : Genesis) (n : ℕ) (node new : NodeValue) (old store : StoreValue) (waits : Bool) (Heard : History → Type 0) (out : OutboxValue)
-    (r : Recalls node old waits genesis n) (g : GoesOn m Heard node new nothing out) (is : out.rebase ≡ false) (added : Holds store r.keeps.entries (plain r.keeps.loose ++ plain out.entries)) where
-  pub gather_recalls : Recalls new store (waits_after waits out) genesis n
+module _ (m : Meaning) (genesis : Genesis) (n : ℕ) (node new : NodeValue) (old store : StoreValue) (needs_sync : Bool) (Heard : History → Type 0) (out : OutboxValue)
+    (r : Recalls node old needs_sync genesis n) (g : GoesOn m Heard node new nothing out) (is : out.rebase ≡ false) (added : Holds store r.keeps.entries (plain r.keeps.loose ++ plain out.entries)) where
+  pub gather_recalls : Recalls new store (needs_sync_after needs_sync out) genesis n
   gather_recalls =
       let b = bound m Heard node new out g in
       record {
         whose = b.header ∙ r.whose;
-        keeps = gathers_more (header_of genesis n) old store node.acceptor.state new.acceptor.state out is b.written b.unsynced waits (waits_after waits out) refl r.keeps added;
+        keeps = gathers_more (header_of genesis n) old store node.acceptor.state new.acceptor.state out is b.written b.unsynced needs_sync (needs_sync_after needs_sync out) refl r.keeps added;
       }
 
   -- once all is synced that waits for it, whatever the step says is covered
-  pub gather_syncs : (x : NodeMessage) (d : Datagram) → Contains (batch_of n out.letters) d → Spells (said_by genesis n x) d.bytes → AllCover m genesis n (disks (as_sent (waits_after waits out) store)) x
+  pub gather_syncs : (x : NodeMessage) (d : Datagram) → Contains (batch_of n out.letters) d → Spells (said_by genesis n x) d.bytes → AllCover m genesis n (disks (as_sent (needs_sync_after needs_sync out) store)) x
   gather_syncs x d c said =
-      step_syncs m genesis n node new (as_sent waits old) (as_sent (waits_after waits out) store) Heard out (recalled node old waits genesis n r) g
-      (group_keeps (header_of genesis n) store (waits_after waits out) new.acceptor.state gather_recalls.keeps) x d c said
+      step_syncs m genesis n node new (as_sent needs_sync old) (as_sent (needs_sync_after needs_sync out) store) Heard out (recalled node old needs_sync genesis n r) g
+      (group_keeps (header_of genesis n) store (needs_sync_after needs_sync out) new.acceptor.state gather_recalls.keeps) x d c said
 
   -- and whatever was
-  pub gather_covers : (x : NodeMessage) → AllCover m genesis n (disks (as_sent waits old)) x → AllCover m genesis n (disks (as_sent (waits_after waits out) store)) x
+  pub gather_covers : (x : NodeMessage) → AllCover m genesis n (disks (as_sent needs_sync old)) x → AllCover m genesis n (disks (as_sent (needs_sync_after needs_sync out) store)) x
   gather_covers x c =
       let b = bound m Heard node new out g in
-      step_covers m genesis n node new (as_sent waits old) (as_sent (waits_after waits out) store) Heard out (recalled node old waits genesis n r) g
-      (keeps_more (header_of genesis n) old store node.acceptor.state new.acceptor.state out is b.written b.unsynced waits (waits_after waits out) refl r.keeps added) x c
+      step_covers m genesis n node new (as_sent needs_sync old) (as_sent (needs_sync_after needs_sync out) store) Heard out (recalled node old needs_sync genesis n r) g
+      (keeps_more (header_of genesis n) old store node.acceptor.state new.acceptor.state out is b.written b.unsynced needs_sync (needs_sync_after needs_sync out) refl r.keeps added) x c
 
 -- of the files as they are
-pub gather_still_covers : (m : Meaning) (genesis : Genesis) (n : ℕ) (node : NodeValue) (old store : StoreValue) (waits : Bool) (es : List Entry) (r : Recalls node old waits genesis n)
+pub gather_still_covers : (m : Meaning) (genesis : Genesis) (n : ℕ) (node : NodeValue) (old store : StoreValue) (needs_sync : Bool) (es : List Entry) (r : Recalls node old needs_sync genesis n)
     → KeepsAtLeast store r.keeps.entries (plain r.keeps.loose ++ plain es) → (x : NodeMessage) → AllCover m genesis n (disks old) x → AllCover m genesis n (disks store) x
-gather_still_covers m genesis n node old store waits es r keeps x c = put_covers m genesis n old store r.keeps.entries r.keeps.loose es x r.keeps.holds keeps c
+gather_still_covers m genesis n node old store needs_sync es r keeps x c = put_covers m genesis n old store r.keeps.entries r.keeps.loose es x r.keeps.holds keeps c
 
 -- ---- the sync
 
-pub settled_keeps : (whose : HeaderValue) (old new : StoreValue) (waits : Bool) (a : AcceptorState) → Settles waits old new → Gathers whose old waits a → Keeps whose new a
+pub settled_keeps : (whose : HeaderValue) (old new : StoreValue) (needs_sync : Bool) (a : AcceptorState) → Settles needs_sync old new → Gathers whose old needs_sync a → Keeps whose new a
 settled_keeps whose old new false a same k = subst (λ (s : StoreValue). Keeps whose s a) (sym same) (group_keeps whose old false a k)
 settled_keeps whose old new true a synced k = record {
   entries = k.entries ++ plain k.loose;
@@ -393,7 +393,7 @@ settled_keeps whose old new true a synced k = record {
 }
 
 -- the group is over: the node fits, in the history in which all that the group said is sent
-pub settled_fits : (m : Meaning) (h : History) (n : ℕ) (node : NodeValue) (old new : StoreValue) (waits : Bool) → Settles waits old new → GroupFits m h n node old waits → NodeFits m h n (Stands m node new h.genesis n) (disks new)
+pub settled_fits : (m : Meaning) (h : History) (n : ℕ) (node : NodeValue) (old new : StoreValue) (needs_sync : Bool) → Settles needs_sync old new → GroupFits m h n node old needs_sync → NodeFits m h n (Stands m node new h.genesis n) (disks new)
 settled_fits m h n node old new false same f =
     subst (λ (s : StoreValue). NodeFits m h n (Stands m node s h.genesis n) (disks s)) (sym same) (group_fits m h n node old false f)
 settled_fits m h n node old new true synced f =
@@ -424,8 +424,8 @@ settled_fits m h n node old new true synced f =
     }
 
 -- and whatever was covered as it would be is covered
-pub settled_covers : (m : Meaning) (genesis : Genesis) (n : ℕ) (node : NodeValue) (old new : StoreValue) (waits : Bool) → Settles waits old new → Recalls node old waits genesis n
-    → (x : NodeMessage) → AllCover m genesis n (disks (as_sent waits old)) x → AllCover m genesis n (disks new) x
+pub settled_covers : (m : Meaning) (genesis : Genesis) (n : ℕ) (node : NodeValue) (old new : StoreValue) (needs_sync : Bool) → Settles needs_sync old new → Recalls node old needs_sync genesis n
+    → (x : NodeMessage) → AllCover m genesis n (disks (as_sent needs_sync old)) x → AllCover m genesis n (disks new) x
 settled_covers m genesis n node old new false same r x c = subst (λ (s : StoreValue). AllCover m genesis n (disks s) x) (sym same) c
 settled_covers m genesis n node old new true synced r x c =
     let k = r.keeps in
@@ -434,24 +434,24 @@ settled_covers m genesis n node old new true synced r x c =
     (of_every (EntriesCover genesis n x) (as_synced old) all [] (header_of genesis n) (text m genesis []) (as_synced_holds old k.entries (plain k.loose) k.holds) (cover_entries m genesis n (disks (as_synced old)) x c))
 
 -- whatever a stop may leave fits, and covers what was covered, after any exit of it
-pub settle_leaves : (m : Meaning) (h : History) (n : ℕ) (node : NodeValue) (old new : StoreValue) (waits : Bool) → (s : GroupStays m h n node old waits)
+pub settle_leaves : (m : Meaning) (h : History) (n : ℕ) (node : NodeValue) (old new : StoreValue) (needs_sync : Bool) → (s : GroupStays m h n node old needs_sync)
     → KeepsAtLeast new s.fits.shown.keeps.entries (plain s.fits.shown.keeps.loose) → DisksFit m h n (disks new)
-settle_leaves m h n node old new waits s keeps =
+settle_leaves m h n node old new needs_sync s keeps =
     let k = s.fits.shown.keeps in
     put_fits m h n old new k.entries k.standing k.loose [] k.holds k.stands (subst (KeepsAtLeast new k.entries) (sym (append-nil (plain k.loose))) keeps)
     (subst (AllByRecursion (Rests h)) (sym (append-nil k.loose)) s.rests) (subst (EntriesLieNear h.genesis.alpha k.standing) (sym (append-nil k.loose)) s.near) s.left
 
-pub settle_covers : (m : Meaning) (genesis : Genesis) (n : ℕ) (node : NodeValue) (old new : StoreValue) (waits : Bool) (r : Recalls node old waits genesis n)
+pub settle_covers : (m : Meaning) (genesis : Genesis) (n : ℕ) (node : NodeValue) (old new : StoreValue) (needs_sync : Bool) (r : Recalls node old needs_sync genesis n)
     → KeepsAtLeast new r.keeps.entries (plain r.keeps.loose) → (x : NodeMessage) → AllCover m genesis n (disks old) x → AllCover m genesis n (disks new) x
-settle_covers m genesis n node old new waits r keeps x c =
+settle_covers m genesis n node old new needs_sync r keeps x c =
     put_covers m genesis n old new r.keeps.entries r.keeps.loose [] x r.keeps.holds (subst (KeepsAtLeast new r.keeps.entries) (sym (append-nil (plain r.keeps.loose))) keeps) c
 
 -- ---- a step that rebases, after a sync where something waited for it
 
-rebased_waits : (waits : Bool) (out : OutboxValue) → out.rebase ≡ true → waits_after waits out ≡ false
-rebased_waits waits out is = by_rebase out.rebase is
+rebased_waits : (needs_sync : Bool) (out : OutboxValue) → out.rebase ≡ true → needs_sync_after needs_sync out ≡ false
+rebased_waits needs_sync out is = by_rebase out.rebase is
   where
-    by_rebase : (r : Bool) → r ≡ true → (if r then false else (waits || out.sync)) ≡ false
+    by_rebase : (r : Bool) → r ≡ true → (if r then false else (needs_sync || out.sync)) ≡ false
     by_rebase true is = refl
     by_rebase false is = absurd (cc is)
 
@@ -475,37 +475,37 @@ begin_goes m h n node s notes batch g = record {
 pub begun : (node : NodeValue) (s : StoreValue) (genesis : Genesis) (n : ℕ) → Remembers node s genesis n → Recalls node s false genesis n
 begun node s genesis n r = record { whose = r.whose; keeps = group_begins (header_of genesis n) s node.acceptor.state r.keeps }
 
-pub begin_recalls : (node : NodeValue) (s : StoreValue) (genesis : Genesis) (n : ℕ) (waits : Bool) (out : OutboxValue) → out.rebase ≡ true → Remembers node s genesis n → Recalls node s (waits_after waits out) genesis n
-begin_recalls node s genesis n waits out is r =
-    subst (λ (w : Bool). Recalls node s w genesis n) (sym (rebased_waits waits out is)) (begun node s genesis n r)
+pub begin_recalls : (node : NodeValue) (s : StoreValue) (genesis : Genesis) (n : ℕ) (needs_sync : Bool) (out : OutboxValue) → out.rebase ≡ true → Remembers node s genesis n → Recalls node s (needs_sync_after needs_sync out) genesis n
+begin_recalls node s genesis n needs_sync out is r =
+    subst (λ (w : Bool). Recalls node s w genesis n) (sym (rebased_waits needs_sync out is)) (begun node s genesis n r)
 
 -- what is on its files it has synced
-pub based_cover : (m : Meaning) (genesis : Genesis) (n : ℕ) (s : StoreValue) (waits : Bool) (out : OutboxValue) (x : NodeMessage) → out.rebase ≡ true → AllCover m genesis n (disks s) x → AllCover m genesis n (disks (as_sent (waits_after waits out) s)) x
-based_cover m genesis n s waits out x is c = subst (λ (w : Bool). AllCover m genesis n (disks (as_sent w s)) x) (sym (rebased_waits waits out is)) c
+pub based_cover : (m : Meaning) (genesis : Genesis) (n : ℕ) (s : StoreValue) (needs_sync : Bool) (out : OutboxValue) (x : NodeMessage) → out.rebase ≡ true → AllCover m genesis n (disks s) x → AllCover m genesis n (disks (as_sent (needs_sync_after needs_sync out) s)) x
+based_cover m genesis n s needs_sync out x is c = subst (λ (w : Bool). AllCover m genesis n (disks (as_sent w s)) x) (sym (rebased_waits needs_sync out is)) c
 
-module _ (m : Meaning) (h : History) (n : ℕ) (node stepped : NodeValue) (mid new : StoreValue) (waits : Bool) (i : Input) (out : OutboxValue)
+module _ (m : Meaning) (h : History) (n : ℕ) (node stepped : NodeValue) (mid new : StoreValue) (needs_sync : Bool) (i : Input) (out : OutboxValue)
     (f : NodeFits m h n (Stands m node mid h.genesis n) (disks mid)) (heard : InputFits h i) (g : GoesOn m (λ k. InputFits k i) node stepped nothing out) (is : out.rebase ≡ true)
     (may : MayBegin (standing_of stepped)) (close : HoldsNear stepped) (holds : Holds new (Base (next_base mid (standing_of stepped)) ∷ []) []) where
-  pub based_goes : (sent : List LetterValue) → AreOf sent out.letters → GroupGoes m h n (standing_here stepped) new (waits_after waits out) out.notes (batch_of n sent)
+  pub based_goes : (sent : List LetterValue) → AreOf sent out.letters → GroupGoes m h n (with_snapshot stepped) new (needs_sync_after needs_sync out) out.notes (batch_of n sent)
   based_goes sent among =
-      subst (λ (w : Bool). GroupGoes m h n (standing_here stepped) new w out.notes (batch_of n sent)) (sym (rebased_waits waits out is))
-      (begin_goes m h n (standing_here stepped) new out.notes (batch_of n sent) (installed_goes m h n node stepped mid i out f heard g is new may close holds sent among))
+      subst (λ (w : Bool). GroupGoes m h n (with_snapshot stepped) new w out.notes (batch_of n sent)) (sym (rebased_waits needs_sync out is))
+      (begin_goes m h n (with_snapshot stepped) new out.notes (batch_of n sent) (installed_goes m h n node stepped mid i out f heard g is new may close holds sent among))
 
-  pub based_stays : DisksFit m h n (disks new) → GroupStays m h n (standing_here stepped) new (waits_after waits out)
+  pub based_stays : DisksFit m h n (disks new) → GroupStays m h n (with_snapshot stepped) new (needs_sync_after needs_sync out)
   based_stays left =
       let q = installed_goes m h n node stepped mid i out f heard g is new may close holds [] (λ l c. absurd (omega (arith, c.1))) in
-      subst (λ (w : Bool). GroupStays m h n (standing_here stepped) new w) (sym (rebased_waits waits out is))
-      (begin_fits m h n (standing_here stepped) new (record { lawful = f.lawful; holding = q.holding; shown = q.shown; fits = q.fits; left = left }))
+      subst (λ (w : Bool). GroupStays m h n (with_snapshot stepped) new w) (sym (rebased_waits needs_sync out is))
+      (begin_fits m h n (with_snapshot stepped) new (record { lawful = f.lawful; holding = q.holding; shown = q.shown; fits = q.fits; left = left }))
 
 -- ---- a store that was asked how long its live file is
 
 module _ (m : Meaning) (old new : StoreValue) (same : IsSameStore old new) where
-  pub same_as_sent : (waits : Bool) → disks (as_sent waits new) ≡ disks (as_sent waits old)
+  pub same_as_sent : (needs_sync : Bool) → disks (as_sent needs_sync new) ≡ disks (as_sent needs_sync old)
   same_as_sent true = λ i. pick (same.live i) (flushed (same.live_disk i)) (same.other_disk i)
   same_as_sent false = λ i. pick (same.live i) (same.live_disk i) (same.other_disk i)
 
-  abbrev same_gathers : (whose : HeaderValue) (waits : Bool) (a : AcceptorState) → Gathers whose old waits a → Gathers whose new waits a
-  same_gathers whose waits a k = record {
+  abbrev same_gathers : (whose : HeaderValue) (needs_sync : Bool) (a : AcceptorState) → Gathers whose old needs_sync a → Gathers whose new needs_sync a
+  same_gathers whose needs_sync a k = record {
     entries = k.entries;
     loose = k.loose;
     holds = same_holds m old new same k.entries (plain k.loose) k.holds;
@@ -516,30 +516,30 @@ module _ (m : Meaning) (old new : StoreValue) (same : IsSameStore old new) where
     remembers = k.remembers;
   }
 
-  pub same_recalls : (node : NodeValue) (waits : Bool) (genesis : Genesis) (n : ℕ) → Recalls node old waits genesis n → Recalls node new waits genesis n
-  same_recalls node waits genesis n r = record { whose = r.whose; keeps = same_gathers (header_of genesis n) waits node.acceptor.state r.keeps }
+  pub same_recalls : (node : NodeValue) (needs_sync : Bool) (genesis : Genesis) (n : ℕ) → Recalls node old needs_sync genesis n → Recalls node new needs_sync genesis n
+  same_recalls node needs_sync genesis n r = record { whose = r.whose; keeps = same_gathers (header_of genesis n) needs_sync node.acceptor.state r.keeps }
 
-  abbrev pub same_group_fits : (h : History) (n : ℕ) (node : NodeValue) (waits : Bool) → GroupFits m h n node old waits → GroupFits m h n node new waits
-  same_group_fits h n node waits f = record {
+  abbrev pub same_group_fits : (h : History) (n : ℕ) (node : NodeValue) (needs_sync : Bool) → GroupFits m h n node old needs_sync → GroupFits m h n node new needs_sync
+  same_group_fits h n node needs_sync f = record {
     lawful = f.lawful;
     holding = f.holding;
     shown = record {
       whose = f.shown.whose;
-      keeps = same_gathers (header_of h.genesis n) waits node.acceptor.state f.shown.keeps;
+      keeps = same_gathers (header_of h.genesis n) needs_sync node.acceptor.state f.shown.keeps;
       known = f.shown.known;
       held = f.shown.held;
       tells = f.shown.tells;
       near = f.shown.near;
     };
     fits = f.fits;
-    left = subst (DisksFit m h n) (sym (same_as_sent waits)) f.left;
+    left = subst (DisksFit m h n) (sym (same_as_sent needs_sync)) f.left;
   }
 
-  pub same_group_stays : (h : History) (n : ℕ) (node : NodeValue) (waits : Bool) → GroupStays m h n node old waits → GroupStays m h n node new waits
-  same_group_stays h n node waits s = record { fits = same_group_fits h n node waits s.fits; rests = s.rests; near = s.near; left = subst (DisksFit m h n) (sym (same_as_sent false)) s.left }
+  pub same_group_stays : (h : History) (n : ℕ) (node : NodeValue) (needs_sync : Bool) → GroupStays m h n node old needs_sync → GroupStays m h n node new needs_sync
+  same_group_stays h n node needs_sync s = record { fits = same_group_fits h n node needs_sync s.fits; rests = s.rests; near = s.near; left = subst (DisksFit m h n) (sym (same_as_sent false)) s.left }
 
-  pub same_group_covers : (genesis : Genesis) (n : ℕ) (x : NodeMessage) (waits : Bool) → AllCover m genesis n (disks (as_sent waits old)) x → AllCover m genesis n (disks (as_sent waits new)) x
-  same_group_covers genesis n x waits = subst (λ d. AllCover m genesis n d x) (sym (same_as_sent waits))
+  pub same_group_covers : (genesis : Genesis) (n : ℕ) (x : NodeMessage) (needs_sync : Bool) → AllCover m genesis n (disks (as_sent needs_sync old)) x → AllCover m genesis n (disks (as_sent needs_sync new)) x
+  same_group_covers genesis n x needs_sync = subst (λ d. AllCover m genesis n d x) (sym (same_as_sent needs_sync))
 
 -- ---- a group, in the words of single calls
 
@@ -562,8 +562,8 @@ one_told s ks fs loose more t u h stands k others =
     ap (λ (l : List Entry). with_all l t) none ∙ one_standing (fs ++ plain more) t (with_all more u) (subst (λ (es : List Stored). StandsFor es t) same stands) (all_stand fs u more others)
 
 -- what fits as it will be fits as it is
-pub as_gathered : (m : Meaning) (genesis : Genesis) (k : ℕ) (node : NodeValue) (s : StoreValue) (waits : Bool) → Recalls node s waits genesis k → (h : History) (n : ℕ)
-    → NodeFits m h n (Stands m node (as_sent waits s) h.genesis n) (disks (as_sent waits s)) → GroupFits m h n node s waits
+pub as_gathered : (m : Meaning) (genesis : Genesis) (k : ℕ) (node : NodeValue) (s : StoreValue) (needs_sync : Bool) → Recalls node s needs_sync genesis k → (h : History) (n : ℕ)
+    → NodeFits m h n (Stands m node (as_sent needs_sync s) h.genesis n) (disks (as_sent needs_sync s)) → GroupFits m h n node s needs_sync
 as_gathered m genesis k node s false r h n f = (begin_fits m h n node s f).fits
 as_gathered m genesis k node s true r h n f =
     let was = r.keeps in
@@ -593,11 +593,11 @@ as_gathered m genesis k node s true r h n f =
       left = f.left;
     }
 
-pub goes_as_sent : (m : Meaning) (h : History) (n : ℕ) (node : NodeValue) (s : StoreValue) (waits : Bool) (notes : List Note) (batch : List Datagram) → GroupGoes m h n node s waits notes batch
-    → Goes m h n (Stands m node (as_sent waits s) h.genesis n) (disks (as_sent waits s)) notes batch
-goes_as_sent m h n node s waits notes batch g = record {
+pub goes_as_sent : (m : Meaning) (h : History) (n : ℕ) (node : NodeValue) (s : StoreValue) (needs_sync : Bool) (notes : List Note) (batch : List Datagram) → GroupGoes m h n node s needs_sync notes batch
+    → Goes m h n (Stands m node (as_sent needs_sync s) h.genesis n) (disks (as_sent needs_sync s)) notes batch
+goes_as_sent m h n node s needs_sync notes batch g = record {
   holding = g.holding;
-  shown = group_stands m node s waits h.genesis n g.holding g.shown;
+  shown = group_stands m node s needs_sync h.genesis n g.holding g.shown;
   fits = g.fits;
   may = g.may;
   noted = g.noted;
@@ -606,8 +606,8 @@ goes_as_sent m h n node s waits notes batch g = record {
 
 -- one more step: what it says is covered, and what was said before
 pub says_more : (m : Meaning) (genesis : Genesis) (n : ℕ) (old new : GroupValue) (before after : StoreValue)
-    → ((x : NodeMessage) → AllCover m genesis n (disks (as_sent old.waits before)) x → AllCover m genesis n (disks (as_sent new.waits after)) x)
-    → ((x : NodeMessage) → Adds old new (λ notes letters. (d : Datagram) → Contains (batch_of n letters) d → Spells (said_by genesis n x) d.bytes → AllCover m genesis n (disks (as_sent new.waits after)) x))
+    → ((x : NodeMessage) → AllCover m genesis n (disks (as_sent old.needs_sync before)) x → AllCover m genesis n (disks (as_sent new.needs_sync after)) x)
+    → ((x : NodeMessage) → Adds old new (λ notes letters. (d : Datagram) → Contains (batch_of n letters) d → Spells (said_by genesis n x) d.bytes → AllCover m genesis n (disks (as_sent new.needs_sync after)) x))
     → IsCovered m genesis n old before → IsCovered m genesis n new after
 says_more m genesis n old new first last still adds was x d c said =
     let a = adds x in
@@ -624,57 +624,57 @@ says_more m genesis n old new first last still adds was x d c said =
 -- ---- the end of a group
 
 -- what a sync leaves on the disks, after any exit
-pub ended_in_group : (m : Meaning) (old : ReplicaValue) (waits : Bool) (after : StoreValue) → ((ks ls : List Stored) → Holds old.store ks ls → KeepsAtLeast after ks ls) → StaysWithin 0 (disks old.store) (disks after)
-    → LeavesInGroup m (λ h. ⊤) 0 old.node old.store waits (disks after)
-ended_in_group m old waits after any room = record {
-  ends = λ h n s heard. let k = s.fits.shown.keeps in settle_leaves m h n old.node old.store after waits s (any k.entries (plain k.loose) k.holds);
-  covers = λ genesis n x r every. settle_covers m genesis n old.node old.store after waits r (any r.keeps.entries (plain r.keeps.loose) r.keeps.holds) x every;
+pub ended_in_group : (m : Meaning) (old : ReplicaValue) (needs_sync : Bool) (after : StoreValue) → ((ks ls : List Stored) → Holds old.store ks ls → KeepsAtLeast after ks ls) → StaysWithin 0 (disks old.store) (disks after)
+    → LeavesInGroup m (λ h. ⊤) 0 old.node old.store needs_sync (disks after)
+ended_in_group m old needs_sync after any room = record {
+  ends = λ h n s heard. let k = s.fits.shown.keeps in settle_leaves m h n old.node old.store after needs_sync s (any k.entries (plain k.loose) k.holds);
+  covers = λ genesis n x r every. settle_covers m genesis n old.node old.store after needs_sync r (any r.keeps.entries (plain r.keeps.loose) r.keeps.holds) x every;
   room = room;
 }
 
 -- the node fits to each history to which it fitted as it would be
-pub settled_node_fits : (m : Meaning) (Metered : Type 0) (old : ReplicaValue) (waits : Bool) (new : ReplicaValue) → IsSettled Metered old waits new → (genesis : Genesis) (k : ℕ) → Recalls old.node old.store waits genesis k → (h : History) (n : ℕ)
-    → NodeFits m h n (Stands m old.node (as_sent waits old.store) h.genesis n) (disks (as_sent waits old.store)) → NodeFits m h n (Stands m new.node new.store h.genesis n) (disks new.store)
-settled_node_fits m Metered old waits new s genesis k r h n f =
+pub settled_node_fits : (m : Meaning) (Metered : Type 0) (old : ReplicaValue) (needs_sync : Bool) (new : ReplicaValue) → IsSettled Metered old needs_sync new → (genesis : Genesis) (k : ℕ) → Recalls old.node old.store needs_sync genesis k → (h : History) (n : ℕ)
+    → NodeFits m h n (Stands m old.node (as_sent needs_sync old.store) h.genesis n) (disks (as_sent needs_sync old.store)) → NodeFits m h n (Stands m new.node new.store h.genesis n) (disks new.store)
+settled_node_fits m Metered old needs_sync new s genesis k r h n f =
     subst (λ (x : NodeValue). NodeFits m h n (Stands m x new.store h.genesis n) (disks new.store)) (sym s.node)
-    (settled_fits m h n old.node old.store new.store waits s.settles (as_gathered m genesis k old.node old.store waits r h n f))
+    (settled_fits m h n old.node old.store new.store needs_sync s.settles (as_gathered m genesis k old.node old.store needs_sync r h n f))
 
 -- ---- which calls were made
 
-pub settled_still : (old new : StoreValue) (waits : Bool) → waits ≡ false → new ≡ old → Settles waits old new
+pub settled_still : (old new : StoreValue) (needs_sync : Bool) → needs_sync ≡ false → new ≡ old → Settles needs_sync old new
 settled_still old new false is same = same
 settled_still old new true is same = absurd (cc is)
 
-pub settled_none : (m n : Meter) (waits : Bool) → waits ≡ false → Passes m n 0 → Passes m n (settle_calls waits)
+pub settled_none : (m n : Meter) (needs_sync : Bool) → needs_sync ≡ false → Passes m n 0 → Passes m n (settle_calls needs_sync)
 settled_none m n false is none = none
 settled_none m n true is none = absurd (cc is)
 
-pub settled_once : (m n : Meter) (waits : Bool) → waits ≡ true → Passes m n 1 → Passes m n (settle_calls waits)
+pub settled_once : (m n : Meter) (needs_sync : Bool) → needs_sync ≡ true → Passes m n 1 → Passes m n (settle_calls needs_sync)
 settled_once m n true is calls = calls
 settled_once m n false is calls = absurd (cc is)
 
-pub gathered_put : (m n : Meter) (waits : Bool) (o : OutboxValue) (entries : List Entry) → entries ≡ o.entries → o.rebase ≡ false → Passes m n (put_calls entries false) → Passes m n (gather_calls waits o)
-gathered_put m n waits o entries these not_so calls =
-    subst (λ (b : Bool). Passes m n (if b then settle_calls waits + rebase_calls else put_calls o.entries false)) (sym not_so) (subst (λ (es : List Entry). Passes m n (put_calls es false)) these calls)
+pub gathered_put : (m n : Meter) (needs_sync : Bool) (o : OutboxValue) (entries : List Entry) → entries ≡ o.entries → o.rebase ≡ false → Passes m n (put_calls entries false) → Passes m n (gather_calls needs_sync o)
+gathered_put m n needs_sync o entries these not_so calls =
+    subst (λ (b : Bool). Passes m n (if b then settle_calls needs_sync + rebase_calls else put_calls o.entries false)) (sym not_so) (subst (λ (es : List Entry). Passes m n (put_calls es false)) these calls)
 
-pub gathered_base : (l m n : Meter) (waits : Bool) (o : OutboxValue) → o.rebase ≡ true → Passes l m (settle_calls waits) → Passes m n rebase_calls → Passes l n (gather_calls waits o)
-gathered_base l m n waits o so first then_calls =
-    subst (λ (b : Bool). Passes l n (if b then settle_calls waits + rebase_calls else put_calls o.entries false)) (sym so) (passes_on (settle_calls waits) first rebase_calls then_calls)
+pub gathered_base : (l m n : Meter) (needs_sync : Bool) (o : OutboxValue) → o.rebase ≡ true → Passes l m (settle_calls needs_sync) → Passes m n rebase_calls → Passes l n (gather_calls needs_sync o)
+gathered_base l m n needs_sync o so first then_calls =
+    subst (λ (b : Bool). Passes l n (if b then settle_calls needs_sync + rebase_calls else put_calls o.entries false)) (sym so) (passes_on (settle_calls needs_sync) first rebase_calls then_calls)
 
 -- ---- a Base that is written after a sync
 
-pub settled_writes : (old mid after : StoreValue) (waits : Bool) (t : StandingValue) → Settles waits old mid → KeepsItsFile old mid → ((ks ls : List Stored) → Holds mid ks ls → Holds after (Base (next_base mid t) ∷ []) [])
+pub settled_writes : (old mid after : StoreValue) (needs_sync : Bool) (t : StandingValue) → Settles needs_sync old mid → KeepsItsFile old mid → ((ks ls : List Stored) → Holds mid ks ls → Holds after (Base (next_base mid t) ∷ []) [])
     → (ks ls : List Stored) → Holds old ks ls → Holds after (Base (next_base old t) ∷ []) []
-settled_writes old mid after waits t settles same writes ks ls h =
+settled_writes old mid after needs_sync t settles same writes ks ls h =
     let b : next_base mid t ≡ next_base old t = λ i. record { generation = same.1 i + 1; format = 2; header = same.3 i; standing = t } in
-    subst (λ (x : BaseValue). Holds after (Base x ∷ []) []) b (by_waits waits settles)
+    subst (λ (x : BaseValue). Holds after (Base x ∷ []) []) b (by_waits needs_sync settles)
   where
     by_waits : (w : Bool) → Settles w old mid → Holds after (Base (next_base mid t) ∷ []) []
     by_waits true synced = writes (ks ++ ls) [] (synced ks ls h)
     by_waits false is = writes ks ls (subst (λ (s : StoreValue). Holds s ks ls) (sym is) h)
 
-pub settled_rebases : (node new : NodeValue) (old mid after : StoreValue) (waits : Bool) → Settles waits old mid → KeepsItsFile old mid → Rebases node mid new after → Rebases node old new after
-settled_rebases node new old mid after waits settles same r = record { becomes = r.becomes; generation = omega (arith, r.generation, same.1); writes = settled_writes old mid after waits (standing_of node) settles same r.writes }
+pub settled_rebases : (node new : NodeValue) (old mid after : StoreValue) (needs_sync : Bool) → Settles needs_sync old mid → KeepsItsFile old mid → Rebases node mid new after → Rebases node old new after
+settled_rebases node new old mid after needs_sync settles same r = record { becomes = r.becomes; generation = omega (arith, r.generation, same.1); writes = settled_writes old mid after needs_sync (standing_of node) settles same r.writes }
 
 -- that of a store that was asked how long its live file is
 pub same_rebases : (m : Meaning) (node new : NodeValue) (old mid after : StoreValue) → IsSameStore old mid → Rebases node mid new after → Rebases node old new after
@@ -689,8 +689,8 @@ same_rebases m node new old mid after same r = record {
 -- ---- the room for a step
 
 -- none had to be made
-pub no_room_made : (Metered : Type 0) (node : NodeValue) (old new : StoreValue) (waits : Bool) → (IsDue node old → ⊥) → IsSameStore old new → (Metered → Passes old.meter new.meter 0) → MakesRoom Metered node old waits node new waits
-no_room_made Metered node old new waits none same calls = record {
+pub no_room_made : (Metered : Type 0) (node : NodeValue) (old new : StoreValue) (needs_sync : Bool) → (IsDue node old → ⊥) → IsSameStore old new → (Metered → Passes old.meter new.meter 0) → MakesRoom Metered node old needs_sync node new needs_sync
+no_room_made Metered node old new needs_sync none same calls = record {
   rebases = record { due = λ is. absurd (none is); rests = λ other. (refl, same) };
   synced = λ is. absurd (none is);
   rests = λ other. refl;
@@ -698,18 +698,18 @@ no_room_made Metered node old new waits none same calls = record {
 }
 
 -- it was made by a rebase
-pub room_made : (m : Meaning) (Metered : Type 0) (node new : NodeValue) (old asked mid after : StoreValue) (waits : Bool) → IsDue node old → IsSameStore old asked → Settles waits asked mid → KeepsItsFile asked mid → Rebases node mid new after
-    → (Metered → Passes old.meter asked.meter 0) → (Metered → Passes asked.meter mid.meter (settle_calls waits)) → (Metered → Passes mid.meter after.meter rebase_calls) → MakesRoom Metered node old waits new after false
-room_made m Metered node new old asked mid after waits due same settles file rebases first then_calls last = record {
+pub room_made : (m : Meaning) (Metered : Type 0) (node new : NodeValue) (old asked mid after : StoreValue) (needs_sync : Bool) → IsDue node old → IsSameStore old asked → Settles needs_sync asked mid → KeepsItsFile asked mid → Rebases node mid new after
+    → (Metered → Passes old.meter asked.meter 0) → (Metered → Passes asked.meter mid.meter (settle_calls needs_sync)) → (Metered → Passes mid.meter after.meter rebase_calls) → MakesRoom Metered node old needs_sync new after false
+room_made m Metered node new old asked mid after needs_sync due same settles file rebases first then_calls last = record {
   rebases = record {
-    due = λ is. same_rebases m node new old asked after same (settled_rebases node new asked mid after waits settles file rebases);
+    due = λ is. same_rebases m node new old asked after same (settled_rebases node new asked mid after needs_sync settles file rebases);
     rests = λ other. absurd (other due);
   };
   synced = λ is. refl;
   rests = λ other. absurd (other due);
   calls = λ metered.
-      let k : ℕ = settle_calls waits + rebase_calls in
-      let all = passes_on 0 (first metered) k (passes_on (settle_calls waits) (then_calls metered) rebase_calls (last metered)) in
+      let k : ℕ = settle_calls needs_sync + rebase_calls in
+      let all = passes_on 0 (first metered) k (passes_on (settle_calls needs_sync) (then_calls metered) rebase_calls (last metered)) in
       let none : 0 + k ≡ k = omega arith in
       (k, record { due = λ is. refl; rests = λ other. absurd (other due) }, subst (λ (j : ℕ). Passes old.meter after.meter j) none all);
 }
@@ -742,7 +742,7 @@ of_store_too number by = elim by [ inl device ↦ inl device | inr failed ↦ in
 
 -- ---- room
 
-as_long : (waits : Bool) (s : StoreValue) (side : Side) → length (contents (disks (as_sent waits s) side)) ≡ length (contents (disks s side))
+as_long : (needs_sync : Bool) (s : StoreValue) (side : Side) → length (contents (disks (as_sent needs_sync s) side)) ≡ length (contents (disks s side))
 as_long false s side = refl
 as_long true s side = at s.live side
   where

@@ -3,14 +3,14 @@ use Rattle.std.proofs.Common.{◌≡◌, ℕ, ◌<◌, inl, inr, arith, true, fa
 use Rattle.std.specs.Prelude.{IfErr}
 use Rattle.lk_log.specs.StoreValue.{StoreValue, disks}
 use Rattle.lk_node.specs.NodeValue.{NodeValue}
-use Rattle.lk_step.specs.Faults.{IsStoreFault, fault_number, failures_by, IsOfCalls, IsNumberOfCalls, IfSend}
+use Rattle.lk_node_io.specs.Faults.{IsStoreFault, fault_number, failures_by, IsOfCalls, IsNumberOfCalls, IfSend}
 use Rattle.lk_replica.specs.Compacted.{IsNotCompacted}
-use Rattle.lk_recovery.specs.Compacting.{AreLeft, AreSame, KeepsFileOrGoesOver}
+use Rattle.lk_recovery.specs.Compacting.{AreLeft, AreSame, KeepsOrSwitchesFiles}
 use Rattle.lk_recovery.specs.Rebased.{IsNotRebased}
 use Rattle.lk_replica.specs.ReplicaValue.{ReplicaValue}
 use Rattle.lk_replica.specs.Taking.{IsCutShort, IsRefused}
-use Rattle.lk_step.specs.declared.fault.ReplicaFault.{ReplicaFault}
-use Rattle.lk_step.specs.declared.fault.ReplicaFault.TheVariants as fault
+use Rattle.lk_node_io.specs.declared.fault.ReplicaFault.{ReplicaFault}
+use Rattle.lk_node_io.specs.declared.fault.ReplicaFault.TheVariants as fault
 use Rattle.lk_recovery.proofs.Recoveries.{err_as, failed_alone, spared_number}
 
 -- a fault of a call, by its number
@@ -35,7 +35,7 @@ halted_alone (fault.Send notes) is = absurd (omega (arith, is))
 -- a call of a replica that had not failed, by what it did to the node and the store
 pub refused_by_parts : {T : Type 0} (Honest Metered : Type 0) (r : Result T ReplicaFault) (f : ReplicaFault) (old : ReplicaValue) (node : NodeValue) (store : StoreValue)
     → IsErrAnd r (λ e. e ≡ f) → old.failed ≡ false → store.failures ≡ failures_by (fault_number f) old.store.failures
-    → IsCutShort Honest Metered 2 old.node old.store node store (KeepsFileOrGoesOver old.node old.store store) (AreLeft old.node old.store store) f
+    → IsCutShort Honest Metered 2 old.node old.store node store (KeepsOrSwitchesFiles old.node old.store store) (AreLeft old.node old.store store) f
     → IfErr r (λ e. IsRefused Honest Metered old (record { node = node; store = store; failed = true }) (fault_number e))
 refused_by_parts Honest Metered r f old node store is alive failures cut =
     let kept : IsRefused Honest Metered old (record { node = node; store = store; failed = true }) (fault_number f) =

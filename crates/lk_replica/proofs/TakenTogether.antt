@@ -18,9 +18,9 @@ use Rattle.lk_state.specs.Meanings.{Meaning}
 use Rattle.lk_messages.specs.Grammar.{Spells}
 use Rattle.lk_entries.specs.Values.{HeaderValue}
 use Rattle.lk_agreement.specs.Datagrams.{NodeMessage, said_by}
-use Rattle.lk_step.specs.Letters.{LetterValue, datagram_of, batch_of}
-use Rattle.lk_step.specs.declared.input.Input.{Input}
-use Rattle.lk_step.specs.declared.note.Note.{Note}
+use Rattle.lk_node_io.specs.Letters.{LetterValue, datagram_of, batch_of}
+use Rattle.lk_node_io.specs.declared.input.Input.{Input}
+use Rattle.lk_node_io.specs.declared.note.Note.{Note}
 use Rattle.lk_node.specs.Calls.{heard_by, InputFits, NodeFits, Goes}
 use Rattle.lk_node.specs.Histories.{History, Genesis, Datagram, later}
 use Rattle.lk_node.specs.Holdings.{Holding}
@@ -32,7 +32,7 @@ use Rattle.lk_replica.specs.Posts.{AreOf}
 use Rattle.lk_recovery.specs.Remembering.{Remembers}
 use Rattle.lk_replica.specs.ReplicaValue.{ReplicaValue, device_of}
 use Rattle.lk_recovery.specs.Rooms.{max_after}
-use Rattle.lk_step.specs.Faults.{RefusedAfter}
+use Rattle.lk_node_io.specs.Faults.{RefusedAfter}
 use Rattle.lk_replica.specs.Together.{Said, sent_of, parts_of, said_by_steps, GoesAll, GathersAll, IsGatheredFrom, IsTakenTogether, IsNotKept, IsNotSent, IsTogetherRefused}
 use Rattle.lk_replica.specs.declared.taken.Step.{Step}
 use Rattle.lk_recovery.proofs.Recoveries.{refused_on}
@@ -85,28 +85,28 @@ all_sent n (x ∷ xs) = batch_append n x.1 (letters_of xs) ∙ ap (λ (l : List 
 -- ---- what was gathered
 
 module _ (m : Meaning) (IsText : List ℕ → Type 0) where
-  gathers_on : (node : NodeValue) (store : StoreValue) (waits : Bool) (done : List Input) (mid : NodeValue) (between : StoreValue) (still : Bool) (steps : List StepSaid) → GathersAll m IsText node store waits done mid between still steps
-      → (i : Input) (new : NodeValue) (later : StoreValue) (one : GroupValue) → IsGathered m IsText ⊤ mid between (record { notes = []; letters = []; waits = still }) i new later one
-      → GathersAll m IsText node store waits (done ++ i ∷ []) new later one.waits (steps ++ (one.notes, one.letters) ∷ [])
-  gathers_on node store waits [] mid between still steps g i new later one e = (
+  gathers_on : (node : NodeValue) (store : StoreValue) (needs_sync : Bool) (done : List Input) (mid : NodeValue) (between : StoreValue) (still : Bool) (steps : List StepSaid) → GathersAll m IsText node store needs_sync done mid between still steps
+      → (i : Input) (new : NodeValue) (later : StoreValue) (one : GroupValue) → IsGathered m IsText ⊤ mid between (record { notes = []; letters = []; needs_sync = still }) i new later one
+      → GathersAll m IsText node store needs_sync (done ++ i ∷ []) new later one.needs_sync (steps ++ (one.notes, one.letters) ∷ [])
+  gathers_on node store needs_sync [] mid between still steps g i new later one e = (
     new,
     later,
     one,
     [],
     ap (λ (l : List StepSaid). l ++ (one.notes, one.letters) ∷ []) g.3,
-    subst (λ (k : NodeValue). IsGathered m IsText ⊤ k store (record { notes = []; letters = []; waits = waits }) i new later one) g.0
-        (subst (λ (k : StoreValue). IsGathered m IsText ⊤ mid k (record { notes = []; letters = []; waits = waits }) i new later one) g.1
-        (subst (λ (w : Bool). IsGathered m IsText ⊤ mid between (record { notes = []; letters = []; waits = w }) i new later one) g.2 e)),
+    subst (λ (k : NodeValue). IsGathered m IsText ⊤ k store (record { notes = []; letters = []; needs_sync = needs_sync }) i new later one) g.0
+        (subst (λ (k : StoreValue). IsGathered m IsText ⊤ mid k (record { notes = []; letters = []; needs_sync = needs_sync }) i new later one) g.1
+        (subst (λ (w : Bool). IsGathered m IsText ⊤ mid between (record { notes = []; letters = []; needs_sync = w }) i new later one) g.2 e)),
     (refl, refl, refl, refl),
   )
-  gathers_on node store waits (x ∷ done) mid between still steps g i new later one e = (
+  gathers_on node store needs_sync (x ∷ done) mid between still steps g i new later one e = (
     g.0,
     g.1,
     g.2,
     g.3 ++ (one.notes, one.letters) ∷ [],
     ap (λ (l : List StepSaid). l ++ (one.notes, one.letters) ∷ []) g.4,
     g.5,
-    gathers_on g.0 g.1 g.2.waits done mid between still g.3 g.6 i new later one e,
+    gathers_on g.0 g.1 g.2.needs_sync done mid between still g.3 g.6 i new later one e,
   )
 
 -- what a replica has come to that has taken some of the inputs, of which these are still to come
@@ -117,20 +117,20 @@ pub record TakenSoFar (m : Meaning) (IsText : List ℕ → Type 0) (begun_as : R
   pub no_notes : g.notes ≡ []
   pub done : List Input
   pub joined : done ++ rest ≡ all
-  pub gathered : IsGatheredFrom m IsText begun_as done now g.waits said
-  pub recalls : (genesis : Genesis) (n : ℕ) → Remembers begun_as.node begun_as.store genesis n → Recalls now.node now.store g.waits genesis n
+  pub gathered : IsGatheredFrom m IsText begun_as done now g.needs_sync said
+  pub recalls : (genesis : Genesis) (n : ℕ) → Remembers begun_as.node begun_as.store genesis n → Recalls now.node now.store g.needs_sync genesis n
   pub covered : (genesis : Genesis) (n : ℕ) → Remembers begun_as.node begun_as.store genesis n → IsCovered m genesis n g now.store
   pub covers : (genesis : Genesis) (n : ℕ) (x : NodeMessage) → Remembers begun_as.node begun_as.store genesis n → AllCover m genesis n (disks begun_as.store) x → AllCover m genesis n (disks now.store) x
   pub stays : (h : History) (n : ℕ) → NodeFits m h n (Stands m begun_as.node begun_as.store h.genesis n) (disks begun_as.store) → AllByRecursion (InputFits h) all
-      → GroupStays m h n now.node now.store g.waits × AllByRecursion (InputFits h) rest
+      → GroupStays m h n now.node now.store g.needs_sync × AllByRecursion (InputFits h) rest
   pub goes : (genesis : Genesis) (k : ℕ) → Remembers begun_as.node begun_as.store genesis k → (n : ℕ) (q : ReplicaValue) (more : List StepSaid)
-      → GoesThrough m n (record { node = now.node; store = as_sent g.waits now.store; failed = false }) rest q more → GoesThrough m n begun_as all q (said ++ more)
+      → GoesThrough m n (record { node = now.node; store = as_sent g.needs_sync now.store; failed = false }) rest q more → GoesThrough m n begun_as all q (said ++ more)
   pub room : StaysWithin max_after (disks begun_as.store) (disks now.store)
   pub calls : ℕ
   pub passes : Passes begun_as.store.meter now.store.meter calls
 
 -- nothing
-nothing_taken : (m : Meaning) (IsText : List ℕ → Type 0) (r : ReplicaValue) (all : List Input) → TakenSoFar m IsText r all r (record { notes = []; letters = []; waits = false }) [] all
+nothing_taken : (m : Meaning) (IsText : List ℕ → Type 0) (r : ReplicaValue) (all : List Input) → TakenSoFar m IsText r all r (record { notes = []; letters = []; needs_sync = false }) [] all
 nothing_taken m IsText r all = record {
   said = [];
   counted = refl;
@@ -153,23 +153,23 @@ nothing_taken m IsText r all = record {
     unfailed n [] q more goes = goes
     unfailed n (i ∷ is) q more goes = goes
 
-pub taken_nothing : (m : Meaning) (IsText : List ℕ → Type 0) (r : ReplicaValue) (all rest : List Input) (g : GroupValue) (steps : List Step) → g ≡ record { notes = []; letters = []; waits = false } → steps ≡ [] → rest ≡ all
+pub taken_nothing : (m : Meaning) (IsText : List ℕ → Type 0) (r : ReplicaValue) (all rest : List Input) (g : GroupValue) (steps : List Step) → g ≡ record { notes = []; letters = []; needs_sync = false } → steps ≡ [] → rest ≡ all
     → TakenSoFar m IsText r all r g steps rest
 taken_nothing m IsText r all rest g steps none no_steps same =
     subst (λ (k : GroupValue). TakenSoFar m IsText r all r k steps rest) (sym none)
-    (subst (λ (l : List Step). TakenSoFar m IsText r all r (record { notes = []; letters = []; waits = false }) l rest) (sym no_steps)
-    (subst (λ (l : List Input). TakenSoFar m IsText r all r (record { notes = []; letters = []; waits = false }) [] l) (sym same) (nothing_taken m IsText r all)))
+    (subst (λ (l : List Step). TakenSoFar m IsText r all r (record { notes = []; letters = []; needs_sync = false }) l rest) (sym no_steps)
+    (subst (λ (l : List Input). TakenSoFar m IsText r all r (record { notes = []; letters = []; needs_sync = false }) [] l) (sym same) (nothing_taken m IsText r all)))
 
 -- one more
 module _ (m : Meaning) (IsText : List ℕ → Type 0) (begun_as : ReplicaValue) (all : List Input) (old now : ReplicaValue) (g new : GroupValue) (steps : List Step) (i : Input) (rest : List Input) (step : Step)
     (s : TakenSoFar m IsText begun_as all old g steps (i ∷ rest))
-    (goes : Adds g new (λ notes letters. (genesis : Genesis) (k : ℕ) → Recalls old.node old.store g.waits genesis k
-    → (h : History) (n : ℕ) → NodeFits m h n (Stands m old.node (as_sent g.waits old.store) h.genesis n) (disks (as_sent g.waits old.store)) → InputFits h i
-    → (sent : List LetterValue) → AreOf sent letters → Goes m h n (Stands m now.node (as_sent new.waits now.store) h.genesis n) (disks (as_sent new.waits now.store)) notes (batch_of n sent)))
+    (goes : Adds g new (λ notes letters. (genesis : Genesis) (k : ℕ) → Recalls old.node old.store g.needs_sync genesis k
+    → (h : History) (n : ℕ) → NodeFits m h n (Stands m old.node (as_sent g.needs_sync old.store) h.genesis n) (disks (as_sent g.needs_sync old.store)) → InputFits h i
+    → (sent : List LetterValue) → AreOf sent letters → Goes m h n (Stands m now.node (as_sent new.needs_sync now.store) h.genesis n) (disks (as_sent new.needs_sync now.store)) notes (batch_of n sent)))
     (exact : IsGathered m IsText ⊤ old.node old.store g i now.node now.store new)
     (notes : step.notes.items ≡ new.notes) (sends : step.sends ≡ length new.letters - length g.letters) where
   abbrev one : GroupValue
-  one = with_step exact.waits exact.out (record { notes = []; letters = []; waits = g.waits })
+  one = with_step exact.needs_sync exact.out (record { notes = []; letters = []; needs_sync = g.needs_sync })
 
   said_is : new.letters ≡ g.letters ++ one.letters
   said_is = ap (λ (k : GroupValue). k.letters) exact.adds
@@ -183,8 +183,8 @@ module _ (m : Meaning) (IsText : List ℕ → Type 0) (begun_as : ReplicaValue) 
   same_notes : goes.notes ≡ one.notes
   same_notes = append_cancel_left g.notes goes.notes one.notes (sym goes.noted ∙ noted_is)
 
-  fresh : IsGathered m IsText ⊤ old.node old.store (record { notes = []; letters = []; waits = g.waits }) i now.node now.store one
-  fresh = record { mid = exact.mid; between = exact.between; waits = exact.waits; room = exact.room; out = exact.out; steps = exact.steps; adds = refl }
+  fresh : IsGathered m IsText ⊤ old.node old.store (record { notes = []; letters = []; needs_sync = g.needs_sync }) i now.node now.store one
+  fresh = record { mid = exact.mid; between = exact.between; needs_sync = exact.needs_sync; room = exact.room; out = exact.out; steps = exact.steps; adds = refl }
 
   own_notes : step.notes.items ≡ one.notes
   own_notes = notes ∙ noted_is ∙ ap (λ l. l ++ one.notes) s.no_notes
@@ -197,19 +197,19 @@ module _ (m : Meaning) (IsText : List ℕ → Type 0) (begun_as : ReplicaValue) 
   letters_more (x ∷ xs) ys = ap (λ l. x.1 ++ l) (letters_more xs ys) ∙ sym (append_assoc x.1 (letters_of xs) (letters_of ys))
 
   -- in each history it goes on by it, as by a call of its own
-  link : (genesis : Genesis) (k : ℕ) → Recalls old.node old.store g.waits genesis k → (n : ℕ) (h : History) → NodeFits m h n (Stands m old.node (as_sent g.waits old.store) h.genesis n) (disks (as_sent g.waits old.store)) → InputFits h i
-      → (sent : List LetterValue) → AreOf sent one.letters → Goes m h n (Stands m now.node (as_sent new.waits now.store) h.genesis n) (disks (as_sent new.waits now.store)) one.notes (batch_of n sent)
+  link : (genesis : Genesis) (k : ℕ) → Recalls old.node old.store g.needs_sync genesis k → (n : ℕ) (h : History) → NodeFits m h n (Stands m old.node (as_sent g.needs_sync old.store) h.genesis n) (disks (as_sent g.needs_sync old.store)) → InputFits h i
+      → (sent : List LetterValue) → AreOf sent one.letters → Goes m h n (Stands m now.node (as_sent new.needs_sync now.store) h.genesis n) (disks (as_sent new.needs_sync now.store)) one.notes (batch_of n sent)
   link genesis k was n h f heard sent among =
-      subst (λ (l : List Note). Goes m h n (Stands m now.node (as_sent new.waits now.store) h.genesis n) (disks (as_sent new.waits now.store)) l (batch_of n sent)) same_notes
+      subst (λ (l : List Note). Goes m h n (Stands m now.node (as_sent new.needs_sync now.store) h.genesis n) (disks (as_sent new.needs_sync now.store)) l (batch_of n sent)) same_notes
       (goes.are genesis k was h n f heard sent (subst (λ (l : List LetterValue). AreOf sent l) (sym same_letters) among))
 
-  module _ (keeps : KeepsGroup m (λ h. InputFits h i) old.node old.store g now.node now.store new) (leaves : LeavesInGroup m (λ h. InputFits h i) 132704 old.node old.store g.waits (disks now.store)) (alive : now.failed ≡ false) where
+  module _ (keeps : KeepsGroup m (λ h. InputFits h i) old.node old.store g now.node now.store new) (leaves : LeavesInGroup m (λ h. InputFits h i) 132704 old.node old.store g.needs_sync (disks now.store)) (alive : now.failed ≡ false) where
     -- the calls of the device by which room was made, and of the step
     abbrev calls : ℕ
-    calls = (exact.room.calls tt).0 + gather_calls exact.waits exact.out
+    calls = (exact.room.calls tt).0 + gather_calls exact.needs_sync exact.out
 
     passes : Passes old.store.meter now.store.meter calls
-    passes = let k = exact.room.calls tt in passes_on k.0 k.2 (gather_calls exact.waits exact.out) (exact.steps.calls tt)
+    passes = let k = exact.room.calls tt in passes_on k.0 k.2 (gather_calls exact.needs_sync exact.out) (exact.steps.calls tt)
 
     pub one_taken : TakenSoFar m IsText begun_as all now (record new { notes = [] }) (steps ++ step ∷ []) rest
     one_taken = record {
@@ -220,9 +220,9 @@ module _ (m : Meaning) (IsText : List ℕ → Type 0) (begun_as : ReplicaValue) 
       done = s.done ++ i ∷ [];
       joined = append_assoc s.done (i ∷ []) rest ∙ s.joined;
       gathered = record {
-        gathers = subst (λ (l : List Note). GathersAll m IsText begun_as.node begun_as.store false (s.done ++ i ∷ []) now.node now.store new.waits (s.said ++ (l, one.letters) ∷ [])) (sym own_notes)
-            (subst (λ (w : Bool). GathersAll m IsText begun_as.node begun_as.store false (s.done ++ i ∷ []) now.node now.store w (s.said ++ (one.notes, one.letters) ∷ [])) (sym (ap (λ (k : GroupValue). k.waits) exact.adds))
-            (gathers_on m IsText begun_as.node begun_as.store false s.done old.node old.store g.waits s.said s.gathered.gathers i now.node now.store one fresh));
+        gathers = subst (λ (l : List Note). GathersAll m IsText begun_as.node begun_as.store false (s.done ++ i ∷ []) now.node now.store new.needs_sync (s.said ++ (l, one.letters) ∷ [])) (sym own_notes)
+            (subst (λ (w : Bool). GathersAll m IsText begun_as.node begun_as.store false (s.done ++ i ∷ []) now.node now.store w (s.said ++ (one.notes, one.letters) ∷ [])) (sym (ap (λ (k : GroupValue). k.needs_sync) exact.adds))
+            (gathers_on m IsText begun_as.node begun_as.store false s.done old.node old.store g.needs_sync s.said s.gathered.gathers i now.node now.store one fresh));
         alive = inr alive;
       };
       recalls = λ genesis n r. keeps.recalls genesis n (s.recalls genesis n r);
@@ -233,13 +233,13 @@ module _ (m : Meaning) (IsText : List ℕ → Type 0) (begun_as : ReplicaValue) 
           subst (λ (l : List StepSaid). GoesThrough m n begun_as all q l) (sym (append_assoc s.said ((step.notes.items, one.letters) ∷ []) more))
           (subst (λ (l : List Note). GoesThrough m n begun_as all q (s.said ++ (l, one.letters) ∷ more)) (sym own_notes)
           (s.goes genesis k r n q ((one.notes, one.letters) ∷ more) (
-            record { node = now.node; store = as_sent new.waits now.store; failed = false },
+            record { node = now.node; store = as_sent new.needs_sync now.store; failed = false },
             one.notes,
             one.letters,
             more,
             refl,
             (λ h f heard sent among. link genesis k (s.recalls genesis k r) n h f heard sent among),
-            room_as_sent 132704 g.waits new.waits old.store now.store leaves.room,
+            room_as_sent 132704 g.needs_sync new.needs_sync old.store now.store leaves.room,
             through,
           )));
       room = within_first 132704 (disks begun_as.store) (disks old.store) (disks now.store) s.room leaves.room;
@@ -295,16 +295,16 @@ goes_in_memory m n is r q said goes = subst (λ (d : ReplicaValue → Side → D
 
 -- all are taken, and what waits is synced
 pub goes_to_the_end : (m : Meaning) (IsText : List ℕ → Type 0) (begun_as : ReplicaValue) (all : List Input) (now q : ReplicaValue) (g : GroupValue) (steps : List Step) (rest : List Input) (s : TakenSoFar m IsText begun_as all now g steps rest)
-    → rest ≡ [] → IsSettled ⊤ now g.waits q → StaysWithin 0 (disks now.store) (disks q.store)
+    → rest ≡ [] → IsSettled ⊤ now g.needs_sync q → StaysWithin 0 (disks now.store) (disks q.store)
     → (genesis : Genesis) (k : ℕ) → Remembers begun_as.node begun_as.store genesis k → (n : ℕ) → GoesThrough m n begun_as all q s.said
 goes_to_the_end m IsText begun_as all now q g steps rest s none settled room genesis k r n =
     subst (λ (l : List StepSaid). GoesThrough m n begun_as all q l) (append-nil s.said)
     (s.goes genesis k r n q []
-    (subst (λ (l : List Input). GoesThrough m n (record { node = now.node; store = as_sent g.waits now.store; failed = false }) l q []) (sym none)
-    (refl, (λ h f. ended h f), room_as_sent 132704 g.waits false now.store q.store (within_more 132704 (disks now.store) (disks q.store) room))))
+    (subst (λ (l : List Input). GoesThrough m n (record { node = now.node; store = as_sent g.needs_sync now.store; failed = false }) l q []) (sym none)
+    (refl, (λ h f. ended h f), room_as_sent 132704 g.needs_sync false now.store q.store (within_more 132704 (disks now.store) (disks q.store) room))))
   where
-    ended : (h : History) → NodeFits m h n (Stands m now.node (as_sent g.waits now.store) h.genesis n) (disks (as_sent g.waits now.store)) → NodeFits m h n (Stands m q.node q.store h.genesis n) (disks q.store)
-    ended h f = settled_node_fits m ⊤ now g.waits q settled genesis k (s.recalls genesis k r) h n f
+    ended : (h : History) → NodeFits m h n (Stands m now.node (as_sent g.needs_sync now.store) h.genesis n) (disks (as_sent g.needs_sync now.store)) → NodeFits m h n (Stands m q.node q.store h.genesis n) (disks q.store)
+    ended h f = settled_node_fits m ⊤ now g.needs_sync q settled genesis k (s.recalls genesis k r) h n f
 
 -- ---- what a call leaves, where a part of it ended so
 
@@ -318,13 +318,13 @@ pub refused_further : (m : Meaning) (IsText : List ℕ → Type 0) (begun_as : R
 refused_further m IsText begun_as all now new g steps rest number s by = refused_on s.calls s.passes new.store.meter number by
 
 pub refused_in_all : (m : Meaning) (IsText : List ℕ → Type 0) (begun_as : ReplicaValue) (all : List Input) (now new : ReplicaValue) (g : GroupValue) (steps : List Step) (rest : List Input) (number : ℕ) → TakenSoFar m IsText begun_as all now g steps rest
-    → IsRefusedInGroup ⊤ ⊤ now new number ⊎ IsNotKept now new number ⊎ IsNotSent now g.waits new number → IsTogetherRefused m IsText begun_as (map heard_by all) new number
+    → IsRefusedInGroup ⊤ ⊤ now new number ⊎ IsNotKept now new number ⊎ IsNotSent now g.needs_sync new number → IsTogetherRefused m IsText begun_as (map heard_by all) new number
 refused_in_all m IsText begun_as all now new g steps rest number s why = record {
   inputs = s.done;
   rest = rest;
   are = ap (map heard_by) s.joined;
   mid = now;
-  waits = g.waits;
+  needs_sync = g.needs_sync;
   steps = s.said;
   gathered = s.gathered;
   refused = why;
@@ -332,7 +332,7 @@ refused_in_all m IsText begun_as all now new g steps rest number s why = record 
 
 -- all were taken together
 pub taken_in_all : (m : Meaning) (IsText : List ℕ → Type 0) (begun_as : ReplicaValue) (all : List Input) (now new : ReplicaValue) (g : GroupValue) (steps : List Step) (rest : List Input) (sent : List Datagram) → (s : TakenSoFar m IsText begun_as all now g steps rest) → rest ≡ []
-    → IsSettled ⊤ now g.waits new → new.failed ≡ false → sent ≡ batch_of begun_as.node.header.node g.letters
+    → IsSettled ⊤ now g.needs_sync new → new.failed ≡ false → sent ≡ batch_of begun_as.node.header.node g.letters
     → (sent ≡ sent_of (parts_of steps sent)) × IsTakenTogether m IsText begun_as (map heard_by all) new (parts_of steps sent)
 taken_in_all m IsText begun_as all now new g steps rest sent s none settled alive batch =
     let n : ℕ = begun_as.node.header.node in
@@ -343,7 +343,7 @@ taken_in_all m IsText begun_as all now new g steps rest sent s none settled aliv
         inputs = s.done;
         are = ap (map heard_by) (sym (append-nil s.done) ∙ ap (λ (l : List Input). s.done ++ l) (sym none) ∙ s.joined);
         mid = now;
-        waits = g.waits;
+        needs_sync = g.needs_sync;
         steps = s.said;
         gathered = s.gathered;
         settled = settled;
@@ -354,7 +354,7 @@ taken_in_all m IsText begun_as all now new g steps rest sent s none settled aliv
 
 -- and in each history it has gone on by each of them
 pub gone_in_all : (m : Meaning) (IsText : List ℕ → Type 0) (begun_as : ReplicaValue) (all : List Input) (now new : ReplicaValue) (g : GroupValue) (steps : List Step) (rest : List Input) (sent : List Datagram) → (s : TakenSoFar m IsText begun_as all now g steps rest) → rest ≡ []
-    → IsSettled ⊤ now g.waits new → StaysWithin 0 (disks now.store) (disks new.store) → sent ≡ batch_of begun_as.node.header.node g.letters
+    → IsSettled ⊤ now g.needs_sync new → StaysWithin 0 (disks now.store) (disks new.store) → sent ≡ batch_of begun_as.node.header.node g.letters
     → (genesis : Genesis) (n : ℕ) → Remembers begun_as.node begun_as.store genesis n
     → GoesAll (λ (r : ReplicaValue) genesis k x. Stands m r.node r.store genesis k x) (λ (r : ReplicaValue). disk_of (device_of r.store)) m n begun_as all new (parts_of steps sent)
 gone_in_all m IsText begun_as all now new g steps rest sent s none settled room batch genesis n r =
@@ -367,9 +367,9 @@ gone_in_all m IsText begun_as all now new g steps rest sent s none settled room 
 
 -- what was sent every image covers
 pub covered_in_all : (m : Meaning) (IsText : List ℕ → Type 0) (begun_as : ReplicaValue) (all : List Input) (now new : ReplicaValue) (g : GroupValue) (steps : List Step) (rest : List Input) (sent : List Datagram) → TakenSoFar m IsText begun_as all now g steps rest
-    → IsSettled ⊤ now g.waits new → sent ≡ batch_of begun_as.node.header.node g.letters → (genesis : Genesis) (n : ℕ) (x : NodeMessage) → Remembers begun_as.node begun_as.store genesis n
+    → IsSettled ⊤ now g.needs_sync new → sent ≡ batch_of begun_as.node.header.node g.letters → (genesis : Genesis) (n : ℕ) (x : NodeMessage) → Remembers begun_as.node begun_as.store genesis n
     → (d : Datagram) → Contains sent d → Spells (said_by genesis n x) d.bytes → AllCover m genesis n (disks new.store) x
 covered_in_all m IsText begun_as all now new g steps rest sent s settled batch genesis n x r d listed spelled =
     let own : begun_as.node.header.node ≡ n = ap (λ (w : HeaderValue). w.node) r.whose in
     let letters : sent ≡ batch_of n g.letters = batch ∙ ap (λ (k : ℕ). batch_of k g.letters) own in
-    settled_covers m genesis n now.node now.store new.store g.waits settled.settles (s.recalls genesis n r) x (s.covered genesis n r x d (subst (λ (l : List Datagram). Contains l d) letters listed) spelled)
+    settled_covers m genesis n now.node now.store new.store g.needs_sync settled.settles (s.recalls genesis n r) x (s.covered genesis n r x d (subst (λ (l : List Datagram). Contains l d) letters listed) spelled)

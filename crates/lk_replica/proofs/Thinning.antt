@@ -3,7 +3,7 @@ use Rattle.std.proofs.Common.{◌≡◌, ℕ, zero, suc, ◌≢◌, ◌+◌, ◌
 use Rattle.std.proofs.lemmas.Bool.{false≢true}
 use Rattle.lk_disk.specs.Disk.{one_more}
 use Rattle.lk_agreement.specs.Datagrams.{Datagram}
-use Rattle.lk_step.specs.Letters.{LetterValue, datagram_of, batch_of}
+use Rattle.lk_node_io.specs.Letters.{LetterValue, datagram_of, batch_of}
 use Rattle.lk_replica.specs.Posts.{AreOf, Thins, SendsBut, more_by}
 use Rattle.lk_node.proofs.Nodes.{cons_cases, contains_more, map_contains, map_has}
 

@@ -6,7 +6,7 @@ use Rattle.lk_disk.specs.Meters.{trapped}
 use Rattle.lk_disk.specs.declared.device.Side.{Side}
 use Rattle.lk_disk.specs.declared.trap.Trap.{Trap}
 use Rattle.lk_entries.specs.Values.{HeaderValue}
-use Rattle.lk_step.specs.declared.note.Note.{Note}
+use Rattle.lk_node_io.specs.declared.note.Note.{Note}
 use Rattle.lk_node.specs.Histories.{Datagram}
 
 -- a replica took a tick, or these bytes, and became another: with its notes and what it sent, or with the number of a

@@ -11,7 +11,7 @@ use Rattle.lk_node.specs.Histories.{Genesis}
 use Rattle.lk_node.specs.Holdings.{Holding}
 use Rattle.lk_node.specs.Keeping.{Stands}
 use Rattle.lk_recovery.specs.Compacting.{AllStandAt, AreSame, Rebases}
-use Rattle.lk_step.specs.Faults.{RefusedAfter, IsStoreFault}
+use Rattle.lk_node_io.specs.Faults.{RefusedAfter, IsStoreFault}
 use Rattle.lk_replica.specs.ReplicaValue.{ReplicaValue, device_of}
 use Rattle.lk_replica.specs.Taking.{IsRefused}
 use Rattle.lk_state.specs.Meanings.{Meaning}

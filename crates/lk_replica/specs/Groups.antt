@@ -18,14 +18,14 @@ use Rattle.lk_state.specs.Meanings.{Meaning}
 use Rattle.lk_messages.specs.Grammar.{Spells}
 use Rattle.lk_agreement.specs.Acceptors.{AcceptorState}
 use Rattle.lk_agreement.specs.Datagrams.{NodeMessage, said_by}
-use Rattle.lk_step.specs.Letters.{LetterValue, batch_of}
-use Rattle.lk_step.specs.Outboxes.{OutboxValue}
-use Rattle.lk_step.specs.declared.input.Input.{Input}
-use Rattle.lk_step.specs.declared.note.Note.{Note}
+use Rattle.lk_node_io.specs.Letters.{LetterValue, batch_of}
+use Rattle.lk_node_io.specs.Outboxes.{OutboxValue}
+use Rattle.lk_node_io.specs.declared.input.Input.{Input}
+use Rattle.lk_node_io.specs.declared.note.Note.{Note}
 use Rattle.lk_node.specs.Steps.{Steps}
 use Rattle.lk_types.specs.Limits.{max_count}
 use Rattle.lk_recovery.specs.Compacting.{IsDue, Rebases, RebasesWhereDue}
-use Rattle.lk_step.specs.Faults.{failures_by, RefusedAfter, IsNumberOfCalls}
+use Rattle.lk_node_io.specs.Faults.{failures_by, RefusedAfter, IsNumberOfCalls}
 use Rattle.lk_replica.specs.Posts.{AreOf}
 use Rattle.lk_recovery.specs.Rooms.{GrowsByStep, max_after}
 use Rattle.lk_replica.specs.ReplicaValue.{ReplicaValue}
@@ -49,16 +49,16 @@ as_sent true s = as_synced s
 as_sent false s = s
 
 -- whether something waits for a sync after one more step: a rebase has synced everything
-abbrev pub waits_after : Bool → OutboxValue → Bool
-waits_after waits out = if out.rebase then false else (waits || out.sync)
+abbrev pub needs_sync_after : Bool → OutboxValue → Bool
+needs_sync_after needs_sync out = if out.rebase then false else (needs_sync || out.sync)
 
 -- The store is that of this header, and its entries, synced or not, stand for what the acceptor holds. If nothing
 -- waits for a sync, the unsynced ones are decided commands.
-pub record Gathers (whose : HeaderValue) (store : StoreValue) (waits : Bool) (acceptor : AcceptorState) : Type 0 where
+pub record Gathers (whose : HeaderValue) (store : StoreValue) (needs_sync : Bool) (acceptor : AcceptorState) : Type 0 where
   pub entries : List Stored
   pub loose : List Entry
   pub holds : Holds store entries (plain loose)
-  pub decided : waits ≡ false → AllByRecursion TellsDecided loose
+  pub decided : needs_sync ≡ false → AllByRecursion TellsDecided loose
   pub header : HasHeader entries whose
   pub standing : StandingValue
   pub stands : StandsFor entries standing
@@ -66,33 +66,33 @@ pub record Gathers (whose : HeaderValue) (store : StoreValue) (waits : Bool) (ac
 
 -- the replica, by its parts, is that of the node in the cluster with this genesis, and its store has what its acceptor
 -- holds
-pub record Recalls (node : NodeValue) (store : StoreValue) (waits : Bool) (genesis : Genesis) (n : ℕ) : Type 0 where
+pub record Recalls (node : NodeValue) (store : StoreValue) (needs_sync : Bool) (genesis : Genesis) (n : ℕ) : Type 0 where
   pub whose : node.header ≡ header_of genesis n
-  pub keeps : Gathers (header_of genesis n) store waits node.acceptor.state
+  pub keeps : Gathers (header_of genesis n) store needs_sync node.acceptor.state
 
 -- it is, and holds this; its store tells what the node has executed, and if nothing waits for a sync, all of it lies
 -- near
-pub record Gathered (m : Meaning) (node : NodeValue) (store : StoreValue) (waits : Bool) (genesis : Genesis) (n : ℕ) (x : Holding) : Type 0 where
+pub record Gathered (m : Meaning) (node : NodeValue) (store : StoreValue) (needs_sync : Bool) (genesis : Genesis) (n : ℕ) (x : Holding) : Type 0 where
   pub whose : node.header ≡ header_of genesis n
-  pub keeps : Gathers (header_of genesis n) store waits node.acceptor.state
-  pub known : waits ≡ false → AllByRecursion (IsKnown x.view) keeps.loose
+  pub keeps : Gathers (header_of genesis n) store needs_sync node.acceptor.state
+  pub known : needs_sync ≡ false → AllByRecursion (IsKnown x.view) keeps.loose
   pub held : IsHeld m node genesis x
   pub tells : TellsOf genesis.alpha (with_all keeps.loose keeps.standing) node
-  pub near : waits ≡ false → EntriesLieNear genesis.alpha keeps.standing keeps.loose
+  pub near : needs_sync ≡ false → EntriesLieNear genesis.alpha keeps.standing keeps.loose
 
 -- in this history, which contains what the group has said so far, the node fits as if everything that waits were
 -- synced
 abbrev pub GroupFits : Meaning → History → ℕ → NodeValue → StoreValue → Bool → Type 0
-GroupFits m h n node store waits = NodeFits m h n (Gathered m node store waits h.genesis n) (disks (as_sent waits store))
+GroupFits m h n node store needs_sync = NodeFits m h n (Gathered m node store needs_sync h.genesis n) (disks (as_sent needs_sync store))
 
 -- the effect of a step of a group with these letters
 abbrev pub GroupGoes : Meaning → History → ℕ → NodeValue → StoreValue → Bool → List Note → List Datagram → Type 0
-GroupGoes m h n node store waits notes batch = Goes m h n (Gathered m node store waits h.genesis n) (disks (as_sent waits store)) notes batch
+GroupGoes m h n node store needs_sync notes batch = Goes m h n (Gathered m node store needs_sync h.genesis n) (disks (as_sent needs_sync store)) notes batch
 
 -- in this history, which contains nothing of what the group has said, the node fits, what it has written rests on what
 -- was sent and lies near, and whatever a stop may leave of the files as they are fits
-pub record GroupStays (m : Meaning) (h : History) (n : ℕ) (node : NodeValue) (store : StoreValue) (waits : Bool) : Type 0 where
-  pub fits : GroupFits m h n node store waits
+pub record GroupStays (m : Meaning) (h : History) (n : ℕ) (node : NodeValue) (store : StoreValue) (needs_sync : Bool) : Type 0 where
+  pub fits : GroupFits m h n node store needs_sync
   pub rests : AllByRecursion (Rests h) fits.shown.keeps.loose
   pub near : EntriesLieNear h.genesis.alpha fits.shown.keeps.standing fits.shown.keeps.loose
   pub left : DisksFit m h n (disks store)
@@ -106,11 +106,11 @@ Settles false old new = new ≡ old
 pub record GroupValue : Type 0 where
   pub notes : List Note
   pub letters : List LetterValue
-  pub waits : Bool
+  pub needs_sync : Bool
 
 -- the group with one more step
 abbrev pub with_step : Bool → OutboxValue → GroupValue → GroupValue
-with_step waits out g = record { notes = g.notes ++ out.notes; letters = g.letters ++ out.letters; waits = waits_after waits out }
+with_step needs_sync out g = record { notes = g.notes ++ out.notes; letters = g.letters ++ out.letters; needs_sync = needs_sync_after needs_sync out }
 
 -- a step has added these notes and letters
 pub record Adds (old new : GroupValue) (Are : List Note → List LetterValue → Type 0) : Type 0 where
@@ -122,45 +122,45 @@ pub record Adds (old new : GroupValue) (Are : List Note → List LetterValue →
 
 -- once everything that waits is synced, everything that the group has said is covered
 abbrev pub IsCovered : Meaning → Genesis → ℕ → GroupValue → StoreValue → Type 0
-IsCovered m genesis n g s = (x : NodeMessage) (d : Datagram) → Contains (batch_of n g.letters) d → Spells (said_by genesis n x) d.bytes → AllCover m genesis n (disks (as_sent g.waits s)) x
+IsCovered m genesis n g s = (x : NodeMessage) (d : Datagram) → Contains (batch_of n g.letters) d → Spells (said_by genesis n x) d.bytes → AllCover m genesis n (disks (as_sent g.needs_sync s)) x
 
 -- What a call leaves on the disks in the middle of a group, however it ends: where the history has what the call was
 -- given, each image that a stop may leave fits the history as it was, in which nothing of the group is sent; each
 -- covers what every image covered; and neither file is longer than it was, or else than so many bytes.
-pub record LeavesInGroup (m : Meaning) (Hears : History → Type 0) (most : ℕ) (node : NodeValue) (store : StoreValue) (waits : Bool) (after : Side → Disk) : Type 0 where
-  pub ends : (h : History) (n : ℕ) → GroupStays m h n node store waits → Hears h → DisksFit m h n after
-  pub covers : (genesis : Genesis) (n : ℕ) (x : NodeMessage) → Recalls node store waits genesis n → AllCover m genesis n (disks store) x → AllCover m genesis n after x
+pub record LeavesInGroup (m : Meaning) (Hears : History → Type 0) (most : ℕ) (node : NodeValue) (store : StoreValue) (needs_sync : Bool) (after : Side → Disk) : Type 0 where
+  pub ends : (h : History) (n : ℕ) → GroupStays m h n node store needs_sync → Hears h → DisksFit m h n after
+  pub covers : (genesis : Genesis) (n : ℕ) (x : NodeMessage) → Recalls node store needs_sync genesis n → AllCover m genesis n (disks store) x → AllCover m genesis n after x
   pub room : StaysWithin most (disks store) after
 
 -- What a step keeps of a group: where nothing of it is sent, the node fits as it did; its store has what its acceptor
 -- holds; and once all is synced that waits for it, whatever the group has said is covered.
 pub record KeepsGroup (m : Meaning) (Hears : History → Type 0) (node : NodeValue) (store : StoreValue) (group : GroupValue) (new : NodeValue) (after : StoreValue) (now : GroupValue) : Type 0 where
-  pub stays : (h : History) (n : ℕ) → GroupStays m h n node store group.waits → Hears h → GroupStays m h n new after now.waits
-  pub recalls : (genesis : Genesis) (n : ℕ) → Recalls node store group.waits genesis n → Recalls new after now.waits genesis n
-  pub said : (genesis : Genesis) (n : ℕ) → Recalls node store group.waits genesis n → IsCovered m genesis n group store → IsCovered m genesis n now after
+  pub stays : (h : History) (n : ℕ) → GroupStays m h n node store group.needs_sync → Hears h → GroupStays m h n new after now.needs_sync
+  pub recalls : (genesis : Genesis) (n : ℕ) → Recalls node store group.needs_sync genesis n → Recalls new after now.needs_sync genesis n
+  pub said : (genesis : Genesis) (n : ℕ) → Recalls node store group.needs_sync genesis n → IsCovered m genesis n group store → IsCovered m genesis n now after
 
 -- ---- what the steps of a group have done, and nothing else
 
 -- how many changing calls of the device the sync takes
 abbrev pub settle_calls : Bool → ℕ
-settle_calls waits = if waits then 1 else 0
+settle_calls needs_sync = if needs_sync then 1 else 0
 
 -- how many it takes to make room: those of a rebase, where that is due, after a sync where something waits for that
-pub record CallsOfRoom (node : NodeValue) (store : StoreValue) (waits : Bool) (k : ℕ) : Type 0 where
-  pub due : IsDue node store → k ≡ settle_calls waits + rebase_calls
+pub record CallsOfRoom (node : NodeValue) (store : StoreValue) (needs_sync : Bool) (k : ℕ) : Type 0 where
+  pub due : IsDue node store → k ≡ settle_calls needs_sync + rebase_calls
   pub rests : (IsDue node store → ⊥) → k ≡ 0
 
 -- Room was made for a step: a rebase was made where that was due, after a sync where something waited for that; after
 -- a rebase nothing waits. A device that counts its calls (`Metered`) has had no others.
-pub record MakesRoom (Metered : Type 0) (node : NodeValue) (store : StoreValue) (waits : Bool) (new : NodeValue) (after : StoreValue) (still : Bool) : Type 0 where
+pub record MakesRoom (Metered : Type 0) (node : NodeValue) (store : StoreValue) (needs_sync : Bool) (new : NodeValue) (after : StoreValue) (still : Bool) : Type 0 where
   pub rebases : RebasesWhereDue node store new after
   pub synced : IsDue node store → still ≡ false
-  pub rests : (IsDue node store → ⊥) → still ≡ waits
-  pub calls : Metered → (k : ℕ) × CallsOfRoom node store waits k × Passes store.meter after.meter k
+  pub rests : (IsDue node store → ⊥) → still ≡ needs_sync
+  pub calls : Metered → (k : ℕ) × CallsOfRoom node store needs_sync k × Passes store.meter after.meter k
 
 -- how many calls a step writes by: those of its entries, or of a Base, after a sync where something waited for that
 abbrev pub gather_calls : Bool → OutboxValue → ℕ
-gather_calls waits out = if out.rebase then settle_calls waits + rebase_calls else put_calls out.entries false
+gather_calls needs_sync out = if out.rebase then settle_calls needs_sync + rebase_calls else put_calls out.entries false
 
 -- the outbox's entries follow what the store held, and nothing more is synced
 abbrev pub Appends : StoreValue → OutboxValue → StoreValue → Type 0
@@ -168,13 +168,13 @@ Appends old out new = (ks ls : List Stored) → Holds old ks ls → Holds new ks
 
 -- a step was taken, and what its outbox says is written, unsynced, by which neither file grows by more than a step; in
 -- the calls that this takes of a device that counts them (`Metered`)
-pub record StepsToFile (m : Meaning) (IsText : List ℕ → Type 0) (Metered : Type 0) (node : NodeValue) (store : StoreValue) (waits : Bool) (i : Input) (out : OutboxValue) (new : NodeValue) (after : StoreValue) : Type 0 where
+pub record StepsToFile (m : Meaning) (IsText : List ℕ → Type 0) (Metered : Type 0) (node : NodeValue) (store : StoreValue) (needs_sync : Bool) (i : Input) (out : OutboxValue) (new : NodeValue) (after : StoreValue) : Type 0 where
   pub stepped : NodeValue
   pub steps : Steps m IsText node i stepped out
   pub rebases : out.rebase ≡ true → Rebases stepped store new after
   pub puts : out.rebase ≡ false → (new ≡ stepped) × Appends store out after
   pub grows : out.rebase ≡ false → GrowsByStep (disks store) (disks after)
-  pub calls : Metered → Passes store.meter after.meter (gather_calls waits out)
+  pub calls : Metered → Passes store.meter after.meter (gather_calls needs_sync out)
 
 -- One more input of a group was taken: room was made for it, a step was taken, and what its outbox says is written,
 -- unsynced; its notes and its letters stand behind those of the steps before it, the group waits for a sync exactly
@@ -182,18 +182,18 @@ pub record StepsToFile (m : Meaning) (IsText : List ℕ → Type 0) (Metered : T
 pub record IsGathered (m : Meaning) (IsText : List ℕ → Type 0) (Metered : Type 0) (node : NodeValue) (store : StoreValue) (before : GroupValue) (i : Input) (new : NodeValue) (after : StoreValue) (now : GroupValue) : Type 0 where
   pub mid : NodeValue
   pub between : StoreValue
-  pub waits : Bool
-  pub room : MakesRoom Metered node store before.waits mid between waits
+  pub needs_sync : Bool
+  pub room : MakesRoom Metered node store before.needs_sync mid between needs_sync
   pub out : OutboxValue
-  pub steps : StepsToFile m IsText Metered mid between waits i out new after
-  pub adds : now ≡ with_step waits out before
+  pub steps : StepsToFile m IsText Metered mid between needs_sync i out new after
+  pub adds : now ≡ with_step needs_sync out before
 
 -- What waited for a sync is synced, in one call, and nothing else was done.
-pub record IsSettled (Metered : Type 0) (old : ReplicaValue) (waits : Bool) (new : ReplicaValue) : Type 0 where
+pub record IsSettled (Metered : Type 0) (old : ReplicaValue) (needs_sync : Bool) (new : ReplicaValue) : Type 0 where
   pub lived : old.failed ≡ false
   pub node : new.node ≡ old.node
-  pub settles : Settles waits old.store new.store
-  pub calls : Metered → Passes old.store.meter new.store.meter (settle_calls waits)
+  pub settles : Settles needs_sync old.store new.store
+  pub calls : Metered → Passes old.store.meter new.store.meter (settle_calls needs_sync)
   pub store_alive : old.store.failed ≡ false → new.store.failed ≡ false
 
 -- A call of a group was refused with the fault of this number, as one of `take` is (`IsRefused`), and has ended the

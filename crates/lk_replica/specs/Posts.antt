@@ -1,7 +1,7 @@
 -- What was given to a post, and what it has sent of that.
 use Rattle.std.specs.Prelude.{◌≡◌, ◌≢◌, ℕ, zero, suc, ◌+◌, ◌⊎◌, Bool, true, false, Result, Ok, Err, List, [], ◌∷◌, ◌++◌, Contains}
 use Rattle.lk_disk.specs.Disk.{one_more}
-use Rattle.lk_step.specs.Letters.{LetterValue}
+use Rattle.lk_node_io.specs.Letters.{LetterValue}
 
 -- these letters were given to a post one after another, in order, and nothing else was. `Carries` is the effect of one
 -- letter: the post before, the letter, whether that was sent, and the post after
@@ -55,11 +55,11 @@ pub record RefusesSends {P : Type 0} (number : ℕ) (old new : P) (before now : 
   pub some_fail : number ≡ 15 → (lost : ℕ) × (lost ≢ 0) × (now ≡ more_by lost before)
 
 -- the letters that were kept, and how many were not
-pub record CollectedValue : Type 0 where
+pub record MemoryPostValue : Type 0 where
   pub letters : List LetterValue
   pub failures : ℕ
 
 -- a post that keeps letters has this one after the others, or was out of memory for it, which is counted
-abbrev pub KeepsLetter : CollectedValue → LetterValue → Bool → CollectedValue → Type 0
+abbrev pub KeepsLetter : MemoryPostValue → LetterValue → Bool → MemoryPostValue → Type 0
 KeepsLetter old letter true new = new ≡ record { letters = old.letters ++ letter ∷ []; failures = old.failures }
 KeepsLetter old letter false new = new ≡ record { letters = old.letters; failures = one_more old.failures }

@@ -8,11 +8,11 @@ use Rattle.lk_entries.specs.Values.{HeaderValue}
 use Rattle.lk_log.specs.Images.{seen}
 use Rattle.lk_log.specs.StoreValue.{StoreValue}
 use Rattle.lk_state.specs.Meanings.{Meaning}
-use Rattle.lk_step.specs.declared.note.Note.{Note}
+use Rattle.lk_node_io.specs.declared.note.Note.{Note}
 use Rattle.lk_node.specs.Executing.{NothingToRun}
 use Rattle.lk_node.specs.NodeValue.{NodeValue}
 use Rattle.lk_recovery.specs.Compacting.{Renews}
-use Rattle.lk_step.specs.Faults.{failures_by, RefusedAfter}
+use Rattle.lk_node_io.specs.Faults.{failures_by, RefusedAfter}
 use Rattle.lk_recovery.specs.Revivals.{TakesUp, IsLastOld, CallsOfRevival, IsRefusedFor}
 use Rattle.lk_replica.specs.ReplicaValue.{ReplicaValue}
 

@@ -14,10 +14,10 @@ use Rattle.lk_disk.specs.declared.device.Side.{Side}
 use Rattle.lk_agreement.specs.Datagrams.{NodeMessage, said_by}
 use Rattle.lk_messages.specs.Grammar.{Spells}
 use Rattle.lk_log.specs.Rooms.{StaysWithin}
-use Rattle.lk_step.specs.Letters.{LetterValue, batch_of}
-use Rattle.lk_step.specs.Outboxes.{OutboxValue}
-use Rattle.lk_step.specs.declared.input.Input.{Input}
-use Rattle.lk_step.specs.declared.note.Note.{Note}
+use Rattle.lk_node_io.specs.Letters.{LetterValue, batch_of}
+use Rattle.lk_node_io.specs.Outboxes.{OutboxValue}
+use Rattle.lk_node_io.specs.declared.input.Input.{Input}
+use Rattle.lk_node_io.specs.declared.note.Note.{Note}
 use Rattle.lk_node.specs.Calls.{heard_by, InputFits, NodeFits, Goes}
 use Rattle.lk_node.specs.Executing.{NothingToRun}
 use Rattle.lk_node.specs.Histories.{Datagram, History, Genesis}
@@ -25,10 +25,10 @@ use Rattle.lk_node.specs.Keeping.{Stands}
 use Rattle.lk_node.specs.Leavings.{DisksFit, AllCover}
 use Rattle.lk_recovery.specs.Remembering.{Remembers}
 use Rattle.lk_recovery.specs.Rooms.{GrowsByStep, GrowsFromBase}
-use Rattle.lk_recovery.specs.Compacting.{AreLeft, IsDue, KeepsFileOrGoesOver, Rebases, RebasesWhereDue, CallsWhereDue}
-use Rattle.lk_step.specs.Faults.{fault_number, failures_by, RefusedAfter, IfGoesOn, IfSend, IfSpared, IsOfCalls, IsNumberOfCalls, WantsNoMemory}
-use Rattle.lk_step.specs.declared.fault.ReplicaFault.{ReplicaFault}
-use Rattle.lk_step.specs.declared.fault.ReplicaFault.TheVariants as fault
+use Rattle.lk_recovery.specs.Compacting.{AreLeft, IsDue, KeepsOrSwitchesFiles, Rebases, RebasesWhereDue, CallsWhereDue}
+use Rattle.lk_node_io.specs.Faults.{fault_number, failures_by, RefusedAfter, IfGoesOn, IfSend, IfSpared, IsOfCalls, IsNumberOfCalls, WantsNoMemory}
+use Rattle.lk_node_io.specs.declared.fault.ReplicaFault.{ReplicaFault}
+use Rattle.lk_node_io.specs.declared.fault.ReplicaFault.TheVariants as fault
 use Rattle.lk_replica.specs.ReplicaValue.{ReplicaValue}
 use Rattle.lk_node.specs.NodeValue.{NodeValue}
 use Rattle.lk_node.specs.Steps.{Steps}
@@ -102,7 +102,7 @@ pub record IsRefused (Honest Metered : Type 0) (old new : ReplicaValue) (number 
   pub second : Honest → number ≡ 11 → old.failed ≡ false → old.store.failed ≡ false → old.store.generation < max_count → IsDue old.node old.store
   pub once : old.failed ≡ true → (number ≡ 11) × (new ≡ old)
   pub ends : (number ≡ 15 → ⊥) → new.failed ≡ true
-  pub file : Honest → (number ≡ 15 → ⊥) → KeepsFileOrGoesOver old.node old.store new.store
+  pub file : Honest → (number ≡ 15 → ⊥) → KeepsOrSwitchesFiles old.node old.store new.store
   pub stays : Honest → (number ≡ 7 → ⊥) → (number ≡ 15 → ⊥) → AreLeft old.node old.store new.store
   pub halts : number ≡ 14 → new.node.halted ≡ true
   pub awake : old.node.halted ≡ false → (number ≡ 14 → ⊥) → new.node.halted ≡ false

@@ -5,9 +5,9 @@ use Rattle.lk_disk.specs.declared.device.Side.{Side}
 use Rattle.lk_log.specs.Rooms.{StaysWithin}
 use Rattle.lk_log.specs.StoreValue.{StoreValue}
 use Rattle.lk_state.specs.Meanings.{Meaning}
-use Rattle.lk_step.specs.Letters.{batch_of}
-use Rattle.lk_step.specs.declared.input.Input.{Input}
-use Rattle.lk_step.specs.declared.note.Note.{Note}
+use Rattle.lk_node_io.specs.Letters.{batch_of}
+use Rattle.lk_node_io.specs.declared.input.Input.{Input}
+use Rattle.lk_node_io.specs.declared.note.Note.{Note}
 use Rattle.lk_node.specs.Calls.{heard_by, InputFits, NodeFits, Goes}
 use Rattle.lk_node.specs.Histories.{History, Genesis, Datagram}
 use Rattle.lk_node.specs.Holdings.{Holding}
@@ -61,15 +61,15 @@ GoesAll {R} Shows disks m n r (i ∷ is) q said = (mid : R) × (one : Said) × (
 -- a node with these files, of which something waited for a sync or not, took these inputs, one after another; and the
 -- notes and letters of each step
 abbrev pub GathersAll : Meaning → (List ℕ → Type 0) → NodeValue → StoreValue → Bool → List Input → NodeValue → StoreValue → Bool → List StepSaid → Type 0
-GathersAll m IsText node store waits [] new after still steps = (new ≡ node) × (after ≡ store) × (still ≡ waits) × (steps ≡ [])
-GathersAll m IsText node store waits (i ∷ is) new after still steps =
+GathersAll m IsText node store needs_sync [] new after still steps = (new ≡ node) × (after ≡ store) × (still ≡ needs_sync) × (steps ≡ [])
+GathersAll m IsText node store needs_sync (i ∷ is) new after still steps =
     (mid : NodeValue) × (between : StoreValue) × (one : GroupValue) × (rest : List StepSaid) × (steps ≡ (one.notes, one.letters) ∷ rest)
-    × IsGathered m IsText ⊤ node store (record { notes = []; letters = []; waits = waits }) i mid between one
-    × GathersAll m IsText mid between one.waits is new after still rest
+    × IsGathered m IsText ⊤ node store (record { notes = []; letters = []; needs_sync = needs_sync }) i mid between one
+    × GathersAll m IsText mid between one.needs_sync is new after still rest
 
 -- the replica took these inputs, after which it was in this state
-pub record IsGatheredFrom (m : Meaning) (IsText : List ℕ → Type 0) (old : ReplicaValue) (inputs : List Input) (mid : ReplicaValue) (waits : Bool) (steps : List StepSaid) : Type 0 where
-  pub gathers : GathersAll m IsText old.node old.store false inputs mid.node mid.store waits steps
+pub record IsGatheredFrom (m : Meaning) (IsText : List ℕ → Type 0) (old : ReplicaValue) (inputs : List Input) (mid : ReplicaValue) (needs_sync : Bool) (steps : List StepSaid) : Type 0 where
+  pub gathers : GathersAll m IsText old.node old.store false inputs mid.node mid.store needs_sync steps
   pub alive : (mid ≡ old) ⊎ (mid.failed ≡ false)
 
 -- it took all of these, synced once if something waited for that, and then sent the letters of the steps
@@ -77,10 +77,10 @@ pub record IsTakenTogether (m : Meaning) (IsText : List ℕ → Type 0) (old : R
   pub inputs : List Input
   pub are : map heard_by inputs ≡ given
   pub mid : ReplicaValue
-  pub waits : Bool
+  pub needs_sync : Bool
   pub steps : List StepSaid
-  pub gathered : IsGatheredFrom m IsText old inputs mid waits steps
-  pub settled : IsSettled ⊤ mid waits new
+  pub gathered : IsGatheredFrom m IsText old inputs mid needs_sync steps
+  pub settled : IsSettled ⊤ mid needs_sync new
   pub sends : said ≡ said_by_steps old.node.header.node steps
   pub alive : new.failed ≡ false
 
@@ -90,9 +90,9 @@ pub record IsNotKept (mid new : ReplicaValue) (number : ℕ) : Type 0 where
   pub ends : new ≡ record mid { failed = true }
 
 -- memory ran out for what was to be sent, once it was synced
-pub record IsNotSent (mid : ReplicaValue) (waits : Bool) (new : ReplicaValue) (number : ℕ) : Type 0 where
+pub record IsNotSent (mid : ReplicaValue) (needs_sync : Bool) (new : ReplicaValue) (number : ℕ) : Type 0 where
   pub not_sent : number ≡ 15
-  pub settled : IsSettled ⊤ mid waits new
+  pub settled : IsSettled ⊤ mid needs_sync new
 
 -- it took the first of these, and then a call failed with this; nothing was sent
 pub record IsTogetherRefused (m : Meaning) (IsText : List ℕ → Type 0) (old : ReplicaValue) (given : List (Option (List ℕ))) (new : ReplicaValue) (number : ℕ) : Type 0 where
@@ -100,10 +100,10 @@ pub record IsTogetherRefused (m : Meaning) (IsText : List ℕ → Type 0) (old :
   pub rest : List Input
   pub are : map heard_by (inputs ++ rest) ≡ given
   pub mid : ReplicaValue
-  pub waits : Bool
+  pub needs_sync : Bool
   pub steps : List StepSaid
-  pub gathered : IsGatheredFrom m IsText old inputs mid waits steps
-  pub refused : IsRefusedInGroup ⊤ ⊤ mid new number ⊎ IsNotKept mid new number ⊎ IsNotSent mid waits new number
+  pub gathered : IsGatheredFrom m IsText old inputs mid needs_sync steps
+  pub refused : IsRefusedInGroup ⊤ ⊤ mid new number ⊎ IsNotKept mid new number ⊎ IsNotSent mid needs_sync new number
 
 -- the result of a call
 abbrev pub ComesToAll : Meaning → (List ℕ → Type 0) → ReplicaValue → List (Option (List ℕ)) → ReplicaValue → Result (List (List Note × List Datagram)) ℕ → Type 0

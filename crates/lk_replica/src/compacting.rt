@@ -3,14 +3,14 @@ ghost use Rattle.std.specs.Prelude.{◌≡◌, ◌+◌, ◌≤◌, ◌<◌, fals
 ghost use Rattle.lk_types.specs.Limits.{max_base, max_count};
 ghost use Rattle.lk_log.specs.StoreValue.{disks};
 ghost use Rattle.lk_replica.specs.Compacted.{IsNotCompacted};
-ghost use Rattle.lk_recovery.specs.Rebased.{StandsOnBase, HasGoneOver, LeavesDisks};
-ghost use Rattle.lk_step.specs.Faults.{fault_number, RaisesFailures};
+ghost use Rattle.lk_recovery.specs.Rebased.{StandsOnBase, HasSwitchedFiles, LeavesDisks};
+ghost use Rattle.lk_node_io.specs.Faults.{fault_number, RaisesFailures};
 
 use crate::replica::Replica;
 use lk_disk::LogDisk;
+use lk_node_io::ReplicaFault;
 use lk_recovery::write_base;
 use lk_state::Machine;
-use lk_step::ReplicaFault;
 
 impl<M: Machine, D: LogDisk + Drop> Replica<M, D> {
     /// Writes a snapshot of everything executed, which replaces the commands and the votes up to there.
@@ -20,7 +20,7 @@ impl<M: Machine, D: LogDisk + Drop> Replica<M, D> {
     pub fn compact(&mut self) -> Result<(), ReplicaFault>
         // At Ok it has switched to its Base in four calls of the device: the node goes on, and every image stands for
         // a snapshot of everything executed.
-        ensures done { D.is_honest → OnOk result (HasGoneOver M.meaning D.is_metered self.old.node self.old.store self.new.node self.new.store) }
+        ensures done { D.is_honest → OnOk result (HasSwitchedFiles M.meaning D.is_metered self.old.node self.old.store self.new.node self.new.store) }
         ensures becomes { OnOk result (StandsOnBase self.old.node self.old.store self.new.node self.new.store) }
         ensures alive { OnOk result (self.new.failed ≡ false) }
         // What is on the disks, however it ends: neither file has grown, except up to the size of a Base.

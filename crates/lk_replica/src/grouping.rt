@@ -9,14 +9,14 @@ ghost use Rattle.lk_log.specs.StoreValue.{disks};
 ghost use Rattle.lk_log.specs.Stores.{Holds, KeepsAtLeast, KeepsItsFile};
 ghost use Rattle.lk_messages.specs.Grammar.{Spells};
 ghost use Rattle.lk_agreement.specs.Datagrams.{NodeMessage, Datagram as DatagramValue, said_by};
-ghost use Rattle.lk_step.specs.Letters.{LetterValue, batch_of};
+ghost use Rattle.lk_node_io.specs.Letters.{LetterValue, batch_of};
 ghost use Rattle.lk_node.specs.Calls.{InputFits, NodeFits, Goes};
 ghost use Rattle.lk_node.specs.Executing.{NothingToRun};
 ghost use Rattle.lk_node.specs.Histories.{History, Genesis};
 ghost use Rattle.lk_node.specs.Keeping.{Stands};
 ghost use Rattle.lk_node.specs.Leavings.{DisksFit, AllCover};
-ghost use Rattle.lk_step.specs.Faults.{RaisesFailures, fault_number};
-ghost use Rattle.lk_replica.specs.Groups.{Adds, IsCovered, LeavesInGroup, KeepsGroup, MakesRoom, StepsToFile, IsGathered, IsSettled, IsRefusedInGroup, settle_calls, as_sent, waits_after, with_step, Settles, Recalls, GroupFits, GroupGoes, GroupStays};
+ghost use Rattle.lk_node_io.specs.Faults.{RaisesFailures, fault_number};
+ghost use Rattle.lk_replica.specs.Groups.{Adds, IsCovered, LeavesInGroup, KeepsGroup, MakesRoom, StepsToFile, IsGathered, IsSettled, IsRefusedInGroup, settle_calls, as_sent, needs_sync_after, with_step, Settles, Recalls, GroupFits, GroupGoes, GroupStays};
 ghost use Rattle.lk_replica.specs.Posts.{AreOf, CarriesAll, TellsSends};
 ghost use Rattle.lk_recovery.specs.Rebased.{IsNotWritten, StaysAlive};
 ghost use Rattle.lk_recovery.specs.Rooms.{GrowsFromBase, max_after};
@@ -28,9 +28,9 @@ use crate::taken::Step;
 use lk_disk::LogDisk;
 use lk_log::Store;
 use lk_node::Node;
-use lk_recovery::{is_due, write_base};
+use lk_node_io::{Input, Letter, Note, Outbox, Post, ReplicaFault, SendFault};
+use lk_recovery::{is_rebase_due, write_base};
 use lk_state::Machine;
-use lk_step::{Input, Letter, Note, Outbox, Post, ReplicaFault, SendFault};
 use lk_types::NoMemory;
 use std::alloc::Global;
 use std::marker::Model;
@@ -41,7 +41,7 @@ use std::mem;
 pub struct Group {
     notes: Vec<Note>,
     letters: Vec<Letter>,
-    waits: bool,
+    needs_sync: bool,
 }
 
 impl Model for Group {
@@ -49,18 +49,18 @@ impl Model for Group {
 
     ghost Value = { GroupValue };
 
-    ghost view = { λ g. record { notes = g.notes.items; letters = g.letters.items; waits = g.waits } };
+    ghost view = { λ g. record { notes = g.notes.items; letters = g.letters.items; needs_sync = g.needs_sync } };
 }
 
 impl Group {
     /// An empty group.
     pub fn new(alloc: Global) -> Group
-        ensures { result ≡ record { notes = []; letters = []; waits = false } }
+        ensures { result ≡ record { notes = []; letters = []; needs_sync = false } }
     {
         Group {
             notes: Vec::new(alloc),
             letters: Vec::new(alloc),
-            waits: false,
+            needs_sync: false,
         }
     }
 
@@ -79,10 +79,10 @@ impl Group {
     }
 
     /// Whether something written waits for a sync.
-    pub fn waits(&self) -> bool
-        ensures { result ≡ self.now.waits }
+    pub fn needs_sync(&self) -> bool
+        ensures { result ≡ self.now.needs_sync }
     {
-        self.waits
+        self.needs_sync
     }
 
     /// The last step, given how many letters preceded it. Its notes are moved out.
@@ -105,8 +105,8 @@ impl Group {
     }
 
     /// The group with one more step, given whether something waited before it.
-    pub fn add(&mut self, waits: bool, outbox: Outbox) -> Result<(), NoMemory>
-        ensures { OnOk result (self.new ≡ with_step waits outbox self.old) }
+    pub fn add(&mut self, needs_sync: bool, outbox: Outbox) -> Result<(), NoMemory>
+        ensures { OnOk result (self.new ≡ with_step needs_sync outbox self.old) }
     {
         let Outbox {
             rebase,
@@ -117,7 +117,7 @@ impl Group {
         } = outbox;
         self.notes.append(&mut notes)?;
         self.letters.append(&mut letters)?;
-        self.waits = if rebase { false } else { waits || sync };
+        self.needs_sync = if rebase { false } else { needs_sync || sync };
         Ok(())
     }
 }
@@ -136,21 +136,21 @@ fn are_sent<P: Post>(letters: &[Letter], post: &mut P) -> bool
 /// Syncs the live file if something waits for that, and otherwise gives what was written to the system.
 pub fn sync_if_waiting<D: LogDisk + Drop>(
     store: &mut Store<D>,
-    waits: bool,
+    needs_sync: bool,
 ) -> Result<(), ReplicaFault>
     requires { store.old.format ≡ 2 }
-    ensures settles { D.is_honest → OnOk result (Settles waits store.old store.new) }
+    ensures settles { D.is_honest → OnOk result (Settles needs_sync store.old store.new) }
     // However it ends, every image that a stop may leave has everything that was synced, and a prefix of the rest.
     ensures any { D.is_honest → (ks ls : List Stored) → Holds store.old ks ls → KeepsAtLeast store.new ks ls }
     ensures room { D.is_honest → StaysWithin 0 (disks store.old) (disks store.new) }
     ensures refused { IfErr result (IsNotWritten D.is_honest D.is_metered store.old store.new) }
-    ensures metered { D.is_metered → OnOk result (Passes store.old.meter store.new.meter (settle_calls waits)) }
+    ensures metered { D.is_metered → OnOk result (Passes store.old.meter store.new.meter (settle_calls needs_sync)) }
     ensures alive { store.old.failed ≡ false → OnOk result (store.new.failed ≡ false) }
     ensures file { KeepsItsFile store.old store.new }
     ensures format { store.new.format ≡ 2 }
     ensures cause { RaisesFailures store.old.failures store.new.failures result }
 {
-    if !waits {
+    if !needs_sync {
         store.flush()?;
         return Ok(());
     }
@@ -164,28 +164,28 @@ fn step_to_file<M: Machine, D: LogDisk + Drop>(
     node: &mut Node<M>,
     store: &mut Store<D>,
     input: Input,
-    waits: bool,
+    needs_sync: bool,
 ) -> Result<Outbox, ReplicaFault>
     requires { store.old.format ≡ 2 }
     // In each history that contains what the group has said so far, the step is permitted its notes and letters.
-    ensures goes { D.is_honest → (h : History) (n : ℕ) → GroupFits M.meaning h n node.old store.old waits → InputFits h input.entry
-        → IfOk result (λ o. (sent : List LetterValue) → AreOf sent o.letters → GroupGoes M.meaning h n node.new store.new (waits_after waits o) o.notes (batch_of n sent)) }
+    ensures goes { D.is_honest → (h : History) (n : ℕ) → GroupFits M.meaning h n node.old store.old needs_sync → InputFits h input.entry
+        → IfOk result (λ o. (sent : List LetterValue) → AreOf sent o.letters → GroupGoes M.meaning h n node.new store.new (needs_sync_after needs_sync o) o.notes (batch_of n sent)) }
     // In each history that contains nothing of it, whatever a stop may leave fits, however it ends.
-    ensures ends { D.is_honest → (h : History) (n : ℕ) → GroupStays M.meaning h n node.old store.old waits → InputFits h input.entry → DisksFit M.meaning h n (disks store.new) }
-    ensures stays { D.is_honest → (h : History) (n : ℕ) → GroupStays M.meaning h n node.old store.old waits → InputFits h input.entry
-        → IfOk result (λ o. GroupStays M.meaning h n node.new store.new (waits_after waits o)) }
+    ensures ends { D.is_honest → (h : History) (n : ℕ) → GroupStays M.meaning h n node.old store.old needs_sync → InputFits h input.entry → DisksFit M.meaning h n (disks store.new) }
+    ensures stays { D.is_honest → (h : History) (n : ℕ) → GroupStays M.meaning h n node.old store.old needs_sync → InputFits h input.entry
+        → IfOk result (λ o. GroupStays M.meaning h n node.new store.new (needs_sync_after needs_sync o)) }
     // Once everything that waits is synced, the step's letters are covered, and whatever was covered still is.
-    ensures syncs { D.is_honest → (genesis : Genesis) (n : ℕ) (x : NodeMessage) → Recalls node.old store.old waits genesis n
-        → IfOk result (λ o. (d : DatagramValue) → Contains (batch_of n o.letters) d → Spells (said_by genesis n x) d.bytes → AllCover M.meaning genesis n (disks (as_sent (waits_after waits o) store.new)) x) }
-    ensures still { D.is_honest → (genesis : Genesis) (n : ℕ) (x : NodeMessage) → Recalls node.old store.old waits genesis n → AllCover M.meaning genesis n (disks (as_sent waits store.old)) x
-        → IfOk result (λ o. AllCover M.meaning genesis n (disks (as_sent (waits_after waits o) store.new)) x) }
+    ensures syncs { D.is_honest → (genesis : Genesis) (n : ℕ) (x : NodeMessage) → Recalls node.old store.old needs_sync genesis n
+        → IfOk result (λ o. (d : DatagramValue) → Contains (batch_of n o.letters) d → Spells (said_by genesis n x) d.bytes → AllCover M.meaning genesis n (disks (as_sent (needs_sync_after needs_sync o) store.new)) x) }
+    ensures still { D.is_honest → (genesis : Genesis) (n : ℕ) (x : NodeMessage) → Recalls node.old store.old needs_sync genesis n → AllCover M.meaning genesis n (disks (as_sent needs_sync store.old)) x
+        → IfOk result (λ o. AllCover M.meaning genesis n (disks (as_sent (needs_sync_after needs_sync o) store.new)) x) }
     // However it ends, whatever was covered still is.
-    ensures covers { D.is_honest → (genesis : Genesis) (n : ℕ) (x : NodeMessage) → Recalls node.old store.old waits genesis n → AllCover M.meaning genesis n (disks store.old) x → AllCover M.meaning genesis n (disks store.new) x }
-    ensures recalls { D.is_honest → (genesis : Genesis) (n : ℕ) → Recalls node.old store.old waits genesis n → IfOk result (λ o. Recalls node.new store.new (waits_after waits o) genesis n) }
+    ensures covers { D.is_honest → (genesis : Genesis) (n : ℕ) (x : NodeMessage) → Recalls node.old store.old needs_sync genesis n → AllCover M.meaning genesis n (disks store.old) x → AllCover M.meaning genesis n (disks store.new) x }
+    ensures recalls { D.is_honest → (genesis : Genesis) (n : ℕ) → Recalls node.old store.old needs_sync genesis n → IfOk result (λ o. Recalls node.new store.new (needs_sync_after needs_sync o) genesis n) }
     ensures runs { NothingToRun node.old → OnOk result (NothingToRun node.new) }
     ensures room { D.is_honest → length (contents store.old.live_disk) < 131072 → StaysWithin max_after (disks store.old) (disks store.new) }
     ensures grows { D.is_honest → GrowsFromBase (disks store.old) (disks store.new) }
-    ensures exact { D.is_honest → IfOk result (λ o. StepsToFile M.meaning M.IsText D.is_metered node.old store.old waits input.entry o node.new store.new) }
+    ensures exact { D.is_honest → IfOk result (λ o. StepsToFile M.meaning M.IsText D.is_metered node.old store.old needs_sync input.entry o node.new store.new) }
     ensures alive { IfOk result (λ o. (store.new.failed ≡ false) × (node.new.halted ≡ false)) }
     ensures refused { IfErr result (IsCutShort D.is_honest D.is_metered 1 node.old store.old node.new store.new (KeepsItsFile store.old store.new) ⊤) }
     ensures format { store.new.format ≡ 2 }
@@ -193,7 +193,7 @@ fn step_to_file<M: Machine, D: LogDisk + Drop>(
 {
     let outbox = node.step(input)?;
     if outbox.rebase {
-        sync_if_waiting(store, waits)?;
+        sync_if_waiting(store, needs_sync)?;
         write_base(node, store)?;
         return Ok(outbox);
     }
@@ -205,18 +205,18 @@ fn step_to_file<M: Machine, D: LogDisk + Drop>(
 fn make_room<M: Machine, D: LogDisk + Drop>(
     node: &mut Node<M>,
     store: &mut Store<D>,
-    waits: bool,
+    needs_sync: bool,
 ) -> Result<bool, ReplicaFault>
     requires { store.old.format ≡ 2 }
-    ensures fits { D.is_honest → (h : History) (n : ℕ) → GroupFits M.meaning h n node.old store.old waits → IfOk result (λ w. GroupFits M.meaning h n node.new store.new w) }
-    ensures ends { D.is_honest → (h : History) (n : ℕ) → GroupStays M.meaning h n node.old store.old waits → DisksFit M.meaning h n (disks store.new) }
-    ensures stays { D.is_honest → (h : History) (n : ℕ) → GroupStays M.meaning h n node.old store.old waits → IfOk result (λ w. GroupStays M.meaning h n node.new store.new w) }
-    ensures still { D.is_honest → (genesis : Genesis) (n : ℕ) (x : NodeMessage) → Recalls node.old store.old waits genesis n → AllCover M.meaning genesis n (disks (as_sent waits store.old)) x
+    ensures fits { D.is_honest → (h : History) (n : ℕ) → GroupFits M.meaning h n node.old store.old needs_sync → IfOk result (λ w. GroupFits M.meaning h n node.new store.new w) }
+    ensures ends { D.is_honest → (h : History) (n : ℕ) → GroupStays M.meaning h n node.old store.old needs_sync → DisksFit M.meaning h n (disks store.new) }
+    ensures stays { D.is_honest → (h : History) (n : ℕ) → GroupStays M.meaning h n node.old store.old needs_sync → IfOk result (λ w. GroupStays M.meaning h n node.new store.new w) }
+    ensures still { D.is_honest → (genesis : Genesis) (n : ℕ) (x : NodeMessage) → Recalls node.old store.old needs_sync genesis n → AllCover M.meaning genesis n (disks (as_sent needs_sync store.old)) x
         → IfOk result (λ w. AllCover M.meaning genesis n (disks (as_sent w store.new)) x) }
-    ensures covers { D.is_honest → (genesis : Genesis) (n : ℕ) (x : NodeMessage) → Recalls node.old store.old waits genesis n → AllCover M.meaning genesis n (disks store.old) x → AllCover M.meaning genesis n (disks store.new) x }
-    ensures recalls { D.is_honest → (genesis : Genesis) (n : ℕ) → Recalls node.old store.old waits genesis n → IfOk result (λ w. Recalls node.new store.new w genesis n) }
+    ensures covers { D.is_honest → (genesis : Genesis) (n : ℕ) (x : NodeMessage) → Recalls node.old store.old needs_sync genesis n → AllCover M.meaning genesis n (disks store.old) x → AllCover M.meaning genesis n (disks store.new) x }
+    ensures recalls { D.is_honest → (genesis : Genesis) (n : ℕ) → Recalls node.old store.old needs_sync genesis n → IfOk result (λ w. Recalls node.new store.new w genesis n) }
     ensures room { D.is_honest → StaysWithin max_base (disks store.old) (disks store.new) }
-    ensures exact { D.is_honest → IfOk result (MakesRoom D.is_metered node.old store.old waits node.new store.new) }
+    ensures exact { D.is_honest → IfOk result (MakesRoom D.is_metered node.old store.old needs_sync node.new store.new) }
     ensures alive { OnOk result (StaysAlive node.old store.old node.new store.new) }
     ensures refused { IfErr result (IsCutShort D.is_honest D.is_metered 1 node.old store.old node.new store.new (KeepsItsFile store.old store.new) ⊤) }
     ensures wakes { node.new.halted ≡ node.old.halted }
@@ -225,11 +225,11 @@ fn make_room<M: Machine, D: LogDisk + Drop>(
     ensures format { store.new.format ≡ 2 }
     ensures cause { RaisesFailures store.old.failures store.new.failures result }
 {
-    let due = is_due(node, store)?;
+    let due = is_rebase_due(node, store)?;
     if !due {
-        return Ok(waits);
+        return Ok(needs_sync);
     }
-    sync_if_waiting(store, waits)?;
+    sync_if_waiting(store, needs_sync)?;
     write_base(node, store)?;
     Ok(false)
 }
@@ -242,9 +242,9 @@ fn step_in_group<M: Machine, D: LogDisk + Drop>(
     group: &mut Group,
 ) -> Result<(), ReplicaFault>
     requires { store.old.format ≡ 2 }
-    ensures goes { D.is_honest → OnOk result (Adds group.old group.new (λ notes letters. (h : History) (n : ℕ) → GroupFits M.meaning h n node.old store.old group.old.waits → InputFits h input.entry
-        → (sent : List LetterValue) → AreOf sent letters → GroupGoes M.meaning h n node.new store.new group.new.waits notes (batch_of n sent))) }
-    ensures disks { D.is_honest → LeavesInGroup M.meaning (λ h. InputFits h input.entry) max_after node.old store.old group.old.waits (disks store.new) }
+    ensures goes { D.is_honest → OnOk result (Adds group.old group.new (λ notes letters. (h : History) (n : ℕ) → GroupFits M.meaning h n node.old store.old group.old.needs_sync → InputFits h input.entry
+        → (sent : List LetterValue) → AreOf sent letters → GroupGoes M.meaning h n node.new store.new group.new.needs_sync notes (batch_of n sent))) }
+    ensures disks { D.is_honest → LeavesInGroup M.meaning (λ h. InputFits h input.entry) max_after node.old store.old group.old.needs_sync (disks store.new) }
     ensures grows { D.is_honest → GrowsFromBase (disks store.old) (disks store.new) }
     ensures keeps { D.is_honest → OnOk result (KeepsGroup M.meaning (λ h. InputFits h input.entry) node.old store.old group.old node.new store.new group.new) }
     ensures runs { NothingToRun node.old → OnOk result (NothingToRun node.new) }
@@ -254,9 +254,9 @@ fn step_in_group<M: Machine, D: LogDisk + Drop>(
     ensures format { store.new.format ≡ 2 }
     ensures cause { RaisesFailures store.old.failures store.new.failures result }
 {
-    let waits = make_room(node, store, group.waits)?;
-    let outbox = step_to_file(node, store, input, waits)?;
-    group.add(waits, outbox)?;
+    let needs_sync = make_room(node, store, group.needs_sync)?;
+    let outbox = step_to_file(node, store, input, needs_sync)?;
+    group.add(needs_sync, outbox)?;
     Ok(())
 }
 
@@ -268,14 +268,14 @@ impl<M: Machine, D: LogDisk + Drop> Replica<M, D> {
     pub fn gather(&mut self, input: Input, group: &mut Group) -> Result<(), ReplicaFault>
         // In each history that the node will fit once everything that waits is synced, it goes on: it is permitted its
         // notes and letters by what it then holds. So the history may contain everything that the group said before.
-        ensures goes { D.is_honest → OnOk result (Adds group.old group.new (λ notes letters. (genesis : Genesis) (k : ℕ) → Recalls self.old.node self.old.store group.old.waits genesis k
-            → (h : History) (n : ℕ) → NodeFits M.meaning h n (Stands M.meaning self.old.node (as_sent group.old.waits self.old.store) h.genesis n) (disks (as_sent group.old.waits self.old.store)) → InputFits h input.entry
+        ensures goes { D.is_honest → OnOk result (Adds group.old group.new (λ notes letters. (genesis : Genesis) (k : ℕ) → Recalls self.old.node self.old.store group.old.needs_sync genesis k
+            → (h : History) (n : ℕ) → NodeFits M.meaning h n (Stands M.meaning self.old.node (as_sent group.old.needs_sync self.old.store) h.genesis n) (disks (as_sent group.old.needs_sync self.old.store)) → InputFits h input.entry
             → (sent : List LetterValue) → AreOf sent letters
-            → Goes M.meaning h n (Stands M.meaning self.new.node (as_sent group.new.waits self.new.store) h.genesis n) (disks (as_sent group.new.waits self.new.store)) notes (batch_of n sent))) }
+            → Goes M.meaning h n (Stands M.meaning self.new.node (as_sent group.new.needs_sync self.new.store) h.genesis n) (disks (as_sent group.new.needs_sync self.new.store)) notes (batch_of n sent))) }
         // What is on the disks after any exit, where nothing of the group is sent. Each step first writes a Base if one
         // is due. So no file exceeds half of its maximum by more than a step and, except for a Base, none grows by more
         // than a step.
-        ensures disks { D.is_honest → LeavesInGroup M.meaning (λ h. InputFits h input.entry) max_after self.old.node self.old.store group.old.waits (disks self.new.store) }
+        ensures disks { D.is_honest → LeavesInGroup M.meaning (λ h. InputFits h input.entry) max_after self.old.node self.old.store group.old.needs_sync (disks self.new.store) }
         ensures grows { D.is_honest → GrowsFromBase (disks self.old.store) (disks self.new.store) }
         // The group goes on if nothing of it is sent, and its letters are covered once everything that waits for a sync
         // is synced.
@@ -303,26 +303,26 @@ impl<M: Machine, D: LogDisk + Drop> Replica<M, D> {
     /// It fails with `Device` (7), `NoMemory` (8) and `Failed` (11), and then nothing of the group is sent.
     pub fn release<P: Post>(&mut self, group: &Group, post: &mut P) -> Result<bool, ReplicaFault>
         // The node fits each history that it was to fit once it was synced.
-        ensures fits { D.is_honest → (genesis : Genesis) (k : ℕ) → Recalls self.old.node self.old.store group.now.waits genesis k
-            → (h : History) (n : ℕ) → NodeFits M.meaning h n (Stands M.meaning self.old.node (as_sent group.now.waits self.old.store) h.genesis n) (disks (as_sent group.now.waits self.old.store))
+        ensures fits { D.is_honest → (genesis : Genesis) (k : ℕ) → Recalls self.old.node self.old.store group.now.needs_sync genesis k
+            → (h : History) (n : ℕ) → NodeFits M.meaning h n (Stands M.meaning self.old.node (as_sent group.now.needs_sync self.old.store) h.genesis n) (disks (as_sent group.now.needs_sync self.old.store))
             → IfOk result (λ all. NodeFits M.meaning h n (Stands M.meaning self.new.node self.new.store h.genesis n) (disks self.new.store)) }
         // What is on the disks after any exit, where nothing of the group is sent: neither file has grown.
-        ensures disks { D.is_honest → LeavesInGroup M.meaning (λ h. ⊤) 0 self.old.node self.old.store group.now.waits (disks self.new.store) }
+        ensures disks { D.is_honest → LeavesInGroup M.meaning (λ h. ⊤) 0 self.old.node self.old.store group.now.needs_sync (disks self.new.store) }
         // Sync before send: every image covers everything that the group says.
-        ensures syncs { D.is_honest → (genesis : Genesis) (n : ℕ) (x : NodeMessage) → Recalls self.old.node self.old.store group.now.waits genesis n → IsCovered M.meaning genesis n group.now self.old.store
+        ensures syncs { D.is_honest → (genesis : Genesis) (n : ℕ) (x : NodeMessage) → Recalls self.old.node self.old.store group.now.needs_sync genesis n → IsCovered M.meaning genesis n group.now self.old.store
             → IfOk result (λ all. (d : DatagramValue) → Contains (batch_of n group.now.letters) d → Spells (said_by genesis n x) d.bytes → AllCover M.meaning genesis n (disks self.new.store) x) }
         // The letters were given to the post in order, each once, and nothing else; after an error none was.
         ensures gives { IfOk result (λ all. CarriesAll P.Carries post.old group.now.letters post.new) }
         ensures tells { IfOk result (λ all. TellsSends all (P.failures post.old) (P.failures post.new)) }
         ensures silent { OnErr result (post.new ≡ post.old) }
         // It has synced once what waited for that, and has done nothing else.
-        ensures exact { D.is_honest → OnOk result (IsSettled D.is_metered self.old group.now.waits self.new) }
+        ensures exact { D.is_honest → OnOk result (IsSettled D.is_metered self.old group.now.needs_sync self.new) }
         // It fails only with 7, 8 or 11, each for its cause, and each ends it.
         ensures refused { IfErr result (λ e. IsRefusedInGroup D.is_honest D.is_metered self.old self.new (fault_number e)) }
         ensures alive { OnOk result (self.new.failed ≡ false) }
         ensures cause { RaisesFailures self.old.store.failures self.new.store.failures result }
     {
-        self.sync_group(group.waits())?;
+        self.sync_group(group.needs_sync())?;
         let all = are_sent(group.letters(), post);
         Ok(all)
     }

@@ -8,17 +8,17 @@ ghost use Rattle.lk_replica.specs.Revived.{RevivesTo};
 ghost use Rattle.lk_replica.specs.Taking.{ComesTo};
 ghost use Rattle.lk_replica.specs.Together.{ComesToAll};
 
-use crate::collected::{Collected, datagrams};
 use crate::grouping::Group;
+use crate::memory_post::{MemoryPost, datagrams};
 use crate::memory_replica::{MemoryReplica, Revived};
 use crate::replica::Replica;
 use crate::taken::{Taken, TakenAll};
 use lk_disk::{LogDisk, Trap};
 use lk_entries::Header;
+use lk_node_io::{Input, ReplicaFault};
 use lk_recovery::ReviveFault;
 use lk_simulated_disk::MemoryDisk;
 use lk_state::Machine;
-use lk_step::{Input, ReplicaFault};
 use lk_types::{NoMemory, NodeNo};
 use std::alloc::Global;
 
@@ -36,10 +36,10 @@ impl<M: Machine, D: LogDisk + Drop> Replica<M, D> {
     }
 
     // A post to which nothing was given.
-    fn empty_post(&self) -> Collected
+    fn empty_post(&self) -> MemoryPost
         ensures { result ≡ record { letters = []; failures = 0 } }
     {
-        Collected::new(self.alloc)
+        MemoryPost::new(self.alloc)
     }
 }
 
@@ -88,7 +88,7 @@ impl<M: Machine> MemoryReplica for Replica<M, MemoryDisk> {
             let step = group.take_step(alloc, before);
             self.keep(&mut steps, step)?;
         }
-        self.sync_group(group.waits())?;
+        self.sync_group(group.needs_sync())?;
         match datagrams(alloc, node, group.into_letters()) {
             Ok(sent) => Ok(TakenAll { steps, sent }),
             Err(NoMemory) => Err(ReplicaFault::Send(Vec::new(alloc))),

@@ -1,12 +1,12 @@
 //! A replica: a node that saves whatever it sends before it sends it, and restarts from what a stop has left.
 #![tactic(auto)]
 
-mod collected;
 mod compacting;
 mod datagram;
 mod delivering;
 mod grouping;
 mod in_memory;
+mod memory_post;
 mod memory_replica;
 mod replica;
 mod reviving;

@@ -15,7 +15,7 @@ ghost use Rattle.lk_node.specs.Holdings.{Holding};
 ghost use Rattle.lk_node.specs.Leavings.{header_of, DisksFit, AllCover};
 ghost use Rattle.lk_node.specs.Calls.{heard_by, InputFits, NodeFits, Goes};
 ghost use Rattle.lk_replica.specs.Behaviours.{Behaviour, TrapsAlone, disks_by};
-ghost use Rattle.lk_step.specs.Faults.{IsStoreFault, fault_number, RefusedAfter, IsNumberOfCalls, IsNumberOfRevival};
+ghost use Rattle.lk_node_io.specs.Faults.{IsStoreFault, fault_number, RefusedAfter, IsNumberOfCalls, IsNumberOfRevival};
 ghost use Rattle.lk_recovery.specs.Compacting.{AllStandAt};
 ghost use Rattle.lk_recovery.specs.Rooms.{max_after};
 ghost use Rattle.lk_replica.specs.Together.{GoesAll, said_in, sent_of};
@@ -23,9 +23,9 @@ ghost use Rattle.lk_replica.specs.Together.{GoesAll, said_in, sent_of};
 use crate::taken::{Taken, TakenAll};
 use lk_disk::Trap;
 use lk_entries::Header;
+use lk_node_io::{Input, Note, ReplicaFault};
 use lk_recovery::ReviveFault;
 use lk_simulated_disk::MemoryDisk;
-use lk_step::{Input, Note, ReplicaFault};
 use std::alloc::Global;
 
 /// A replica, and what it executed while it restarted.

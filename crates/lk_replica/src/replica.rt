@@ -5,9 +5,9 @@ ghost use Rattle.lk_disk.specs.declared.device.Side.{Side};
 ghost use Rattle.lk_disk.specs.Meters.{trapped};
 ghost use Rattle.lk_log.specs.StoreValue.{StoreValue, disks};
 ghost use Rattle.lk_log.specs.Stores.{KeepsItsFile};
-ghost use Rattle.lk_step.specs.Letters.{LetterValue, batch_of};
+ghost use Rattle.lk_node_io.specs.Letters.{LetterValue, batch_of};
 ghost use Rattle.lk_node.specs.NodeValue.{NodeValue};
-ghost use Rattle.lk_recovery.specs.Compacting.{AreLeft, AreSame, IsDue, KeepsFileOrGoesOver, RebasesWhereDue};
+ghost use Rattle.lk_recovery.specs.Compacting.{AreLeft, AreSame, IsDue, KeepsOrSwitchesFiles, RebasesWhereDue};
 ghost use Rattle.lk_messages.specs.Grammar.{Spells};
 ghost use Rattle.lk_agreement.specs.Datagrams.{NodeMessage, Datagram as DatagramValue, said_by};
 ghost use Rattle.lk_node.specs.Calls.{InputFits, NodeFits, Goes};
@@ -19,7 +19,7 @@ ghost use Rattle.lk_replica.specs.Posts.{AreOf, GivesLetters, SendsAs, RefusesSe
 ghost use Rattle.lk_node.specs.Steps.{Steps};
 ghost use Rattle.lk_replica.specs.Taking.{Writes, CallsOfStep, GivesBy, IsRefused, IsCutShort, StaysUp, StepsOn, StepsToDisk, StepLeavesDisks};
 ghost use Rattle.lk_recovery.specs.Rebased.{LeavesDisks};
-ghost use Rattle.lk_step.specs.Faults.{fault_number, RaisesFailures, IfGoesOn, WantsNoMemory};
+ghost use Rattle.lk_node_io.specs.Faults.{fault_number, RaisesFailures, IfGoesOn, WantsNoMemory};
 ghost use Rattle.lk_recovery.specs.Remembering.{Remembers};
 ghost use Rattle.lk_recovery.specs.Rooms.{max_after};
 
@@ -27,9 +27,9 @@ use crate::delivering::deliver;
 use lk_disk::{LogDisk, Trap, Trapped};
 use lk_log::Store;
 use lk_node::Node;
+use lk_node_io::{Input, Note, Outbox, Post, ReplicaFault, SendFault};
 use lk_recovery::{rebase_if_due, write_base};
 use lk_state::Machine;
-use lk_step::{Input, Note, Outbox, Post, ReplicaFault, SendFault};
 use std::alloc::Global;
 use std::marker::Model;
 
@@ -219,7 +219,7 @@ fn rebase_and_step<M: Machine, D: LogDisk + Drop>(
     ensures calls { D.is_metered → D.is_honest → IfOk result (λ o. CallsOfStep node.old store.old o store.new) }
     ensures alive { OnOk result (StepsOn D.is_honest node.old store.old node.new store.new) }
     ensures disks { D.is_honest → LeavesDisks M.meaning (λ h. InputFits h input.entry) max_after node.old store.old (disks store.new) }
-    ensures refused { IfErr result (IsCutShort D.is_honest D.is_metered 2 node.old store.old node.new store.new (KeepsFileOrGoesOver node.old store.old store.new) (AreLeft node.old store.old store.new)) }
+    ensures refused { IfErr result (IsCutShort D.is_honest D.is_metered 2 node.old store.old node.new store.new (KeepsOrSwitchesFiles node.old store.old store.new) (AreLeft node.old store.old store.new)) }
     ensures format { store.new.format ≡ 2 }
     ensures last { D.is_honest → max_count ≤ store.old.generation → IsDue node.old store.old → IsErrAnd result (λ e. WantsNoMemory (fault_number e)) }
     ensures cause { RaisesFailures store.old.failures store.new.failures result }

@@ -7,7 +7,7 @@ ghost use Rattle.lk_types.specs.Limits.{max_base};
 ghost use Rattle.lk_agreement.specs.Datagrams.{NodeMessage};
 ghost use Rattle.lk_node.specs.Calls.{Goes};
 ghost use Rattle.lk_recovery.specs.Remembering.{Remembers};
-ghost use Rattle.lk_step.specs.Faults.{fault_number, failures_by, RefusedAfter, IsNumberOfRevival};
+ghost use Rattle.lk_node_io.specs.Faults.{fault_number, failures_by, RefusedAfter, IsNumberOfRevival};
 ghost use Rattle.lk_node.specs.Histories.{History, Genesis as GenesisValue, IsLawful};
 ghost use Rattle.lk_node.specs.Keeping.{Stands};
 ghost use Rattle.lk_node.specs.Leavings.{header_of, DisksFit, AllCover};

@@ -1,5 +1,5 @@
 use crate::datagram::Datagram;
-use lk_step::Note;
+use lk_node_io::Note;
 
 /// The result of a call: its notes, and the datagrams that it sent, in order.
 #[derive(Drop)]

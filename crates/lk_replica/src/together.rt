@@ -1,7 +1,7 @@
 // The end of a group whose letters the caller sends, and what remains of its steps.
 ghost use Rattle.std.specs.Prelude.{◌≡◌, ◌∷◌, ◌++◌, [], false, IfErr, OnOk, ⊤};
 ghost use Rattle.lk_log.specs.StoreValue.{disks};
-ghost use Rattle.lk_step.specs.Faults.{RaisesFailures, fault_number};
+ghost use Rattle.lk_node_io.specs.Faults.{RaisesFailures, fault_number};
 ghost use Rattle.lk_replica.specs.Groups.{IsRefusedInGroup, IsSettled, LeavesInGroup};
 ghost use Rattle.lk_replica.specs.Together.{IsNotKept};
 
@@ -9,8 +9,8 @@ use crate::grouping::sync_if_waiting;
 use crate::replica::Replica;
 use crate::taken::Step;
 use lk_disk::LogDisk;
+use lk_node_io::ReplicaFault;
 use lk_state::Machine;
-use lk_step::ReplicaFault;
 
 impl<M: Machine, D: LogDisk + Drop> Replica<M, D> {
     // Keeps the result of a step. If it is out of memory, the replica ends.
@@ -29,10 +29,10 @@ impl<M: Machine, D: LogDisk + Drop> Replica<M, D> {
     }
 
     // Syncs the live file once, if something waits for that, or else flushes it. If that fails, the replica ends.
-    pub(crate) fn sync_group(&mut self, waits: bool) -> Result<(), ReplicaFault>
-        ensures exact { D.is_honest → OnOk result (IsSettled D.is_metered self.old waits self.new) }
+    pub(crate) fn sync_group(&mut self, needs_sync: bool) -> Result<(), ReplicaFault>
+        ensures exact { D.is_honest → OnOk result (IsSettled D.is_metered self.old needs_sync self.new) }
         // What is on the disks after any exit, where nothing of the group is sent: neither file has grown.
-        ensures disks { D.is_honest → LeavesInGroup M.meaning (λ h. ⊤) 0 self.old.node self.old.store waits (disks self.new.store) }
+        ensures disks { D.is_honest → LeavesInGroup M.meaning (λ h. ⊤) 0 self.old.node self.old.store needs_sync (disks self.new.store) }
         ensures refused { IfErr result (λ e. IsRefusedInGroup D.is_honest D.is_metered self.old self.new (fault_number e)) }
         ensures alive { OnOk result (self.new.failed ≡ false) }
         ensures cause { RaisesFailures self.old.store.failures self.new.store.failures result }
@@ -41,7 +41,7 @@ impl<M: Machine, D: LogDisk + Drop> Replica<M, D> {
             return Err(ReplicaFault::Failed);
         }
         self.failed = true;
-        sync_if_waiting(&mut self.store, waits)?;
+        sync_if_waiting(&mut self.store, needs_sync)?;
         self.failed = false;
         Ok(())
     }

@@ -8,16 +8,16 @@ use Rattle.lk_sim.specs.Runs.{Passes}
 use Rattle.lk_sim.specs.Scenes.{Scene}
 use Rattle.lk_sim.specs.declared.event.Event.{Event}
 use Rattle.lk_world_nodes.specs.declared.refused.Refused.{Refused}
-use Rattle.lk_lines.specs.WorldLines.{SpellsOrder}
+use Rattle.lk_lines.specs.WorldLines.{SpellsInstruction}
 use Rattle.lk_script.specs.Worlds.{events_of, Follows}
-use Rattle.lk_lines.specs.declared.order.Order.{Order}
+use Rattle.lk_lines.specs.declared.instruction.Instruction.{Instruction}
 use Rattle.lk_script.specs.declared.world_run.WorldRun.{WorldRun}
 
 module _ {R : Type 0} (b : Behaviour R) where
   -- a line was followed
   abbrev pub GoesOn : WorldRun R → List ℕ → Option Refused → WorldRun R → Type 0
   GoesOn old line refused new =
-      (o : Order) × (k : ℕ) × SpellsOrder line o × Follows b old.world (events_of o) k refused new.world × (new.done ≡ old.done + k)
+      (o : Instruction) × (k : ℕ) × SpellsInstruction line o × Follows b old.world (events_of o) k refused new.world × (new.done ≡ old.done + k)
 
   -- where none was refused, all events have happened
   pub all_passed : (events : List Event) (k : ℕ) (old new : Scene R) → Follows b old events k None new → Passes b events old new

@@ -12,14 +12,14 @@ use Rattle.lk_lines.specs.HexLines.{SpellsBytes}
 use Rattle.lk_lines.specs.Lines.{lines_of, TakesLine, TakesWithinLine}
 use Rattle.lk_script.specs.TableMode.{Prints, IsTableLine}
 use Rattle.lk_lines.specs.GenesisLines.{IsGenesisLine}
-use Rattle.lk_lines.specs.WorldLines.{SpellsOrder}
+use Rattle.lk_lines.specs.WorldLines.{SpellsInstruction}
 use Rattle.lk_script.specs.Worlds.{events_of, Follows, refused_line}
 use Rattle.lk_script.specs.Scripts.{Script, begun, table, world, IsFirstLine, IsUnderstood, Takes, Refuses, Stop, at_end, at_line, at_refusal, Runs, last_line}
 use Rattle.lk_script.specs.Scripts.Takes.{prints, happens}
 use Rattle.lk_script.specs.Scripts.Runs.{ends, skips, takes, stops, refuses}
 use Rattle.lk_script.specs.Endings.{SetsUp, BreaksOff, EndsBy}
 use Rattle.lk_lines.specs.Faults.{fault_of_line}
-use Rattle.lk_lines.specs.declared.order.Order.{Order}
+use Rattle.lk_lines.specs.declared.instruction.Instruction.{Instruction}
 use Rattle.lk_lines.specs.declared.fault.ScriptFault.{ScriptFault}
 use Rattle.lk_lines.specs.declared.fault.ScriptFault.TheVariants.{Read, Write, ScriptMemory, Ended}
 use Rattle.lk_lines.specs.declared.fault.LineFault.{LineFault}
@@ -67,10 +67,10 @@ no_bytes begun server line fits none u = absurd fits
 no_bytes (table cluster L) server line fits none u = none u.0 u.1
 no_bytes (world scene done) server line fits none u = absurd fits
 
-pub no_order : {R : Type 0} (s : Script R) (run : WorldRun R) (line : List ℕ) → Fits s (mode.World run) → ((o : Order) → SpellsOrder line o → ⊥) → IsUnderstood s line → ⊥
-no_order begun run line fits none u = absurd fits
-no_order (table cluster L) run line fits none u = absurd fits
-no_order (world scene done) run line fits none u = none u.0 u.1
+pub no_instruction : {R : Type 0} (s : Script R) (run : WorldRun R) (line : List ℕ) → Fits s (mode.World run) → ((o : Instruction) → SpellsInstruction line o → ⊥) → IsUnderstood s line → ⊥
+no_instruction begun run line fits none u = absurd fits
+no_instruction (table cluster L) run line fits none u = absurd fits
+no_instruction (world scene done) run line fits none u = none u.0 u.1
 
 -- a line of a world, of which no event is refused
 pub world_line : {R : Type 0} (b : Behaviour R) (s : Script R) (run new : WorldRun R) (line text : List ℕ) → Fits s (mode.World run) → GoesOn b run line None new
@@ -91,7 +91,7 @@ pub world_refusal : {R : Type 0} (b : Behaviour R) (s : Script R) (run new : Wor
 world_refusal b begun run new line text r fits went printed = absurd fits
 world_refusal b (table cluster L) run new line text r fits went printed = absurd fits
 world_refusal b (world scene done) run new line text r fits went printed = record {
-  order = went.0;
+  instruction = went.0;
   spelled = went.2;
   done = went.1;
   new = new.world;

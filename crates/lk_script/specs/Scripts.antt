@@ -10,9 +10,9 @@ use Rattle.lk_world_nodes.specs.declared.refused.Refused.{Refused}
 use Rattle.lk_lines.specs.HexLines.{SpellsBytes}
 use Rattle.lk_script.specs.TableMode.{Prints, IsTableLine}
 use Rattle.lk_lines.specs.GenesisLines.{IsGenesisLine}
-use Rattle.lk_lines.specs.WorldLines.{SpellsOrder}
+use Rattle.lk_lines.specs.WorldLines.{SpellsInstruction}
 use Rattle.lk_script.specs.Worlds.{new_world, events_of, Follows, refused_line, done_line}
-use Rattle.lk_lines.specs.declared.order.Order.{Order}
+use Rattle.lk_lines.specs.declared.instruction.Instruction.{Instruction}
 
 -- what a script has set up: nothing yet, a lock table with the list of the requests that took effect so far, or a
 -- world, in which this many events were done
@@ -25,11 +25,11 @@ pub data Script (R : Type 0) : Type 0 where
 abbrev pub IsFirstLine : List ℕ → Type 0
 IsFirstLine line = ((cluster : ℕ) × IsTableLine line cluster) ⊎ ((cluster : ℕ) × (alpha : ℕ) × (members : List Member) × IsGenesisLine line cluster alpha members)
 
--- the line is valid there: after the first line a datagram in hex, or an order
+-- the line is valid there: after the first line a datagram in hex, or an instruction
 abbrev pub IsUnderstood : {R : Type 0} → Script R → List ℕ → Type 0
 IsUnderstood begun line = IsFirstLine line
 IsUnderstood (table cluster L) line = (bytes : List ℕ) × SpellsBytes line bytes
-IsUnderstood (world scene done) line = (o : Order) × SpellsOrder line o
+IsUnderstood (world scene done) line = (o : Instruction) × SpellsInstruction line o
 
 -- a valid line, what it prints and what is set up after it, if the replicas of a world behave like this
 pub data Takes {R : Type 0} (b : Behaviour R) : Script R → List ℕ → List ℕ → Script R → Type 0 where
@@ -41,17 +41,17 @@ pub data Takes {R : Type 0} (b : Behaviour R) : Script R → List ℕ → List �
   prints : (cluster : ℕ) (L : List Command) (line bytes text : List ℕ) (after : List Command) → SpellsBytes line bytes → Prints cluster L bytes text after
       → Takes b (table cluster L) line (text ++ 10 ∷ []) (table cluster after)
   -- or an event of the world, or several, which happen in order; nothing is said here of what they print
-  happens : (old new : Scene R) (done : ℕ) (line out : List ℕ) (o : Order) → SpellsOrder line o → Passes b (events_of o) old new
+  happens : (old new : Scene R) (done : ℕ) (line out : List ℕ) (o : Instruction) → SpellsInstruction line o → Passes b (events_of o) old new
       → Takes b (world old done) line out (world new (done + length (events_of o)))
 
 -- a valid line, of which an event is rejected: those before it happen in order, the rejection leaves this world, and
 -- what the line prints ends with it
 pub record IsCutShort {R : Type 0} (b : Behaviour R) (old : Scene R) (line out : List ℕ) (r : Refused) : Type 0 where
-  pub order : Order
-  pub spelled : SpellsOrder line order
+  pub instruction : Instruction
+  pub spelled : SpellsInstruction line instruction
   pub done : ℕ
   pub new : Scene R
-  pub follows : Follows b old (events_of order) done (Some r) new
+  pub follows : Follows b old (events_of instruction) done (Some r) new
   pub printed : List ℕ
   pub out_is : out ≡ printed ++ refused_line r
 

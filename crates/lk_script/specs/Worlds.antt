@@ -10,15 +10,15 @@ use Rattle.lk_sim.specs.declared.event.Event.{Event}
 use Rattle.lk_sim.specs.declared.event.Event.TheVariants.{Tick}
 use Rattle.lk_world_nodes.specs.declared.refused.Refused.{Refused}
 use Rattle.lk_world_nodes.specs.declared.refused.Refused.TheVariants.{NoSuchNode, NotUp, AlreadyUp, NoSuchDatagram, Forged, WorldFull, WorldMemory}
-use Rattle.lk_lines.specs.declared.order.Order.{Order}
-use Rattle.lk_lines.specs.declared.order.Order.TheVariants.{Ticks, Once}
+use Rattle.lk_lines.specs.declared.instruction.Instruction.{Instruction}
+use Rattle.lk_lines.specs.declared.instruction.Instruction.TheVariants.{Ticks, Once}
 
 -- a world in which nothing has happened
 abbrev pub new_world : {R : Type 0} → Genesis → Scene R
 new_world genesis = record { genesis = genesis; seats = []; sent = []; trace = []; ended = None }
 
--- the events of an order, one after another
-abbrev pub events_of : Order → List Event
+-- the events of an instruction, one after another
+abbrev pub events_of : Instruction → List Event
 events_of (Ticks n times) = replicate times (Tick n)
 events_of (Once e) = e ∷ []
 

@@ -4,9 +4,9 @@ ghost use Rattle.std.specs.Prelude.{◌≡◌, ◌++◌, OnOk};
 ghost use Rattle.lk_script.specs.Worlds.{refusal_name, refused_line};
 
 use lk_agreement::Party;
+use lk_node_io::Note;
 use lk_replica::Datagram;
 use lk_sim::{End, Refused};
-use lk_step::Note;
 use lk_types::{Command, NoMemory, NodeNo, Position};
 use lk_wire::{Bad, ContentRef, MessageRef, NodeMessageRef, view};
 use std::alloc::Global;

@@ -4,14 +4,14 @@ ghost use Rattle.lk_sim.specs.Events.{Does, IsRefused};
 ghost use Rattle.lk_sim.specs.declared.event.Event.TheVariants.{Tick};
 ghost use Rattle.lk_world_nodes.specs.declared.refused.Refused.{Refused as RefusedValue};
 ghost use Rattle.lk_types.specs.Limits.{max_count};
-ghost use Rattle.lk_lines.specs.declared.order.Order.{Order as OrderValue};
-ghost use Rattle.lk_lines.specs.WorldLines.{SpellsOrder};
+ghost use Rattle.lk_lines.specs.declared.instruction.Instruction.{Instruction as InstructionValue};
+ghost use Rattle.lk_lines.specs.WorldLines.{SpellsInstruction};
 ghost use Rattle.lk_script.specs.Worlds.{new_world, events_of, Follows, refused_line};
 
 use crate::printing::{print_event, print_refusal};
 use lk_lines::fault::LineFault;
-use lk_lines::order::Order;
-use lk_lines::world_line::read_order;
+use lk_lines::instruction::Instruction;
+use lk_lines::world_line::read_instruction;
 use lk_replica::MemoryReplica;
 use lk_sim::{Event, Refused, World};
 use lk_types::{Genesis, NoMemory, NodeNo};
@@ -88,14 +88,18 @@ impl<R: MemoryReplica> WorldRun<R> {
     }
 
     // Does what a line asks for, or as much of it as is not rejected, and appends what that prints to the text.
-    fn follow(&mut self, order: Order, text: &mut Vec<u8>) -> Result<Option<Refused>, NoMemory>
+    fn follow(
+        &mut self,
+        instruction: Instruction,
+        text: &mut Vec<u8>,
+    ) -> Result<Option<Refused>, NoMemory>
         requires { self.old.done < max_count }
-        ensures follows { IfOk result (λ refused. (k : ℕ) × Follows R.behaves self.old.world (events_of order) k refused self.new.world × (self.new.done ≡ self.old.done + k)) }
+        ensures follows { IfOk result (λ refused. (k : ℕ) × Follows R.behaves self.old.world (events_of instruction) k refused self.new.world × (self.new.done ≡ self.old.done + k)) }
         ensures paces { self.new.done ≤ self.old.done + 65535 }
     {
-        match order {
-            Order::Ticks(node, times) => self.tick(node, times, text),
-            Order::Once(event) => self.happen(event, text),
+        match instruction {
+            Instruction::Ticks(node, times) => self.tick(node, times, text),
+            Instruction::Once(event) => self.happen(event, text),
         }
     }
 
@@ -108,16 +112,16 @@ impl<R: MemoryReplica> WorldRun<R> {
     ) -> Result<Option<Refused>, LineFault>
         requires { self.old.done < max_count }
         // The events of the line happen in the world, in order, up to the first that is rejected; and no others.
-        ensures follows { IfOk result (λ refused. (o : OrderValue) × (k : ℕ) × SpellsOrder line.now o × Follows R.behaves self.old.world (events_of o) k refused self.new.world
+        ensures follows { IfOk result (λ refused. (o : InstructionValue) × (k : ℕ) × SpellsInstruction line.now o × Follows R.behaves self.old.world (events_of o) k refused self.new.world
             × (self.new.done ≡ self.old.done + k)) }
         ensures refused { (r : RefusedValue) → result ≡ Ok (Some r) → (printed : List ℕ) × (text.new.items ≡ printed ++ refused_line r) }
-        ensures not_understood { IsErrOf result LineFault.NotUnderstood → (o : OrderValue) → SpellsOrder line.now o → ⊥ }
+        ensures not_understood { IsErrOf result LineFault.NotUnderstood → (o : InstructionValue) → SpellsInstruction line.now o → ⊥ }
         ensures unchanged { IsErrOf result LineFault.NotUnderstood → self.new ≡ self.old }
         ensures paces { self.new.done ≤ self.old.done + 65535 }
     {
-        let order = read_order(alloc, line)?;
+        let instruction = read_instruction(alloc, line)?;
         text.clear();
-        let ended = self.follow(order, text)?;
+        let ended = self.follow(instruction, text)?;
         if let Some(refused) = ended {
             print_refusal(alloc, refused, text)?;
         }

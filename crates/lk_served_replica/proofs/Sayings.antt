@@ -11,21 +11,21 @@ use Rattle.lk_log.specs.StoreValue.{StoreValue, disks}
 use Rattle.lk_log.proofs.Room.{within_same, within_more, within_still, within_first}
 use Rattle.lk_state.specs.Meanings.{Meaning}
 use Rattle.lk_agreement.specs.Datagrams.{NodeMessage, said_by}
-use Rattle.lk_step.specs.Letters.{LetterValue, batch_of}
-use Rattle.lk_step.specs.declared.input.Input.{Input}
-use Rattle.lk_step.specs.declared.note.Note.{Note}
+use Rattle.lk_node_io.specs.Letters.{LetterValue, batch_of}
+use Rattle.lk_node_io.specs.declared.input.Input.{Input}
+use Rattle.lk_node_io.specs.declared.note.Note.{Note}
 use Rattle.lk_node.specs.Calls.{heard_by, InputFits, NodeFits, Goes}
 use Rattle.lk_node.specs.Histories.{History, Genesis, Datagram}
 use Rattle.lk_node.specs.Keeping.{Stands}
 use Rattle.lk_node.specs.Leavings.{AllCover}
 use Rattle.lk_node.specs.NodeValue.{NodeValue}
-use Rattle.lk_step.specs.Faults.{fault_number, IsNumberOfCalls}
+use Rattle.lk_node_io.specs.Faults.{fault_number, IsNumberOfCalls}
 use Rattle.lk_replica.specs.Groups.{Adds, GroupValue, StepSaid, letters_of, KeepsGroup, LeavesInGroup, MakesRoom, IsGathered, IsSettled, IsRefusedInGroup, GoesThrough, IsCovered, Recalls, as_sent, with_step}
 use Rattle.lk_replica.specs.Posts.{AreOf, CarriesAll, GivesLetters}
 use Rattle.lk_replica.specs.ReplicaValue.{ReplicaValue}
 use Rattle.lk_recovery.specs.Rooms.{GrowsFromBase, GrowsBySteps}
-use Rattle.lk_step.specs.declared.fault.ReplicaFault.{ReplicaFault}
-use Rattle.lk_step.specs.declared.fault.ReplicaFault.TheVariants as fault
+use Rattle.lk_node_io.specs.declared.fault.ReplicaFault.{ReplicaFault}
+use Rattle.lk_node_io.specs.declared.fault.ReplicaFault.TheVariants as fault
 use Rattle.lk_replica.proofs.Replicas.{begun, begin_fits, room_as_sent}
 use Rattle.lk_served_replica.specs.Refusals.{IsOfGroups}
 use Rattle.lk_served_replica.specs.Sayings.{nothing_taken, AreGathered, GroupLeaves, SaysOf, GathersOf}
@@ -45,11 +45,11 @@ gathered_more : (m : Meaning) (IsText : List ℕ → Type 0) (Metered : Type 0) 
     (i : Input) (new : NodeValue) (after : StoreValue) (now : GroupValue) → AreGathered m IsText Metered node store group inputs said mid between gathered → (e : IsGathered m IsText Metered mid between gathered i new after now)
     → AreGathered m IsText Metered node store group (inputs ++ i ∷ []) (said ++ (e.out.notes, e.out.letters) ∷ []) new after now
 gathered_more m IsText Metered node store group [] said mid between gathered i new after now all e =
-    let room : MakesRoom Metered node store group.waits e.mid e.between e.waits =
-    subst (λ (x : GroupValue). MakesRoom Metered node store x.waits e.mid e.between e.waits) all.3
-    (subst₂ (λ (n : NodeValue) (s : StoreValue). MakesRoom Metered n s gathered.waits e.mid e.between e.waits) all.1 all.2 e.room) in
+    let room : MakesRoom Metered node store group.needs_sync e.mid e.between e.needs_sync =
+    subst (λ (x : GroupValue). MakesRoom Metered node store x.needs_sync e.mid e.between e.needs_sync) all.3
+    (subst₂ (λ (n : NodeValue) (s : StoreValue). MakesRoom Metered n s gathered.needs_sync e.mid e.between e.needs_sync) all.1 all.2 e.room) in
     let first : IsGathered m IsText Metered node store group i new after now =
-    record { mid = e.mid; between = e.between; waits = e.waits; room = room; out = e.out; steps = e.steps; adds = e.adds ∙ ap (with_step e.waits e.out) all.3 } in
+    record { mid = e.mid; between = e.between; needs_sync = e.needs_sync; room = room; out = e.out; steps = e.steps; adds = e.adds ∙ ap (with_step e.needs_sync e.out) all.3 } in
     (new, after, now, first, [], ap (λ (l : List StepSaid). l ++ (e.out.notes, e.out.letters) ∷ []) all.0, (refl, refl, refl, refl))
 gathered_more m IsText Metered node store group (j ∷ inputs) said mid between gathered i new after now all e = (
   all.0,
@@ -137,9 +137,9 @@ module _ (m : Meaning) (IsText : List ℕ → Type 0) (Honest Metered : Type 0) 
 
     -- what the step says of its notes and letters
     abbrev Links : List Note → List LetterValue → Type 0
-    Links notes letters = (genesis : Genesis) (k : ℕ) → Recalls old.node old.store group.waits genesis k
-        → (h : History) (n : ℕ) → NodeFits m h n (Stands m old.node (as_sent group.waits old.store) h.genesis n) (disks (as_sent group.waits old.store)) → InputFits h i
-        → (sent : List LetterValue) → AreOf sent letters → Goes m h n (Stands m new.node (as_sent now.waits new.store) h.genesis n) (disks (as_sent now.waits new.store)) notes (batch_of n sent)
+    Links notes letters = (genesis : Genesis) (k : ℕ) → Recalls old.node old.store group.needs_sync genesis k
+        → (h : History) (n : ℕ) → NodeFits m h n (Stands m old.node (as_sent group.needs_sync old.store) h.genesis n) (disks (as_sent group.needs_sync old.store)) → InputFits h i
+        → (sent : List LetterValue) → AreOf sent letters → Goes m h n (Stands m new.node (as_sent now.needs_sync new.store) h.genesis n) (disks (as_sent now.needs_sync new.store)) notes (batch_of n sent)
 
     -- they are those of its outbox
     links_of : Adds group now Links → (e : IsGathered m IsText Metered old.node old.store group i new.node new.store now) → Links e.out.notes e.out.letters
@@ -147,7 +147,7 @@ module _ (m : Meaning) (IsText : List ℕ → Type 0) (Honest Metered : Type 0) 
         subst₂ Links (append_cancel_left group.notes a.notes e.out.notes (sym a.noted ∙ ap (λ (x : GroupValue). x.notes) e.adds))
         (append_cancel_left group.letters a.letters e.out.letters (sym a.said ∙ ap (λ (x : GroupValue). x.letters) e.adds)) a.are
 
-    gathers_one : Adds group now Links → KeepsGroup m (λ h. InputFits h i) old.node old.store group new.node new.store now → LeavesInGroup m (λ h. InputFits h i) 132704 old.node old.store group.waits (disks new.store)
+    gathers_one : Adds group now Links → KeepsGroup m (λ h. InputFits h i) old.node old.store group new.node new.store now → LeavesInGroup m (λ h. InputFits h i) 132704 old.node old.store group.needs_sync (disks new.store)
         → GrowsFromBase (disks old.store) (disks new.store) → IsGathered m IsText Metered old.node old.store group i new.node new.store now
         → (new.store.failed ≡ false) × (new.node.halted ≡ false) → (old.failed ≡ true → ⊥)
         → GathersOf m IsText Metered first (given ++ heard_by i ∷ []) now new
@@ -160,13 +160,13 @@ module _ (m : Meaning) (IsText : List ℕ → Type 0) (Honest Metered : Type 0) 
       goes = λ genesis k remembers n more q rest goes.
           subst₂ (λ (is : List Input) (l : List StepSaid). GoesThrough m n first is q l) (sym (append_assoc g.inputs (i ∷ []) more)) (sym (append_assoc g.said ((e.out.notes, e.out.letters) ∷ []) rest))
           (g.goes genesis k remembers n (i ∷ more) q ((e.out.notes, e.out.letters) ∷ rest) (
-            record { node = new.node; store = as_sent now.waits new.store; failed = false },
+            record { node = new.node; store = as_sent now.needs_sync new.store; failed = false },
             e.out.notes,
             e.out.letters,
             rest,
             refl,
             λ h f heard sent among. links_of a e genesis k (g.recalls genesis k remembers).0 h n f heard sent among,
-            room_as_sent 132704 group.waits now.waits old.store new.store leaves.room,
+            room_as_sent 132704 group.needs_sync now.needs_sync old.store new.store leaves.room,
             goes,
           ));
       recalls = λ genesis n remembers. let k = g.recalls genesis n remembers in (keeps.recalls genesis n k.0, keeps.said genesis n k.0 k.1);
@@ -178,7 +178,7 @@ module _ (m : Meaning) (IsText : List ℕ → Type 0) (Honest Metered : Type 0) 
       once = λ was. absurd (lives (ap (λ (r : ReplicaValue). r.failed) (g.once was) ∙ was));
     }
 
-    gathers_none : (number : ℕ) → IsRefusedInGroup Honest Metered old new number → LeavesInGroup m (λ h. InputFits h i) 132704 old.node old.store group.waits (disks new.store)
+    gathers_none : (number : ℕ) → IsRefusedInGroup Honest Metered old new number → LeavesInGroup m (λ h. InputFits h i) 132704 old.node old.store group.needs_sync (disks new.store)
         → GrowsFromBase (disks old.store) (disks new.store) → SaysOf m IsText Metered first (given ++ heard_by i ∷ []) [] new
     gathers_none number refused leaves grows = record {
       inputs = g.inputs ++ i ∷ [];
@@ -196,11 +196,11 @@ module _ (m : Meaning) (IsText : List ℕ → Type 0) (Honest Metered : Type 0) 
   module _ (old new : ReplicaValue) (group now : GroupValue) (i : Input) where
     -- what a call of `gather` tells
     pub gathers_of : {T : Type 0} (r : Result T ReplicaFault)
-        → (Honest → OnOk r (Adds group now (λ notes letters. (genesis : Genesis) (k : ℕ) → Recalls old.node old.store group.waits genesis k
-        → (h : History) (n : ℕ) → NodeFits m h n (Stands m old.node (as_sent group.waits old.store) h.genesis n) (disks (as_sent group.waits old.store)) → InputFits h i
-        → (sent : List LetterValue) → AreOf sent letters → Goes m h n (Stands m new.node (as_sent now.waits new.store) h.genesis n) (disks (as_sent now.waits new.store)) notes (batch_of n sent))))
+        → (Honest → OnOk r (Adds group now (λ notes letters. (genesis : Genesis) (k : ℕ) → Recalls old.node old.store group.needs_sync genesis k
+        → (h : History) (n : ℕ) → NodeFits m h n (Stands m old.node (as_sent group.needs_sync old.store) h.genesis n) (disks (as_sent group.needs_sync old.store)) → InputFits h i
+        → (sent : List LetterValue) → AreOf sent letters → Goes m h n (Stands m new.node (as_sent now.needs_sync new.store) h.genesis n) (disks (as_sent now.needs_sync new.store)) notes (batch_of n sent))))
         → (Honest → OnOk r (KeepsGroup m (λ h. InputFits h i) old.node old.store group new.node new.store now))
-        → (Honest → LeavesInGroup m (λ h. InputFits h i) 132704 old.node old.store group.waits (disks new.store)) → (Honest → GrowsFromBase (disks old.store) (disks new.store))
+        → (Honest → LeavesInGroup m (λ h. InputFits h i) 132704 old.node old.store group.needs_sync (disks new.store)) → (Honest → GrowsFromBase (disks old.store) (disks new.store))
         → (Honest → OnOk r (IsGathered m IsText Metered old.node old.store group i new.node new.store now)) → OnOk r ((new.failed ≡ false) × (new.store.failed ≡ false) × (new.node.halted ≡ false))
         → (old.failed ≡ true → IsErrOf r fault.Failed)
         → OnOk r ((first : ReplicaValue) (given : List (Option (List ℕ))) → Gathered first given group old → Gathered first (given ++ heard_by i ∷ []) now new)
@@ -209,7 +209,7 @@ module _ (m : Meaning) (IsText : List ℕ → Type 0) (Honest Metered : Type 0) 
     gathers_of (Err e) goes keeps leaves grows exact alive dead = tt
 
     pub silent_of : {T : Type 0} (r : Result T ReplicaFault) → IfErr r (λ e. IsRefusedInGroup Honest Metered old new (fault_number e))
-        → (Honest → LeavesInGroup m (λ h. InputFits h i) 132704 old.node old.store group.waits (disks new.store)) → (Honest → GrowsFromBase (disks old.store) (disks new.store))
+        → (Honest → LeavesInGroup m (λ h. InputFits h i) 132704 old.node old.store group.needs_sync (disks new.store)) → (Honest → GrowsFromBase (disks old.store) (disks new.store))
         → OnErr r ((first : ReplicaValue) (given : List (Option (List ℕ))) → Gathered first given group old → Said first (given ++ heard_by i ∷ []) [] new)
     silent_of (Ok x) refused leaves grows = tt
     silent_of (Err e) refused leaves grows = λ first given was honest. gathers_none first old new given group now i (was honest) (fault_number e) refused (leaves honest) (grows honest)
@@ -217,7 +217,7 @@ module _ (m : Meaning) (IsText : List ℕ → Type 0) (Honest Metered : Type 0) 
   -- ---- the end of a group
 
   module _ {P : Type 0} (Carries : P → LetterValue → Bool → P → Type 0) (old new : ReplicaValue) (group : GroupValue) (before after : P) where
-    so_leaves : (first : ReplicaValue) (given : List (Option (List ℕ))) (g : GathersOf m IsText Metered first given group old) → LeavesInGroup m (λ h. ⊤) 0 old.node old.store group.waits (disks new.store)
+    so_leaves : (first : ReplicaValue) (given : List (Option (List ℕ))) (g : GathersOf m IsText Metered first given group old) → LeavesInGroup m (λ h. ⊤) 0 old.node old.store group.needs_sync (disks new.store)
         → GroupLeaves m (λ h. AllByRecursion (InputFits h) g.inputs) 132704 (length g.inputs) first.node first.store (disks new.store)
     so_leaves first given g leaves = record {
       ends = λ h n f all. leaves.ends h n (g.stays h n f all) tt;
@@ -227,12 +227,12 @@ module _ (m : Meaning) (IsText : List ℕ → Type 0) (Honest Metered : Type 0) 
     }
 
     says_all : (first : ReplicaValue) (given : List (Option (List ℕ))) → GathersOf m IsText Metered first given group old
-        → ((genesis : Genesis) (k : ℕ) → Recalls old.node old.store group.waits genesis k → (h : History) (n : ℕ) → NodeFits m h n (Stands m old.node (as_sent group.waits old.store) h.genesis n) (disks (as_sent group.waits old.store))
+        → ((genesis : Genesis) (k : ℕ) → Recalls old.node old.store group.needs_sync genesis k → (h : History) (n : ℕ) → NodeFits m h n (Stands m old.node (as_sent group.needs_sync old.store) h.genesis n) (disks (as_sent group.needs_sync old.store))
         → NodeFits m h n (Stands m new.node new.store h.genesis n) (disks new.store))
-        → LeavesInGroup m (λ h. ⊤) 0 old.node old.store group.waits (disks new.store)
-        → ((genesis : Genesis) (n : ℕ) (x : NodeMessage) → Recalls old.node old.store group.waits genesis n → IsCovered m genesis n group old.store
+        → LeavesInGroup m (λ h. ⊤) 0 old.node old.store group.needs_sync (disks new.store)
+        → ((genesis : Genesis) (n : ℕ) (x : NodeMessage) → Recalls old.node old.store group.needs_sync genesis n → IsCovered m genesis n group old.store
         → (d : Datagram) → Contains (batch_of n group.letters) d → Spells (said_by genesis n x) d.bytes → AllCover m genesis n (disks new.store) x)
-        → IsSettled Metered old group.waits new → new.failed ≡ false → SaysOf m IsText Metered first given group.letters new
+        → IsSettled Metered old group.needs_sync new → new.failed ≡ false → SaysOf m IsText Metered first given group.letters new
     says_all first given g fits leaves syncs settled alive = record {
       inputs = g.inputs;
       are_given = g.are_given;
@@ -258,7 +258,7 @@ module _ (m : Meaning) (IsText : List ℕ → Type 0) (Honest Metered : Type 0) 
             (g.goes genesis k remembers n [] new [] (
               refl,
               λ h f. fits genesis k (g.recalls genesis k remembers).0 h n f,
-              room_as_sent 132704 group.waits false old.store new.store (within_more 132704 (disks old.store) (disks new.store) leaves.room),
+              room_as_sent 132704 group.needs_sync false old.store new.store (within_more 132704 (disks old.store) (disks new.store) leaves.room),
             ));
         syncs = λ genesis n x remembers d listed said. let k = g.recalls genesis n remembers in syncs genesis n x k.0 k.1 d listed said;
       });
@@ -267,7 +267,7 @@ module _ (m : Meaning) (IsText : List ℕ → Type 0) (Honest Metered : Type 0) 
     }
 
     says_none : (first : ReplicaValue) (given : List (Option (List ℕ))) → GathersOf m IsText Metered first given group old → (number : ℕ) → IsRefusedInGroup Honest Metered old new number
-        → LeavesInGroup m (λ h. ⊤) 0 old.node old.store group.waits (disks new.store) → SaysOf m IsText Metered first given [] new
+        → LeavesInGroup m (λ h. ⊤) 0 old.node old.store group.needs_sync (disks new.store) → SaysOf m IsText Metered first given [] new
     says_none first given g number refused leaves = record {
       inputs = g.inputs;
       are_given = g.are_given;
@@ -278,12 +278,12 @@ module _ (m : Meaning) (IsText : List ℕ → Type 0) (Honest Metered : Type 0) 
 
     -- what a call of `release` tells
     pub released_of : (r : Result Bool ReplicaFault)
-        → (Honest → (genesis : Genesis) (k : ℕ) → Recalls old.node old.store group.waits genesis k → (h : History) (n : ℕ) → NodeFits m h n (Stands m old.node (as_sent group.waits old.store) h.genesis n) (disks (as_sent group.waits old.store))
+        → (Honest → (genesis : Genesis) (k : ℕ) → Recalls old.node old.store group.needs_sync genesis k → (h : History) (n : ℕ) → NodeFits m h n (Stands m old.node (as_sent group.needs_sync old.store) h.genesis n) (disks (as_sent group.needs_sync old.store))
         → IfOk r (λ all. NodeFits m h n (Stands m new.node new.store h.genesis n) (disks new.store)))
-        → (Honest → LeavesInGroup m (λ h. ⊤) 0 old.node old.store group.waits (disks new.store))
-        → (Honest → (genesis : Genesis) (n : ℕ) (x : NodeMessage) → Recalls old.node old.store group.waits genesis n → IsCovered m genesis n group old.store
+        → (Honest → LeavesInGroup m (λ h. ⊤) 0 old.node old.store group.needs_sync (disks new.store))
+        → (Honest → (genesis : Genesis) (n : ℕ) (x : NodeMessage) → Recalls old.node old.store group.needs_sync genesis n → IsCovered m genesis n group old.store
         → IfOk r (λ all. (d : Datagram) → Contains (batch_of n group.letters) d → Spells (said_by genesis n x) d.bytes → AllCover m genesis n (disks new.store) x))
-        → IfOk r (λ all. CarriesAll Carries before group.letters after) → (Honest → OnOk r (IsSettled Metered old group.waits new)) → OnOk r (new.failed ≡ false)
+        → IfOk r (λ all. CarriesAll Carries before group.letters after) → (Honest → OnOk r (IsSettled Metered old group.needs_sync new)) → OnOk r (new.failed ≡ false)
         → OnOk r (GivesLetters Carries before after (λ letters. (first : ReplicaValue) (given : List (Option (List ℕ))) → Gathered first given group old → Said first given letters new))
     released_of (Ok all) fits leaves syncs gives exact alive = record {
       letters = group.letters;
@@ -292,7 +292,7 @@ module _ (m : Meaning) (IsText : List ℕ → Type 0) (Honest Metered : Type 0) 
     }
     released_of (Err e) fits leaves syncs gives exact alive = tt
 
-    pub unreleased_of : (r : Result Bool ReplicaFault) → IfErr r (λ e. IsRefusedInGroup Honest Metered old new (fault_number e)) → (Honest → LeavesInGroup m (λ h. ⊤) 0 old.node old.store group.waits (disks new.store))
+    pub unreleased_of : (r : Result Bool ReplicaFault) → IfErr r (λ e. IsRefusedInGroup Honest Metered old new (fault_number e)) → (Honest → LeavesInGroup m (λ h. ⊤) 0 old.node old.store group.needs_sync (disks new.store))
         → OnErr r ((first : ReplicaValue) (given : List (Option (List ℕ))) → Gathered first given group old → Said first given [] new)
     unreleased_of (Ok all) refused leaves = tt
     unreleased_of (Err e) refused leaves = λ first given was honest. says_none first given (was honest) (fault_number e) refused (leaves honest)

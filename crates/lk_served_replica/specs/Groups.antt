@@ -1,6 +1,6 @@
 -- How a replica takes a group: what it has taken of it so far, and what it says at its end.
 use Rattle.std.specs.Prelude.{ℕ, List, [], ◌++◌, Option}
-use Rattle.lk_step.specs.Letters.{LetterValue}
+use Rattle.lk_node_io.specs.Letters.{LetterValue}
 use Rattle.lk_replica.specs.Groups.{GroupValue}
 
 -- how a replica speaks: the effect of a group, and its letters

@@ -1,6 +1,6 @@
 -- Why a replica refuses a call of a group.
-use Rattle.lk_step.specs.declared.fault.ReplicaFault.{ReplicaFault}
-use Rattle.lk_step.specs.declared.fault.ReplicaFault.TheVariants as fault
+use Rattle.lk_node_io.specs.declared.fault.ReplicaFault.{ReplicaFault}
+use Rattle.lk_node_io.specs.declared.fault.ReplicaFault.TheVariants as fault
 
 -- only a restart finds damage and another's store, and a lost datagram refuses nothing
 abbrev pub IsOfGroups : ReplicaFault → Type 0

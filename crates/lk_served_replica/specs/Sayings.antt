@@ -10,8 +10,8 @@ use Rattle.lk_state.specs.Meanings.{Meaning}
 use Rattle.lk_agreement.specs.Datagrams.{NodeMessage, said_by}
 use Rattle.lk_log.specs.Rooms.{StaysWithin}
 use Rattle.lk_log.specs.StoreValue.{StoreValue, disks}
-use Rattle.lk_step.specs.Letters.{LetterValue, batch_of}
-use Rattle.lk_step.specs.declared.input.Input.{Input}
+use Rattle.lk_node_io.specs.Letters.{LetterValue, batch_of}
+use Rattle.lk_node_io.specs.declared.input.Input.{Input}
 use Rattle.lk_node.specs.Calls.{heard_by, InputFits, NodeFits}
 use Rattle.lk_node.specs.Histories.{History, Genesis, Datagram}
 use Rattle.lk_node.specs.Keeping.{Stands}
@@ -24,7 +24,7 @@ use Rattle.lk_recovery.specs.Rooms.{GrowsBySteps, max_after}
 
 -- a group that has taken nothing
 abbrev pub nothing_taken : GroupValue
-nothing_taken = record { notes = []; letters = []; waits = false }
+nothing_taken = record { notes = []; letters = []; needs_sync = false }
 
 -- these inputs were taken into a group one after another, and this is what each step noted and said; each made the
 -- calls that it takes of a device that counts them (`Metered`)
@@ -42,8 +42,8 @@ pub record IsGroupTaken (m : Meaning) (IsText : List ℕ → Type 0) (Metered : 
   pub group : GroupValue
   pub steps : AreGathered m IsText Metered old.node old.store nothing_taken inputs said node store group
   pub same : new.node ≡ node
-  pub settles : Settles group.waits store new.store
-  pub calls : Metered → Passes store.meter new.store.meter (settle_calls group.waits)
+  pub settles : Settles group.needs_sync store new.store
+  pub calls : Metered → Passes store.meter new.store.meter (settle_calls group.needs_sync)
   pub alive : new.failed ≡ false
   pub store_alive : inputs ≢ [] → new.store.failed ≡ false
   pub awake : inputs ≢ [] → new.node.halted ≡ false
@@ -96,10 +96,10 @@ pub record GathersOf (m : Meaning) (IsText : List ℕ → Type 0) (Metered : Typ
   pub are_said : group.letters ≡ letters_of said
   pub steps : AreGathered m IsText Metered start.node start.store nothing_taken inputs said now.node now.store group
   pub goes : (genesis : Genesis) (k : ℕ) → Remembers start.node start.store genesis k → (n : ℕ) (more : List Input) (q : ReplicaValue) (rest : List StepSaid)
-      → GoesThrough m n (record { node = now.node; store = as_sent group.waits now.store; failed = false }) more q rest → GoesThrough m n start (inputs ++ more) q (said ++ rest)
-  pub recalls : (genesis : Genesis) (n : ℕ) → Remembers start.node start.store genesis n → Recalls now.node now.store group.waits genesis n × IsCovered m genesis n group now.store
+      → GoesThrough m n (record { node = now.node; store = as_sent group.needs_sync now.store; failed = false }) more q rest → GoesThrough m n start (inputs ++ more) q (said ++ rest)
+  pub recalls : (genesis : Genesis) (n : ℕ) → Remembers start.node start.store genesis n → Recalls now.node now.store group.needs_sync genesis n × IsCovered m genesis n group now.store
   pub stays : (h : History) (n : ℕ) → NodeFits m h n (Stands m start.node start.store h.genesis n) (disks start.store) → AllByRecursion (InputFits h) inputs
-      → GroupStays m h n now.node now.store group.waits
+      → GroupStays m h n now.node now.store group.needs_sync
   pub covers : (genesis : Genesis) (n : ℕ) (x : NodeMessage) → Remembers start.node start.store genesis n → AllCover m genesis n (disks start.store) x → AllCover m genesis n (disks now.store) x
   pub room : StaysWithin max_after (disks start.store) (disks now.store)
   pub grows : GrowsBySteps (length inputs) (disks start.store) (disks now.store)

@@ -3,14 +3,14 @@ use Rattle.std.specs.Prelude.{◌≡◌, ◌↔◌, ◌==◌, ◌+◌, ◌-◌, 
 use Rattle.lk_members.specs.Windows.{RosterValue}
 use Rattle.lk_leader.specs.Proposing.{Leads}
 use Rattle.lk_replica.specs.ReplicaValue.{ReplicaValue}
-use Rattle.lk_served_replica.specs.declared.shown.Shown.{Shown}
+use Rattle.lk_served_replica.specs.declared.probed_state.ProbedState.{ProbedState}
 
 -- how many positions from the next one on come before the one from which on the last join or leave is in force
 abbrev pub pending_in : RosterValue → ℕ
 pending_in roster = if roster.changed == 0 then 0 else (roster.changed + length roster.sets) - (roster.executed + 1)
 
 -- each part is the replica's
-pub record IsShown (r : ReplicaValue) (s : Shown) : Type 0 where
+pub record IsShown (r : ReplicaValue) (s : ProbedState) : Type 0 where
   pub leads : IsTrue s.leadership.leads ↔ Leads r.node.leader r.node.learner.whole.roster
   pub leader : s.leadership.leader ≡ r.node.known
   pub silence : s.leadership.silence ≡ r.node.ticks

@@ -1,7 +1,7 @@
 //! A replica as a server runs it.
 
 ghost use Rattle.std.specs.Prelude.{◌≡◌, ℕ, List, [], ◌∷◌, Option, Bool, true, false, IfOk, OnOk, OnErr, IfErr, IfSome};
-ghost use Rattle.lk_step.specs.Letters.{LetterValue};
+ghost use Rattle.lk_node_io.specs.Letters.{LetterValue};
 ghost use Rattle.lk_node.specs.Calls.{heard_by};
 ghost use Rattle.lk_replica.specs.Groups.{GroupValue};
 ghost use Rattle.lk_replica.specs.Posts.{GivesLetters, TellsSends};
@@ -12,15 +12,15 @@ ghost use Rattle.lk_served_replica.specs.Showing.{IsShown};
 ghost use Rattle.lk_served_replica.specs.Refusals.{IsOfGroups};
 ghost use Rattle.lk_served_replica.specs.Statuses.{IsStatusOf};
 ghost use Rattle.lk_served_replica.specs.TableVersions.{TellsRaised};
-ghost use Rattle.lk_served_replica.specs.declared.shown.Shown.{Shown as ShownValue};
+ghost use Rattle.lk_served_replica.specs.declared.probed_state.ProbedState.{ProbedState as ProbedStateValue};
 
+use crate::probed_state::ProbedState;
 use crate::replica_status::ReplicaStatus;
-use crate::shown::Shown;
 use crate::table_version::is_raised;
 use lk_disk::LogDisk;
+use lk_node_io::{Input, Post, ReplicaFault};
 use lk_replica::{Group, Replica};
 use lk_state::Machine;
-use lk_step::{Input, Post, ReplicaFault};
 use std::alloc::Global;
 
 /// A replica as a server runs it: it takes its input in groups.
@@ -37,7 +37,7 @@ pub trait ServedReplica: Sized + Drop {
     ghost Gathers: { Self → List (Option (List ℕ)) → GroupValue → Self → Type 0 };
 
     /// What it shows of itself to whoever probes its node.
-    ghost Shows: { Self → ShownValue → Type 0 };
+    ghost Shows: { Self → ProbedStateValue → Type 0 };
 
     /// What it may tell of whether its lock table was raised.
     ghost IsRaised: { Self → Bool → Type 0 };
@@ -71,7 +71,7 @@ pub trait ServedReplica: Sized + Drop {
     fn status(&self) -> ReplicaStatus;
 
     /// What it shows of itself to whoever probes its node.
-    fn show(&self) -> Shown
+    fn show(&self) -> ProbedState
         ensures { Shows self.now result };
 
     /// Whether its lock table was raised, or `None` if it is out of memory. It packs and unpacks its state.
@@ -112,12 +112,12 @@ impl<M: Machine, D: LogDisk + Drop> ServedReplica for Replica<M, D> {
             executed: node.executed(),
             promised: node.promised(),
             term: node.term(),
-            known: node.known(),
+            known: node.presumed_leader(),
         }
     }
 
-    fn show(&self) -> Shown {
-        Shown::of(self)
+    fn show(&self) -> ProbedState {
+        ProbedState::of(self)
     }
 
     fn is_raised(&self, alloc: Global) -> Option<bool> {

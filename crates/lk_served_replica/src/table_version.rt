@@ -9,8 +9,8 @@ ghost use Rattle.lk_served_replica.specs.TableVersions.{WasRaised, TellsRaised};
 use crate::replica_status::ReplicaStatus;
 use bytes::BytesMut;
 use lk_node::Node;
+use lk_node_io::Note;
 use lk_state::{Machine, Whole};
-use lk_step::Note;
 use lk_types::{Answer, Command, Op};
 use std::alloc::Global;
 

@@ -4,18 +4,18 @@ use Rattle.lk_probe.specs.declared.reported.Reported.{Reported}
 use Rattle.lk_transport.specs.Addresses.{AddressBook, IsSameNetwork}
 use Rattle.lk_transport.specs.Inquiring.{AsksOne, LearnsKept, ReadmitsKept}
 use Rattle.lk_transport.specs.Posts.{Tray}
-use Rattle.lk_transport.specs.declared.asked.Asked.{Asked}
+use Rattle.lk_transport.specs.declared.received_probe.ReceivedProbe.{ReceivedProbe}
 use Rattle.lk_server.specs.ProbeHandling.{HandlesProbes}
 use Rattle.lk_server.specs.Probes.{AnswersKept}
 use Rattle.lk_server.specs.Servers.{ServerValue, tray_at}
-use Rattle.lk_served_replica.specs.declared.shown.Shown.{Shown}
+use Rattle.lk_served_replica.specs.declared.probed_state.ProbedState.{ProbedState}
 
 -- an answer leaves what is to come
-answer_still : {R : Type 0} (Shows : R → Shown → Type 0) (tells : Type 0) (asked : Option Asked) (old new : ServerValue R) → AnswersKept Shows tells asked old new → tells → new.coming ≡ old.coming
+answer_still : {R : Type 0} (Shows : R → ProbedState → Type 0) (tells : Type 0) (asked : Option ReceivedProbe) (old new : ServerValue R) → AnswersKept Shows tells asked old new → tells → new.coming ≡ old.coming
 answer_still {R} Shows tells None old new same t = ap (λ (s : ServerValue R). s.coming) same
 answer_still Shows tells (Some a) old new one t = one.still t
 
-module _ {R : Type 0} (Shows : R → Shown → Type 0) (tells : Type 0) (asked : Option Asked) (reported : Option Reported) (now : ℕ) (old answered readmitted learned new : ServerValue R) where
+module _ {R : Type 0} (Shows : R → ProbedState → Type 0) (tells : Type 0) (asked : Option ReceivedProbe) (reported : Option Reported) (now : ℕ) (old answered readmitted learned new : ServerValue R) where
   -- it answers, readmits, learns and asks
   pub acted : AnswersKept Shows tells asked old answered → answered ≡ record old { sent = answered.sent; socket_failures = answered.socket_failures; coming = answered.coming }
       → ReadmitsKept asked answered.addresses readmitted.addresses → IsSameNetwork answered.addresses readmitted.addresses → readmitted ≡ record answered { addresses = readmitted.addresses }

@@ -9,12 +9,12 @@ use Rattle.lk_seal.specs.Seals.{heard}
 use Rattle.lk_seal.specs.declared.seals.Seals.{Seals}
 use Rattle.lk_pace.specs.declared.turn_input.TurnInput.{TurnInput}
 use Rattle.lk_pace.specs.declared.turn_input.TurnInput.TheVariants.{Nothing, Beside, Something}
-use Rattle.lk_transport.specs.Askers.{IsKeptOf}
+use Rattle.lk_transport.specs.Askers.{BringsProbe}
 use Rattle.lk_transport.specs.Hearing.{BufferValue, listed}
 use Rattle.lk_transport.specs.Inquiring.{IsToldBy}
 use Rattle.lk_transport.specs.Kept.{BringNothing, BringsFirst, IsFirstOf, KeepsFirst, KeepsFirstOf, Keeps, KeepsOf}
 use Rattle.lk_transport.specs.Posts.{is_beside}
-use Rattle.lk_transport.specs.declared.asked.Asked.{Asked}
+use Rattle.lk_transport.specs.declared.received_probe.ReceivedProbe.{ReceivedProbe}
 
 -- ---- a frame
 
@@ -28,7 +28,7 @@ unfolding padded
 tells_aside r bytes spelled = ap is_beside spelled.1
 
 -- so nobody asks by what a replica is given, and it tells nothing
-asks_nothing : (s : Seals) (d : SocketAddr × List ℕ) → is_beside (heard s d.1) ≡ false → IsKeptOf s d None
+asks_nothing : (s : Seals) (d : SocketAddr × List ℕ) → is_beside (heard s d.1) ≡ false → BringsProbe s d None
 asks_nothing s d apart p asks = let both : false ≡ true = sym apart ∙ is_aside p (heard s d.1) asks.spelled in cc both
 
 tells_nothing : (n : ℕ) (s : Seals) (d : SocketAddr × List ℕ) → is_beside (heard s d.1) ≡ false → IsToldBy n s d None
@@ -94,25 +94,25 @@ pub keeps_more : (n m : ℕ) (s t : Seals) (xs ys : List (SocketAddr × List ℕ
 keeps_more n m s t xs ys old mid new node seals one two =
     let next : KeepsOf n s ys mid new = subst₂ (λ (k : ℕ) (z : Seals). KeepsOf k z ys mid new) node seals two in
     record {
-      asked = first_more (IsKeptOf s) xs ys old.asked mid.asked new.asked one.asked next.asked;
+      asked = first_more (BringsProbe s) xs ys old.asked mid.asked new.asked one.asked next.asked;
       reported = first_more (IsToldBy n s) xs ys old.reported mid.reported new.reported one.reported next.reported;
     }
 
 -- no frame more
 pub keeps_on : (n : ℕ) (s : Seals) (xs : List (SocketAddr × List ℕ)) (old mid new : BufferValue) → KeepsOf n s xs old mid → new.asked ≡ mid.asked → new.reported ≡ mid.reported → KeepsOf n s xs old new
 keeps_on n s xs old mid new kept asked reported = record {
-  asked = subst (λ (a : Option Asked). KeepsFirstOf (IsKeptOf s) old.asked xs a) (sym asked) kept.asked;
+  asked = subst (λ (a : Option ReceivedProbe). KeepsFirstOf (BringsProbe s) old.asked xs a) (sym asked) kept.asked;
   reported = subst (λ (r : Option Reported). KeepsFirstOf (IsToldBy n s) old.reported xs r) (sym reported) kept.reported;
 }
 
 -- as it did
 pub keeps_still : (n : ℕ) (s : Seals) (old new : BufferValue) → new.asked ≡ old.asked → new.reported ≡ old.reported → KeepsOf n s [] old new
-keeps_still n s old new asked reported = keeps_on n s [] old old new (record { asked = first_none (IsKeptOf s) old.asked; reported = first_none (IsToldBy n s) old.reported }) asked reported
+keeps_still n s old new asked reported = keeps_on n s [] old old new (record { asked = first_none (BringsProbe s) old.asked; reported = first_none (IsToldBy n s) old.reported }) asked reported
 
 -- of a frame that a replica is given
 pub keeps_given : (n : ℕ) (s : Seals) (d : SocketAddr × List ℕ) (old new : BufferValue) → is_beside (heard s d.1) ≡ false → new.asked ≡ old.asked → new.reported ≡ old.reported → KeepsOf n s (d ∷ []) old new
 keeps_given n s d old new apart asked reported = keeps_on n s (d ∷ []) old old new (record {
-  asked = first_apart (IsKeptOf s) old.asked d (asks_nothing s d apart);
+  asked = first_apart (BringsProbe s) old.asked d (asks_nothing s d apart);
   reported = first_apart (IsToldBy n s) old.reported d (tells_nothing n s d apart);
 }) asked reported
 
@@ -122,7 +122,7 @@ pub keeps_beside : (n m : ℕ) (s t : Seals) (d : SocketAddr × List ℕ) (old m
 keeps_beside n m s t d old mid new node seals asked reported is keeps =
     let kept : Keeps n s mid new = subst₂ (λ (k : ℕ) (z : Seals). Keeps k z mid new) node seals keeps in
     record {
-      asked = first_one (IsKeptOf s) old.asked new.asked d (subst₂ (λ (l : Option (SocketAddr × List ℕ)) (a : Option Asked). KeepsFirst (IsKeptOf s) l a new.asked) is asked kept.asked);
+      asked = first_one (BringsProbe s) old.asked new.asked d (subst₂ (λ (l : Option (SocketAddr × List ℕ)) (a : Option ReceivedProbe). KeepsFirst (BringsProbe s) l a new.asked) is asked kept.asked);
       reported = first_one (IsToldBy n s) old.reported new.reported d (subst₂ (λ (l : Option (SocketAddr × List ℕ)) (r : Option Reported). KeepsFirst (IsToldBy n s) l r new.reported) is reported kept.reported);
     }
 
@@ -130,7 +130,7 @@ keeps_beside n m s t d old mid new node seals asked reported is keeps =
 pub keeps_strange : (n : ℕ) (s : Seals) (d : SocketAddr × List ℕ) (old : BufferValue) → old.last ≡ Some d → is_beside (heard s d.1) ≡ false → Keeps n s old old
 keeps_strange n s d old is apart = record {
   last = refl;
-  asked = subst (λ (l : Option (SocketAddr × List ℕ)). KeepsFirst (IsKeptOf s) l old.asked old.asked) (sym is) (first_still (IsKeptOf s) old.asked d (asks_nothing s d apart));
+  asked = subst (λ (l : Option (SocketAddr × List ℕ)). KeepsFirst (BringsProbe s) l old.asked old.asked) (sym is) (first_still (BringsProbe s) old.asked d (asks_nothing s d apart));
   reported = subst (λ (l : Option (SocketAddr × List ℕ)). KeepsFirst (IsToldBy n s) l old.reported old.reported) (sym is) (first_still (IsToldBy n s) old.reported d (tells_nothing n s d apart));
 }
 

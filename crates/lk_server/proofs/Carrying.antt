@@ -1,7 +1,7 @@
 -- What became of the letters of a group.
 use Rattle.std.proofs.Common.{◌≡◌, ℕ, Bool, true, false, List, [], ◌∷◌, ◌++◌, Option, sym, ap, ◌∙◌, subst, append_assoc, append-nil, inl, inr}
 use Rattle.std.specs.Prelude.{Result, Ok, Err, IfOk, OnOk, OnErr}
-use Rattle.lk_step.specs.Letters.{LetterValue}
+use Rattle.lk_node_io.specs.Letters.{LetterValue}
 use Rattle.lk_replica.specs.Groups.{GroupValue}
 use Rattle.lk_replica.specs.Posts.{CarriesAll, GivesLetters}
 use Rattle.lk_transport.specs.Addresses.{AddressBook}

@@ -3,15 +3,15 @@ use Rattle.std.proofs.Common.{◌≡◌, ◌≢◌, ℕ, zero, suc, ◌+◌, ◌
 use Rattle.std.proofs.lemmas.Bool.{cases_Bool}
 use Rattle.std.proofs.lemmas.List.{map-append, take_all}
 use Rattle.std.specs.declared.net.socket_addr.SocketAddr.{SocketAddr}
-use Rattle.lk_step.specs.Letters.{LetterValue}
+use Rattle.lk_node_io.specs.Letters.{LetterValue}
 use Rattle.lk_replica.specs.Groups.{GroupValue}
-use Rattle.lk_transport.specs.Addresses.{AddressBook, Circle, circle_of, IsSameCircle}
+use Rattle.lk_transport.specs.Addresses.{AddressBook, Filter, filter_of, IsSameFilter}
 use Rattle.lk_served_replica.specs.Groups.{Sayings, Gatherings, GathersMore, SaysNoMore}
 use Rattle.lk_server.specs.Gatherings.{TakesAll, EndsWithin, TakesOwn, EndsOwn, TakesHeard, EndsHeard, TakesSocket, EndsSocket, AreFound, Finds}
 use Rattle.lk_pace.specs.declared.turn_input.TurnInput.{TurnInput}
 use Rattle.lk_pace.specs.declared.turn_input.TurnInput.TheVariants.{Nothing, Beside, Something}
 use Rattle.lk_transport.specs.Hearing.{listed}
-use Rattle.lk_transport.specs.Posts.{Hears, HearsAll, is_apart, opened_as, let_in, all_taken_as}
+use Rattle.lk_transport.specs.Posts.{Hears, HearsAll, is_filtered_out, opened_as, filtered, all_filtered}
 use Rattle.lk_pace.specs.Paces.{ticks_after}
 use Rattle.lk_pace.specs.declared.pace.Pace.{Pace}
 use Rattle.lk_server.specs.Servers.{ServerValue, one_more, one_more_tick, ticks_behind, inputs, all_inputs, all_ticks, counted, datagrams_in}
@@ -42,35 +42,35 @@ with_tick pace n bytes e = rw e refl
 bytes_first : (pace : Pace) (n : ℕ) (bytes : List ℕ) → (rest : List (Option (List ℕ))) × (inputs pace n bytes ++ [] ≡ (Some bytes ∷ []) ++ rest)
 bytes_first pace n bytes = elim (cases_Bool (ticks_after pace n)) [ inl e ↦ (None ∷ [], with_tick pace n bytes e) | inr e ↦ ([], alone pace n bytes e) ]
 
-pub taken_more : (s : Circle) (xs ys : List (SocketAddr × List ℕ)) → all_taken_as s (xs ++ ys) ≡ all_taken_as s xs ++ all_taken_as s ys
+pub taken_more : (s : Filter) (xs ys : List (SocketAddr × List ℕ)) → all_filtered s (xs ++ ys) ≡ all_filtered s xs ++ all_filtered s ys
 taken_more s [] ys = refl
 taken_more s (x ∷ xs) ys =
-    ap (λ (l : List (SocketAddr × List ℕ)). let_in s x ++ l) (taken_more s xs ys)
-    ∙ sym (append_assoc (let_in s x) (all_taken_as s xs) (all_taken_as s ys))
+    ap (λ (l : List (SocketAddr × List ℕ)). filtered s x ++ l) (taken_more s xs ys)
+    ∙ sym (append_assoc (filtered s x) (all_filtered s xs) (all_filtered s ys))
 
 -- no more is taken than came
-one_at_most : (s : Circle) (d : SocketAddr × List ℕ) → length (let_in s d) ≤ 1
-one_at_most s d = elim (cases_Bool (is_apart s d)) [ inl e ↦ rw e (omega arith) | inr e ↦ rw e (omega arith) ]
+one_at_most : (s : Filter) (d : SocketAddr × List ℕ) → length (filtered s d) ≤ 1
+one_at_most s d = elim (cases_Bool (is_filtered_out s d)) [ inl e ↦ rw e (omega arith) | inr e ↦ rw e (omega arith) ]
 
-pub long_as : (s : Circle) (xs : List (SocketAddr × List ℕ)) → length (all_taken_as s xs) ≤ length xs
+pub long_as : (s : Filter) (xs : List (SocketAddr × List ℕ)) → length (all_filtered s xs) ≤ length xs
 long_as s [] = omega arith
-long_as s (x ∷ xs) = omega (arith, length-append (let_in s x) (all_taken_as s xs), one_at_most s x, long_as s xs)
+long_as s (x ∷ xs) = omega (arith, length-append (filtered s x) (all_filtered s xs), one_at_most s x, long_as s xs)
 
-kept_whole : (s : Circle) (x : SocketAddr × List ℕ) → is_apart s x ≡ false → let_in s x ≡ opened_as s x ∷ []
+kept_whole : (s : Filter) (x : SocketAddr × List ℕ) → is_filtered_out s x ≡ false → filtered s x ≡ opened_as s x ∷ []
 kept_whole s x e = rw e refl
 
-set_aside : (s : Circle) (x : SocketAddr × List ℕ) → is_apart s x ≡ true → let_in s x ≡ []
+set_aside : (s : Filter) (x : SocketAddr × List ℕ) → is_filtered_out s x ≡ true → filtered s x ≡ []
 set_aside s x e = rw e refl
 
 -- what is taken of a frame alone
-pub taken_one : (s : Circle) (d x : SocketAddr × List ℕ) → opened_as s d ≡ x → is_apart s d ≡ false → all_taken_as s (d ∷ []) ≡ x ∷ []
+pub taken_one : (s : Filter) (d x : SocketAddr × List ℕ) → opened_as s d ≡ x → is_filtered_out s d ≡ false → all_filtered s (d ∷ []) ≡ x ∷ []
 taken_one s d x is apart = ap (λ (l : List (SocketAddr × List ℕ)). l ++ []) (kept_whole s d apart) ∙ ap (λ (c : SocketAddr × List ℕ). c ∷ []) is
 
-pub taken_none : (s : Circle) (d : SocketAddr × List ℕ) → is_apart s d ≡ true → all_taken_as s (d ∷ []) ≡ []
+pub taken_none : (s : Filter) (d : SocketAddr × List ℕ) → is_filtered_out s d ≡ true → all_filtered s (d ∷ []) ≡ []
 taken_none s d is = ap (λ (l : List (SocketAddr × List ℕ)). l ++ []) (set_aside s d is)
 
-pub taken_first : (s : Circle) (d : SocketAddr × List ℕ) (more : List (SocketAddr × List ℕ)) → is_apart s d ≡ false → all_taken_as s (d ∷ more) ≡ opened_as s d ∷ all_taken_as s more
-taken_first s d more is = ap (λ (l : List (SocketAddr × List ℕ)). l ++ all_taken_as s more) (kept_whole s d is)
+pub taken_first : (s : Filter) (d : SocketAddr × List ℕ) (more : List (SocketAddr × List ℕ)) → is_filtered_out s d ≡ false → all_filtered s (d ∷ more) ≡ opened_as s d ∷ all_filtered s more
+taken_first s d more is = ap (λ (l : List (SocketAddr × List ℕ)). l ++ all_filtered s more) (kept_whole s d is)
 
 abbrev bytes_of : LetterValue → List ℕ
 bytes_of l = l.bytes
@@ -81,9 +81,9 @@ own_more taken l =
     ap (λ (ds : List (List ℕ)). ds ++ l.bytes ∷ []) (append-nil (map bytes_of taken)) ∙ sym (map-append bytes_of taken (l ∷ [])) ∙ sym (append-nil (map bytes_of (taken ++ l ∷ [])))
 
 -- more frames
-pub heard_more : (s : Circle) (xs ys : List (SocketAddr × List ℕ)) → datagrams_in [] (all_taken_as s xs) ++ datagrams_in [] (all_taken_as s ys) ≡ datagrams_in [] (all_taken_as s (xs ++ ys))
+pub heard_more : (s : Filter) (xs ys : List (SocketAddr × List ℕ)) → datagrams_in [] (all_filtered s xs) ++ datagrams_in [] (all_filtered s ys) ≡ datagrams_in [] (all_filtered s (xs ++ ys))
 heard_more s xs ys =
-    sym (map-append (λ (c : SocketAddr × List ℕ). c.1) (all_taken_as s xs) (all_taken_as s ys))
+    sym (map-append (λ (c : SocketAddr × List ℕ). c.1) (all_filtered s xs) (all_filtered s ys))
     ∙ ap (λ (cs : List (SocketAddr × List ℕ)). map (λ (c : SocketAddr × List ℕ). c.1) cs) (sym (taken_more s xs ys))
 
 take_front : {X : Type 0} (xs ys : List X) → take (length xs) (xs ++ ys) ≡ xs
@@ -131,7 +131,7 @@ pub hears_more : (cluster : ℕ) (xs ys : List (SocketAddr × List ℕ)) (old mi
 hears_more cluster [] ys old mid new a b = subst (λ (k : AddressBook). HearsAll cluster ys k new) a b
 hears_more cluster (x ∷ xs) ys old mid new a b = (a.0, a.1, hears_more cluster xs ys a.0 mid new a.2 b)
 
-pub same_network : (old mid new : AddressBook) → IsSameCircle old mid → IsSameCircle mid new → IsSameCircle old new
+pub same_network : (old mid new : AddressBook) → IsSameFilter old mid → IsSameFilter mid new → IsSameFilter old new
 same_network old mid new a b = (b.0 ∙ a.0, b.1 ∙ a.1)
 
 -- no frame came
@@ -152,18 +152,18 @@ later : {R : Type 0} (old mid : ServerValue R) (xs ys : List (List ℕ)) → mid
 later old mid xs ys pace count = (λ i. all_inputs old.pace old.received xs ++ all_inputs (pace i) (count i) ys) ∙ sym (all_more old.pace old.received xs ys)
 
 -- what was taken of a frame stood beside the protocol no more when only what was to come has changed
-pub apart_as : {R : Type 0} (old mid : ServerValue R) (frame : SocketAddr × List ℕ) → mid ≡ record old { coming = mid.coming } → is_apart (circle_of mid.addresses) frame ≡ false
-    → is_apart (circle_of old.addresses) frame ≡ false
-apart_as {R} old mid frame others apart = subst (λ (s : Circle). is_apart s frame ≡ false) (ap (λ (s : ServerValue R). circle_of s.addresses) others) apart
+pub still_not_out : {R : Type 0} (old mid : ServerValue R) (frame : SocketAddr × List ℕ) → mid ≡ record old { coming = mid.coming } → is_filtered_out (filter_of mid.addresses) frame ≡ false
+    → is_filtered_out (filter_of old.addresses) frame ≡ false
+still_not_out {R} old mid frame others apart = subst (λ (s : Filter). is_filtered_out s frame ≡ false) (ap (λ (s : ServerValue R). filter_of s.addresses) others) apart
 
 -- a replica is given nothing of what was found
-pub found_none : (s : Circle) (found : TurnInput) (frames : List (SocketAddr × List ℕ)) → AreFound s found frames → all_taken_as s frames ≡ []
-found_none s Nothing frames none = ap (λ (l : List (SocketAddr × List ℕ)). all_taken_as s l) none
-found_none s Beside frames one = ap (λ (l : List (SocketAddr × List ℕ)). all_taken_as s l) one.1 ∙ taken_none s one.0 one.2
+pub found_none : (s : Filter) (found : TurnInput) (frames : List (SocketAddr × List ℕ)) → AreFound s found frames → all_filtered s frames ≡ []
+found_none s Nothing frames none = ap (λ (l : List (SocketAddr × List ℕ)). all_filtered s l) none
+found_none s Beside frames one = ap (λ (l : List (SocketAddr × List ℕ)). all_filtered s l) one.1 ∙ taken_none s one.0 one.2
 found_none s Something frames never = absurd never
 
 -- it is one frame at most
-pub found_few : (s : Circle) (found : TurnInput) (frames : List (SocketAddr × List ℕ)) → AreFound s found frames → length frames ≤ 64
+pub found_few : (s : Filter) (found : TurnInput) (frames : List (SocketAddr × List ℕ)) → AreFound s found frames → length frames ≤ 64
 found_few s Nothing frames none = omega (arith, ap length none)
 found_few s Beside frames one = omega (arith, ap length one.1)
 found_few s Something frames never = absurd never
@@ -172,7 +172,7 @@ found_few s Something frames never = absurd never
 pub finds : {R : Type 0} (tells : Type 0) (found : TurnInput) (e : Option (SocketAddr × List ℕ)) (group now : GroupValue) (old mid new : ServerValue R)
     → (tells → old.coming ≡ listed e ++ mid.coming) → (tells → e ≡ None → old.coming ≡ []) → mid ≡ record old { coming = mid.coming }
     → (found ≡ Nothing → (e ≡ None) × (new ≡ mid) × (now ≡ group))
-    → (found ≡ Beside → (frame : SocketAddr × List ℕ) × (e ≡ Some frame) × (is_apart (circle_of mid.addresses) frame ≡ true) × (new ≡ mid) × (now ≡ group))
+    → (found ≡ Beside → (frame : SocketAddr × List ℕ) × (e ≡ Some frame) × (is_filtered_out (filter_of mid.addresses) frame ≡ true) × (new ≡ mid) × (now ≡ group))
     → (found ≡ Something → ⊥) → Finds tells found (listed e) old new × (now ≡ group)
 finds {R} tells Nothing e group now old mid new comes none others nothing beside apart =
     let n = nothing refl in (
@@ -186,7 +186,7 @@ finds {R} tells Nothing e group now old mid new comes none others nothing beside
     )
 finds {R} tells Beside e group now old mid new comes none others nothing beside apart =
     let b = beside refl in
-    let is : is_apart (circle_of old.addresses) b.0 ≡ true = subst (λ (s : Circle). is_apart s b.0 ≡ true) (ap (λ (s : ServerValue R). circle_of s.addresses) others) b.2 in (
+    let is : is_filtered_out (filter_of old.addresses) b.0 ≡ true = subst (λ (s : Filter). is_filtered_out s b.0 ≡ true) (ap (λ (s : ServerValue R). filter_of s.addresses) others) b.2 in (
       record {
         are = (b.0, ap listed b.1, is);
         none = λ t empty. absurd (let both : b.0 ∷ [] ≡ [] = sym (ap listed b.1) ∙ empty in cc both);
@@ -272,46 +272,46 @@ module _ {R : Type 0} (G : Gatherings R) where
   pub socket_more : (tells : Type 0) (xs ys : List (SocketAddr × List ℕ)) (group one now : GroupValue) (old mid new : ServerValue R) → mid.cluster ≡ old.cluster
       → TakesSocket G tells xs group one old mid → TakesSocket G tells ys one now mid new → TakesSocket G tells (xs ++ ys) group now old new
   socket_more tells xs ys group one now old mid new cluster a b =
-      let circle = a.takes.network.1 in
+      let filter = a.takes.network.1 in
       record {
         takes = record {
-          takes = subst (λ (ds : List (List ℕ)). TakesAll G ds group now old new) (heard_more (circle_of old.addresses) xs ys)
-              (takes_more (datagrams_in [] (all_taken_as (circle_of old.addresses) xs)) (datagrams_in [] (all_taken_as (circle_of old.addresses) ys)) group one now old mid new a.takes.takes
-              (subst (λ (s : Circle). TakesAll G (datagrams_in [] (all_taken_as s ys)) one now mid new) circle b.takes.takes));
-          heard = subst (λ (cs : List (SocketAddr × List ℕ)). HearsAll old.cluster cs old.addresses new.addresses) (sym (taken_more (circle_of old.addresses) xs ys))
-              (hears_more old.cluster (all_taken_as (circle_of old.addresses) xs) (all_taken_as (circle_of old.addresses) ys) old.addresses mid.addresses new.addresses a.takes.heard
-              (subst₂ (λ (n : ℕ) (s : Circle). HearsAll n (all_taken_as s ys) mid.addresses new.addresses) cluster circle b.takes.heard));
+          takes = subst (λ (ds : List (List ℕ)). TakesAll G ds group now old new) (heard_more (filter_of old.addresses) xs ys)
+              (takes_more (datagrams_in [] (all_filtered (filter_of old.addresses) xs)) (datagrams_in [] (all_filtered (filter_of old.addresses) ys)) group one now old mid new a.takes.takes
+              (subst (λ (s : Filter). TakesAll G (datagrams_in [] (all_filtered s ys)) one now mid new) filter b.takes.takes));
+          heard = subst (λ (cs : List (SocketAddr × List ℕ)). HearsAll old.cluster cs old.addresses new.addresses) (sym (taken_more (filter_of old.addresses) xs ys))
+              (hears_more old.cluster (all_filtered (filter_of old.addresses) xs) (all_filtered (filter_of old.addresses) ys) old.addresses mid.addresses new.addresses a.takes.heard
+              (subst₂ (λ (n : ℕ) (s : Filter). HearsAll n (all_filtered s ys) mid.addresses new.addresses) cluster filter b.takes.heard));
           network = same_network old.addresses mid.addresses new.addresses a.takes.network b.takes.network;
         };
         comes = λ t. a.comes t ∙ ap (λ (l : List (SocketAddr × List ℕ)). xs ++ l) (b.comes t) ∙ sym (append_assoc xs ys new.coming);
       }
 
   -- a frame of which this was taken
-  pub heard_one : (frame x : SocketAddr × List ℕ) (group now : GroupValue) (old mid new : ServerValue R) → opened_as (circle_of old.addresses) frame ≡ x → is_apart (circle_of old.addresses) frame ≡ false
-      → Hears old.cluster x.1 x.0 old.addresses mid.addresses → IsSameCircle old.addresses mid.addresses → new.addresses ≡ mid.addresses → mid.replica ≡ old.replica → mid.received ≡ old.received → mid.pace ≡ old.pace → mid.ticks ≡ old.ticks
+  pub heard_one : (frame x : SocketAddr × List ℕ) (group now : GroupValue) (old mid new : ServerValue R) → opened_as (filter_of old.addresses) frame ≡ x → is_filtered_out (filter_of old.addresses) frame ≡ false
+      → Hears old.cluster x.1 x.0 old.addresses mid.addresses → IsSameFilter old.addresses mid.addresses → new.addresses ≡ mid.addresses → mid.replica ≡ old.replica → mid.received ≡ old.received → mid.pace ≡ old.pace → mid.ticks ≡ old.ticks
       → TakesAll G (x.1 ∷ []) group now mid new → TakesHeard G (frame ∷ []) group now old new
   heard_one frame x group now old mid new is apart hears network book replica received pace time takes = record {
-    takes = subst (λ (cs : List (SocketAddr × List ℕ)). TakesAll G (datagrams_in [] cs) group now old new) (sym (taken_one (circle_of old.addresses) frame x is apart))
+    takes = subst (λ (cs : List (SocketAddr × List ℕ)). TakesAll G (datagrams_in [] cs) group now old new) (sym (taken_one (filter_of old.addresses) frame x is apart))
         (takes_from (x.1 ∷ []) group now old mid new replica received pace time takes);
-    heard = subst (λ (cs : List (SocketAddr × List ℕ)). HearsAll old.cluster cs old.addresses new.addresses) (sym (taken_one (circle_of old.addresses) frame x is apart)) (mid.addresses, hears, book);
-    network = subst (λ (b : AddressBook). IsSameCircle old.addresses b) (sym book) network;
+    heard = subst (λ (cs : List (SocketAddr × List ℕ)). HearsAll old.cluster cs old.addresses new.addresses) (sym (taken_one (filter_of old.addresses) frame x is apart)) (mid.addresses, hears, book);
+    network = subst (λ (b : AddressBook). IsSameFilter old.addresses b) (sym book) network;
   }
 
   -- nothing is taken of a frame that stands beside the protocol
   pub socket_beside : (tells : Type 0) (e : Option (SocketAddr × List ℕ)) (frame : SocketAddr × List ℕ) (group now : GroupValue) (old mid new : ServerValue R) → e ≡ Some frame
-      → (tells → old.coming ≡ listed e ++ mid.coming) → mid ≡ record old { coming = mid.coming } → is_apart (circle_of mid.addresses) frame ≡ true
+      → (tells → old.coming ≡ listed e ++ mid.coming) → mid ≡ record old { coming = mid.coming } → is_filtered_out (filter_of mid.addresses) frame ≡ true
       → new ≡ mid → now ≡ group → TakesSocket G tells (frame ∷ []) group now old new
   socket_beside tells e frame group now old mid new is comes others beside same still =
       let as_was : new ≡ record old { coming = mid.coming } = same ∙ others in
-      let aside : is_apart (circle_of old.addresses) frame ≡ true = subst (λ (s : Circle). is_apart s frame ≡ true) (ap (λ (s : ServerValue R). circle_of s.addresses) others) beside in
-      let gone = taken_none (circle_of old.addresses) frame aside in
+      let aside : is_filtered_out (filter_of old.addresses) frame ≡ true = subst (λ (s : Filter). is_filtered_out s frame ≡ true) (ap (λ (s : ServerValue R). filter_of s.addresses) others) beside in
+      let gone = taken_none (filter_of old.addresses) frame aside in
       let book : new.addresses ≡ old.addresses = ap (λ (s : ServerValue R). s.addresses) as_was in
       record {
         takes = record {
           takes = subst (λ (cs : List (SocketAddr × List ℕ)). TakesAll G (datagrams_in [] cs) group now old new) (sym gone)
               (takes_from [] group now old mid new (ap (λ (s : ServerValue R). s.replica) others) (ap (λ (s : ServerValue R). s.received) others) (ap (λ (s : ServerValue R). s.pace) others) (ap (λ (s : ServerValue R). s.ticks) others) (takes_nothing group now mid new still same));
           heard = subst (λ (cs : List (SocketAddr × List ℕ)). HearsAll old.cluster cs old.addresses new.addresses) (sym gone) book;
-          network = (ap (λ (b : AddressBook). b.hosts) book, ap (λ (b : AddressBook). circle_of b) book);
+          network = (ap (λ (b : AddressBook). b.hosts) book, ap (λ (b : AddressBook). filter_of b) book);
         };
         comes = λ t.
             comes t ∙ ap (λ (o : Option (SocketAddr × List ℕ)). listed o ++ mid.coming) is
@@ -336,7 +336,7 @@ module _ {R : Type 0} (G : Gatherings R) where
     takes = record {
       takes = takes_nothing group now old new is same;
       heard = ap (λ (s : ServerValue R). s.addresses) same;
-      network = (ap (λ (s : ServerValue R). s.addresses.hosts) same, ap (λ (s : ServerValue R). circle_of s.addresses) same);
+      network = (ap (λ (s : ServerValue R). s.addresses.hosts) same, ap (λ (s : ServerValue R). filter_of s.addresses) same);
     };
     comes = λ t. sym (ap (λ (s : ServerValue R). s.coming) same);
   }
@@ -349,13 +349,13 @@ module _ {R : Type 0} (G : Gatherings R) where
       record {
         takes = record {
           takes = record {
-            gathers = subst₂ (λ (x : GroupValue) (r : R). GathersMore G (all_inputs old.pace old.received (datagrams_in [] (all_taken_as (circle_of old.addresses) xs))) group x old.replica r) (sym is) (sym (ap (λ (s : ServerValue R). s.replica) same)) a.takes.takes.gathers;
+            gathers = subst₂ (λ (x : GroupValue) (r : R). GathersMore G (all_inputs old.pace old.received (datagrams_in [] (all_filtered (filter_of old.addresses) xs))) group x old.replica r) (sym is) (sym (ap (λ (s : ServerValue R). s.replica) same)) a.takes.takes.gathers;
             counted = ap (λ (s : ServerValue R). s.received) same ∙ a.takes.takes.counted;
             ticks = ap (λ (s : ServerValue R). s.ticks) same ∙ a.takes.takes.ticks;
             pace = ap (λ (s : ServerValue R). s.pace) same ∙ a.takes.takes.pace;
           };
-          heard = subst (λ (b : AddressBook). HearsAll old.cluster (all_taken_as (circle_of old.addresses) xs) old.addresses b) (sym book) a.takes.heard;
-          network = subst (λ (b : AddressBook). IsSameCircle old.addresses b) (sym book) a.takes.network;
+          heard = subst (λ (b : AddressBook). HearsAll old.cluster (all_filtered (filter_of old.addresses) xs) old.addresses b) (sym book) a.takes.heard;
+          network = subst (λ (b : AddressBook). IsSameFilter old.addresses b) (sym book) a.takes.network;
         };
         comes = λ t. a.comes t ∙ ap (λ (l : List (SocketAddr × List ℕ)). xs ++ l) (sym (none t));
       }
@@ -429,14 +429,14 @@ module _ {R : Type 0} (S : Sayings R) (G : Gatherings R) where
     ticks = e.ticks ∙ ap (λ (n : ℕ). all_ticks n e.given) time;
   }
 
-  pub ends_heard : (frame x : SocketAddr × List ℕ) (group : GroupValue) (old mid new : ServerValue R) → opened_as (circle_of old.addresses) frame ≡ x → is_apart (circle_of old.addresses) frame ≡ false
-      → Hears old.cluster x.1 x.0 old.addresses mid.addresses → IsSameCircle old.addresses mid.addresses → new.addresses ≡ mid.addresses → mid.replica ≡ old.replica → mid.received ≡ old.received → mid.pace ≡ old.pace → mid.ticks ≡ old.ticks
+  pub ends_heard : (frame x : SocketAddr × List ℕ) (group : GroupValue) (old mid new : ServerValue R) → opened_as (filter_of old.addresses) frame ≡ x → is_filtered_out (filter_of old.addresses) frame ≡ false
+      → Hears old.cluster x.1 x.0 old.addresses mid.addresses → IsSameFilter old.addresses mid.addresses → new.addresses ≡ mid.addresses → mid.replica ≡ old.replica → mid.received ≡ old.received → mid.pace ≡ old.pace → mid.ticks ≡ old.ticks
       → EndsWithin S G (x.1 ∷ []) group mid new → EndsHeard S G (frame ∷ []) group old new
   ends_heard frame x group old mid new is apart hears network book replica received pace time ends = record {
-    ends = subst (λ (cs : List (SocketAddr × List ℕ)). EndsWithin S G (datagrams_in [] cs) group old new) (sym (taken_one (circle_of old.addresses) frame x is apart))
+    ends = subst (λ (cs : List (SocketAddr × List ℕ)). EndsWithin S G (datagrams_in [] cs) group old new) (sym (taken_one (filter_of old.addresses) frame x is apart))
         (ends_from (x.1 ∷ []) group old mid new replica received pace time ends);
-    heard = subst (λ (cs : List (SocketAddr × List ℕ)). HearsAll old.cluster cs old.addresses new.addresses) (sym (taken_one (circle_of old.addresses) frame x is apart)) (mid.addresses, hears, book);
-    network = subst (λ (b : AddressBook). IsSameCircle old.addresses b) (sym book) network;
+    heard = subst (λ (cs : List (SocketAddr × List ℕ)). HearsAll old.cluster cs old.addresses new.addresses) (sym (taken_one (filter_of old.addresses) frame x is apart)) (mid.addresses, hears, book);
+    network = subst (λ (b : AddressBook). IsSameFilter old.addresses b) (sym book) network;
   }
 
   pub ends_socket : (tells : Type 0) (e : Option (SocketAddr × List ℕ)) (frame : SocketAddr × List ℕ) (group : GroupValue) (old mid new : ServerValue R) → e ≡ Some frame
@@ -453,15 +453,15 @@ module _ {R : Type 0} (S : Sayings R) (G : Gatherings R) where
   pub ends_further : (tells : Type 0) (xs ys : List (SocketAddr × List ℕ)) (group one : GroupValue) (old mid new : ServerValue R) → mid.cluster ≡ old.cluster
       → TakesSocket G tells xs group one old mid → EndsSocket S G tells ys one mid new → EndsSocket S G tells (xs ++ ys) group old new
   ends_further tells xs ys group one old mid new cluster a b =
-      let circle = a.takes.network.1 in
+      let filter = a.takes.network.1 in
       record {
         ends = record {
-          ends = subst (λ (ds : List (List ℕ)). EndsWithin S G ds group old new) (heard_more (circle_of old.addresses) xs ys)
-              (ends_more (datagrams_in [] (all_taken_as (circle_of old.addresses) xs)) (datagrams_in [] (all_taken_as (circle_of old.addresses) ys)) group one old mid new a.takes.takes
-              (subst (λ (s : Circle). EndsWithin S G (datagrams_in [] (all_taken_as s ys)) one mid new) circle b.ends.ends));
-          heard = subst (λ (cs : List (SocketAddr × List ℕ)). HearsAll old.cluster cs old.addresses new.addresses) (sym (taken_more (circle_of old.addresses) xs ys))
-              (hears_more old.cluster (all_taken_as (circle_of old.addresses) xs) (all_taken_as (circle_of old.addresses) ys) old.addresses mid.addresses new.addresses a.takes.heard
-              (subst₂ (λ (n : ℕ) (s : Circle). HearsAll n (all_taken_as s ys) mid.addresses new.addresses) cluster circle b.ends.heard));
+          ends = subst (λ (ds : List (List ℕ)). EndsWithin S G ds group old new) (heard_more (filter_of old.addresses) xs ys)
+              (ends_more (datagrams_in [] (all_filtered (filter_of old.addresses) xs)) (datagrams_in [] (all_filtered (filter_of old.addresses) ys)) group one old mid new a.takes.takes
+              (subst (λ (s : Filter). EndsWithin S G (datagrams_in [] (all_filtered s ys)) one mid new) filter b.ends.ends));
+          heard = subst (λ (cs : List (SocketAddr × List ℕ)). HearsAll old.cluster cs old.addresses new.addresses) (sym (taken_more (filter_of old.addresses) xs ys))
+              (hears_more old.cluster (all_filtered (filter_of old.addresses) xs) (all_filtered (filter_of old.addresses) ys) old.addresses mid.addresses new.addresses a.takes.heard
+              (subst₂ (λ (n : ℕ) (s : Filter). HearsAll n (all_filtered s ys) mid.addresses new.addresses) cluster filter b.ends.heard));
           network = same_network old.addresses mid.addresses new.addresses a.takes.network b.ends.network;
         };
         comes = λ t. a.comes t ∙ ap (λ (l : List (SocketAddr × List ℕ)). xs ++ l) (b.comes t) ∙ sym (append_assoc xs ys new.coming);

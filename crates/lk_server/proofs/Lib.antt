@@ -2,7 +2,7 @@ mod Free
 mod Probed
 mod Asking
 mod Carrying
-mod Apart
+mod FilteredOut
 mod Acting
 mod Gatherings
 mod Turning

@@ -14,8 +14,8 @@ use Rattle.lk_seal.specs.declared.frame.Scope.{Scope}
 use Rattle.lk_seal.specs.declared.seals.Seals.{Seals}
 use Rattle.lk_seal.proofs.FrameLaws.{either_way}
 use Rattle.lk_seal.proofs.VouchLaws.{opened_by_is, is_of_who_it_names}
-use Rattle.lk_transport.specs.Askers.{IsKeptOf}
-use Rattle.lk_transport.specs.declared.asked.Asked.{Asked}
+use Rattle.lk_transport.specs.Askers.{BringsProbe}
+use Rattle.lk_transport.specs.declared.received_probe.ReceivedProbe.{ReceivedProbe}
 use Rattle.lk_server.specs.Premises.{IsProbedByANode, IsProbedByWhomItNames}
 
 -- ---- the bytes of a probe
@@ -36,7 +36,7 @@ names_its_client p bytes spelled = rw spelled.1 (from_be_bytes-to_be_bytes_2 (or
 
 -- ---- nodes and clients have keys
 
-pub by_whom_it_names : (s : Seals) (d : SocketAddr × List ℕ) (a : Asked) → key_list s.nodes ≢ [] → key_list s.clients ≢ [] → IsKeptOf s d (Some a) → IsProbedByWhomItNames s d.1 a.probe
+pub by_whom_it_names : (s : Seals) (d : SocketAddr × List ℕ) (a : ReceivedProbe) → key_list s.nodes ≢ [] → key_list s.clients ≢ [] → BringsProbe s d (Some a) → IsProbedByWhomItNames s d.1 a.probe
 by_whom_it_names s d a some masters kept = elim (is_of_who_it_names s d.1 some masters) [
   | inl told ↦ inl told
   | inr (inl none) ↦ absurd (is_some a.probe (heard s d.1) kept.1.spelled none)
@@ -63,7 +63,7 @@ heard_as_it_is (key ∷ keys) s frame some none =
     opened_or_as_it_is (key ∷ keys) (to_node s s.node) frame (heard_of_client (key_list s.clients) s.cluster frame) (opened_by (key ∷ keys) (to_node s s.node) frame) refl
     (subst (λ (masters : List (List ℕ)). (heard_of_client masters s.cluster frame ≡ []) ⊎ (heard_of_client masters s.cluster frame ≡ frame)) (sym none) (only_is frame))
 
-pub by_a_node : (s : Seals) (d : SocketAddr × List ℕ) (a : Asked) → key_list s.nodes ≢ [] → key_list s.clients ≡ [] → IsSome a.probe.origin → IsKeptOf s d (Some a) → IsProbedByANode s d.1
+pub by_a_node : (s : Seals) (d : SocketAddr × List ℕ) (a : ReceivedProbe) → key_list s.nodes ≢ [] → key_list s.clients ≡ [] → IsSome a.probe.origin → BringsProbe s d (Some a) → IsProbedByANode s d.1
 by_a_node s d a some none names kept = elim (heard_as_it_is (key_list s.nodes) s d.1 some none) [
   | inl told ↦ told
   | inr (inl empty) ↦ absurd (is_some a.probe (heard s d.1) kept.1.spelled empty)

@@ -2,14 +2,14 @@
 use Rattle.std.proofs.Common.{◌≡◌, ◌≢◌, ◌++◌, ℕ, zero, suc, ◌≤◌, Bool, true, false, List, [], ◌∷◌, length, map, take, drop, Option, None, inl, inr, refl, ap, sym, ◌∙◌, subst, subst₂, append-nil, append_assoc, arith}
 use Rattle.std.specs.Prelude.{Result, Ok, Err, OnOk, OnErr}
 use Rattle.std.specs.declared.net.socket_addr.SocketAddr.{SocketAddr}
-use Rattle.lk_step.specs.Letters.{LetterValue}
+use Rattle.lk_node_io.specs.Letters.{LetterValue}
 use Rattle.lk_replica.specs.Groups.{GroupValue}
-use Rattle.lk_transport.specs.Addresses.{AddressBook, Circle, circle_of, IsSameCircle}
+use Rattle.lk_transport.specs.Addresses.{AddressBook, Filter, filter_of, IsSameFilter}
 use Rattle.lk_served_replica.specs.Groups.{Sayings, Gatherings, GathersMore, SaysNoMore}
 use Rattle.lk_server.specs.Gatherings.{AreFound, Finds, TakesAll, EndsWithin, TakesOwn, EndsOwn, TakesSocket, EndsSocket, TakesWaiting, TakesGroup, EndsGroup, HandsOnAll, SaysNothing}
 use Rattle.lk_pace.specs.Paces.{MayFollow}
 use Rattle.lk_seal.specs.Seals.{heard}
-use Rattle.lk_transport.specs.Posts.{HearsAll, is_apart, all_taken_as}
+use Rattle.lk_transport.specs.Posts.{HearsAll, is_filtered_out, all_filtered}
 use Rattle.lk_server.specs.Servers.{ServerValue, HandsOn, HandsNothing, HasReceived, IsSameServer, Turn, LastTurn, IsIdle, Given, GivenFirst, TakesFirst, all_inputs, all_ticks, counted, datagrams_in, one_more_tick}
 use Rattle.lk_pace.specs.declared.turn_input.TurnInput.{TurnInput}
 use Rattle.lk_pace.specs.declared.turn_input.TurnInput.TheVariants.{Nothing, Beside, Something}
@@ -44,10 +44,10 @@ given_none : (pace : Pace) (received : ℕ) (ds : List (List ℕ)) → ds ≡ []
 given_none pace received ds none = subst (λ (l : List (List ℕ)). Given pace received l (None ∷ [])) (sym none) refl
 
 -- what comes after a first one is something
-pub some_datagrams : (s : Circle) (own : List LetterValue) (d : SocketAddr × List ℕ) (more : List (SocketAddr × List ℕ)) → own ≡ [] → is_apart s d ≡ false → datagrams_in own (all_taken_as s (d ∷ more)) ≢ []
+pub some_datagrams : (s : Filter) (own : List LetterValue) (d : SocketAddr × List ℕ) (more : List (SocketAddr × List ℕ)) → own ≡ [] → is_filtered_out s d ≡ false → datagrams_in own (all_filtered s (d ∷ more)) ≢ []
 some_datagrams s own d more none apart is =
-    let both : heard s.seals d.1 ∷ map (λ (x : SocketAddr × List ℕ). x.1) (all_taken_as s more) ≡ [] =
-    sym (ap (λ (o : List LetterValue). datagrams_in o (all_taken_as s (d ∷ more))) none ∙ ap (λ (cs : List (SocketAddr × List ℕ)). datagrams_in [] cs) (taken_first s d more apart)) ∙ is in
+    let both : heard s.seals d.1 ∷ map (λ (x : SocketAddr × List ℕ). x.1) (all_filtered s more) ≡ [] =
+    sym (ap (λ (o : List LetterValue). datagrams_in o (all_filtered s (d ∷ more))) none ∙ ap (λ (cs : List (SocketAddr × List ℕ)). datagrams_in [] cs) (taken_first s d more apart)) ∙ is in
     cc both
 
 -- of no letters none are taken
@@ -66,13 +66,13 @@ same_by old new others = record {
 }
 
 -- what is taken of the frames that came is what may be taken
-received_first : {R : Type 0} (tells : Type 0) (frames : List (SocketAddr × List ℕ)) (old new : ServerValue R) → HasReceived tells frames old new → TakesFirst tells (all_taken_as (circle_of old.addresses) frames) old
+received_first : {R : Type 0} (tells : Type 0) (frames : List (SocketAddr × List ℕ)) (old new : ServerValue R) → HasReceived tells frames old new → TakesFirst tells (all_filtered (filter_of old.addresses) frames) old
 received_first tells frames old new r = record {
-  alone = elim r.alone [ inl none ↦ inl none | inr none ↦ inr (ap (λ (l : List (SocketAddr × List ℕ)). all_taken_as (circle_of old.addresses) l) none) ];
-  few = omega (arith, r.few, long_as (circle_of old.addresses) frames);
+  alone = elim r.alone [ inl none ↦ inl none | inr none ↦ inr (ap (λ (l : List (SocketAddr × List ℕ)). all_filtered (filter_of old.addresses) l) none) ];
+  few = omega (arith, r.few, long_as (filter_of old.addresses) frames);
   comes = λ telling empty. (
-    all_taken_as (circle_of old.addresses) new.coming,
-    ap (λ (l : List (SocketAddr × List ℕ)). all_taken_as (circle_of old.addresses) l) (r.comes telling) ∙ taken_more (circle_of old.addresses) frames new.coming,
+    all_filtered (filter_of old.addresses) new.coming,
+    ap (λ (l : List (SocketAddr × List ℕ)). all_filtered (filter_of old.addresses) l) (r.comes telling) ∙ taken_more (filter_of old.addresses) frames new.coming,
   );
 }
 
@@ -90,29 +90,29 @@ module _ {R : Type 0} (S : Sayings R) (G : Gatherings R) (tells : Type 0) where
 
   -- frames of the socket, where no letter of the node to itself waits
   pub socket_group : (frame : SocketAddr × List ℕ) (frames : List (SocketAddr × List ℕ)) (group now : GroupValue) (old new : ServerValue R) → old.own ≡ [] → new.own ≡ old.own → length frames ≤ 63
-      → is_apart (circle_of old.addresses) frame ≡ false → TakesSocket G tells (frame ∷ frames) group now old new → TakesWaiting G tells (frame ∷ frames) group now old new
+      → is_filtered_out (filter_of old.addresses) frame ≡ false → TakesSocket G tells (frame ∷ frames) group now old new → TakesWaiting G tells (frame ∷ frames) group now old new
   socket_group frame frames group now old new none own few apart t = record {
     received = record { alone = inl none; few = omega (arith, few); comes = t.comes; waited = λ telling empty is. absurd (cc is) };
-    takes = subst (λ (o : List LetterValue). TakesAll G (datagrams_in (take 64 o) (all_taken_as (circle_of old.addresses) (frame ∷ frames))) group now old new) (sym none) t.takes.takes;
-    some = some_datagrams (circle_of old.addresses) (take 64 old.own) frame frames (ap (λ (o : List LetterValue). take 64 o) none) apart;
+    takes = subst (λ (o : List LetterValue). TakesAll G (datagrams_in (take 64 o) (all_filtered (filter_of old.addresses) (frame ∷ frames))) group now old new) (sym none) t.takes.takes;
+    some = some_datagrams (filter_of old.addresses) (take 64 old.own) frame frames (ap (λ (o : List LetterValue). take 64 o) none) apart;
     left = own ∙ none ∙ sym (ap (λ (o : List LetterValue). drop 64 o) none);
     heard = t.takes.heard;
     network = t.takes.network;
   }
 
   pub socket_ends : (frame : SocketAddr × List ℕ) (frames : List (SocketAddr × List ℕ)) (group : GroupValue) (old new : ServerValue R) → old.own ≡ [] → new.own ≡ old.own → length frames ≤ 63
-      → is_apart (circle_of old.addresses) frame ≡ false → EndsSocket S G tells (frame ∷ frames) group old new → EndsGroup S G tells (frame ∷ frames) group old new
+      → is_filtered_out (filter_of old.addresses) frame ≡ false → EndsSocket S G tells (frame ∷ frames) group old new → EndsGroup S G tells (frame ∷ frames) group old new
   socket_ends frame frames group old new none own few apart t =
-      let e = subst (λ (o : List LetterValue). EndsWithin S G (datagrams_in (take 0 o) (all_taken_as (circle_of old.addresses) (frame ∷ frames))) group old new) (sym none) t.ends.ends in
+      let e = subst (λ (o : List LetterValue). EndsWithin S G (datagrams_in (take 0 o) (all_filtered (filter_of old.addresses) (frame ∷ frames))) group old new) (sym none) t.ends.ends in
       record {
         received = record { alone = inl none; few = omega (arith, few); comes = t.comes; waited = λ telling empty is. absurd (cc is) };
         count = 0;
         letters = record { at_most = omega arith; some = λ is. none };
         given = e.given;
         first = record {
-          whole = all_inputs old.pace old.received (datagrams_in (take 0 old.own) (all_taken_as (circle_of old.addresses) (frame ∷ frames)));
-          may = given_some old.pace old.received (datagrams_in (take 0 old.own) (all_taken_as (circle_of old.addresses) (frame ∷ frames)))
-              (some_datagrams (circle_of old.addresses) (take 0 old.own) frame frames (ap (λ (o : List LetterValue). take 0 o) none) apart);
+          whole = all_inputs old.pace old.received (datagrams_in (take 0 old.own) (all_filtered (filter_of old.addresses) (frame ∷ frames)));
+          may = given_some old.pace old.received (datagrams_in (take 0 old.own) (all_filtered (filter_of old.addresses) (frame ∷ frames)))
+              (some_datagrams (filter_of old.addresses) (take 0 old.own) frame frames (ap (λ (o : List LetterValue). take 0 o) none) apart);
           front = e.front;
         };
         silent = e.silent;
@@ -140,7 +140,7 @@ module _ {R : Type 0} (S : Sayings R) (G : Gatherings R) (tells : Type 0) where
     some = λ is. let both : l.bytes ∷ datagrams_in (take 63 mid.own) [] ≡ [] = sym (ap (λ (o : List LetterValue). datagrams_in (take 64 o) []) own) ∙ is in cc both;
     left = further.left ∙ sym (ap (λ (o : List LetterValue). drop 64 o) own);
     heard = book;
-    network = (ap (λ (b : AddressBook). b.hosts) book, ap (λ (b : AddressBook). circle_of b) book);
+    network = (ap (λ (b : AddressBook). b.hosts) book, ap (λ (b : AddressBook). filter_of b) book);
   }
 
   -- so many of them have ended it
@@ -163,7 +163,7 @@ module _ {R : Type 0} (S : Sayings R) (G : Gatherings R) (tells : Type 0) where
         ticks = e.ticks;
         left = left ∙ sym (ap (λ (o : List LetterValue). drop (suc count) o) own);
         heard = book;
-        network = (ap (λ (b : AddressBook). b.hosts) book, ap (λ (b : AddressBook). circle_of b) book);
+        network = (ap (λ (b : AddressBook). b.hosts) book, ap (λ (b : AddressBook). filter_of b) book);
       }
 
   -- the first has
@@ -192,7 +192,7 @@ module _ {R : Type 0} (S : Sayings R) (G : Gatherings R) (tells : Type 0) where
   -- none is due: what waits is all
   pub without_tick : (frames : List (SocketAddr × List ℕ)) (group now : GroupValue) (old new : ServerValue R) → TakesWaiting G tells frames group now old new → TakesGroup G tells frames group now old new
   without_tick frames group now old new t =
-      let ds = datagrams_in (take 64 old.own) (all_taken_as (circle_of old.addresses) frames) in
+      let ds = datagrams_in (take 64 old.own) (all_filtered (filter_of old.addresses) frames) in
       record {
         received = t.received;
         given = all_inputs old.pace old.received ds;
@@ -209,7 +209,7 @@ module _ {R : Type 0} (S : Sayings R) (G : Gatherings R) (tells : Type 0) where
   module _ (frames : List (SocketAddr × List ℕ)) (group one : GroupValue) (old mid new : ServerValue R) (clock : old.pace ≡ Clock) (t : TakesWaiting G tells frames group one old mid)
       (same : new ≡ record mid { replica = new.replica; failed = new.failed; ticks = new.ticks }) where
     abbrev waited : List (List ℕ)
-    waited = datagrams_in (take 64 old.own) (all_taken_as (circle_of old.addresses) frames)
+    waited = datagrams_in (take 64 old.own) (all_filtered (filter_of old.addresses) frames)
 
     abbrev ticked : List (Option (List ℕ))
     ticked = all_inputs old.pace old.received waited ++ None ∷ []
@@ -223,11 +223,11 @@ module _ {R : Type 0} (S : Sayings R) (G : Gatherings R) (tells : Type 0) where
     tick_left : new.own ≡ drop 64 old.own
     tick_left = ap (λ (s : ServerValue R). s.own) same ∙ t.left
 
-    tick_heard : HearsAll old.cluster (all_taken_as (circle_of old.addresses) frames) old.addresses new.addresses
-    tick_heard = subst (λ (b : AddressBook). HearsAll old.cluster (all_taken_as (circle_of old.addresses) frames) old.addresses b) (sym (ap (λ (s : ServerValue R). s.addresses) same)) t.heard
+    tick_heard : HearsAll old.cluster (all_filtered (filter_of old.addresses) frames) old.addresses new.addresses
+    tick_heard = subst (λ (b : AddressBook). HearsAll old.cluster (all_filtered (filter_of old.addresses) frames) old.addresses b) (sym (ap (λ (s : ServerValue R). s.addresses) same)) t.heard
 
-    tick_outside : IsSameCircle old.addresses new.addresses
-    tick_outside = subst (λ (b : AddressBook). IsSameCircle old.addresses b) (sym (ap (λ (s : ServerValue R). s.addresses) same)) t.network
+    tick_outside : IsSameFilter old.addresses new.addresses
+    tick_outside = subst (λ (b : AddressBook). IsSameFilter old.addresses b) (sym (ap (λ (s : ServerValue R). s.addresses) same)) t.network
 
     tick_counted : new.ticks ≡ one_more_tick mid.ticks → new.ticks ≡ all_ticks old.ticks ticked
     tick_counted timed = timed ∙ ap (λ (n : ℕ). one_more_tick n) t.takes.ticks ∙ sym (ticks_more old.ticks (all_inputs old.pace old.received waited) (None ∷ []))
@@ -267,8 +267,8 @@ module _ {R : Type 0} (S : Sayings R) (G : Gatherings R) (tells : Type 0) where
   -- it is alone: a replica is given nothing of what came in these frames
   module _ (found : TurnInput) (frames : List (SocketAddr × List ℕ)) (group one : GroupValue) (old mid new : ServerValue R) (own : old.own ≡ []) (f : Finds tells found frames old mid) (begun : one ≡ group)
       (same : new ≡ record mid { replica = new.replica; failed = new.failed; ticks = new.ticks }) where
-    none_taken : all_taken_as (circle_of old.addresses) frames ≡ []
-    none_taken = found_none (circle_of old.addresses) found frames f.are
+    none_taken : all_filtered (filter_of old.addresses) frames ≡ []
+    none_taken = found_none (filter_of old.addresses) found frames f.are
 
     mine : mid.replica ≡ old.replica
     mine = ap (λ (s : ServerValue R). s.replica) f.same
@@ -276,13 +276,13 @@ module _ {R : Type 0} (S : Sayings R) (G : Gatherings R) (tells : Type 0) where
     own_is : (n : ℕ) → take n old.own ≡ []
     own_is n = take_none n old.own own
 
-    no_datagrams : (n : ℕ) → datagrams_in (take n old.own) (all_taken_as (circle_of old.addresses) frames) ≡ []
+    no_datagrams : (n : ℕ) → datagrams_in (take n old.own) (all_filtered (filter_of old.addresses) frames) ≡ []
     no_datagrams n = ap (λ (cs : List (SocketAddr × List ℕ)). datagrams_in (take n old.own) cs) none_taken ∙ ap (λ (o : List LetterValue). datagrams_in o []) (own_is n)
 
     alone_received : HasReceived tells frames old new
     alone_received = record {
       alone = inl own;
-      few = found_few (circle_of old.addresses) found frames f.are;
+      few = found_few (filter_of old.addresses) found frames f.are;
       comes = λ telling. f.comes telling ∙ ap (λ (l : List (SocketAddr × List ℕ)). frames ++ l) (sym (ap (λ (s : ServerValue R). s.coming) same));
       waited = λ telling empty is. f.none telling is;
     }
@@ -290,11 +290,11 @@ module _ {R : Type 0} (S : Sayings R) (G : Gatherings R) (tells : Type 0) where
     alone_book : new.addresses ≡ old.addresses
     alone_book = ap (λ (s : ServerValue R). s.addresses) same ∙ ap (λ (s : ServerValue R). s.addresses) f.same
 
-    alone_heard : HearsAll old.cluster (all_taken_as (circle_of old.addresses) frames) old.addresses new.addresses
+    alone_heard : HearsAll old.cluster (all_filtered (filter_of old.addresses) frames) old.addresses new.addresses
     alone_heard = subst (λ (cs : List (SocketAddr × List ℕ)). HearsAll old.cluster cs old.addresses new.addresses) (sym none_taken) alone_book
 
-    alone_outside : IsSameCircle old.addresses new.addresses
-    alone_outside = (ap (λ (b : AddressBook). b.hosts) alone_book, ap (λ (b : AddressBook). circle_of b) alone_book)
+    alone_outside : IsSameFilter old.addresses new.addresses
+    alone_outside = (ap (λ (b : AddressBook). b.hosts) alone_book, ap (λ (b : AddressBook). filter_of b) alone_book)
 
     alone_own : new.own ≡ []
     alone_own = ap (λ (s : ServerValue R). s.own) same ∙ ap (λ (s : ServerValue R). s.own) f.same ∙ own
@@ -306,7 +306,7 @@ module _ {R : Type 0} (S : Sayings R) (G : Gatherings R) (tells : Type 0) where
     tick_alone now timed ticks = record {
       received = alone_received;
       given = None ∷ [];
-      may = given_none old.pace old.received (datagrams_in (take 64 old.own) (all_taken_as (circle_of old.addresses) frames)) (no_datagrams 64);
+      may = given_none old.pace old.received (datagrams_in (take 64 old.own) (all_filtered (filter_of old.addresses) frames)) (no_datagrams 64);
       gathers = subst₂ (λ (x : GroupValue) (r : R). GathersMore G (None ∷ []) x now r new.replica) begun mine ticks;
       counted = ap (λ (s : ServerValue R). s.received) same ∙ ap (λ (s : ServerValue R). s.received) f.same ∙ sym (ap (λ (ds : List (List ℕ)). counted old.received ds) (no_datagrams 64));
       ticks = alone_counted timed;
@@ -321,8 +321,8 @@ module _ {R : Type 0} (S : Sayings R) (G : Gatherings R) (tells : Type 0) where
       count = 64;
       letters = record { at_most = omega arith; some = λ is. absurd (omega (arith, is)) };
       given = None ∷ [];
-      first = given_all old.pace old.received (datagrams_in (take 64 old.own) (all_taken_as (circle_of old.addresses) frames)) (None ∷ [])
-          (given_none old.pace old.received (datagrams_in (take 64 old.own) (all_taken_as (circle_of old.addresses) frames)) (no_datagrams 64));
+      first = given_all old.pace old.received (datagrams_in (take 64 old.own) (all_filtered (filter_of old.addresses) frames)) (None ∷ [])
+          (given_none old.pace old.received (datagrams_in (take 64 old.own) (all_filtered (filter_of old.addresses) frames)) (no_datagrams 64));
       silent = subst₂ (λ (x : GroupValue) (r : R). SaysNoMore S G (None ∷ []) x r new.replica) begun mine silent;
       ticks = alone_counted timed;
       left = alone_own ∙ sym (ap (λ (o : List LetterValue). drop 64 o) own);
@@ -331,7 +331,7 @@ module _ {R : Type 0} (S : Sayings R) (G : Gatherings R) (tells : Type 0) where
     }
 
   -- no tick is due, and nothing waits that a replica is given
-  by_clock : (s : Circle) (pace : Pace) (found : TurnInput) (frames : List (SocketAddr × List ℕ)) (due : Bool) → due ≡ false → (pace ≡ Datagrams → found ≡ Nothing → due ≡ true) → AreFound s found frames → frames ≡ [] → pace ≡ Clock
+  by_clock : (s : Filter) (pace : Pace) (found : TurnInput) (frames : List (SocketAddr × List ℕ)) (due : Bool) → due ≡ false → (pace ≡ Datagrams → found ≡ Nothing → due ≡ true) → AreFound s found frames → frames ≡ [] → pace ≡ Clock
   by_clock s Clock found frames due isnt nothing are empty = refl
   by_clock s Datagrams Nothing frames due isnt nothing are empty = absurd (cc (isnt, nothing refl refl))
   by_clock s Datagrams Beside frames due isnt nothing are empty = absurd (let both : are.0 ∷ [] ≡ [] = sym are.1 ∙ empty in cc both)
@@ -367,8 +367,8 @@ module _ {R : Type 0} (S : Sayings R) (G : Gatherings R) (tells : Type 0) where
       alone_received found n.1 group one old mid mid n.0 n.2 n.3 refl,
       record {
         own = n.0;
-        none = found_none (circle_of old.addresses) found n.1 n.2.are;
-        clock = λ empty. sym pace ∙ by_clock (circle_of old.addresses) mid.pace found n.1 due isnt nothing n.2.are empty;
+        none = found_none (filter_of old.addresses) found n.1 n.2.are;
+        clock = λ empty. sym pace ∙ by_clock (filter_of old.addresses) mid.pace found n.1 due isnt nothing n.2.are empty;
         comes = n.2.comes;
         same = n.2.same;
       },
@@ -412,7 +412,7 @@ module _ {R : Type 0} (S : Sayings R) (G : Gatherings R) (tells : Type 0) where
   pub turn_of : (frames : List (SocketAddr × List ℕ)) (group now : GroupValue) (old mid new : ServerValue R) → G old.replica [] group old.replica → TakesGroup G tells frames group now old mid → HandsOnAll S G tells now mid new
       → mid.sent ≡ old.sent → mid.socket_failures ≡ old.socket_failures → IsSameServer old mid
       → new.addresses ≡ mid.addresses → new.received ≡ mid.received → new.ticks ≡ mid.ticks → IsSameServer mid new → new.failed ≡ false
-      → Turn S tells (all_taken_as (circle_of old.addresses) frames) old new
+      → Turn S tells (all_filtered (filter_of old.addresses) frames) old new
   turn_of frames group now old mid new begins t hands sent failures first book received untimed then lives = record {
     takes = received_first tells frames old mid t.received;
     given = t.given;
@@ -420,7 +420,7 @@ module _ {R : Type 0} (S : Sayings R) (G : Gatherings R) (tells : Type 0) where
     hands_on = subst (λ (own : List LetterValue). HandsOn S tells t.given own old new) t.left (hands old t.given (t.gathers old.replica [] begins) (sym sent) (sym failures));
     counted = received ∙ t.counted;
     ticks = untimed ∙ t.ticks;
-    heard = subst (λ (b : AddressBook). HearsAll old.cluster (all_taken_as (circle_of old.addresses) frames) old.addresses b) (sym book) t.heard;
+    heard = subst (λ (b : AddressBook). HearsAll old.cluster (all_filtered (filter_of old.addresses) frames) old.addresses b) (sym book) t.heard;
     same = same_further old mid new first.cluster first.node first.pace then;
     alive = lives;
   }
@@ -428,13 +428,13 @@ module _ {R : Type 0} (S : Sayings R) (G : Gatherings R) (tells : Type 0) where
   -- the end of the group has ended it
   pub last_of : (frames : List (SocketAddr × List ℕ)) (group now : GroupValue) (old mid new : ServerValue R) → G old.replica [] group old.replica → TakesGroup G tells frames group now old mid → SaysNothing S G now mid new
       → mid.sent ≡ old.sent → mid.socket_failures ≡ old.socket_failures → IsSameServer old mid
-      → new.addresses ≡ mid.addresses → new.ticks ≡ mid.ticks → IsSameServer mid new → new.failed ≡ true → LastTurn S tells (all_taken_as (circle_of old.addresses) frames) old new
+      → new.addresses ≡ mid.addresses → new.ticks ≡ mid.ticks → IsSameServer mid new → new.failed ≡ true → LastTurn S tells (all_filtered (filter_of old.addresses) frames) old new
   last_of frames group now old mid new begins t none sent failures first book untimed then ended = record {
     takes = received_first tells frames old mid t.received;
     count = 64;
     letters = record { at_most = omega arith; some = λ is. absurd (omega (arith, is)) };
     given = t.given;
-    first = given_all old.pace old.received (datagrams_in (take 64 old.own) (all_taken_as (circle_of old.addresses) frames)) t.given t.may;
+    first = given_all old.pace old.received (datagrams_in (take 64 old.own) (all_filtered (filter_of old.addresses) frames)) t.given t.may;
     hands_on = hands_none t.given (drop 64 old.own) old new (record {
       says = none.silent old.replica t.given (t.gathers old.replica [] begins);
       own = none.own ∙ t.left;
@@ -443,14 +443,14 @@ module _ {R : Type 0} (S : Sayings R) (G : Gatherings R) (tells : Type 0) where
     });
     silent = refl;
     ticks = untimed ∙ t.ticks;
-    heard = subst (λ (b : AddressBook). HearsAll old.cluster (all_taken_as (circle_of old.addresses) frames) old.addresses b) (sym book) t.heard;
+    heard = subst (λ (b : AddressBook). HearsAll old.cluster (all_filtered (filter_of old.addresses) frames) old.addresses b) (sym book) t.heard;
     same = same_further old mid new first.cluster first.node first.pace then;
     ended = ended;
   }
 
   -- one of its inputs has
   pub last_within : (frames : List (SocketAddr × List ℕ)) (group : GroupValue) (old new : ServerValue R) → G old.replica [] group old.replica → EndsGroup S G tells frames group old new
-      → new.sent ≡ old.sent → new.socket_failures ≡ old.socket_failures → IsSameServer old new → new.failed ≡ true → LastTurn S tells (all_taken_as (circle_of old.addresses) frames) old new
+      → new.sent ≡ old.sent → new.socket_failures ≡ old.socket_failures → IsSameServer old new → new.failed ≡ true → LastTurn S tells (all_filtered (filter_of old.addresses) frames) old new
   last_within frames group old new begins e sent failures same ended = record {
     takes = received_first tells frames old new e.received;
     count = e.count;

@@ -5,21 +5,21 @@ use Rattle.lk_replica.specs.Groups.{GroupValue}
 use Rattle.lk_served_replica.specs.Groups.{Sayings, Gatherings, GathersMore, SaysNoMore}
 use Rattle.lk_pace.specs.declared.turn_input.TurnInput.{TurnInput}
 use Rattle.lk_pace.specs.declared.turn_input.TurnInput.TheVariants.{Nothing, Beside, Something}
-use Rattle.lk_transport.specs.Addresses.{Circle, circle_of, IsSameCircle}
-use Rattle.lk_transport.specs.Posts.{HearsAll, is_apart, all_taken_as}
+use Rattle.lk_transport.specs.Addresses.{Filter, filter_of, IsSameFilter}
+use Rattle.lk_transport.specs.Posts.{HearsAll, is_filtered_out, all_filtered}
 use Rattle.lk_server.specs.Servers.{ServerValue, all_inputs, all_ticks, counted, datagrams_in, Given, GivenFirst, HasReceived, IsFront, TakesLetters, HandsOn}
 
 -- a replica is given nothing of these frames: there is none, or one, which stands beside the protocol or came from a
 -- node of another genesis
-abbrev pub AreFound : Circle → TurnInput → List (SocketAddr × List ℕ) → Type 0
+abbrev pub AreFound : Filter → TurnInput → List (SocketAddr × List ℕ) → Type 0
 AreFound s Nothing frames = frames ≡ []
-AreFound s Beside frames = (frame : SocketAddr × List ℕ) × (frames ≡ frame ∷ []) × (is_apart s frame ≡ true)
+AreFound s Beside frames = (frame : SocketAddr × List ℕ) × (frames ≡ frame ∷ []) × (is_filtered_out s frame ≡ true)
 AreFound s Something frames = ⊥
 
 -- these frames were found at the socket, and a replica is given nothing of them; where there is none, nothing was to
 -- come, if the socket tells that; and nothing else is changed
 pub record Finds {R : Type 0} (tells : Type 0) (found : TurnInput) (frames : List (SocketAddr × List ℕ)) (old new : ServerValue R) : Type 0 where
-  pub are : AreFound (circle_of old.addresses) found frames
+  pub are : AreFound (filter_of old.addresses) found frames
   pub none : tells → frames ≡ [] → old.coming ≡ []
   pub comes : tells → old.coming ≡ frames ++ new.coming
   pub same : record new { coming = old.coming } ≡ old
@@ -40,9 +40,9 @@ module _ {R : Type 0} (Gathers : Gatherings R) where
 
   -- the content of these frames, and their senders' addresses were recorded
   pub record TakesHeard (frames : List (SocketAddr × List ℕ)) (group now : GroupValue) (old new : ServerValue R) : Type 0 where
-    pub takes : TakesAll (datagrams_in [] (all_taken_as (circle_of old.addresses) frames)) group now old new
-    pub heard : HearsAll old.cluster (all_taken_as (circle_of old.addresses) frames) old.addresses new.addresses
-    pub network : IsSameCircle old.addresses new.addresses
+    pub takes : TakesAll (datagrams_in [] (all_filtered (filter_of old.addresses) frames)) group now old new
+    pub heard : HearsAll old.cluster (all_filtered (filter_of old.addresses) frames) old.addresses new.addresses
+    pub network : IsSameFilter old.addresses new.addresses
 
   -- exactly these frames came from the socket, in order
   pub record TakesSocket (tells : Type 0) (frames : List (SocketAddr × List ℕ)) (group now : GroupValue) (old new : ServerValue R) : Type 0 where
@@ -52,23 +52,23 @@ module _ {R : Type 0} (Gathers : Gatherings R) where
   -- what waits is taken: letters of the node to itself, or these frames of the socket
   pub record TakesWaiting (tells : Type 0) (frames : List (SocketAddr × List ℕ)) (group now : GroupValue) (old new : ServerValue R) : Type 0 where
     pub received : HasReceived tells frames old new
-    pub takes : TakesAll (datagrams_in (take 64 old.own) (all_taken_as (circle_of old.addresses) frames)) group now old new
-    pub some : datagrams_in (take 64 old.own) (all_taken_as (circle_of old.addresses) frames) ≢ []
+    pub takes : TakesAll (datagrams_in (take 64 old.own) (all_filtered (filter_of old.addresses) frames)) group now old new
+    pub some : datagrams_in (take 64 old.own) (all_filtered (filter_of old.addresses) frames) ≢ []
     pub left : new.own ≡ drop 64 old.own
-    pub heard : HearsAll old.cluster (all_taken_as (circle_of old.addresses) frames) old.addresses new.addresses
-    pub network : IsSameCircle old.addresses new.addresses
+    pub heard : HearsAll old.cluster (all_filtered (filter_of old.addresses) frames) old.addresses new.addresses
+    pub network : IsSameFilter old.addresses new.addresses
 
   -- what is taken in a turn: what waits, and a tick where one is due
   pub record TakesGroup (tells : Type 0) (frames : List (SocketAddr × List ℕ)) (group now : GroupValue) (old new : ServerValue R) : Type 0 where
     pub received : HasReceived tells frames old new
     pub given : List (Option (List ℕ))
-    pub may : Given old.pace old.received (datagrams_in (take 64 old.own) (all_taken_as (circle_of old.addresses) frames)) given
+    pub may : Given old.pace old.received (datagrams_in (take 64 old.own) (all_filtered (filter_of old.addresses) frames)) given
     pub gathers : GathersMore Gathers given group now old.replica new.replica
-    pub counted : new.received ≡ counted old.received (datagrams_in (take 64 old.own) (all_taken_as (circle_of old.addresses) frames))
+    pub counted : new.received ≡ counted old.received (datagrams_in (take 64 old.own) (all_filtered (filter_of old.addresses) frames))
     pub ticks : new.ticks ≡ all_ticks old.ticks given
     pub left : new.own ≡ drop 64 old.own
-    pub heard : HearsAll old.cluster (all_taken_as (circle_of old.addresses) frames) old.addresses new.addresses
-    pub network : IsSameCircle old.addresses new.addresses
+    pub heard : HearsAll old.cluster (all_filtered (filter_of old.addresses) frames) old.addresses new.addresses
+    pub network : IsSameFilter old.addresses new.addresses
 
 module _ {R : Type 0} (Says : Sayings R) (Gathers : Gatherings R) where
   -- a prefix of the input at these datagrams has ended it
@@ -89,9 +89,9 @@ module _ {R : Type 0} (Says : Sayings R) (Gathers : Gatherings R) where
 
   -- at the content of these frames
   pub record EndsHeard (frames : List (SocketAddr × List ℕ)) (group : GroupValue) (old new : ServerValue R) : Type 0 where
-    pub ends : EndsWithin (datagrams_in [] (all_taken_as (circle_of old.addresses) frames)) group old new
-    pub heard : HearsAll old.cluster (all_taken_as (circle_of old.addresses) frames) old.addresses new.addresses
-    pub network : IsSameCircle old.addresses new.addresses
+    pub ends : EndsWithin (datagrams_in [] (all_filtered (filter_of old.addresses) frames)) group old new
+    pub heard : HearsAll old.cluster (all_filtered (filter_of old.addresses) frames) old.addresses new.addresses
+    pub network : IsSameFilter old.addresses new.addresses
 
   pub record EndsSocket (tells : Type 0) (frames : List (SocketAddr × List ℕ)) (group : GroupValue) (old new : ServerValue R) : Type 0 where
     pub ends : EndsHeard frames group old new
@@ -103,12 +103,12 @@ module _ {R : Type 0} (Says : Sayings R) (Gathers : Gatherings R) where
     pub count : ℕ
     pub letters : TakesLetters count old.own
     pub given : List (Option (List ℕ))
-    pub first : GivenFirst old.pace old.received (datagrams_in (take count old.own) (all_taken_as (circle_of old.addresses) frames)) given
+    pub first : GivenFirst old.pace old.received (datagrams_in (take count old.own) (all_filtered (filter_of old.addresses) frames)) given
     pub silent : SaysNoMore Says Gathers given group old.replica new.replica
     pub ticks : new.ticks ≡ all_ticks old.ticks given
     pub left : new.own ≡ drop count old.own
-    pub heard : HearsAll old.cluster (all_taken_as (circle_of old.addresses) frames) old.addresses new.addresses
-    pub network : IsSameCircle old.addresses new.addresses
+    pub heard : HearsAll old.cluster (all_filtered (filter_of old.addresses) frames) old.addresses new.addresses
+    pub network : IsSameFilter old.addresses new.addresses
 
   -- ---- the end of a group
 

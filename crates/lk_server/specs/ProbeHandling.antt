@@ -3,16 +3,16 @@ use Rattle.std.specs.Prelude.{◌≡◌, Option}
 use Rattle.lk_probe.specs.declared.reported.Reported.{Reported}
 use Rattle.lk_transport.specs.Addresses.{AddressBook, IsSameNetwork}
 use Rattle.lk_transport.specs.Inquiring.{AsksOne, LearnsKept, ReadmitsKept}
-use Rattle.lk_transport.specs.declared.asked.Asked.{Asked}
+use Rattle.lk_transport.specs.declared.received_probe.ReceivedProbe.{ReceivedProbe}
 use Rattle.lk_server.specs.Probes.{AnswersKept}
 use Rattle.lk_server.specs.Servers.{ServerValue, tray_at}
-use Rattle.lk_served_replica.specs.declared.shown.Shown.{Shown}
+use Rattle.lk_served_replica.specs.declared.probed_state.ProbedState.{ProbedState}
 
 -- the probe that was kept is answered, and a node of the same genesis that asks by it is heard again; what the report
 -- tells that was kept is learned; and then one question is sent where one is due at the server's count of ticks. Nothing
 -- else is sent, and nothing else changes; nor does what is to come, if the socket tells that. `Shows` is what a replica
 -- shows
-pub record HandlesProbes {R : Type 0} (Shows : R → Shown → Type 0) (tells : Type 0) (asked : Option Asked) (reported : Option Reported) (old new : ServerValue R) : Type 0 where
+pub record HandlesProbes {R : Type 0} (Shows : R → ProbedState → Type 0) (tells : Type 0) (asked : Option ReceivedProbe) (reported : Option Reported) (old new : ServerValue R) : Type 0 where
   pub answered : ServerValue R
   pub answers : AnswersKept Shows tells asked old answered
   pub readmitted : AddressBook

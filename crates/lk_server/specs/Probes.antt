@@ -5,15 +5,15 @@ use Rattle.lk_probe.specs.declared.probe.Probe.{Probe}
 use Rattle.lk_probe.specs.declared.probe.Report.{Report}
 use Rattle.lk_probe.specs.declared.status.Status.{Status}
 use Rattle.lk_server.specs.Servers.{ServerValue, tray_at}
-use Rattle.lk_transport.specs.declared.asked.Asked.{Asked}
-use Rattle.lk_served_replica.specs.declared.shown.Shown.{Shown}
+use Rattle.lk_transport.specs.declared.received_probe.ReceivedProbe.{ReceivedProbe}
+use Rattle.lk_served_replica.specs.declared.probed_state.ProbedState.{ProbedState}
 use Rattle.lk_transport.specs.Askers.{Replies}
 
 -- ---- what a node tells
 
 -- a status tells what a replica shows, the digest of the genesis, and that count of ticks. The rest the server has
 -- counted
-pub record Tells (digest : List ℕ) (count : ℕ) (shown : Shown) (s : Status) : Type 0 where
+pub record Tells (digest : List ℕ) (count : ℕ) (shown : ProbedState) (s : Status) : Type 0 where
   pub genesis : s.identity.genesis ≡ digest
   pub format : s.identity.format ≡ shown.format
   pub leadership : s.leadership ≡ shown.leadership
@@ -26,7 +26,7 @@ pub record Tells (digest : List ℕ) (count : ℕ) (shown : Shown) (s : Status) 
 
 -- these bytes are a report of that node that answers the probe, and tells what the replica shows and that count of
 -- ticks. By the laws of lk_probe it is as long as the probe
-pub record IsAnswer (node : ℕ) (genesis : List ℕ) (count : ℕ) (shown : Shown) (p : Probe) (bytes : List ℕ) : Type 0 where
+pub record IsAnswer (node : ℕ) (genesis : List ℕ) (count : ℕ) (shown : ProbedState) (p : Probe) (bytes : List ℕ) : Type 0 where
   pub report : Report
   pub spelled : SpellsReport report bytes
   pub answers : Answers p report
@@ -35,8 +35,8 @@ pub record IsAnswer (node : ℕ) (genesis : List ℕ) (count : ℕ) (shown : Sho
 
 -- the probe was answered, by the server's own count of ticks, and nothing else is sent or changed; nor is what is to
 -- come, if the socket tells that. `Shows` is what a replica shows
-pub record AnswersOne {R : Type 0} (Shows : R → Shown → Type 0) (tells : Type 0) (a : Asked) (old new : ServerValue R) : Type 0 where
-  pub shown : Shown
+pub record AnswersOne {R : Type 0} (Shows : R → ProbedState → Type 0) (tells : Type 0) (a : ReceivedProbe) (old new : ServerValue R) : Type 0 where
+  pub shown : ProbedState
   pub shows : Shows old.replica shown
   pub bytes : List ℕ
   pub answer : IsAnswer old.node old.addresses.seals.genesis old.ticks shown a.probe bytes
@@ -45,6 +45,6 @@ pub record AnswersOne {R : Type 0} (Shows : R → Shown → Type 0) (tells : Typ
   pub same : new ≡ record old { sent = new.sent; socket_failures = new.socket_failures; coming = new.coming }
 
 -- the probe that is kept was answered, if one is; else nothing is sent or changed
-abbrev pub AnswersKept : {R : Type 0} → (R → Shown → Type 0) → Type 0 → Option Asked → ServerValue R → ServerValue R → Type 0
+abbrev pub AnswersKept : {R : Type 0} → (R → ProbedState → Type 0) → Type 0 → Option ReceivedProbe → ServerValue R → ServerValue R → Type 0
 AnswersKept Shows tells None old new = new ≡ old
 AnswersKept Shows tells (Some a) old new = AnswersOne Shows tells a old new

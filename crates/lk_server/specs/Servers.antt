@@ -2,11 +2,11 @@
 use Rattle.std.specs.Prelude.{◌≡◌, ◌⊎◌, ◌≤◌, Bool, true, false, ◌+◌, ◌%◌, ◌^◌, ℕ, List, [], ◌∷◌, ◌++◌, length, map, min, take, drop, Option, Some, None, if◌then◌else◌}
 use Rattle.std.specs.declared.net.socket_addr.SocketAddr.{SocketAddr}
 use Rattle.lk_types.specs.Ranges.{IsClient}
-use Rattle.lk_step.specs.Letters.{LetterValue}
+use Rattle.lk_node_io.specs.Letters.{LetterValue}
 use Rattle.lk_replica.specs.Posts.{CarriesAll}
-use Rattle.lk_transport.specs.Addresses.{AddressBook, circle_of, client_at, node_at}
+use Rattle.lk_transport.specs.Addresses.{AddressBook, filter_of, client_at, node_at}
 use Rattle.lk_pace.specs.Paces.{ticks_after, MayFollow}
-use Rattle.lk_transport.specs.Posts.{HearsAll, Tray, Becomes, all_taken_as}
+use Rattle.lk_transport.specs.Posts.{HearsAll, Tray, Becomes, all_filtered}
 use Rattle.lk_transport.specs.declared.network.Network.{Network}
 use Rattle.lk_pace.specs.declared.pace.Pace.{Pace}
 use Rattle.lk_pace.specs.declared.pace.Pace.TheVariants.{Clock}
@@ -154,7 +154,7 @@ pub record HasReceived {R : Type 0} (tells : Type 0) (frames : List (SocketAddr 
 pub record TakesFirst {R : Type 0} (tells : Type 0) (came : List (SocketAddr × List ℕ)) (old : ServerValue R) : Type 0 where
   pub alone : (old.own ≡ []) ⊎ (came ≡ [])
   pub few : length came ≤ 64
-  pub comes : tells → old.own ≡ [] → IsFront came (all_taken_as (circle_of old.addresses) old.coming)
+  pub comes : tells → old.own ≡ [] → IsFront came (all_filtered (filter_of old.addresses) old.coming)
 
 -- so many letters of the node to itself are taken: at most 64, and at least one where some wait
 pub record TakesLetters (count : ℕ) (own : List LetterValue) : Type 0 where
@@ -201,7 +201,7 @@ pub record LastTurn {R : Type 0} (Says : R → List (Option (List ℕ)) → List
 -- these frames. By datagrams a turn in which no frame comes is never idle: it is a tick
 pub record IsIdle {R : Type 0} (tells : Type 0) (frames : List (SocketAddr × List ℕ)) (old new : ServerValue R) : Type 0 where
   pub own : old.own ≡ []
-  pub none : all_taken_as (circle_of old.addresses) frames ≡ []
+  pub none : all_filtered (filter_of old.addresses) frames ≡ []
   pub clock : frames ≡ [] → old.pace ≡ Clock
   pub comes : tells → old.coming ≡ frames ++ new.coming
   pub same : record new { coming = old.coming } ≡ old
@@ -209,4 +209,4 @@ pub record IsIdle {R : Type 0} (tells : Type 0) (frames : List (SocketAddr × Li
 -- a turn in which these frames came: its replica was given what was taken of them, or what waited, or a tick; or the
 -- turn is idle
 abbrev pub TakesTurn : {R : Type 0} (Says : R → List (Option (List ℕ)) → List LetterValue → R → Type 0) (tells : Type 0) → List (SocketAddr × List ℕ) → ServerValue R → ServerValue R → Type 0
-TakesTurn Says tells frames old new = Turn Says tells (all_taken_as (circle_of old.addresses) frames) old new ⊎ IsIdle tells frames old new
+TakesTurn Says tells frames old new = Turn Says tells (all_filtered (filter_of old.addresses) frames) old new ⊎ IsIdle tells frames old new

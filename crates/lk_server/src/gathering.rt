@@ -7,13 +7,13 @@
 
 ghost use Rattle.std.specs.Prelude.{◌≡◌, ◌≤◌, ◌++◌, ℕ, List, ◌∷◌, [], length, Some, None, true, false, OnOk, OnErr, IfOk, IfSome, IsNone};
 ghost use Rattle.std.specs.declared.net.socket_addr.SocketAddr.{SocketAddr as Address};
-ghost use Rattle.lk_step.specs.Letters.{LetterValue};
+ghost use Rattle.lk_node_io.specs.Letters.{LetterValue};
 ghost use Rattle.lk_node.specs.Calls.{heard_by};
-ghost use Rattle.lk_transport.specs.Addresses.{circle_of, IsSameCircle};
+ghost use Rattle.lk_transport.specs.Addresses.{filter_of, IsSameFilter};
 ghost use Rattle.lk_served_replica.specs.Groups.{GathersMore, SaysNoMore};
 ghost use Rattle.lk_server.specs.Gatherings.{Finds, TakesAll, EndsWithin, TakesOwn, EndsOwn, TakesHeard, EndsHeard, TakesSocket, EndsSocket, TakesWaiting, TakesGroup, EndsGroup};
 ghost use Rattle.lk_transport.specs.Hearing.{listed};
-ghost use Rattle.lk_transport.specs.Posts.{Hears, is_apart};
+ghost use Rattle.lk_transport.specs.Posts.{Hears, is_filtered_out};
 ghost use Rattle.lk_transport.specs.Kept.{Keeps, KeepsOf};
 ghost use Rattle.lk_server.specs.Servers.{HasReceived, IsIdle, one_more_tick};
 
@@ -21,14 +21,14 @@ use crate::group_fault::GroupFault;
 use crate::pausing::receive_or_pause;
 use crate::server::Server;
 use crate::watching::{log_changes, log_served};
+use lk_node_io::{Input, Letter};
 use lk_pace::metronome::Metronome;
 use lk_pace::turn_input::TurnInput;
 use lk_replica::Group;
 use lk_served_replica::ServedReplica;
-use lk_step::{Input, Letter};
 use lk_transport::arrival::Arrival;
-use lk_transport::asked::is_beside;
 use lk_transport::receive_buffer::ReceiveBuffer;
+use lk_transport::received_probe::is_beside;
 use lk_transport::socket::DatagramSocket;
 use lk_wire::Datagram;
 use log::Log;
@@ -98,7 +98,7 @@ impl<R: ServedReplica, S: DatagramSocket + Drop> Server<R, S> {
     ) -> Arrival
         ensures heard { Hears self.old.cluster datagram.now from self.old.addresses self.new.addresses }
         // Where nodes live and the keys do not change.
-        ensures network { IsSameCircle self.old.addresses self.new.addresses }
+        ensures network { IsSameFilter self.old.addresses self.new.addresses }
         ensures others { self.new ≡ record self.old { addresses = self.new.addresses } }
     {
         let came = self.post.record_sender(self.cluster, datagram, from);
@@ -209,10 +209,10 @@ impl<R: ServedReplica, S: DatagramSocket + Drop> Server<R, S> {
         group: &mut Group,
         log: &L,
     ) -> Result<TurnInput, GroupFault>
-        ensures takes { IfOk result (λ found. found ≡ TurnInput.Something → (frame : Address × List ℕ) × (buffer.old.last ≡ Some frame) × (is_apart (circle_of self.old.addresses) frame ≡ false) × TakesHeard R.Gathers (frame ∷ []) group.old group.new self.old self.new) }
-        ensures beside { IfOk result (λ found. found ≡ TurnInput.Beside → (frame : Address × List ℕ) × (buffer.old.last ≡ Some frame) × (is_apart (circle_of self.old.addresses) frame ≡ true) × (self.new ≡ self.old) × (group.new ≡ group.old)) }
+        ensures takes { IfOk result (λ found. found ≡ TurnInput.Something → (frame : Address × List ℕ) × (buffer.old.last ≡ Some frame) × (is_filtered_out (filter_of self.old.addresses) frame ≡ false) × TakesHeard R.Gathers (frame ∷ []) group.old group.new self.old self.new) }
+        ensures beside { IfOk result (λ found. found ≡ TurnInput.Beside → (frame : Address × List ℕ) × (buffer.old.last ≡ Some frame) × (is_filtered_out (filter_of self.old.addresses) frame ≡ true) × (self.new ≡ self.old) × (group.new ≡ group.old)) }
         ensures none { IfOk result (λ found. found ≡ TurnInput.Nothing → (buffer.old.last ≡ None) × (self.new ≡ self.old) × (group.new ≡ group.old)) }
-        ensures ends { OnErr result ((frame : Address × List ℕ) × (buffer.old.last ≡ Some frame) × (is_apart (circle_of self.old.addresses) frame ≡ false) × EndsHeard R.Says R.Gathers (frame ∷ []) group.old self.old self.new) }
+        ensures ends { OnErr result ((frame : Address × List ℕ) × (buffer.old.last ≡ Some frame) × (is_filtered_out (filter_of self.old.addresses) frame ≡ false) × EndsHeard R.Says R.Gathers (frame ∷ []) group.old self.old self.new) }
         ensures kept { IfOk result (λ found. found ≡ TurnInput.Beside → Keeps self.old.node self.old.addresses.seals buffer.old buffer.new) }
         ensures rest { IfOk result (λ found. (found ≡ TurnInput.Beside → ⊥) → buffer.new ≡ buffer.old) }
         ensures spares { OnErr result (buffer.new ≡ buffer.old) }
@@ -247,9 +247,9 @@ impl<R: ServedReplica, S: DatagramSocket + Drop> Server<R, S> {
         group: &mut Group,
         log: &L,
     ) -> Result<TurnInput, GroupFault>
-        ensures takes { IfOk result (λ found. found ≡ TurnInput.Something → (frame : Address × List ℕ) × (is_apart (circle_of self.old.addresses) frame ≡ false) × TakesSocket R.Gathers S.is_telling (frame ∷ []) group.old group.new self.old self.new × KeepsOf self.old.node self.old.addresses.seals (frame ∷ []) buffer.old buffer.new) }
+        ensures takes { IfOk result (λ found. found ≡ TurnInput.Something → (frame : Address × List ℕ) × (is_filtered_out (filter_of self.old.addresses) frame ≡ false) × TakesSocket R.Gathers S.is_telling (frame ∷ []) group.old group.new self.old self.new × KeepsOf self.old.node self.old.addresses.seals (frame ∷ []) buffer.old buffer.new) }
         ensures none { IfOk result (λ found. (found ≡ TurnInput.Something → ⊥) → (frames : List (Address × List ℕ)) × Finds S.is_telling found frames self.old self.new × (group.new ≡ group.old) × KeepsOf self.old.node self.old.addresses.seals frames buffer.old buffer.new) }
-        ensures ends { OnErr result ((frame : Address × List ℕ) × (is_apart (circle_of self.old.addresses) frame ≡ false) × EndsSocket R.Says R.Gathers S.is_telling (frame ∷ []) group.old self.old self.new) }
+        ensures ends { OnErr result ((frame : Address × List ℕ) × (is_filtered_out (filter_of self.old.addresses) frame ≡ false) × EndsSocket R.Says R.Gathers S.is_telling (frame ∷ []) group.old self.old self.new) }
         ensures others { self.new ≡ record self.old { replica = self.new.replica; failed = self.new.failed; received = self.new.received; ticks = self.new.ticks; addresses = self.new.addresses; coming = self.new.coming } }
         ensures broken { OnErr result (self.new.failed ≡ true) }
     {

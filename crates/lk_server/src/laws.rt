@@ -4,8 +4,8 @@ ghost use Rattle.std.specs.Prelude.{◌≡◌, ◌≢◌, ℕ, List, [], Some, I
 ghost use Rattle.std.specs.declared.net.socket_addr.SocketAddr.{SocketAddr};
 ghost use Rattle.lk_seal.specs.Seals.{key_list};
 ghost use Rattle.lk_seal.specs.declared.seals.Seals.{Seals};
-ghost use Rattle.lk_transport.specs.Askers.{IsKeptOf};
-ghost use Rattle.lk_transport.specs.declared.asked.Asked.{Asked};
+ghost use Rattle.lk_transport.specs.Askers.{BringsProbe};
+ghost use Rattle.lk_transport.specs.declared.received_probe.ReceivedProbe.{ReceivedProbe};
 ghost use Rattle.lk_server.specs.Premises.{IsToldByANode, IsToldOrAsked, IsProbedByANode, IsProbedByWhomItNames};
 
 /// If the nodes have a key, whatever a server takes from a frame was sealed for this node by someone who has one of
@@ -24,6 +24,6 @@ pub fn is_told_or_asked()
 /// of the nodes' keys, or the key of the client that it names. If the nodes alone have a key, no client is known, but a
 /// probe that names a node was sealed by one.
 pub fn is_probed_by_whom_it_names()
-    ensures keys { (s : Seals) (d : SocketAddr × List ℕ) (a : Asked) → key_list s.nodes ≢ [] → key_list s.clients ≢ [] → IsKeptOf s d (Some a) → IsProbedByWhomItNames s d.1 a.probe }
-    ensures node { (s : Seals) (d : SocketAddr × List ℕ) (a : Asked) → key_list s.nodes ≢ [] → key_list s.clients ≡ [] → IsSome a.probe.origin → IsKeptOf s d (Some a) → IsProbedByANode s d.1 }
+    ensures keys { (s : Seals) (d : SocketAddr × List ℕ) (a : ReceivedProbe) → key_list s.nodes ≢ [] → key_list s.clients ≢ [] → BringsProbe s d (Some a) → IsProbedByWhomItNames s d.1 a.probe }
+    ensures node { (s : Seals) (d : SocketAddr × List ℕ) (a : ReceivedProbe) → key_list s.nodes ≢ [] → key_list s.clients ≡ [] → IsSome a.probe.origin → BringsProbe s d (Some a) → IsProbedByANode s d.1 }
 {}

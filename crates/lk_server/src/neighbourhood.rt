@@ -12,8 +12,8 @@ use crate::server::Server;
 use crate::watching::log_stranger;
 use lk_probe::neighbours::{Neighbour, Origin};
 use lk_served_replica::ServedReplica;
-use lk_transport::asked::Asked;
 use lk_transport::receive_buffer::ReceiveBuffer;
+use lk_transport::received_probe::ReceivedProbe;
 use lk_transport::socket::DatagramSocket;
 use lk_types::NodeNo;
 use log::Log;
@@ -53,13 +53,13 @@ impl<R: ServedReplica, S: DatagramSocket + Drop> Server<R, S> {
         let Some(neighbour) = learned else {
             return;
         };
-        if let Some(other) = neighbour.other() {
+        if let Some(other) = neighbour.as_stranger() {
             self.warn_of_stranger(other.node, log);
         }
     }
 
     // Hears the node again that has asked, if one of this genesis has.
-    fn readmit(&mut self, asked: &Option<Asked>)
+    fn readmit(&mut self, asked: &Option<ReceivedProbe>)
         ensures readmits { ReadmitsKept asked.now self.old.addresses self.new.addresses }
         ensures network { IsSameNetwork self.old.addresses self.new.addresses }
         ensures others { self.new ≡ record self.old { addresses = self.new.addresses } }
@@ -117,7 +117,7 @@ impl<R: ServedReplica, S: DatagramSocket + Drop> Server<R, S> {
         ensures kept { buffer.new ≡ record buffer.old { asked = None; reported = None } }
         ensures bound { result ≡ bound_in self.new.addresses.neighbours }
     {
-        let asked = buffer.take_asked();
+        let asked = buffer.take_probe();
         self.answer(&asked);
         self.readmit(&asked);
         self.learn(buffer, log);

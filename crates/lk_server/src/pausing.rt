@@ -21,7 +21,7 @@ fn pauses<C: Clock>(pause: &mut SyncPause, metronome: &Metronome<C>, group: &Gro
     ensures fewer { result ≡ true → pause.new.left + 1 ≡ pause.old.left }
     ensures others { pause.new ≡ record pause.old { left = pause.new.left } }
 {
-    if !group.waits() {
+    if !group.needs_sync() {
         return false;
     }
     let Some(time) = pause.next_pause(group.letters().len()) else {
@@ -86,7 +86,7 @@ impl<R: ServedReplica, S: DatagramSocket + Drop> Server<R, S> {
     )
         ensures { self.new ≡ self.old }
     {
-        if group.waits() {
+        if group.needs_sync() {
             let letters = group.letters().len();
             self.sync_pause.note(metronome.since(began), letters);
         }

@@ -2,19 +2,19 @@
 
 ghost use Rattle.std.specs.Prelude.{◌≡◌};
 ghost use Rattle.lk_server.specs.Probes.{AnswersKept, IsAnswer, Tells};
-ghost use Rattle.lk_served_replica.specs.declared.shown.Shown.{Shown as ShownValue};
+ghost use Rattle.lk_served_replica.specs.declared.probed_state.ProbedState.{ProbedState as ProbedStateValue};
 
 use crate::server::Server;
 use lk_probe::{Identity, LENGTH, PROGRAM, Status, Traffic};
 use lk_served_replica::{ServedReplica, TableVersion};
-use lk_transport::asked::Asked;
+use lk_transport::received_probe::ReceivedProbe;
 use lk_transport::socket::DatagramSocket;
 
 impl<R: ServedReplica, S: DatagramSocket + Drop> Server<R, S> {
     /// What it reports of its node: what the replica shows, the digest of the genesis, its count of ticks and what else
     /// it has counted itself, and the version of the lock table, as it was last read.
     pub fn status(&self) -> Status
-        ensures { (shown : ShownValue) × R.Shows self.now.replica shown × Tells self.now.addresses.seals.genesis self.now.ticks shown result }
+        ensures { (shown : ProbedStateValue) × R.Shows self.now.replica shown × Tells self.now.addresses.seals.genesis self.now.ticks shown result }
     {
         let shown = self.replica.show();
         Status {
@@ -45,8 +45,8 @@ impl<R: ServedReplica, S: DatagramSocket + Drop> Server<R, S> {
     }
 
     // The report that answers a probe.
-    fn report(&self, asked: &Asked) -> [u8; LENGTH]
-        ensures { (shown : ShownValue) × R.Shows self.now.replica shown × IsAnswer self.now.node self.now.addresses.seals.genesis self.now.ticks shown asked.now.probe result }
+    fn report(&self, asked: &ReceivedProbe) -> [u8; LENGTH]
+        ensures { (shown : ProbedStateValue) × R.Shows self.now.replica shown × IsAnswer self.now.node self.now.addresses.seals.genesis self.now.ticks shown asked.now.probe result }
     {
         asked
             .probe
@@ -55,7 +55,7 @@ impl<R: ServedReplica, S: DatagramSocket + Drop> Server<R, S> {
     }
 
     /// Answers a probe, if there is one, by a report to where it came from.
-    pub fn answer(&mut self, asked: &Option<Asked>)
+    pub fn answer(&mut self, asked: &Option<ReceivedProbe>)
         ensures answers { AnswersKept R.Shows S.is_telling asked.now self.old self.new }
         ensures others { self.new ≡ record self.old { sent = self.new.sent; socket_failures = self.new.socket_failures; coming = self.new.coming } }
     {

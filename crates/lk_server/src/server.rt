@@ -2,9 +2,9 @@
 
 ghost use Rattle.std.specs.Prelude.{◌≡◌, ℕ, List, ◌∷◌, [], None, true, false, OnOk, OnErr, IfOk, IfErr};
 ghost use Rattle.std.specs.declared.net.socket_addr.SocketAddr.{SocketAddr as Address};
-ghost use Rattle.lk_transport.specs.Addresses.{circle_of, IsSameNetwork};
+ghost use Rattle.lk_transport.specs.Addresses.{filter_of, IsSameNetwork};
 ghost use Rattle.lk_server.specs.Gatherings.{Finds, HandsOnAll, SaysNothing};
-ghost use Rattle.lk_transport.specs.Posts.{all_taken_as};
+ghost use Rattle.lk_transport.specs.Posts.{all_filtered};
 ghost use Rattle.lk_transport.specs.Kept.{KeepsOf};
 ghost use Rattle.lk_served_replica.specs.Refusals.{IsOfGroups};
 ghost use Rattle.lk_server.specs.Servers.{HandsOn, HandsNothing, HasHeardNobody, HasReceived, IsSameServer, LastTurn, Runs, ServesAs, ServesOn, TakesTurn, Turn, one_more_tick};
@@ -14,13 +14,13 @@ use crate::ignored::IgnoredCounts;
 use crate::notes::log_notes;
 use crate::turn_events::TurnEvents;
 use crate::watching::log_sends;
+use lk_node_io::ReplicaFault;
 use lk_pace::metronome::{Metronome, Still};
 use lk_pace::pace::Pace;
 use lk_pace::sync_pause::SyncPause;
 use lk_pace::turn_input::TurnInput;
 use lk_replica::Group;
 use lk_served_replica::{ServedReplica, TableVersion};
-use lk_step::ReplicaFault;
 use lk_transport::network::Network;
 use lk_transport::post::SocketPost;
 use lk_transport::receive_buffer::ReceiveBuffer;
@@ -221,8 +221,8 @@ impl<R: ServedReplica, S: DatagramSocket + Drop> Server<R, S> {
         buffer: &mut ReceiveBuffer,
         log: &L,
     ) -> Result<bool, GroupFault>
-        ensures turn { IfOk result (λ came. came ≡ true → (frames : List (Address × List ℕ)) × HasReceived S.is_telling frames self.old self.new × Turn R.Says S.is_telling (all_taken_as (circle_of self.old.addresses) frames) self.old self.new × KeepsOf self.old.node self.old.addresses.seals frames buffer.old buffer.new) }
-        ensures ends { OnErr result ((frames : List (Address × List ℕ)) × HasReceived S.is_telling frames self.old self.new × LastTurn R.Says S.is_telling (all_taken_as (circle_of self.old.addresses) frames) self.old self.new) }
+        ensures turn { IfOk result (λ came. came ≡ true → (frames : List (Address × List ℕ)) × HasReceived S.is_telling frames self.old self.new × Turn R.Says S.is_telling (all_filtered (filter_of self.old.addresses) frames) self.old self.new × KeepsOf self.old.node self.old.addresses.seals frames buffer.old buffer.new) }
+        ensures ends { OnErr result ((frames : List (Address × List ℕ)) × HasReceived S.is_telling frames self.old self.new × LastTurn R.Says S.is_telling (all_filtered (filter_of self.old.addresses) frames) self.old self.new) }
         ensures none { IfOk result (λ came. came ≡ false → (self.old.own ≡ []) × (found : TurnInput) × (frames : List (Address × List ℕ)) × Finds S.is_telling found frames self.old self.new × KeepsOf self.old.node self.old.addresses.seals frames buffer.old buffer.new) }
         // Where nodes live and the keys do not change.
         ensures network { IsSameNetwork self.old.addresses self.new.addresses }
@@ -253,7 +253,7 @@ pub fn node_turn<R: ServedReplica, S: DatagramSocket + Drop, C: Clock, L: Log>(
     // probes in these frames the first is kept, unless one was kept before.
     ensures turn { OnOk result ((frames : List (Address × List ℕ)) × HasReceived S.is_telling frames server.old server.new × TakesTurn R.Says S.is_telling frames server.old server.new × KeepsOf server.old.node server.old.addresses.seals frames buffer.old buffer.new) }
     // After an error nothing of the group is sent.
-    ensures ends { OnErr result ((frames : List (Address × List ℕ)) × HasReceived S.is_telling frames server.old server.new × LastTurn R.Says S.is_telling (all_taken_as (circle_of server.old.addresses) frames) server.old server.new) }
+    ensures ends { OnErr result ((frames : List (Address × List ℕ)) × HasReceived S.is_telling frames server.old server.new × LastTurn R.Says S.is_telling (all_filtered (filter_of server.old.addresses) frames) server.old server.new) }
     // Where nodes live and the keys do not change.
     ensures network { IsSameNetwork server.old.addresses server.new.addresses }
 {

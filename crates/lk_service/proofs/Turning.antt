@@ -3,12 +3,12 @@ use Rattle.std.proofs.Common.{◌≡◌, ◌∙◌, ◌⊎◌, ◌<◌, ℕ, Lis
 use Rattle.std.specs.declared.net.socket_addr.SocketAddr.{SocketAddr}
 use Rattle.std.specs.Prelude.{OnOk, OnErr, IfErr, IsErrAnd}
 use Rattle.lk_state.specs.Meanings.{Meaning}
-use Rattle.lk_step.specs.Letters.{LetterValue}
+use Rattle.lk_node_io.specs.Letters.{LetterValue}
 use Rattle.lk_replica.specs.ReplicaValue.{ReplicaValue}
-use Rattle.lk_transport.specs.Addresses.{IsSameNetwork, circle_of}
+use Rattle.lk_transport.specs.Addresses.{IsSameNetwork, filter_of}
 use Rattle.lk_transport.specs.Hearing.{BufferValue}
 use Rattle.lk_transport.specs.Kept.{KeepsOf}
-use Rattle.lk_transport.specs.Posts.{all_taken_as}
+use Rattle.lk_transport.specs.Posts.{all_filtered}
 use Rattle.lk_served_replica.specs.Sayings.{SaysOf}
 use Rattle.lk_server.specs.ProbeHandling.{HandlesProbes}
 use Rattle.lk_served_replica.specs.Showing.{IsShown}
@@ -33,8 +33,8 @@ module _ {Says : ReplicaValue → List (Option (List ℕ)) → List LetterValue 
 
 -- a turn that ended the replica
 pub turn_ended : {Says : ReplicaValue → List (Option (List ℕ)) → List LetterValue → ReplicaValue → Type 0} {tells : Type 0} (frames : List (SocketAddr × List ℕ)) (old new : ServerValue ReplicaValue)
-    → HasReceived tells frames old new → LastTurn Says tells (all_taken_as (circle_of old.addresses) frames) old new → IsSameNetwork old.addresses new.addresses → TellsFailure new → EndsTurn Says tells old new
-turn_ended frames old new received turn network failure = record { frames = frames; came = all_taken_as (circle_of old.addresses) frames; opened = refl; received = received; turn = turn; network = network; failure = failure }
+    → HasReceived tells frames old new → LastTurn Says tells (all_filtered (filter_of old.addresses) frames) old new → IsSameNetwork old.addresses new.addresses → TellsFailure new → EndsTurn Says tells old new
+turn_ended frames old new received turn network failure = record { frames = frames; came = all_filtered (filter_of old.addresses) frames; opened = refl; received = received; turn = turn; network = network; failure = failure }
 
 -- a turn, and what the server does beside the protocol after it
 pub turn_taken : {Says : ReplicaValue → List (Option (List ℕ)) → List LetterValue → ReplicaValue → Type 0} {tells : Type 0} (After : ServerValue ReplicaValue → Type 0) (frames : List (SocketAddr × List ℕ)) (kept left : BufferValue)
@@ -42,7 +42,7 @@ pub turn_taken : {Says : ReplicaValue → List (Option (List ℕ)) → List Lett
     → IsSameNetwork old.addresses mid.addresses → TellsFailure new → After new → TakesTurnWith Says tells kept.asked kept.reported After old new
 turn_taken After frames kept left old mid new received turn keeps acts network failure becomes = record {
   frames = frames;
-  came = all_taken_as (circle_of old.addresses) frames;
+  came = all_filtered (filter_of old.addresses) frames;
   opened = refl;
   received = received;
   mid = mid;

@@ -3,20 +3,20 @@ use Rattle.std.proofs.Common.{inl, inr}
 use Rattle.std.specs.Prelude.{◌≡◌, ◌⊎◌, ◌<◌, ℕ, List, [], Option, None, IsSome}
 use Rattle.std.specs.declared.net.socket_addr.SocketAddr.{SocketAddr}
 use Rattle.lk_entries.specs.Values.{HeaderValue}
-use Rattle.lk_step.specs.Letters.{LetterValue}
+use Rattle.lk_node_io.specs.Letters.{LetterValue}
 use Rattle.lk_replica.specs.ReplicaValue.{ReplicaValue}
 use Rattle.lk_probe.specs.Neighbours.{bound_in}
 use Rattle.lk_probe.specs.declared.reported.Reported.{Reported}
 use Rattle.lk_seal.specs.declared.seals.Seals.{Seals}
-use Rattle.lk_transport.specs.Addresses.{IsSameNetwork, circle_of}
-use Rattle.lk_transport.specs.Posts.{all_taken_as}
+use Rattle.lk_transport.specs.Addresses.{IsSameNetwork, filter_of}
+use Rattle.lk_transport.specs.Posts.{all_filtered}
 use Rattle.lk_server.specs.ProbeHandling.{HandlesProbes}
 use Rattle.lk_served_replica.specs.Showing.{IsShown}
 use Rattle.lk_server.specs.Servers.{ServerValue, HasReceived, Turn, LastTurn, IsIdle}
-use Rattle.lk_transport.specs.Askers.{IsKeptOf}
+use Rattle.lk_transport.specs.Askers.{BringsProbe}
 use Rattle.lk_transport.specs.Inquiring.{IsToldBy}
 use Rattle.lk_transport.specs.Kept.{KeepsFirstOf}
-use Rattle.lk_transport.specs.declared.asked.Asked.{Asked}
+use Rattle.lk_transport.specs.declared.received_probe.ReceivedProbe.{ReceivedProbe}
 use Rattle.lk_transport.specs.Chains.{Repeats}
 use Rattle.lk_service.specs.Digests.{genesis_digest}
 
@@ -41,15 +41,15 @@ module _ (Says : ReplicaValue → List (Option (List ℕ)) → List LetterValue 
   -- asks by it is heard again; what the report kept from before told, or else the first in those frames that answers the
   -- node's question, is learned; one question is sent where one is due; and nothing else is sent. Where nodes live, and
   -- the keys, are the same. `After` holds of the server then
-  pub record TakesTurnWith (kept : Option Asked) (told : Option Reported) (After : ServerValue ReplicaValue → Type 0) (old new : ServerValue ReplicaValue) : Type 0 where
+  pub record TakesTurnWith (kept : Option ReceivedProbe) (told : Option Reported) (After : ServerValue ReplicaValue → Type 0) (old new : ServerValue ReplicaValue) : Type 0 where
     pub frames : List (SocketAddr × List ℕ)
     pub came : List (SocketAddr × List ℕ)
-    pub opened : came ≡ all_taken_as (circle_of old.addresses) frames
+    pub opened : came ≡ all_filtered (filter_of old.addresses) frames
     pub mid : ServerValue ReplicaValue
     pub received : HasReceived tells frames old mid
     pub turn : Turn Says tells came old mid ⊎ IsIdle tells frames old mid
-    pub asked : Option Asked
-    pub first_asked : KeepsFirstOf (IsKeptOf old.addresses.seals) kept frames asked
+    pub asked : Option ReceivedProbe
+    pub first_asked : KeepsFirstOf (BringsProbe old.addresses.seals) kept frames asked
     pub reported : Option Reported
     pub first_reported : KeepsFirstOf (IsToldBy old.node old.addresses.seals) told frames reported
     pub acts : HandlesProbes IsShown tells asked reported mid new
@@ -70,7 +70,7 @@ module _ (Says : ReplicaValue → List (Option (List ℕ)) → List LetterValue 
   pub record EndsTurn (old new : ServerValue ReplicaValue) : Type 0 where
     pub frames : List (SocketAddr × List ℕ)
     pub came : List (SocketAddr × List ℕ)
-    pub opened : came ≡ all_taken_as (circle_of old.addresses) frames
+    pub opened : came ≡ all_filtered (filter_of old.addresses) frames
     pub received : HasReceived tells frames old new
     pub turn : LastTurn Says tells came old new
     pub network : IsSameNetwork old.addresses new.addresses

@@ -234,7 +234,7 @@ impl<M: Machine, S: DatagramSocket + Drop> Cluster<M, S> {
 
 /// Runs nodes with disks in memory, and prints the replies to their clients, which take turns. The sockets' receives
 /// must not wait. Returns whether every request got a reply; if not, the last line is `no answer`.
-pub fn play<M: Machine, S: DatagramSocket + Drop, W: Write>(
+pub fn run_demo<M: Machine, S: DatagramSocket + Drop, W: Write>(
     alloc: Global,
     sockets: Sockets<S>,
     out: &mut W,
@@ -269,7 +269,7 @@ fn play_on_ports<M: Machine, R: Net, W: Write>(
 ) -> Result<bool, ServiceFault> {
     let client = LocalSocket::without_waiting(rt, 0)?;
     let nodes = free_sockets(rt, alloc, NODES)?;
-    let is_answered = play::<M, _, W>(alloc, Sockets { nodes, client }, out)?;
+    let is_answered = run_demo::<M, _, W>(alloc, Sockets { nodes, client }, out)?;
     if out.flush().is_err() {
         return Err(ServiceFault::Write);
     }

@@ -115,7 +115,7 @@ fn read_hosts(
 }
 
 // Where the nodes live.
-fn hosts_in<R: Files<File = File>, E: Write>(
+fn load_hosts<R: Files<File = File>, E: Write>(
     rt: &R,
     alloc: Global,
     path: Option<&str>,
@@ -151,7 +151,7 @@ pub fn keys_of<R: Files<File = File>, E: Write>(
 }
 
 // The same, and none where no file is named.
-fn keys_in<R: Files<File = File>, E: Write>(
+fn load_keys<R: Files<File = File>, E: Write>(
     rt: &R,
     alloc: Global,
     path: Option<&str>,
@@ -200,7 +200,7 @@ fn check_keys<E: Write>(
 }
 
 // The keys of a header's node, in its cluster, for its genesis.
-fn seals_in<R: Files<File = File>, E: Write>(
+fn load_seals<R: Files<File = File>, E: Write>(
     rt: &R,
     alloc: Global,
     header: &Header,
@@ -209,8 +209,8 @@ fn seals_in<R: Files<File = File>, E: Write>(
 ) -> Result<Seals, ServiceFault>
     ensures { IfOk result (AreSealsOf header.now) }
 {
-    let nodes = keys_in(rt, alloc, options.key, err)?;
-    let clients = keys_in(rt, alloc, options.client_key, err)?;
+    let nodes = load_keys(rt, alloc, options.key, err)?;
+    let clients = load_keys(rt, alloc, options.client_key, err)?;
     check_keys(&nodes, &clients, options.client_key.unwrap_or(""), err)?;
     Ok(Seals {
         cluster: header.genesis().cluster,
@@ -255,8 +255,8 @@ pub fn network_of<R: Files<File = File>, E: Write>(
     // If other machines can reach the address, the nodes have a key.
     ensures guarded { IfOk result (λ r. IsReachedWithKey r.0.seals r.1) }
 {
-    let hosts = hosts_in(rt, alloc, options.hosts, err)?;
-    let seals = seals_in(rt, alloc, header, options, err)?;
+    let hosts = load_hosts(rt, alloc, options.hosts, err)?;
+    let seals = load_seals(rt, alloc, header, options, err)?;
     let address = place_of(header, &hosts, options.hosts, options.bind, err)?;
     let place = SocketAddr::from((address, port.get()));
     check_reach(&seals, place, err)?;
@@ -271,8 +271,8 @@ pub fn destination_of<R: Files<File = File>, E: Write>(
     options: &NetworkOptions<'_>,
     err: &mut E,
 ) -> Result<Destination, ServiceFault> {
-    let hosts = hosts_in(rt, alloc, options.hosts, err)?;
-    let keys = keys_in(rt, alloc, options.client_key, err)?;
+    let hosts = load_hosts(rt, alloc, options.hosts, err)?;
+    let keys = load_keys(rt, alloc, options.client_key, err)?;
     let address = match options.bind {
         Some(address) => address,
         None => IpAddr::V4(Ipv4Addr::LOCALHOST),

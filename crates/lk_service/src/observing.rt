@@ -4,7 +4,7 @@ ghost use Rattle.std.specs.Prelude.{◌≡◌};
 
 use lk_disk::LogDisk;
 use lk_events::line::Observer;
-use lk_events::view::View;
+use lk_events::observation::Observation;
 use lk_node::Node;
 use lk_replica::Replica;
 use lk_server::server::Server;
@@ -19,7 +19,7 @@ const HEARD: u8 = 4;
 
 // The node that a node hears to lead.
 fn followed_leader<M: Machine>(node: &Node<M>) -> Option<NodeNo> {
-    let known = node.known()?;
+    let known = node.presumed_leader()?;
     let is_heard = node.term().is_none() && node.ticks() < HEARD;
     (is_heard && known != node.header().node()).then_some(known)
 }
@@ -34,11 +34,11 @@ fn next_members<M: Machine>(node: &Node<M>) -> &Members {
 }
 
 // What is seen of a node after what has happened to it.
-fn view_of<M: Machine>(node: &Node<M>, events: &TurnEvents) -> View {
+fn observation_of<M: Machine>(node: &Node<M>, events: &TurnEvents) -> Observation {
     let own = node.header().node();
     let members = next_members(node).copy();
     let is_member = members.as_slice().iter().any(|member| member.node == own);
-    View {
+    Observation {
         leads: if node.leads() { node.term() } else { None },
         follows: followed_leader(node),
         promised: node.promised(),
@@ -66,7 +66,7 @@ pub fn observe_start<M: Machine, D: LogDisk + Drop, O: Observer>(
 ) {
     if observer.is_on() {
         let node = replica.node();
-        observer.begin(is_empty(node), view_of(node, &TurnEvents::NOTHING));
+        observer.begin(is_empty(node), observation_of(node, &TurnEvents::NOTHING));
     }
 }
 
@@ -79,7 +79,7 @@ pub fn observe_turn<M: Machine, D: LogDisk + Drop, S: DatagramSocket + Drop, O: 
 {
     if observer.is_on() {
         let events = server.take_events();
-        observer.observe(view_of(server.replica().node(), &events));
+        observer.observe(observation_of(server.replica().node(), &events));
     }
 }
 

@@ -1,7 +1,7 @@
 //! A node: its start from a device, and its turns.
 
 ghost use Rattle.std.specs.Prelude.{◌≡◌, ◌≤◌, ◌^◌, ◌⊎◌, None, IfOk, IfErr, OnOk, OnErr};
-ghost use Rattle.lk_step.specs.Faults.{fault_number};
+ghost use Rattle.lk_node_io.specs.Faults.{fault_number};
 ghost use Rattle.lk_replica.specs.ReplicaValue.{ReplicaValue};
 ghost use Rattle.lk_replica.specs.Revived.{MayGoOn};
 ghost use Rattle.lk_server.specs.ProbeHandling.{HandlesProbes};

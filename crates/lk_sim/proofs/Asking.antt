@@ -15,8 +15,8 @@ use Rattle.lk_agreement.proofs.Histories.{still_chosen, still_stems}
 use Rattle.lk_agreement.proofs.Histories.{only}
 use Rattle.lk_agreement.proofs.Histories.{sent_cases, asked_is_no_saying}
 use Rattle.lk_agreement.proofs.Histories.{asked_fits}
-use Rattle.lk_step.specs.declared.note.Note.{Note}
-use Rattle.lk_step.specs.declared.note.Note.TheVariants as note
+use Rattle.lk_node_io.specs.declared.note.Note.{Note}
+use Rattle.lk_node_io.specs.declared.note.Note.TheVariants as note
 use Rattle.lk_node.specs.Histories.{History, Genesis, Datagram, RequestValue}
 use Rattle.lk_node.specs.Served.{BearsOut}
 use Rattle.lk_node.specs.Holdings.{Holding}

@@ -11,8 +11,8 @@ use Rattle.lk_agreement.specs.Chosen.{command_at, Chosen, IsBeginning}
 use Rattle.lk_agreement.specs.Soundness.{Sound}
 use Rattle.lk_agreement.proofs.Histories.{chosen_agree}
 use Rattle.lk_agreement.proofs.Histories.{cons_cases, contains_more}
-use Rattle.lk_step.specs.declared.note.Note.{Note}
-use Rattle.lk_step.specs.declared.note.Note.TheVariants as note
+use Rattle.lk_node_io.specs.declared.note.Note.{Note}
+use Rattle.lk_node_io.specs.declared.note.Note.TheVariants as note
 use Rattle.lk_node.specs.Histories.{History, Genesis, Datagram, Command}
 use Rattle.lk_node.specs.Served.{text, BearsOut, BearsOutPart, BearsOutMessage}
 

@@ -6,7 +6,7 @@ use Rattle.lk_disk.specs.Meters.{stopping}
 use Rattle.lk_entries.specs.Values.{HeaderValue}
 use Rattle.lk_state.specs.Meanings.{Meaning}
 use Rattle.lk_agreement.specs.Nodes.{View}
-use Rattle.lk_step.specs.declared.note.Note.{Note}
+use Rattle.lk_node_io.specs.declared.note.Note.{Note}
 use Rattle.lk_node.specs.Histories.{History, Genesis, Datagram, RequestValue}
 use Rattle.lk_node.specs.Holdings.{Holding}
 use Rattle.lk_node.specs.Leavings.{header_of}
@@ -15,10 +15,10 @@ use Rattle.lk_sim.specs.Traces.{asked_in, happened, asked_note}
 use Rattle.lk_sim.specs.Scenes.{Scene}
 use Rattle.lk_world_nodes.specs.Seats.{At, SeatFits, SeatGoes, stopped_on, fallen_on, rested_on, device_in}
 use Rattle.lk_replica.specs.Behaviours.{Behaviour, TrapsAlone, disks_by}
-use Rattle.lk_world_nodes.specs.Ends.{Breaks, StaysDown, FailsToPack, IsToldEnd, end_by, end_at}
+use Rattle.lk_world_nodes.specs.Ends.{Breaks, StaysDown, FailsToCompact, IsToldEnd, end_by, end_at}
 use Rattle.lk_world_nodes.specs.Sends.{stop_among, after_sends}
-use Rattle.lk_sim.specs.Events.{AreOwn, Adds, Falls, Comes, IsGiven, IsBack, ComesUp, IsPacked, IsCompacted, IsHalted, LeftBy, LeftByRevival}
-use Rattle.lk_world_nodes.specs.Outcomes.{HasFallen, HasTaken, HasRevived, HasPacked, HasWanted, Rests}
+use Rattle.lk_sim.specs.Events.{AreOwn, Adds, Falls, Comes, IsGiven, IsBack, ComesUp, GoesOnCompacted, IsCompacted, IsHalted, LeftBy, LeftByRevival}
+use Rattle.lk_world_nodes.specs.Outcomes.{HasFallen, HasTaken, HasRevived, HasCompacted, HasWanted, Rests}
 use Rattle.lk_sim.specs.Settled.{HasAdded, HasSettled, HasGivenUp}
 use Rattle.lk_sim.specs.Worlds.{Holds}
 use Rattle.lk_world_nodes.specs.declared.end.End.{End}
@@ -169,7 +169,7 @@ module _ {R : Type 0} (b : Behaviour R) (old new : Scene R) where
 
   packs : (t next : Seat R) (r : R) (mine told : List Note) (batch : List Datagram) (how : Option End) (stop : Option ℕ)
       → next.number ≡ t.number → Rests b stop t next → Adds old new (([] ++ mine) ++ told) batch → Tells batch told → new.ended ≡ how → IsToldEnd how
-      → HasPacked b r t mine batch how stop ⊎ HasFallen (FailsToPack b r) t mine batch how stop → IsPacked b old new r next ⊎ Falls (FailsToPack b r) old new next []
+      → HasCompacted b r t mine batch how stop ⊎ HasFallen (FailsToCompact b r) t mine batch how stop → GoesOnCompacted b old new r next ⊎ Falls (FailsToCompact b r) old new next []
   packs t next r mine told batch how stop on rests a tells ended tellable cases = elim cases [
     | inl k ↦ inl (record {
       replica = k.replica;
@@ -183,14 +183,14 @@ module _ {R : Type 0} (b : Behaviour R) (old new : Scene R) where
       };
       ended = ended ∙ k.ended;
     })
-    | inr f ↦ inr (falls (FailsToPack b r) t next [] mine told batch how stop a tells ended on rests tellable f)
+    | inr f ↦ inr (falls (FailsToCompact b r) t next [] mine told batch how stop a tells ended on rests tellable f)
   ]
 
   -- a node that was told to compact
   pub compacted : (Shows : R → Genesis → ℕ → Holding → Type 0) (m : Meaning) (i n : ℕ) (s t : Seat R) (r : R) (mine : List Note) (batch : List Datagram) (how : Option End) (stop : Option ℕ)
       → At old.seats i s → s.number ≡ n → s.life ≡ Up r → t.number ≡ s.number
       → HasSettled Shows b m (record old { seats = set old.seats i t }) i new [] mine batch how stop → IsToldEnd how
-      → HasPacked b r t mine batch how stop ⊎ HasFallen (FailsToPack b r) t mine batch how stop → IsCompacted b old new n
+      → HasCompacted b r t mine batch how stop ⊎ HasFallen (FailsToCompact b r) t mine batch how stop → IsCompacted b old new n
   compacted Shows m i n s t r mine batch how stop at is up number k tellable cases =
       let same : k.seat ≡ t = at_same (set old.seats i t) i k.seat t k.at (at_set_here old.seats i t at.0) in
       let on : k.next.number ≡ t.number = k.number ∙ ap (λ (z : Seat R). z.number) same in
@@ -250,7 +250,7 @@ module _ {R : Type 0} (b : Behaviour R) where
 -- of one that was told to compact nothing is to be kept
 module _ {R : Type 0} (b : Behaviour R) where
   pub packed_none : (r : R) (t : Seat R) (mine : List Note) (batch : List Datagram) (how : Option End) (stop : Option ℕ) → (mine ≡ [] → batch ≡ [] → ⊥)
-      → HasPacked b r t mine batch how stop ⊎ HasFallen (FailsToPack b r) t mine batch how stop → ⊥
+      → HasCompacted b r t mine batch how stop ⊎ HasFallen (FailsToCompact b r) t mine batch how stop → ⊥
   packed_none r t mine batch how stop some cases = elim cases [ inl k ↦ some k.no_notes k.no_batch | inr f ↦ some f.no_notes f.no_batch ]
 
 -- a node that was stopped when out of memory
@@ -290,7 +290,7 @@ revived_cases b d whose t mine batch how stop cases = elim cases [
 ]
 
 pub packed_cases : {R : Type 0} (b : Behaviour R) (r : R) (t : Seat R) (mine : List Note) (batch : List Datagram) (how : Option End) (stop : Option ℕ)
-    → HasPacked b r t mine batch how stop ⊎ HasFallen (FailsToPack b r) t mine batch how stop → ((q : R) × (t.life ≡ Up q)) ⊎ Ends t mine batch
+    → HasCompacted b r t mine batch how stop ⊎ HasFallen (FailsToCompact b r) t mine batch how stop → ((q : R) × (t.life ≡ Up q)) ⊎ Ends t mine batch
 packed_cases b r t mine batch how stop cases = elim cases [
   | inl k ↦ inl (k.replica, k.up)
   | inr f ↦ inr (record { device = fallen_on f.left; down = f.down; no_notes = f.no_notes; no_batch = f.no_batch })

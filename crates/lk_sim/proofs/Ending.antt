@@ -7,7 +7,7 @@ use Rattle.lk_simulated_disk.specs.Memory.{Memory}
 use Rattle.lk_disk.specs.declared.device.Side.{Side}
 use Rattle.lk_state.specs.Meanings.{Meaning}
 use Rattle.lk_agreement.specs.Nodes.{View}
-use Rattle.lk_step.specs.declared.note.Note.{Note}
+use Rattle.lk_node_io.specs.declared.note.Note.{Note}
 use Rattle.lk_node.specs.Histories.{History, Genesis, Datagram, RequestValue}
 use Rattle.lk_node.specs.Holdings.{Holding}
 use Rattle.lk_node.specs.Leavings.{DisksFit}

@@ -3,7 +3,7 @@ use Rattle.std.proofs.Common.{◌≡◌, ℕ, Option, Some, None, sym, subst, in
 use Rattle.std.specs.Prelude.{List, [], ◌∷◌, map, take}
 use Rattle.lk_simulated_disk.specs.Memory.{Memory, empty}
 use Rattle.lk_replica.specs.Behaviours.{Behaviour}
-use Rattle.lk_step.specs.declared.note.Note.{Note}
+use Rattle.lk_node_io.specs.declared.note.Note.{Note}
 use Rattle.lk_world_nodes.specs.Ends.{IsToldEnd}
 use Rattle.lk_sim.specs.Events.{IsGiven, IsGivenTogether, ComesUp, Brings, Does, Wants, IsRefused}
 use Rattle.lk_sim.specs.Groups.{given_by}

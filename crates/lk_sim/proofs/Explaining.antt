@@ -13,8 +13,8 @@ use Rattle.lk_agreement.specs.Snapshots.{IsSlice}
 use Rattle.lk_agreement.specs.Soundness.{Sound}
 use Rattle.lk_agreement.proofs.Histories.{entry_chosen, one_chosen, chosen_agree, chosen_was_accepted, beginning_slice}
 use Rattle.lk_agreement.proofs.Histories.{only, contains_more}
-use Rattle.lk_step.specs.declared.note.Note.{Note}
-use Rattle.lk_step.specs.declared.note.Note.TheVariants as note
+use Rattle.lk_node_io.specs.declared.note.Note.{Note}
+use Rattle.lk_node_io.specs.declared.note.Note.TheVariants as note
 use Rattle.lk_node.specs.Histories.{Genesis, Datagram, Command, Request, RequestValue, WasAsked, IsLawful, text}
 use Rattle.lk_node.specs.Holdings.{Holding}
 use Rattle.lk_node.specs.Leavings.{DisksFit}

@@ -7,8 +7,8 @@ use Rattle.lk_agreement.specs.Acceptors.{AcceptorState, CoversSent}
 use Rattle.lk_agreement.specs.Nodes.{View, Stems, ViewFits}
 use Rattle.lk_agreement.proofs.Histories.{still_chosen_at}
 use Rattle.lk_agreement.proofs.Histories.{still_slice}
-use Rattle.lk_step.specs.declared.note.Note.{Note}
-use Rattle.lk_step.specs.declared.note.Note.TheVariants as note
+use Rattle.lk_node_io.specs.declared.note.Note.{Note}
+use Rattle.lk_node_io.specs.declared.note.Note.TheVariants as note
 use Rattle.lk_node.specs.Histories.{History, Genesis, Datagram, Command, Noop, Request, RequestValue, WasAsked}
 use Rattle.lk_node.specs.Served.{text, BearsOut}
 use Rattle.lk_node.specs.Holdings.{Holding, HoldingFits}

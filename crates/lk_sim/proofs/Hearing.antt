@@ -9,8 +9,8 @@ use Rattle.lk_messages.proofs.Spellings.{one_message}
 use Rattle.lk_state.specs.Meanings.{Meaning}
 use Rattle.lk_agreement.specs.Datagrams.{NodeMessage, said_by}
 use Rattle.lk_agreement.proofs.Histories.{heard_was_sent, contains_more}
-use Rattle.lk_step.specs.declared.note.Note.{Note}
-use Rattle.lk_step.specs.declared.note.Note.TheVariants as note
+use Rattle.lk_node_io.specs.declared.note.Note.{Note}
+use Rattle.lk_node_io.specs.declared.note.Note.TheVariants as note
 use Rattle.lk_node.specs.Histories.{History, Genesis, Datagram, RequestValue, IsHeard}
 use Rattle.lk_node.specs.Holdings.{Holding}
 use Rattle.lk_sim.specs.Heard.{Reads, Asks, IsForged}

@@ -7,7 +7,7 @@ use Rattle.lk_agreement.specs.Acceptors.{CoversSent}
 use Rattle.lk_agreement.specs.Datagrams.{Accepted}
 use Rattle.lk_agreement.specs.Chosen.{command_at, Chosen}
 use Rattle.lk_agreement.proofs.Histories.{chosen_agree, kept_by_majority}
-use Rattle.lk_step.specs.declared.note.Note.{Note}
+use Rattle.lk_node_io.specs.declared.note.Note.{Note}
 use Rattle.lk_node.specs.Histories.{Genesis, Datagram, Command}
 use Rattle.lk_node.specs.Holdings.{Holding}
 use Rattle.lk_node.specs.Leavings.{view_of, DisksFit}

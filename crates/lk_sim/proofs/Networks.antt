@@ -7,14 +7,14 @@ use Rattle.lk_messages.specs.Grammar.{Spells}
 use Rattle.lk_state.specs.Meanings.{Meaning}
 use Rattle.lk_agreement.specs.Datagrams.{said_by}
 use Rattle.lk_agreement.proofs.Histories.{contains_more}
-use Rattle.lk_step.specs.declared.note.Note.{Note}
+use Rattle.lk_node_io.specs.declared.note.Note.{Note}
 use Rattle.lk_node.specs.Calls.{Goes, NodeFits}
 use Rattle.lk_node.specs.Histories.{History, Genesis, Datagram, RequestValue, IsHeard, IsLawful}
 use Rattle.lk_node.specs.Holdings.{Holding}
 use Rattle.lk_node.specs.Leavings.{DisksFit}
 use Rattle.lk_world_nodes.specs.Rooms.{AreShort}
 use Rattle.lk_sim.specs.Events.{Adds}
-use Rattle.lk_sim.specs.Networks.{MayCome, IsRequestIn, AreAsking, MayHear, TellsOf, Appears, Rises, Rests, GoesOn, Ends, Stops, Steps, StepsAll, nothing}
+use Rattle.lk_sim.specs.Networks.{MayCome, IsRequestIn, AreAsking, MayHear, TellsOf, Appears, Restarts, Rests, GoesOn, Ends, Stops, Steps, StepsAll, nothing}
 use Rattle.lk_sim.specs.Scenes.{Scene}
 use Rattle.lk_world_nodes.specs.Seats.{UpFits, SeatFits, SeatGoes, At}
 use Rattle.lk_world_nodes.specs.Told.{Tells}
@@ -81,16 +81,16 @@ module _ {R : Type 0} (Shows : R → Genesis → ℕ → Holding → Type 0) (di
   appears : (old new : Scene R) → HoldsOf old → Appears old new → HoldsOf new
   appears old new w a = moved_silent old new (old.seats ++ a.seat ∷ []) a.seats a.adds (starts Shows disks m old.genesis old.seats old.sent old.trace w a.seat a.unused a.device a.down a.empty)
 
-  rises : (old new : Scene R) → HoldsOf old → Rises Shows disks m old new → HoldsOf new
-  rises old new w a =
+  restarts : (old new : Scene R) → HoldsOf old → Restarts Shows disks m old new → HoldsOf new
+  restarts old new w a =
       let h = happened old.genesis old.sent old.trace in
       let f = w.seated a.turns.place a.seat a.turns.at in
-      let g = a.rises.goes h refl (lawful Shows disks m old.genesis old.seats old.sent old.trace w) (f.down a.device a.down) in
+      let g = a.restarts.goes h refl (lawful Shows disks m old.genesis old.seats old.sent old.trace w) (f.down a.device a.down) in
       let seat_goes : SeatGoes Shows disks m h a.next a.notes [] = record {
         replica = a.replica;
         up = a.up;
         goes = subst (λ k. Goes m h k (Shows a.replica old.genesis k) (disks a.replica) a.notes []) (sym a.turns.number) g;
-        room = a.rises.short (f.room a.device a.down);
+        room = a.restarts.short (f.room a.device a.down);
       } in
       let went = went_on Shows disks m old.genesis old.seats old.sent old.trace w a.turns.place a.seat a.next a.turns.at a.turns.number a.notes [] [] seat_goes refl in
       moved old new (set old.seats a.turns.place a.next) a.notes [] a.turns.seats a.adds
@@ -179,7 +179,7 @@ module _ {R : Type 0} (Shows : R → Genesis → ℕ → Holding → Type 0) (di
   -- a step keeps all that holds
   pub step_holds : (old new : Scene R) → HoldsOf old → Steps Shows disks m old new → HoldsOf new
   step_holds old new w (inl a) = appears old new w a
-  step_holds old new w (inr (inl a)) = rises old new w a
+  step_holds old new w (inr (inl a)) = restarts old new w a
   step_holds old new w (inr (inr (inl a))) = rests old new w a
   step_holds old new w (inr (inr (inr (inl a)))) = goes_on old new w a
   step_holds old new w (inr (inr (inr (inr (inl a))))) = ends old new w a

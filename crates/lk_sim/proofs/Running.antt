@@ -4,7 +4,7 @@ use Rattle.lk_simulated_disk.specs.Memory.{Memory, empty}
 use Rattle.lk_replica.specs.Behaviours.{Behaviour}
 use Rattle.std.specs.Prelude.{Option, Result, Ok, Err, Vec, OnOk, IfErr, IsErrAnd}
 use Rattle.std.specs.Global.{Global}
-use Rattle.lk_step.specs.declared.note.Note.{Note}
+use Rattle.lk_node_io.specs.declared.note.Note.{Note}
 use Rattle.lk_sim.specs.Events.{IsGiven, IsGivenTogether, ComesUp, Brings, Does, Wants, IsRefused, IsNotInjected, IsNotGrouped, Grows}
 use Rattle.lk_replica.specs.Together.{sent_of}
 use Rattle.lk_sim.specs.Groups.{given_by}

@@ -18,8 +18,8 @@ use Rattle.lk_agreement.specs.Worlds.{World, with_view, with_sent, WorldFits}
 use Rattle.lk_agreement.proofs.Histories.{still_chosen, still_stems}
 use Rattle.lk_agreement.proofs.Histories.{said_alike, sent_cases}
 use Rattle.lk_agreement.proofs.Histories.{with_view_fits, batch_fits, covers_elsewhere}
-use Rattle.lk_step.specs.declared.note.Note.{Note}
-use Rattle.lk_step.specs.declared.note.Note.TheVariants as note
+use Rattle.lk_node_io.specs.declared.note.Note.{Note}
+use Rattle.lk_node_io.specs.declared.note.Note.TheVariants as note
 use Rattle.lk_node.specs.Histories.{History, Genesis, Datagram, Command, RequestValue, WasAsked, later}
 use Rattle.lk_node.specs.Served.{BearsOut, BearsOutMessage}
 use Rattle.lk_node.specs.Holdings.{Holding}

@@ -10,7 +10,7 @@ use Rattle.lk_node.specs.Leavings.{header_of, StandsAs}
 use Rattle.lk_node.specs.Served.{text}
 use Rattle.lk_replica.specs.Behaviours.{Behaviour, disks_by}
 use Rattle.lk_recovery.specs.Compacting.{AllStandAt}
-use Rattle.lk_sim.specs.Events.{Does, IsCompacted, IsPacked}
+use Rattle.lk_sim.specs.Events.{Does, IsCompacted, GoesOnCompacted}
 use Rattle.lk_world_nodes.specs.Seats.{disks_of, At}
 use Rattle.lk_sim.specs.Packed.{StandsPacked, LeavesPacked}
 use Rattle.lk_sim.specs.Scenes.{Scene}
@@ -26,7 +26,7 @@ on_ok P Q (Err e) f p = tt
 
 module _ {R : Type 0} (b : Behaviour R) (Shows : R → Genesis → ℕ → Holding → Type 0) (whole : R → WholeValue) (m : Meaning)
     (law : (old new : R) (genesis : Genesis) (n : ℕ) (x : Holding) → Shows old genesis n x → b.Compacts old new (Ok tt) → AllStandAt m genesis n (disks_by b new) (whole new).roster.executed x.view.done) where
-  stands_packed : (old new : Scene R) → Holds Shows (disks_by b) m old.genesis old.seats old.sent old.trace → (n : ℕ) → (k : IsCompacted b old new n) → IsPacked b old new k.replica k.next → StandsPacked whole (disks_by b) m new n
+  stands_packed : (old new : Scene R) → Holds Shows (disks_by b) m old.genesis old.seats old.sent old.trace → (n : ℕ) → (k : IsCompacted b old new n) → GoesOnCompacted b old new k.replica k.next → StandsPacked whole (disks_by b) m new n
   stands_packed old new w n k p = record {
     place = k.turns.place;
     seat = k.next;

@@ -11,7 +11,7 @@ use Rattle.lk_agreement.specs.Datagrams.{NodeMessage, HasSent}
 use Rattle.lk_agreement.specs.Nodes.{fresh}
 use Rattle.lk_agreement.proofs.Histories.{still_stems}
 use Rattle.lk_agreement.proofs.Histories.{start_fits}
-use Rattle.lk_step.specs.declared.note.Note.{Note}
+use Rattle.lk_node_io.specs.declared.note.Note.{Note}
 use Rattle.lk_node.specs.Histories.{History, Genesis, Datagram}
 use Rattle.lk_node.specs.Served.{text}
 use Rattle.lk_node.specs.Holdings.{Holding}

@@ -10,8 +10,8 @@ use Rattle.lk_messages.specs.declared.message.NodeMessage.TheVariants as kinds
 use Rattle.lk_state.specs.Meanings.{Meaning}
 use Rattle.lk_agreement.specs.Datagrams.{said_by}
 use Rattle.lk_agreement.proofs.Histories.{only, contains_more}
-use Rattle.lk_step.specs.declared.note.Note.{Note}
-use Rattle.lk_step.specs.declared.note.Note.TheVariants as note
+use Rattle.lk_node_io.specs.declared.note.Note.{Note}
+use Rattle.lk_node_io.specs.declared.note.Note.TheVariants as note
 use Rattle.lk_node.specs.Histories.{History, Datagram, Command}
 use Rattle.lk_node.specs.Served.{IsOfNode, BearsOut, BearsOutMessage}
 use Rattle.lk_world_nodes.specs.Told.{told_by_node, told_by, Tells}

@@ -11,14 +11,14 @@ use Rattle.lk_log.specs.Causes.{rebase_calls}
 use Rattle.lk_messages.specs.Grammar.{Spells}
 use Rattle.lk_messages.specs.declared.message.Content.TheVariants as content
 use Rattle.lk_agreement.specs.declared.party.Party.TheVariants as party
-use Rattle.lk_step.specs.declared.note.Note.{Note}
-use Rattle.lk_step.specs.declared.note.Note.TheVariants as note
+use Rattle.lk_node_io.specs.declared.note.Note.{Note}
+use Rattle.lk_node_io.specs.declared.note.Note.TheVariants as note
 use Rattle.lk_node.specs.Histories.{Datagram, Genesis, RequestValue}
 use Rattle.lk_node.specs.Leavings.{header_of}
 use Rattle.lk_node.specs.Served.{IsOfNode}
 use Rattle.lk_replica.specs.Behaviours.{Behaviour}
 use Rattle.lk_replica.specs.Together.{Said, sent_of}
-use Rattle.lk_world_nodes.specs.Ends.{Breaks, BreaksTogether, StaysDown, FailsToPack, IsNoWant, IsWant, IsToldEnd, end_by}
+use Rattle.lk_world_nodes.specs.Ends.{Breaks, BreaksTogether, StaysDown, FailsToCompact, IsNoWant, IsWant, IsToldEnd, end_by}
 use Rattle.lk_world_nodes.specs.Seats.{At, stopped_on, rested_on, IsTrapped}
 use Rattle.lk_world_nodes.specs.Sends.{stop_among, after_sends, cut_short}
 use Rattle.lk_world_nodes.specs.Told.{Tells}
@@ -233,7 +233,7 @@ pub record IsBack {R : Type 0} (b : Behaviour R) (old new : Scene R) (n : ℕ) :
 
 -- it goes on, with a snapshot of everything executed: all calls of its device have passed, and nothing was noted or
 -- sent
-pub record IsPacked {R : Type 0} (b : Behaviour R) (old new : Scene R) (r : R) (t : Seat R) : Type 0 where
+pub record GoesOnCompacted {R : Type 0} (b : Behaviour R) (old new : Scene R) (r : R) (t : Seat R) : Type 0 where
   pub replica : R
   pub compacts : b.Compacts r replica (Ok tt)
   pub passes : Passes (b.memory r).meter (b.memory replica).meter rebase_calls
@@ -249,7 +249,7 @@ pub record IsCompacted {R : Type 0} (b : Behaviour R) (old new : Scene R) (n : �
   pub up : seat.life ≡ Up replica
   pub next : Seat R
   pub turns : Turns old.seats new.seats seat next
-  pub comes_to : IsPacked b old new replica next ⊎ Falls (FailsToPack b replica) old new next []
+  pub comes_to : GoesOnCompacted b old new replica next ⊎ Falls (FailsToCompact b replica) old new next []
 
 -- ---- a node goes down, or its device will fail
 
@@ -329,8 +329,8 @@ abbrev pub StartWants : {R : Type 0} → Behaviour R → Genesis → ℕ → Vec
 StartWants b genesis n seats = (vec_capacity seats < vec_len seats + 1) ⊎ ((left : Memory) × LeftByRevival b (header_of genesis n) (Down empty) left)
 
 -- a compaction that ran out of memory left this device
-abbrev pub LeftByPacking : {R : Type 0} → Behaviour R → Life R → Memory → Type 0
-LeftByPacking {R = R} b life left = (r q : R) × (number : ℕ) × (life ≡ Up r) × b.Compacts r q (Err number) × (left ≡ b.memory q) × IsWant number left
+abbrev pub LeftByCompacting : {R : Type 0} → Behaviour R → Life R → Memory → Type 0
+LeftByCompacting {R = R} b life left = (r q : R) × (number : ℕ) × (life ≡ Up r) × b.Compacts r q (Err number) × (left ≡ b.memory q) × IsWant number left
 
 -- the node has stopped, with none of the unsynced bytes of the disks that its call had left
 pub record IsHalted {R : Type 0} (Left : Life R → Memory → Type 0) (old new : Scene R) (n : ℕ) : Type 0 where
@@ -362,7 +362,7 @@ abbrev pub Wants : {R : Type 0} → Behaviour R → Scene R → Event → Scene 
 Wants b old (event.Start n) new = new ≡ old
 Wants b old (event.Restart n) new = IsHalted (LeftByRevival b (header_of old.genesis n)) old new n
 Wants b old (event.Tick n) new = IsHalted (LeftBy b None) old new n
-Wants b old (event.Compact n) new = IsHalted (LeftByPacking b) old new n
+Wants b old (event.Compact n) new = IsHalted (LeftByCompacting b) old new n
 Wants b old (event.Client n r) new = new ≡ old
 Wants b old (event.Deliver k) new =
     (new ≡ old) ⊎ ((n : ℕ) × (d : Datagram) × (datagram_at old.sent k ≡ Some d) × (d.to ≡ party.Node n) × IsHalted (LeftBy b (Some d.bytes)) old new n)

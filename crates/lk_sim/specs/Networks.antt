@@ -10,7 +10,7 @@ use Rattle.lk_messages.specs.declared.message.Message.{Message}
 use Rattle.lk_messages.specs.declared.message.NodeMessage.{NodeMessage}
 use Rattle.lk_state.specs.Meanings.{Meaning}
 use Rattle.lk_agreement.specs.Datagrams.{said_by, HasSent}
-use Rattle.lk_step.specs.declared.note.Note.{Note}
+use Rattle.lk_node_io.specs.declared.note.Note.{Note}
 use Rattle.lk_node.specs.Calls.{NodeFits, Goes}
 use Rattle.lk_node.specs.Histories.{History, Genesis, Datagram, RequestValue, IsHeard, IsLawful}
 use Rattle.lk_node.specs.Holdings.{Holding}
@@ -68,7 +68,7 @@ pub record EndsBy {R : Type 0} (Shows : R → Genesis → ℕ → Holding → Ty
   pub short : AreShort (disks r) → AreShort left
 
 -- it restarts from what its disks have
-pub record RisesBy {R : Type 0} (Shows : R → Genesis → ℕ → Holding → Type 0) (disks : R → Side → Disk) (m : Meaning) (genesis : Genesis) (n : ℕ) (old : Side → Disk) (q : R) (notes : List Note) : Type 0 where
+pub record RestartsBy {R : Type 0} (Shows : R → Genesis → ℕ → Holding → Type 0) (disks : R → Side → Disk) (m : Meaning) (genesis : Genesis) (n : ℕ) (old : Side → Disk) (q : R) (notes : List Note) : Type 0 where
   pub goes : (h : History) → h.genesis ≡ genesis → IsLawful m h → DisksFit m h n old → Goes m h n (Shows q h.genesis n) (disks q) notes []
   pub short : AreShort old → AreShort (disks q)
 
@@ -90,7 +90,7 @@ pub record Appears {R : Type 0} (old new : Scene R) : Type 0 where
   pub adds : Adds old new [] []
 
 -- a node that was down has started
-pub record Rises {R : Type 0} (Shows : R → Genesis → ℕ → Holding → Type 0) (disks : R → Side → Disk) (m : Meaning) (old new : Scene R) : Type 0 where
+pub record Restarts {R : Type 0} (Shows : R → Genesis → ℕ → Holding → Type 0) (disks : R → Side → Disk) (m : Meaning) (old new : Scene R) : Type 0 where
   pub seat : Seat R
   pub next : Seat R
   pub turns : Turns old.seats new.seats seat next
@@ -99,7 +99,7 @@ pub record Rises {R : Type 0} (Shows : R → Genesis → ℕ → Holding → Typ
   pub replica : R
   pub up : next.life ≡ Up replica
   pub notes : List Note
-  pub rises : RisesBy Shows disks m old.genesis seat.number (disk_of device) replica notes
+  pub restarts : RestartsBy Shows disks m old.genesis seat.number (disk_of device) replica notes
   pub adds : Adds old new notes []
 
 -- a node that was down has stayed down
@@ -163,7 +163,7 @@ pub record Stops {R : Type 0} (disks : R → Side → Disk) (old new : Scene R) 
 
 abbrev pub Steps : {R : Type 0} → (R → Genesis → ℕ → Holding → Type 0) → (R → Side → Disk) → Meaning → Scene R → Scene R → Type 0
 Steps Shows disks m old new =
-    Appears old new ⊎ Rises Shows disks m old new ⊎ Rests m old new ⊎ GoesOn Shows disks m old new ⊎ Ends Shows disks m old new ⊎ Stops disks old new
+    Appears old new ⊎ Restarts Shows disks m old new ⊎ Rests m old new ⊎ GoesOn Shows disks m old new ⊎ Ends Shows disks m old new ⊎ Stops disks old new
 
 -- these steps were taken one after another, and the last of them led to this
 abbrev pub StepsAll : {R : Type 0} → (R → Genesis → ℕ → Holding → Type 0) → (R → Side → Disk) → Meaning → Scene R → List (Scene R) → Scene R → Type 0

@@ -5,8 +5,8 @@ use Rattle.lk_members.specs.Effects.{in_effect}
 use Rattle.lk_state.specs.Meanings.{Meaning}
 use Rattle.lk_state.specs.States.{reply}
 use Rattle.lk_agreement.specs.Chosen.{command_at, Chosen}
-use Rattle.lk_step.specs.declared.note.Note.{Note}
-use Rattle.lk_step.specs.declared.note.Note.TheVariants as note
+use Rattle.lk_node_io.specs.declared.note.Note.{Note}
+use Rattle.lk_node_io.specs.declared.note.Note.TheVariants as note
 use Rattle.lk_node.specs.Histories.{Genesis, Datagram, Command, Request, RequestValue}
 use Rattle.lk_sim.specs.Traces.{asked_in}
 

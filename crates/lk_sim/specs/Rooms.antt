@@ -1,7 +1,7 @@
 -- What a world's trace has room for.
 use Rattle.std.specs.Prelude.{◌<◌, Option, Some, None, Vec, vec_len, vec_capacity}
 use Rattle.std.specs.Global.{Global}
-use Rattle.lk_step.specs.declared.note.Note.{Note}
+use Rattle.lk_node_io.specs.declared.note.Note.{Note}
 use Rattle.lk_node.specs.Histories.{RequestValue}
 
 -- the trace has room for the note of a request that is asked, if there is one

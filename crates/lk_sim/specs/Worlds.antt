@@ -9,7 +9,7 @@ use Rattle.lk_agreement.specs.Datagrams.{NodeMessage, Vote, Accept, HasSent, Was
 use Rattle.lk_agreement.specs.Chosen.{Chosen}
 use Rattle.lk_agreement.specs.Nodes.{View}
 use Rattle.lk_agreement.specs.Worlds.{WorldFits}
-use Rattle.lk_step.specs.declared.note.Note.{Note}
+use Rattle.lk_node_io.specs.declared.note.Note.{Note}
 use Rattle.lk_node.specs.Histories.{Genesis, Datagram, Command, RequestValue, WasAsked}
 use Rattle.lk_node.specs.Served.{BearsOut, BearsOutMessage}
 use Rattle.lk_node.specs.Holdings.{Holding}

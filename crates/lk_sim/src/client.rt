@@ -11,8 +11,8 @@ use crate::datagrams::has_room;
 use crate::world_parts::WorldParts;
 use bytes::BytesMut;
 use lk_agreement::Party;
+use lk_node_io::Note;
 use lk_replica::{Datagram, MemoryReplica};
-use lk_step::Note;
 use lk_types::{NoMemory, NodeNo, Request};
 use lk_wire::{Content, Message, write};
 use lk_world_nodes::{Refused, find};
@@ -33,7 +33,7 @@ fn spelled(alloc: Global, cluster: u64, request: &Request) -> Result<Vec<u8>, No
 }
 
 // Both join their lists, or neither does.
-fn join(
+fn append_both(
     sent: &mut Vec<Datagram>,
     trace: &mut Vec<Note>,
     datagram: Datagram,
@@ -66,7 +66,7 @@ fn add_request<R: MemoryReplica>(
         bytes,
     };
     let note = Note::Asked(request.copy());
-    join(&mut parts.sent, &mut parts.trace, datagram, note)?;
+    append_both(&mut parts.sent, &mut parts.trace, datagram, note)?;
     parts.ended = None;
     Ok(())
 }

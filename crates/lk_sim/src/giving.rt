@@ -1,6 +1,6 @@
 // A node takes an input or restarts, and the world keeps what it sends and notes.
 ghost use Rattle.std.specs.Prelude.{◌≡◌, ℕ, ◌<◌, ◌++◌, List, [], true, false, length, set, IfOk, OnOk, OnErr};
-ghost use Rattle.lk_step.specs.declared.note.Note.{Note as NoteValue};
+ghost use Rattle.lk_node_io.specs.declared.note.Note.{Note as NoteValue};
 ghost use Rattle.lk_node.specs.Calls.{heard_by, InputFits};
 ghost use Rattle.lk_node.specs.Leavings.{header_of};
 ghost use Rattle.lk_replica.specs.Behaviours.{disks_by};
@@ -13,8 +13,8 @@ ghost use Rattle.lk_sim.specs.Traces.{happened, asked_note};
 ghost use Rattle.lk_sim.specs.Worlds.{PartsHold, scene_of};
 
 use crate::world_parts::WorldParts;
+use lk_node_io::{Input, Note};
 use lk_replica::{Datagram, MemoryReplica};
-use lk_step::{Input, Note};
 use lk_types::{NoMemory, Request};
 use lk_world_nodes::{Outcome, add_notes, carry_out_stop, revive, step, stop};
 use std::alloc::Global;
@@ -37,7 +37,7 @@ fn notes_of(
 }
 
 /// Both join their lists, or neither does.
-pub fn join(
+pub fn append_both(
     sent: &mut Vec<Datagram>,
     trace: &mut Vec<Note>,
     mut batch: Vec<Datagram>,
@@ -98,7 +98,7 @@ pub fn add<R: MemoryReplica>(
         stop: _,
     } = outcome;
     let all = notes_of(parts.alloc, asked, notes, &batch)?;
-    join(&mut parts.sent, &mut parts.trace, batch, all)?;
+    append_both(&mut parts.sent, &mut parts.trace, batch, all)?;
     parts.ended = ended;
     Ok(())
 }

@@ -12,11 +12,11 @@ ghost use Rattle.lk_sim.specs.Worlds.{PartsHold, scene_of};
 
 use crate::datagrams::{datagram, has_room};
 use crate::event::Turn;
-use crate::giving::join;
+use crate::giving::append_both;
 use crate::world_parts::WorldParts;
 use lk_agreement::Party;
+use lk_node_io::{Input, Note};
 use lk_replica::{Datagram, MemoryReplica, Step};
-use lk_step::{Input, Note};
 use lk_types::{NoMemory, NodeNo};
 use lk_world_nodes::{GroupOutcome, Refused, add_notes, carry_out_stop, find_up, step_all, stop};
 use std::alloc::Global;
@@ -71,7 +71,7 @@ fn add_all<R: MemoryReplica>(
         stop: _,
     } = outcome;
     let notes = notes_of(parts.alloc, steps, &sent)?;
-    join(&mut parts.sent, &mut parts.trace, sent, notes)?;
+    append_both(&mut parts.sent, &mut parts.trace, sent, notes)?;
     parts.ended = ended;
     Ok(())
 }

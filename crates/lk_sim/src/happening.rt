@@ -6,12 +6,12 @@ ghost use Rattle.lk_sim.specs.Runs.{Runs};
 ghost use Rattle.lk_sim.specs.Worlds.{PartsHold, scene_of};
 
 use crate::client::client;
+use crate::compacting::compact;
 use crate::delivery::{deliver, inject, tick};
 use crate::end::RunEnd;
 use crate::event::Event;
 use crate::group::group;
 use crate::lives::{arm, fail_at, halt, restart, start};
-use crate::packing::compact;
 use crate::world_parts::WorldParts;
 use lk_replica::MemoryReplica;
 use lk_world_nodes::Refused;

@@ -2,6 +2,7 @@
 #![tactic(auto)]
 
 mod client;
+mod compacting;
 mod datagrams;
 mod delivery;
 mod end;
@@ -11,7 +12,6 @@ mod group;
 mod happening;
 pub mod laws;
 mod lives;
-mod packing;
 mod world;
 mod world_parts;
 

@@ -1,5 +1,5 @@
+use lk_node_io::Note;
 use lk_replica::Datagram;
-use lk_step::Note;
 use lk_types::Genesis;
 use lk_world_nodes::{End, Seat};
 use std::alloc::Global;

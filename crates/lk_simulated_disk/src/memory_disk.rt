@@ -7,7 +7,7 @@ ghost use Rattle.lk_disk.specs.Traps.{stops_next};
 ghost use Rattle.lk_disk.specs.declared.device.Side.{Side};
 
 use crate::disk_bytes::DiskBytes;
-use crate::metering::{armed_stop, count_call, count_read, ease, new_meter, set_trap};
+use crate::metering::{armed_stop, count_call, count_read, disarm, new_meter, set_trap};
 use lk_disk::{DeviceFault, LogDisk, Meter, Side, Trap, Trapped};
 use std::alloc::{AllocError, Global};
 use std::marker::Model;
@@ -54,7 +54,7 @@ impl MemoryDisk {
     {
         self.a.stop(x);
         self.b.stop(y);
-        ease(&mut self.meter);
+        disarm(&mut self.meter);
     }
 
     /// Lets this many changing calls pass, and fails all later ones until a stop or another fuse.

@@ -96,7 +96,7 @@ pub fn set_trap(meter: &mut Meter, trap: Trap)
 }
 
 /// Removes the trap and the fuse.
-pub fn ease(meter: &mut Meter)
+pub fn disarm(meter: &mut Meter)
     ensures { meter.new ≡ eased meter.old }
 {
     meter.trap = Trap::Off;

@@ -6,7 +6,7 @@ use Rattle.lk_types.specs.declared.member.Member.{Member}
 use Rattle.lk_probe.specs.declared.probe.Report.{Report}
 use Rattle.lk_probe.specs.declared.status.Version.{Version}
 use Rattle.lk_health.specs.Rounds.{report_of}
-use Rattle.lk_health.specs.Verdicts.{up, is_served, one_genesis}
+use Rattle.lk_health.specs.Verdicts.{count_reporting, is_served, one_genesis}
 use Rattle.lk_health.specs.declared.target.Target.{Target}
 use Rattle.lk_status.specs.Fields.{field_name, field_value, all_fields}
 use Rattle.lk_status.specs.Tokens.{by_token}
@@ -95,7 +95,7 @@ counts_part reporting count =
 -- how many of the members of the measure
 abbrev pub majority_part : Option Report → List Report → List ℕ
 majority_part None rs = []
-majority_part (Some measure) rs = counts_part (up measure.status.members rs) (length measure.status.members)
+majority_part (Some measure) rs = counts_part (count_reporting measure.status.members rs) (length measure.status.members)
 
 abbrev pub json_text : ℕ → ℕ → List Target → List Report → Option Report → List ℕ
 json_text cluster first ts rs measure =

@@ -9,7 +9,7 @@ use Rattle.lk_probe.specs.declared.probe.Report.{Report}
 use Rattle.lk_probe.specs.declared.status.Leadership.{Leadership}
 use Rattle.lk_health.specs.Measures.{executed_of}
 use Rattle.lk_health.specs.Rounds.{report_of}
-use Rattle.lk_health.specs.Verdicts.{seeks_votes, up, one_genesis}
+use Rattle.lk_health.specs.Verdicts.{seeks_votes, count_reporting, one_genesis}
 use Rattle.lk_health.specs.declared.target.Target.{Target}
 
 -- ---- counts
@@ -109,7 +109,7 @@ raised_text r = if nat_le 2 r.status.identity.table then codes "; raised" else [
 
 -- how many of its members are up
 abbrev pub majority_text : Report → List Report → List ℕ
-majority_text measure rs = codes "majority: " ++ (decimal (up measure.status.members rs) ++ (codes " of " ++ (decimal (length measure.status.members) ++ codes " up")))
+majority_text measure rs = codes "majority: " ++ (decimal (count_reporting measure.status.members rs) ++ (codes " of " ++ (decimal (length measure.status.members) ++ codes " up")))
 
 -- the line of the cluster, if any node reports
 abbrev pub cluster_line : Option Report → List Report → List ℕ

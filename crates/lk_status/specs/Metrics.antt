@@ -4,7 +4,7 @@ use Rattle.std.specs.Fmt.{decimal}
 use Rattle.lk_probe.specs.Grammar.{flag}
 use Rattle.lk_probe.specs.declared.probe.Report.{Report}
 use Rattle.lk_health.specs.Rounds.{has_token}
-use Rattle.lk_health.specs.Verdicts.{up, is_served, one_genesis}
+use Rattle.lk_health.specs.Verdicts.{count_reporting, is_served, one_genesis}
 use Rattle.lk_health.specs.declared.target.Target.{Target}
 use Rattle.lk_status.specs.Fields.{field_name, field_kind, field_help, field_value, all_fields}
 use Rattle.lk_status.specs.Tokens.{by_token}
@@ -37,7 +37,7 @@ genesis_text cluster rs =
 -- how many members of the measure report
 abbrev pub members_up : Option Report → List Report → ℕ
 members_up None rs = 0
-members_up (Some measure) rs = up measure.status.members rs
+members_up (Some measure) rs = count_reporting measure.status.members rs
 
 abbrev pub members_up_text : ℕ → Option Report → List Report → List ℕ
 members_up_text cluster measure rs =

@@ -6,7 +6,7 @@ ghost use Rattle.lk_status.specs.Json.{program_part, genesis_part, field_part, m
 
 use crate::field::{FIELDS, Field};
 use lk_health::target::{Inquiry, Target, report_with};
-use lk_health::verdict::{has_one_genesis, is_served, up};
+use lk_health::verdict::{count_reporting, has_one_genesis, is_served};
 use lk_probe::{DIGEST, Report};
 use lk_types::Member;
 use std::io;
@@ -202,7 +202,7 @@ fn write_measured<W: Write>(measure: &Report, reports: &[Report], out: &mut W) -
     ensures { OnOk result (Appends (W.contents out.old) (W.contents out.new) (majority_part (Some measure.now) reports.now)) }
 {
     let members = measure.status.members.as_slice();
-    write_counts(up(members, reports), members.len(), out)?;
+    write_counts(count_reporting(members, reports), members.len(), out)?;
     Ok(())
 }
 

@@ -6,7 +6,7 @@ ghost use Rattle.lk_status.specs.Lines.{heard_text, unled_text, following_text, 
 
 use lk_health::measure::executed_of;
 use lk_health::target::{Inquiry, report_with};
-use lk_health::verdict::{has_one_genesis, seeks_votes, up};
+use lk_health::verdict::{count_reporting, has_one_genesis, seeks_votes};
 use lk_probe::{Leadership, Report};
 use lk_types::{Ballot, Member, NodeNo};
 use std::io;
@@ -244,7 +244,7 @@ fn write_majority<W: Write>(measure: &Report, reports: &[Report], out: &mut W) -
     ensures { OnOk result (Appends (W.contents out.old) (W.contents out.new) (majority_text measure.now reports.now)) }
 {
     let members = measure.status.members.as_slice();
-    let (up, count) = (up(members, reports), members.len());
+    let (up, count) = (count_reporting(members, reports), members.len());
     write!(out, "majority: {up} of {count} up")
 }
 

@@ -6,7 +6,7 @@ ghost use Rattle.lk_status.specs.Metrics.{head_text, gauge_text, served_text, ge
 
 use crate::field::{FIELDS, Field};
 use lk_health::target::{Inquiry, Target, is_answered};
-use lk_health::verdict::{has_one_genesis, is_served, up};
+use lk_health::verdict::{count_reporting, has_one_genesis, is_served};
 use lk_probe::Report;
 use std::io;
 use std::io::Write;
@@ -74,7 +74,7 @@ fn members_up(measure: Option<&Report>, reports: &[Report]) -> u64
     ensures { result ≡ members_up (option_copied measure.entry) reports.now }
 {
     match measure {
-        Some(measure) => up(measure.status.members.as_slice(), reports) as u64,
+        Some(measure) => count_reporting(measure.status.members.as_slice(), reports) as u64,
         None => 0,
     }
 }

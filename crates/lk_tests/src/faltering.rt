@@ -1,8 +1,8 @@
 //! A post whose first send fails: that is told, the other letters are sent, and the replica goes on.
 
 use crate::node_turns::{Locks, begun};
+use lk_node_io::{Input, Post, SendFault, To};
 use lk_replica::Replica;
-use lk_step::{Input, Post, SendFault, To};
 use std::test::Fail;
 
 // A post whose first send fails. It does not tell what was sent, but to how many.

@@ -5,14 +5,14 @@ use crate::clocks::Stopped;
 use crate::node_turns::{Locks, begun};
 use lk_locks::LockTable;
 use lk_memory_socket::MemorySocket;
+use lk_node_io::{Input, Note, Outbox, Post, ReplicaFault};
 use lk_pace::metronome::Metronome;
 use lk_pace::pace::Pace;
 use lk_replica::Group;
 use lk_served_replica::replica_status::ReplicaStatus;
-use lk_served_replica::{ServedReplica, Shown};
+use lk_served_replica::{ProbedState, ServedReplica};
 use lk_server::server::{Server, node_turn};
-use lk_service::demo::{Sockets, play};
-use lk_step::{Input, Note, Outbox, Post, ReplicaFault};
+use lk_service::demo::{Sockets, run_demo};
 use lk_transport::network::Network;
 use lk_transport::receive_buffer::ReceiveBuffer;
 use lk_types::{Ballot, Command, Executed, NodeNo, Position, RealBallot};
@@ -91,8 +91,8 @@ impl ServedReplica for NotingReplica {
         self.status
     }
 
-    fn show(&self) -> Shown {
-        Shown::of(&self.probed)
+    fn show(&self) -> ProbedState {
+        ProbedState::of(&self.probed)
     }
 
     fn is_raised(&self, _alloc: Global) -> Option<bool> {
@@ -237,7 +237,7 @@ fn apart(alloc: Global) -> Result<Sockets<MemorySocket>, Fail> {
 #[test]
 fn a_demonstration_that_nobody_answers_ends(rt: HostRuntime) -> Result<(), Fail> {
     let mut out = Vec::new(rt.alloc());
-    let is_answered = play::<LockTable, _, _>(rt.alloc(), apart(rt.alloc())?, &mut out)?;
+    let is_answered = run_demo::<LockTable, _, _>(rt.alloc(), apart(rt.alloc())?, &mut out)?;
     assert_eq!(rt;
         (is_answered, out.as_slice()),
         (false, b"no answer\n".as_slice())

@@ -54,14 +54,14 @@ moved_up places node from = Some (node, from) ∷ without (min (place_in places 
 abbrev pub IsSameNetwork : AddressBook → AddressBook → Type 0
 IsSameNetwork old new = (new.hosts ≡ old.hosts) × (new.seals ≡ old.seals)
 
--- by what a node takes what comes: its keys, and at which addresses nodes of another genesis are
-pub record Circle : Type 0 where
+-- the filter of what comes to a node: its keys, and the addresses at which nodes of another genesis are
+pub record Filter : Type 0 where
   pub seals : Seals
   pub strangers : SocketAddr → Bool
 
-abbrev pub circle_of : AddressBook → Circle
-circle_of b = record { seals = b.seals; strangers = is_stranger b.neighbours }
+abbrev pub filter_of : AddressBook → Filter
+filter_of b = record { seals = b.seals; strangers = is_stranger b.neighbours }
 
--- where nodes live and by what a node takes what comes are the same
-abbrev pub IsSameCircle : AddressBook → AddressBook → Type 0
-IsSameCircle old new = (new.hosts ≡ old.hosts) × (circle_of new ≡ circle_of old)
+-- where nodes live and what a node filters out are the same
+abbrev pub IsSameFilter : AddressBook → AddressBook → Type 0
+IsSameFilter old new = (new.hosts ≡ old.hosts) × (filter_of new ≡ filter_of old)

@@ -5,10 +5,10 @@ use Rattle.lk_probe.specs.Grammar.{SpellsProbe, node_in}
 use Rattle.lk_probe.specs.declared.probe.Probe.{Probe}
 use Rattle.lk_seal.specs.Seals.{key_list, heard}
 use Rattle.lk_seal.specs.declared.seals.Seals.{Seals}
-use Rattle.lk_step.specs.declared.to.To.{To}
-use Rattle.lk_step.specs.declared.to.To.TheVariants.{Node, Client}
+use Rattle.lk_node_io.specs.declared.to.To.{To}
+use Rattle.lk_node_io.specs.declared.to.To.TheVariants.{Node, Client}
 use Rattle.lk_transport.specs.Posts.{Tray, Loses, frame_of, keys_for}
-use Rattle.lk_transport.specs.declared.asked.Asked.{Asked}
+use Rattle.lk_transport.specs.declared.received_probe.ReceivedProbe.{ReceivedProbe}
 
 -- a node names itself in a probe only if it seals it, where the nodes have a key: what was taken of the frame is
 -- shorter than it
@@ -21,10 +21,10 @@ pub record Asks (s : Seals) (frame : List ℕ) (p : Probe) : Type 0 where
   pub cluster : p.cluster ≡ s.cluster
   pub sealed : IsSealedAsNamed s frame p
 
--- what is kept of a frame that came from there: the probe by which somebody asks, if it is one
-abbrev pub IsKeptOf : Seals → SocketAddr × List ℕ → Option Asked → Type 0
-IsKeptOf s d None = (p : Probe) → Asks s d.1 p → ⊥
-IsKeptOf s d (Some a) = (a.from ≡ d.0) × Asks s d.1 a.probe
+-- what a frame that came from there brings: the probe by which somebody asks, if it is one
+abbrev pub BringsProbe : Seals → SocketAddr × List ℕ → Option ReceivedProbe → Type 0
+BringsProbe s d None = (p : Probe) → Asks s d.1 p → ⊥
+BringsProbe s d (Some a) = (a.from ≡ d.0) × Asks s d.1 a.probe
 
 -- the client or the node that asks, if the probe names one
 abbrev pub who : Option ℕ → Option ℕ → Option To
@@ -52,5 +52,5 @@ pub record SendsTo (tells : Type 0) (place : SocketAddr) (frame : List ℕ) (old
   pub failures : tells → new.failures ≡ old.failures
 
 -- a report goes to where the probe came from, and is sent or lost
-abbrev pub Replies : Type 0 → Seals → Asked → List ℕ → Tray → Tray → Type 0
+abbrev pub Replies : Type 0 → Seals → ReceivedProbe → List ℕ → Tray → Tray → Type 0
 Replies tells s a bytes old new = SendsTo tells a.from (frame_for s (asker a.probe) bytes) old new ⊎ Loses tells (keys_to s (asker a.probe)) old new

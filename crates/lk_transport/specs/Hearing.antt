@@ -2,17 +2,17 @@
 use Rattle.std.specs.Prelude.{ℕ, List, [], ◌∷◌, take, Option, Some, None}
 use Rattle.std.specs.declared.net.socket_addr.SocketAddr.{SocketAddr}
 use Rattle.lk_probe.specs.declared.reported.Reported.{Reported}
-use Rattle.lk_transport.specs.declared.asked.Asked.{Asked}
+use Rattle.lk_transport.specs.declared.received_probe.ReceivedProbe.{ReceivedProbe}
 
 -- the datagram that came last: from where, and its bytes; the probe that is kept, if one is, and what the report tells
 -- that is kept, if one is
 pub record BufferValue : Type 0 where
   pub last : Option (SocketAddr × List ℕ)
-  pub asked : Option Asked
+  pub asked : Option ReceivedProbe
   pub reported : Option Reported
 
 -- the first of two probes, if there is one
-abbrev pub first_asked : Option Asked → Option Asked → Option Asked
+abbrev pub first_asked : Option ReceivedProbe → Option ReceivedProbe → Option ReceivedProbe
 first_asked None next = next
 first_asked (Some a) next = Some a
 

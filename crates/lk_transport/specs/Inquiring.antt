@@ -15,7 +15,7 @@ use Rattle.lk_seal.specs.declared.seals.Seals.{Seals}
 use Rattle.lk_transport.specs.Addresses.{AddressBook}
 use Rattle.lk_transport.specs.Askers.{SendsTo}
 use Rattle.lk_transport.specs.Posts.{Tray, Loses}
-use Rattle.lk_transport.specs.declared.asked.Asked.{Asked}
+use Rattle.lk_transport.specs.declared.received_probe.ReceivedProbe.{ReceivedProbe}
 
 -- ---- whom it asks
 
@@ -54,7 +54,7 @@ ReadmitsIf true place old new = Readmits place old.neighbours new.neighbours × 
 ReadmitsIf false place old new = new ≡ old
 
 -- so at the address from which a probe came that is kept, exactly if a node of the same genesis asks by it
-abbrev pub ReadmitsKept : Option Asked → AddressBook → AddressBook → Type 0
+abbrev pub ReadmitsKept : Option ReceivedProbe → AddressBook → AddressBook → Type 0
 ReadmitsKept None old new = new ≡ old
 ReadmitsKept (Some a) old new = ReadmitsIf (is_of old.seals.genesis a.probe.origin) a.from old new
 

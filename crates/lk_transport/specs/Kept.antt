@@ -4,7 +4,7 @@ use Rattle.std.specs.Prelude.{◌≡◌, ◌++◌, ℕ, List, ◌∷◌, Option,
 use Rattle.std.specs.List.{AllByRecursion}
 use Rattle.std.specs.declared.net.socket_addr.SocketAddr.{SocketAddr}
 use Rattle.lk_seal.specs.declared.seals.Seals.{Seals}
-use Rattle.lk_transport.specs.Askers.{IsKeptOf}
+use Rattle.lk_transport.specs.Askers.{BringsProbe}
 use Rattle.lk_transport.specs.Hearing.{BufferValue}
 use Rattle.lk_transport.specs.Inquiring.{IsToldBy}
 
@@ -49,10 +49,10 @@ module _ {K : Type 0} (Brings : SocketAddr × List ℕ → Option K → Type 0) 
 -- of the frame that came last
 pub record Keeps (node : ℕ) (s : Seals) (old new : BufferValue) : Type 0 where
   pub last : new.last ≡ old.last
-  pub asked : KeepsFirst (IsKeptOf s) old.last old.asked new.asked
+  pub asked : KeepsFirst (BringsProbe s) old.last old.asked new.asked
   pub reported : KeepsFirst (IsToldBy node s) old.last old.reported new.reported
 
 -- of these frames
 pub record KeepsOf (node : ℕ) (s : Seals) (frames : List (SocketAddr × List ℕ)) (old new : BufferValue) : Type 0 where
-  pub asked : KeepsFirstOf (IsKeptOf s) old.asked frames new.asked
+  pub asked : KeepsFirstOf (BringsProbe s) old.asked frames new.asked
   pub reported : KeepsFirstOf (IsToldBy node s) old.reported frames new.reported

@@ -10,14 +10,14 @@ use Rattle.lk_messages.specs.declared.message.Content.{Content}
 use Rattle.lk_messages.specs.declared.message.Content.TheVariants as content
 use Rattle.lk_messages.specs.declared.message.NodeMessage.{NodeMessage}
 use Rattle.lk_messages.specs.declared.message.NodeMessage.TheVariants as message
-use Rattle.lk_step.specs.Letters.{LetterValue}
-use Rattle.lk_step.specs.declared.to.To.{To}
-use Rattle.lk_step.specs.declared.to.To.TheVariants.{Node, Client}
+use Rattle.lk_node_io.specs.Letters.{LetterValue}
+use Rattle.lk_node_io.specs.declared.to.To.{To}
+use Rattle.lk_node_io.specs.declared.to.To.TheVariants.{Node, Client}
 use Rattle.lk_probe.specs.Neighbours.{Meets}
 use Rattle.lk_seal.specs.Clients.{client_keys}
 use Rattle.lk_seal.specs.Seals.{key_list, to_node, replying, framed_by, heard}
 use Rattle.lk_seal.specs.declared.seals.Seals.{Seals}
-use Rattle.lk_transport.specs.Addresses.{AddressBook, Circle, client_at, node_at, moved_up, IsSameCircle}
+use Rattle.lk_transport.specs.Addresses.{AddressBook, Filter, client_at, node_at, moved_up, IsSameFilter}
 use Rattle.lk_transport.specs.Hosts.{host_of}
 
 -- its node, the addresses, the kept letters of the node to itself, what the socket has sent, how many of its sends
@@ -67,21 +67,21 @@ is_beside (l ∷ p ∷ rest) = if l == 76 then p == 80 else false
 is_beside _ = false
 
 -- what came, out of its frame
-abbrev pub opened_as : Circle → SocketAddr × List ℕ → SocketAddr × List ℕ
+abbrev pub opened_as : Filter → SocketAddr × List ℕ → SocketAddr × List ℕ
 opened_as c d = (d.0, heard c.seals d.1)
 
 -- a replica is given nothing of it: it stands beside the protocol, or came from a node of another genesis
-abbrev pub is_apart : Circle → SocketAddr × List ℕ → Bool
-is_apart c d = is_beside (heard c.seals d.1) || c.strangers d.0
+abbrev pub is_filtered_out : Filter → SocketAddr × List ℕ → Bool
+is_filtered_out c d = is_beside (heard c.seals d.1) || c.strangers d.0
 
 -- what came, as a replica is given it
-abbrev pub let_in : Circle → SocketAddr × List ℕ → List (SocketAddr × List ℕ)
-let_in c d = if is_apart c d then [] else opened_as c d ∷ []
+abbrev pub filtered : Filter → SocketAddr × List ℕ → List (SocketAddr × List ℕ)
+filtered c d = if is_filtered_out c d then [] else opened_as c d ∷ []
 
 -- so of each of these
-abbrev pub all_taken_as : Circle → List (SocketAddr × List ℕ) → List (SocketAddr × List ℕ)
-all_taken_as c [] = []
-all_taken_as c (d ∷ came) = let_in c d ++ all_taken_as c came
+abbrev pub all_filtered : Filter → List (SocketAddr × List ℕ) → List (SocketAddr × List ℕ)
+all_filtered c [] = []
+all_filtered c (d ∷ came) = filtered c d ++ all_filtered c came
 
 -- what goes there; nothing if there is no address
 abbrev pub carried : Option SocketAddr → List ℕ → List (SocketAddr × List ℕ)
@@ -146,7 +146,7 @@ pub record HearsClient (client : ℕ) (from : SocketAddr) (old new : AddressBook
   pub others : (c : ℕ) → IsClient c → c ≢ client → client_at new c ≡ client_at old c
   pub nodes : new.nodes ≡ old.nodes
   pub neighbours : new.neighbours ≡ old.neighbours
-  pub network : IsSameCircle old new
+  pub network : IsSameFilter old new
 
 -- that node's address replaces its last one, no other node's changes, except for the one that is dropped if all
 -- entries are taken, and no client's does; a node has written from that address, and binds this one or not
@@ -155,7 +155,7 @@ pub record HearsNode (node : ℕ) (from : SocketAddr) (binds : Bool) (old new : 
   pub places : new.nodes ≡ moved_up old.nodes node from
   pub clients : new.clients ≡ old.clients
   pub meets : Meets from binds old.neighbours new.neighbours
-  pub network : IsSameCircle old new
+  pub network : IsSameFilter old new
 
 -- the address of the sender of this content is recorded
 abbrev pub HearsContent : Content → SocketAddr → AddressBook → AddressBook → Type 0

@@ -4,7 +4,7 @@
 ghost use Rattle.std.specs.Prelude.{◌≡◌, ◌≢◌, ℕ, Some, None, min};
 ghost use Rattle.lk_types.specs.Ranges.{IsClient};
 ghost use Rattle.lk_probe.specs.Neighbours.{Meets};
-ghost use Rattle.lk_transport.specs.Addresses.{client_at, node_at, node_in, place_in, moved_up, IsSameCircle};
+ghost use Rattle.lk_transport.specs.Addresses.{client_at, node_at, node_in, place_in, moved_up, IsSameFilter};
 ghost use Rattle.lk_transport.specs.Hosts.{host_of};
 
 use crate::hosts::Hosts;
@@ -99,7 +99,7 @@ impl Addresses {
         ensures others { (c : ℕ) → IsClient c → c ≢ client → client_at self.new c ≡ client_at self.old c }
         ensures nodes { self.new.nodes ≡ self.old.nodes }
         ensures neighbours { self.new.neighbours ≡ self.old.neighbours }
-        ensures network { IsSameCircle self.old self.new }
+        ensures network { IsSameFilter self.old self.new }
     {
         self.clients[client.get() as usize - 1] = Some(from);
     }
@@ -132,7 +132,7 @@ impl Addresses {
         ensures places { self.new.nodes ≡ moved_up self.old.nodes node from }
         ensures clients { self.new.clients ≡ self.old.clients }
         ensures meets { Meets from binds self.old.neighbours self.new.neighbours }
-        ensures network { IsSameCircle self.old self.new }
+        ensures network { IsSameFilter self.old self.new }
     {
         self.neighbours.meet(from, binds);
         let place = self.place_of(node);

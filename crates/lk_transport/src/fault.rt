@@ -4,8 +4,8 @@ ghost use Rattle.std.specs.Prelude.{◌≡◌, ◌<◌};
 
 use lk_disk::CannotOpen;
 use lk_log::OpenFault;
+use lk_node_io::ReplicaFault;
 use lk_state::UnpackFault;
-use lk_step::ReplicaFault;
 use lk_types::NoMemory;
 use std::alloc::{AllocError, AllocFailed};
 use std::io::Write;
@@ -34,7 +34,7 @@ pub enum ServiceFault {
 }
 
 impl ServiceFault {
-    ghost use Rattle.lk_step.specs.Faults.{fault_number};
+    ghost use Rattle.lk_node_io.specs.Faults.{fault_number};
     ghost use Rattle.lk_transport.specs.Faults.{replica_fault};
 
     /// The fault that reports why a replica did not start.

@@ -2,7 +2,7 @@
 
 ghost use Rattle.std.specs.Prelude.{◌≡◌};
 ghost use Rattle.lk_wire.specs.Shown.{shown_node};
-ghost use Rattle.lk_transport.specs.Addresses.{IsSameCircle};
+ghost use Rattle.lk_transport.specs.Addresses.{IsSameFilter};
 ghost use Rattle.lk_transport.specs.Posts.{Hears, is_binding};
 
 use crate::addresses::Addresses;
@@ -33,7 +33,7 @@ impl Addresses {
         from: SocketAddr,
     ) -> Arrival
         ensures heard { Hears cluster datagram.now from self.old self.new }
-        ensures network { IsSameCircle self.old self.new }
+        ensures network { IsSameFilter self.old self.new }
     {
         let Ok(message) = datagram.message() else {
             return Arrival::Bad;

@@ -8,13 +8,13 @@ ghost use Rattle.lk_transport.specs.Inquiring.{AsksOne, IsAskedAt, LearnsOf, Rea
 ghost use Rattle.lk_transport.specs.Posts.{tray_of};
 
 use crate::addresses::Addresses;
-use crate::asked::Asked;
 use crate::post::SocketPost;
+use crate::received_probe::ReceivedProbe;
 use crate::socket::DatagramSocket;
+use lk_node_io::SendFault;
 use lk_probe::Probe;
 use lk_probe::neighbours::{Neighbour, Origin};
 use lk_probe::reported::{Reported, question};
-use lk_step::SendFault;
 use lk_types::NodeNo;
 use std::net::SocketAddr;
 
@@ -82,7 +82,7 @@ impl<S: DatagramSocket + Drop> SocketPost<S> {
 
     /// Where a node of this genesis asks by a probe, what comes from its address is heard again: if another genesis was
     /// known there, it is as if it was never asked.
-    pub fn readmit(&mut self, asked: &Asked)
+    pub fn readmit(&mut self, asked: &ReceivedProbe)
         ensures readmits { ReadmitsKept (Some asked.now) self.old.addresses self.new.addresses }
         ensures network { IsSameNetwork self.old.addresses self.new.addresses }
         ensures others { self.new ≡ record self.old { addresses = self.new.addresses } }

@@ -4,7 +4,6 @@
 
 pub mod addresses;
 pub mod arrival;
-pub mod asked;
 pub mod fault;
 mod hearing;
 pub mod hosts;
@@ -12,4 +11,5 @@ mod inquiring;
 pub mod network;
 pub mod post;
 pub mod receive_buffer;
+pub mod received_probe;
 pub mod socket;

@@ -3,20 +3,20 @@
 ghost use Rattle.std.specs.Prelude.{◌≡◌, ◌≢◌, ◌↔◌, ◌++◌, ◌∷◌, ℕ, [], Some, None, true, false, is_ok, OnOk, OnErr, IfOk, IsErr, IfSome, IsNone};
 ghost use Rattle.lk_types.specs.Ranges.{IsClient};
 ghost use Rattle.lk_disk.specs.Disk.{HasCause, one_more};
-ghost use Rattle.lk_transport.specs.Addresses.{client_at, node_at, IsSameCircle};
+ghost use Rattle.lk_transport.specs.Addresses.{client_at, node_at, IsSameFilter};
 ghost use Rattle.lk_transport.specs.Hearing.{listed};
 ghost use Rattle.lk_seal.specs.Seals.{heard};
 ghost use Rattle.lk_transport.specs.Posts.{IsRoute, IsBoundFor, Becomes, Hears, tray_of, frame_of, keys_for};
-ghost use Rattle.lk_transport.specs.Askers.{IsKeptOf, Replies, asker, frame_for, keys_to};
+ghost use Rattle.lk_transport.specs.Askers.{BringsProbe, Replies, asker, frame_for, keys_to};
 
 use crate::addresses::Addresses;
 use crate::arrival::Arrival;
-use crate::asked::Asked;
 use crate::network::Network;
 use crate::receive_buffer::ReceiveBuffer;
+use crate::received_probe::ReceivedProbe;
 use crate::socket::DatagramSocket;
+use lk_node_io::{Letter, Post, SendFault, To};
 use lk_seal::{DIGEST, Seals};
-use lk_step::{Letter, Post, SendFault, To};
 use lk_types::{NoMemory, NodeNo};
 use lk_wire::Datagram;
 use std::alloc::{AllocError, Global};
@@ -163,7 +163,7 @@ impl<S: DatagramSocket + Drop> SocketPost<S> {
         from: SocketAddr,
     ) -> Arrival
         ensures heard { Hears cluster datagram.now from self.old.addresses self.new.addresses }
-        ensures network { IsSameCircle self.old.addresses self.new.addresses }
+        ensures network { IsSameFilter self.old.addresses self.new.addresses }
         ensures others { self.new ≡ record self.old { addresses = self.new.addresses } }
     {
         self.addresses.record_sender(cluster, datagram, from)
@@ -216,11 +216,16 @@ impl<S: DatagramSocket + Drop> SocketPost<S> {
     }
 
     /// The probe to answer that came from there by this frame, of which the datagram was taken.
-    pub fn read_probe(&self, from: SocketAddr, frame: &[u8], datagram: &[u8]) -> Option<Asked>
+    pub fn read_probe(
+        &self,
+        from: SocketAddr,
+        frame: &[u8],
+        datagram: &[u8],
+    ) -> Option<ReceivedProbe>
         requires { datagram.now ≡ heard self.now.addresses.seals frame.now }
-        ensures { IsKeptOf self.now.addresses.seals (from, frame.now) result }
+        ensures { BringsProbe self.now.addresses.seals (from, frame.now) result }
     {
-        Asked::by(self.addresses.seals(), from, frame, datagram)
+        ReceivedProbe::by(self.addresses.seals(), from, frame, datagram)
     }
 
     /// The digest of the genesis.
@@ -337,7 +342,7 @@ impl<S: DatagramSocket + Drop> SocketPost<S> {
     }
 
     /// Sends a report to where its probe came from, by the seal for whoever asks.
-    pub fn reply(&mut self, asked: &Asked, report: &[u8]) -> Result<(), SendFault>
+    pub fn reply(&mut self, asked: &ReceivedProbe, report: &[u8]) -> Result<(), SendFault>
         ensures replies { Replies S.is_telling self.old.addresses.seals asked.now report.now (tray_of self.old) (tray_of self.new) }
         ensures still { S.is_telling → self.new.coming ≡ self.old.coming }
         ensures others { self.new ≡ record self.old { sent = self.new.sent; socket_failures = self.new.socket_failures; coming = self.new.coming } }

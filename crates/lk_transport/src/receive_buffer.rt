@@ -3,7 +3,7 @@
 ghost use Rattle.std.specs.Prelude.{◌≡◌, ◌++◌, Some, None, IfSome, IsNone};
 ghost use Rattle.lk_transport.specs.Hearing.{first_asked, first_reported, listed, next_of};
 
-use crate::asked::Asked;
+use crate::received_probe::ReceivedProbe;
 use crate::socket::DatagramSocket;
 use lk_probe::reported::Reported;
 use lk_seal::OVERHEAD;
@@ -19,7 +19,7 @@ pub struct ReceiveBuffer {
     buffer: [u8; MAX_DATAGRAM + OVERHEAD + 1],
     // the length of the latest datagram and its source, if one arrived
     last: Option<(usize, SocketAddr)>,
-    asked: Option<Asked>,
+    asked: Option<ReceivedProbe>,
     reported: Option<Reported>,
 }
 
@@ -84,7 +84,7 @@ impl ReceiveBuffer {
     }
 
     /// Keeps a probe that is to be answered, if there is one and none is kept yet.
-    pub fn keep_probe(&mut self, asked: Option<Asked>)
+    pub fn keep_probe(&mut self, asked: Option<ReceivedProbe>)
         ensures { self.new ≡ record self.old { asked = first_asked self.old.asked asked } }
     {
         if self.asked.is_none() {
@@ -110,7 +110,7 @@ impl ReceiveBuffer {
     }
 
     /// Takes out the probe that is kept.
-    pub fn take_asked(&mut self) -> Option<Asked>
+    pub fn take_probe(&mut self) -> Option<ReceivedProbe>
         ensures value { result ≡ self.old.asked }
         ensures rest { self.new ≡ record self.old { asked = None } }
     {

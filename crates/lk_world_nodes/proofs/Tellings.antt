@@ -1,6 +1,6 @@
 -- Answers and passes, by the datagrams.
 use Rattle.std.proofs.Common.{◌≡◌, ℕ, zero, suc, List, [], ◌∷◌, ◌++◌, take, Some, slice_get, ap, sym, ◌∙◌, subst, append_assoc}
-use Rattle.lk_step.specs.declared.note.Note.{Note}
+use Rattle.lk_node_io.specs.declared.note.Note.{Note}
 use Rattle.lk_node.specs.Histories.{Datagram}
 use Rattle.lk_world_nodes.specs.Told.{told_by, Tells}
 

@@ -2,7 +2,7 @@
 use Rattle.std.specs.Prelude.{◌≡◌, ℕ, ◌⊎◌, false, true, List, Option, Some, None, Err}
 use Rattle.lk_simulated_disk.specs.Memory.{Memory}
 use Rattle.lk_entries.specs.Values.{HeaderValue}
-use Rattle.lk_step.specs.Faults.{RefusedAfter}
+use Rattle.lk_node_io.specs.Faults.{RefusedAfter}
 use Rattle.lk_replica.specs.Behaviours.{Behaviour}
 use Rattle.lk_world_nodes.specs.declared.end.End.{End}
 use Rattle.lk_world_nodes.specs.declared.end.End.TheVariants.{Fault, Stopped}
@@ -22,8 +22,8 @@ abbrev pub StaysDown : {R : Type 0} → Behaviour R → Memory → HeaderValue �
 StaysDown b device header number left = b.Revives device header (Err (number, left)) × RefusedAfter number device.meter left.meter
 
 -- a compaction failed with the fault of this number, and left this device
-abbrev pub FailsToPack : {R : Type 0} → Behaviour R → R → ℕ → Memory → Type 0
-FailsToPack {R = R} b r number left = (q : R) × b.Compacts r q (Err number) × RefusedAfter number (b.memory r).meter left.meter × (left ≡ b.memory q)
+abbrev pub FailsToCompact : {R : Type 0} → Behaviour R → R → ℕ → Memory → Type 0
+FailsToCompact {R = R} b r number left = (q : R) × b.Compacts r q (Err number) × RefusedAfter number (b.memory r).meter left.meter × (left ≡ b.memory q)
 
 -- ---- by which fault
 

@@ -4,7 +4,7 @@ use Rattle.lk_simulated_disk.specs.Memory.{Memory}
 use Rattle.lk_disk.specs.Meters.{Passes, stopping}
 use Rattle.lk_entries.specs.Values.{HeaderValue}
 use Rattle.lk_log.specs.Causes.{rebase_calls}
-use Rattle.lk_step.specs.declared.note.Note.{Note}
+use Rattle.lk_node_io.specs.declared.note.Note.{Note}
 use Rattle.lk_node.specs.Histories.{Datagram}
 use Rattle.lk_replica.specs.Behaviours.{Behaviour}
 use Rattle.lk_replica.specs.Together.{sent_of, parts_of}
@@ -88,7 +88,7 @@ pub record HasRevived {R : Type 0} (b : Behaviour R) (device : Memory) (header :
   pub no_stop : stop ≡ None
 
 -- it compacted, and noted and sent nothing
-pub record HasPacked {R : Type 0} (b : Behaviour R) (r : R) (s : Seat R) (mine : List Note) (batch : List Datagram) (how : Option End) (stop : Option ℕ) : Type 0 where
+pub record HasCompacted {R : Type 0} (b : Behaviour R) (r : R) (s : Seat R) (mine : List Note) (batch : List Datagram) (how : Option End) (stop : Option ℕ) : Type 0 where
   pub replica : R
   pub compacts : b.Compacts r replica (Ok tt)
   pub passes : Passes (b.memory r).meter (b.memory replica).meter rebase_calls

@@ -6,16 +6,16 @@ ghost use Rattle.lk_node.specs.Calls.{heard_by, InputFits};
 ghost use Rattle.lk_node.specs.Histories.{History, IsLawful};
 ghost use Rattle.lk_node.specs.Leavings.{header_of};
 ghost use Rattle.lk_replica.specs.Behaviours.{disks_by};
-ghost use Rattle.lk_world_nodes.specs.Ends.{Breaks, FailsToPack, IsToldEnd, StaysDown};
-ghost use Rattle.lk_world_nodes.specs.Outcomes.{HasFallen, HasPacked, HasRevived, HasTaken, HasWanted};
+ghost use Rattle.lk_world_nodes.specs.Ends.{Breaks, FailsToCompact, IsToldEnd, StaysDown};
+ghost use Rattle.lk_world_nodes.specs.Outcomes.{HasFallen, HasCompacted, HasRevived, HasTaken, HasWanted};
 ghost use Rattle.lk_world_nodes.specs.Seats.{SeatFits, SeatGoes};
 ghost use Rattle.lk_world_nodes.specs.declared.seat.Life.TheVariants.{Up, Down};
 
-use crate::outcome::{Outcome, count_sends, ended_at, fall};
+use crate::outcome::{Outcome, count_sends, ended_at, take_down};
 use crate::seat::{Life, Seat, take_device};
 use lk_entries::Header;
+use lk_node_io::Input;
 use lk_replica::{MemoryReplica, Taken};
-use lk_step::Input;
 use lk_types::{Genesis, NoMemory};
 use std::alloc::Global;
 
@@ -53,13 +53,16 @@ pub fn step<R: MemoryReplica>(
         }
         Err(fault) => {
             let device = take_device(alloc, seat);
-            fall(alloc, seat, device, fault)
+            take_down(alloc, seat, device, fault)
         }
     }
 }
 
 /// The node, which is up, writes a snapshot of everything executed. If that fails, it goes down.
-pub fn pack<R: MemoryReplica>(alloc: Global, seat: &mut Seat<R>) -> Result<Outcome, NoMemory>
+pub fn compact_node<R: MemoryReplica>(
+    alloc: Global,
+    seat: &mut Seat<R>,
+) -> Result<Outcome, NoMemory>
     requires up { (r : R) × (seat.old.life ≡ Up r) }
     ensures number { seat.new.number ≡ seat.old.number }
     ensures goes { (h : History) (w : View) → IsLawful R.meaning h → SeatFits R.Shows (disks_by R.behaves) R.meaning h w seat.old
@@ -67,9 +70,9 @@ pub fn pack<R: MemoryReplica>(alloc: Global, seat: &mut Seat<R>) -> Result<Outco
     ensures falls { (h : History) (w : View) → IsLawful R.meaning h → SeatFits R.Shows (disks_by R.behaves) R.meaning h w seat.old
         → (d : Memory) → seat.new.life ≡ Down d → SeatFits R.Shows (disks_by R.behaves) R.meaning h w seat.new }
     ensures exact { (r : R) → seat.old.life ≡ Up r
-        → IfOk result (λ o. HasPacked R.behaves r seat.new o.notes.items o.sent.items o.ended o.stop ⊎ HasFallen (FailsToPack R.behaves r) seat.new o.notes.items o.sent.items o.ended o.stop) }
+        → IfOk result (λ o. HasCompacted R.behaves r seat.new o.notes.items o.sent.items o.ended o.stop ⊎ HasFallen (FailsToCompact R.behaves r) seat.new o.notes.items o.sent.items o.ended o.stop) }
     ensures told { IfOk result (λ o. IsToldEnd o.ended) }
-    ensures wants { (r : R) → seat.old.life ≡ Up r → OnErr result (HasWanted (FailsToPack R.behaves r) seat.new) }
+    ensures wants { (r : R) → seat.old.life ≡ Up r → OnErr result (HasWanted (FailsToCompact R.behaves r) seat.new) }
 {
     let Life::Up(replica) = &mut seat.life else {
         unreachable!()
@@ -83,7 +86,7 @@ pub fn pack<R: MemoryReplica>(alloc: Global, seat: &mut Seat<R>) -> Result<Outco
         }),
         Err(fault) => {
             let device = take_device(alloc, seat);
-            fall(alloc, seat, device, fault)
+            take_down(alloc, seat, device, fault)
         }
     }
 }
@@ -115,6 +118,6 @@ pub fn revive<R: MemoryReplica>(
                 stop: None,
             })
         }
-        Err(refused) => fall(alloc, seat, refused.device, refused.fault),
+        Err(refused) => take_down(alloc, seat, refused.device, refused.fault),
     }
 }

@@ -16,10 +16,10 @@ ghost use Rattle.lk_world_nodes.specs.Seats.{SeatFits, device_in};
 ghost use Rattle.lk_world_nodes.specs.declared.seat.Life.TheVariants.{Up};
 
 use crate::end::End;
-use crate::outcome::{Outcome, count_sends, ended_at, fall};
+use crate::outcome::{Outcome, count_sends, ended_at, take_down};
 use crate::seat::{Life, Seat, take_device};
+use lk_node_io::Input;
 use lk_replica::{Datagram, MemoryReplica, Step, TakenAll};
-use lk_step::Input;
 use lk_types::NoMemory;
 use std::alloc::Global;
 
@@ -84,7 +84,7 @@ pub fn step_all<R: MemoryReplica>(
         }
         Err(fault) => {
             let device = take_device(alloc, seat);
-            let outcome = fall(alloc, seat, device, fault)?;
+            let outcome = take_down(alloc, seat, device, fault)?;
             Ok(fallen(alloc, outcome))
         }
     }

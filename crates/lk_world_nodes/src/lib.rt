@@ -11,7 +11,7 @@ mod outcome;
 mod refused;
 mod seat;
 
-pub use calls::{pack, revive, step};
+pub use calls::{compact_node, revive, step};
 pub use end::End;
 pub use finding::{find, find_down, find_up};
 pub use group::{GroupOutcome, step_all};

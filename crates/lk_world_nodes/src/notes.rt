@@ -1,10 +1,10 @@
 // Answers and passes are noted as they are sent.
 ghost use Rattle.std.specs.Prelude.{◌≡◌, ◌++◌, [], ◌∷◌, List, OnOk};
-ghost use Rattle.lk_step.specs.declared.note.Note.{Note as NoteValue};
+ghost use Rattle.lk_node_io.specs.declared.note.Note.{Note as NoteValue};
 ghost use Rattle.lk_world_nodes.specs.Told.{told_by, listed, Tells};
 
+use lk_node_io::Note;
 use lk_replica::Datagram;
-use lk_step::Note;
 use lk_types::NoMemory;
 use lk_wire::{Content, Message, NodeMessage, read};
 use std::alloc::Global;

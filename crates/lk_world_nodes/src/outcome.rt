@@ -4,7 +4,7 @@ ghost use Rattle.lk_simulated_disk.specs.Memory.{disk_of};
 ghost use Rattle.lk_agreement.specs.Nodes.{View};
 ghost use Rattle.lk_node.specs.Histories.{History};
 ghost use Rattle.lk_node.specs.Leavings.{DisksFit};
-ghost use Rattle.lk_step.specs.Faults.{fault_number};
+ghost use Rattle.lk_node_io.specs.Faults.{fault_number};
 ghost use Rattle.lk_replica.specs.Behaviours.{disks_by};
 ghost use Rattle.lk_world_nodes.specs.Ends.{IsNoWant, IsSound, IsToldEnd, IsWant, end_by, end_at};
 ghost use Rattle.lk_world_nodes.specs.Outcomes.{HasFallen, IsThis, Rests};
@@ -16,9 +16,9 @@ ghost use Rattle.lk_world_nodes.specs.declared.seat.Life.TheVariants.{Down};
 use crate::end::End;
 use crate::seat::{Life, Seat, stop};
 use lk_disk::{Trap, Trapped};
+use lk_node_io::{Note, ReplicaFault};
 use lk_replica::{Datagram, MemoryReplica};
 use lk_simulated_disk::MemoryDisk;
-use lk_step::{Note, ReplicaFault};
 use lk_types::{NoMemory, NodeNo};
 use std::alloc::Global;
 
@@ -58,7 +58,7 @@ fn is_wanting(fault: &ReplicaFault, device: &MemoryDisk) -> bool
 /// A fault leaves the node down, with the disks as they are; running out of memory stops it. Either way the trap is
 /// gone, and the device forgets that it was starved. If the fault is that of an armed stop, that is returned, and
 /// still to be carried out.
-pub fn fall<R: MemoryReplica>(
+pub fn take_down<R: MemoryReplica>(
     alloc: Global,
     seat: &mut Seat<R>,
     mut device: MemoryDisk,

@@ -1,5 +1,5 @@
 use Rattle.std.proofs.Common.{◌++◌}
-use Rattle.lk_step.specs.Letters.{batch_of}
+use Rattle.lk_node_io.specs.Letters.{batch_of}
 use Rattle.lk_cluster.specs.Continuing.{letters_of}
 use Rattle.lk_cluster.specs.Sealing.{IsSealed}
 use Rattle.lk_cluster.proofs.Sealing.{seals_forge_nothing, all_sealed, frames_sealed, still_sealed}

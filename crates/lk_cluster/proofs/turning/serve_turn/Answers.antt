@@ -1,4 +1,4 @@
-use Rattle.lk_transport.specs.Addresses.{circle_of}
+use Rattle.lk_transport.specs.Addresses.{filter_of}
 use Rattle.lk_transport.specs.Kept.{KeepsOf}
 use Rattle.lk_cluster.specs.Clusters.{Says}
 use Rattle.lk_cluster.proofs.Saying.{on_ok_so, on_err_so}
@@ -12,4 +12,4 @@ returns-clause-turn g c honest =
 pub returns-clause-ends : goal.returns-clause-ends
 returns-clause-ends g c honest =
     let tells = g.S.DatagramSocket.is_telling in
-    on_err_so _ (Says g.D.LogDisk.is_metered) (λ old o letters new says. says honest) c.node_turn-taken.result tells (circle_of c.args.server.now.addresses) c.args.server.now c.node_turn-taken.new.server c.node_turn-taken.ensures.ends
+    on_err_so _ (Says g.D.LogDisk.is_metered) (λ old o letters new says. says honest) c.node_turn-taken.result tells (filter_of c.args.server.now.addresses) c.args.server.now c.node_turn-taken.new.server c.node_turn-taken.ensures.ends

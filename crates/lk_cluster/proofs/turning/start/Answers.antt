@@ -14,7 +14,7 @@ returns g c honest genesis whose =
     let up = begun.comes_up honest in
     record {
       notes = up.notes;
-      rises = record {
+      restarts = record {
         goes = λ h is lawful fit. up.goes h n (whose ∙ ap (λ (z : Genesis). header_of z n) (sym is)) lawful fit;
         short = λ short. never_longer old (disks s.replica.store) (refused_room old (disks s.replica.store) up.room) short;
       };

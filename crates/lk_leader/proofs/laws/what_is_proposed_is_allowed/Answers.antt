@@ -1,5 +1,5 @@
--- By the lemmas of StandingLaws.
-use Rattle.lk_leader.proofs.StandingLaws.{proposes_allowed, proposes_asked}
+-- By the lemmas of LedTermLaws.
+use Rattle.lk_leader.proofs.LedTermLaws.{proposes_allowed, proposes_asked}
 use Rattle.lk_leader.proofs.laws.what_is_proposed_is_allowed.Goals as goal
 
 pub returns-clause-allowed : goal.returns-clause-allowed

@@ -7,13 +7,13 @@ use Rattle.lk_state.specs.Meanings.{Meaning}
 use Rattle.lk_learner.specs.Learners.{Command, IsNext}
 use Rattle.lk_node.specs.NodeValue.{NodeValue}
 use Rattle.lk_node.specs.Packing.{standing_of}
-use Rattle.lk_recovery.specs.Rebased.{HasGoneOver}
+use Rattle.lk_recovery.specs.Rebased.{HasSwitchedFiles}
 use Rattle.lk_log.proofs.Room.{within_same}
 use Rattle.lk_log.proofs.StoreLaws.{holds_keeps}
-use Rattle.lk_recovery.proofs.Rebasing.{stays_safe, gone_over}
+use Rattle.lk_recovery.proofs.Rebasing.{stays_safe, files_switched}
 use Rattle.lk_recovery.proofs.base.write_base.Goals as goal
 use Rattle.lk_disk.specs.Meters.{start}
-use Rattle.lk_step.specs.declared.fault.ReplicaFault.TheVariants as fault
+use Rattle.lk_node_io.specs.declared.fault.ReplicaFault.TheVariants as fault
 use Rattle.lk_recovery.proofs.Calling.{err_as, refused_after}
 use Rattle.lk_recovery.proofs.Refusing.{rebase_refused}
 use Rattle.lk_recovery.proofs.Spared.{rebase_spares, not_failed_so}
@@ -26,8 +26,8 @@ returns-clause-done g c honest =
     let is : c.in_ok-standing.standing ≡ standing_of c.args.node.now = search rules in
     let fits : MayBegin c.in_ok-standing.standing = search rules in
     let may = subst MayBegin is fits in
-    subst (λ (k : NodeValue). HasGoneOver m g.D.LogDisk.is_metered c.args.node.now c.args.store.now k c.rebase.new.self) (sym c.stand_here.ensures)
-    (gone_over m c.args.node.now c.args.store.now c.rebase.new.self may c.standing-packed.ensures.near
+    subst (λ (k : NodeValue). HasSwitchedFiles m g.D.LogDisk.is_metered c.args.node.now c.args.store.now k c.rebase.new.self) (sym c.set_snapshot.ensures)
+    (files_switched m c.args.node.now c.args.store.now c.rebase.new.self may c.standing-packed.ensures.near
     (λ ks ls holds. subst (λ (s : StandingValue). KeepsOrIs (disks c.rebase.new.self) ks ls (next_base c.args.store.now s)) is (c.rebase.ensures.any honest ks ls holds)) g.D.LogDisk.is_metered c.in_ok-rebase.ensures.file.0
     (λ ks ls holds. subst (λ (s : StandingValue). Holds c.rebase.new.self (Base (next_base c.args.store.now s) ∷ []) []) is (c.in_ok-rebase.ensures.base honest ks ls holds))
     (λ metered. c.in_ok-rebase.ensures.metered metered honest) (c.in_ok-rebase.ensures.left honest).1)
@@ -37,16 +37,16 @@ returns-clause-becomes g c =
     let is : c.in_ok-standing.standing ≡ standing_of c.args.node.now = search rules in
     let fits : MayBegin c.in_ok-standing.standing = search rules in
     record {
-      becomes = c.stand_here.ensures;
+      becomes = c.set_snapshot.ensures;
       begins = subst MayBegin is fits;
-      runs = λ none. subst (λ (k : NodeValue). (v : Command) → IsNext k.learner v → ⊥) (sym c.stand_here.ensures) none;
+      runs = λ none. subst (λ (k : NodeValue). (v : Command) → IsNext k.learner v → ⊥) (sym c.set_snapshot.ensures) none;
       generation = c.in_ok-rebase.ensures.file.0;
       format = c.in_ok-rebase.ensures.file.1;
       store_alive = c.in_ok-rebase.ensures.failing;
     }
 
 pub returns-clause-wakes : goal.returns-clause-wakes
-returns-clause-wakes g c = ap (λ (k : NodeValue). k.halted) c.stand_here.ensures
+returns-clause-wakes g c = ap (λ (k : NodeValue). k.halted) c.set_snapshot.ensures
 
 -- ---- at every exit
 

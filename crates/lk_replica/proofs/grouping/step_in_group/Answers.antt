@@ -1,12 +1,12 @@
 use Rattle.std.proofs.Common.{ℕ, ◌∙◌, Bool, sym, ap, subst, arith}
 use Rattle.lk_log.specs.StoreValue.{disks}
 use Rattle.lk_log.proofs.Room.{refused_room, within_first}
-use Rattle.lk_step.specs.Letters.{batch_of}
+use Rattle.lk_node_io.specs.Letters.{batch_of}
 use Rattle.lk_node.specs.Histories.{Genesis}
 use Rattle.lk_node.specs.Leavings.{AllCover}
 use Rattle.lk_replica.specs.Groups.{GroupValue, MakesRoom, as_sent, Recalls, GroupFits, GroupGoes, GroupStays}
 use Rattle.lk_disk.proofs.Devices.{passes_on}
-use Rattle.lk_step.specs.declared.fault.ReplicaFault.TheVariants as fault
+use Rattle.lk_node_io.specs.declared.fault.ReplicaFault.TheVariants as fault
 use Rattle.lk_recovery.proofs.Recoveries.{err_as, refused_on, grown_base, grown_then, spared_all, second_after}
 use Rattle.lk_replica.proofs.Grouped.{says_more}
 use Rattle.lk_replica.proofs.grouping.step_in_group.Goals as goal
@@ -21,8 +21,8 @@ returns-clause-goes g c honest =
       letters = o.letters;
       noted = ap (λ (x : GroupValue). x.notes) is;
       said = ap (λ (x : GroupValue). x.letters) is;
-      are = λ h n f heard sent among. subst (λ (x : GroupValue). GroupGoes m h n c.step_to_file.new.node c.step_to_file.new.store x.waits o.notes (batch_of n sent)) (sym is)
-          (c.in_ok-outbox.ensures.goes honest h n (c.in_ok-waits.ensures.fits honest h n (subst (λ (w : Bool). GroupFits g.M.Machine.meaning h n c.args.node.now c.args.store.now w) (sym (ap (λ (y : GroupValue). y.waits) c.group.view_is)) f)) heard sent among);
+      are = λ h n f heard sent among. subst (λ (x : GroupValue). GroupGoes m h n c.step_to_file.new.node c.step_to_file.new.store x.needs_sync o.notes (batch_of n sent)) (sym is)
+          (c.in_ok-outbox.ensures.goes honest h n (c.in_ok-needs_sync.ensures.fits honest h n (subst (λ (w : Bool). GroupFits g.M.Machine.meaning h n c.args.node.now c.args.store.now w) (sym (ap (λ (y : GroupValue). y.needs_sync) c.group.view_is)) f)) heard sent among);
     }
 
 pub returns-clause-keeps : goal.returns-clause-keeps
@@ -31,21 +31,21 @@ returns-clause-keeps g c honest =
     let o = c.in_ok-outbox.outbox in
     let is = c.in_ok-add.ensures in
     let before = c.args.group.now in
-    let room = c.in_ok-waits.ensures in
+    let room = c.in_ok-needs_sync.ensures in
     let step = c.in_ok-outbox.ensures in
-    let w = sym (ap (λ (y : GroupValue). y.waits) c.group.view_is) in
-    let mine : (genesis : Genesis) (n : ℕ) → Recalls c.args.node.now c.args.store.now before.waits genesis n → Recalls c.args.node.now c.args.store.now c.group.inside.waits genesis n =
+    let w = sym (ap (λ (y : GroupValue). y.needs_sync) c.group.view_is) in
+    let mine : (genesis : Genesis) (n : ℕ) → Recalls c.args.node.now c.args.store.now before.needs_sync genesis n → Recalls c.args.node.now c.args.store.now c.group.inside.needs_sync genesis n =
     λ genesis n r. subst (λ (w : Bool). Recalls c.args.node.now c.args.store.now w genesis n) w r in
     record {
       stays = λ h n s heard.
-          subst (λ (x : GroupValue). GroupStays m h n c.step_to_file.new.node c.step_to_file.new.store x.waits) (sym is)
+          subst (λ (x : GroupValue). GroupStays m h n c.step_to_file.new.node c.step_to_file.new.store x.needs_sync) (sym is)
           (step.stays honest h n (room.stays honest h n (subst (λ (w : Bool). GroupStays m h n c.args.node.now c.args.store.now w) w s)) heard);
       recalls = λ genesis n r.
-          subst (λ (x : GroupValue). Recalls c.step_to_file.new.node c.step_to_file.new.store x.waits genesis n) (sym is)
+          subst (λ (x : GroupValue). Recalls c.step_to_file.new.node c.step_to_file.new.store x.needs_sync genesis n) (sym is)
           (step.recalls honest genesis n (room.recalls honest genesis n (mine genesis n r)));
       said = λ genesis n r was.
           says_more m genesis n before c.add.new.self c.args.store.now c.step_to_file.new.store
-          (λ x every. subst (λ (y : GroupValue). AllCover m genesis n (disks (as_sent y.waits c.step_to_file.new.store)) x) (sym is)
+          (λ x every. subst (λ (y : GroupValue). AllCover m genesis n (disks (as_sent y.needs_sync c.step_to_file.new.store)) x) (sym is)
           (step.still honest genesis n x (room.recalls honest genesis n (mine genesis n r))
           (room.still honest genesis n x (mine genesis n r) (subst (λ (w : Bool). AllCover m genesis n (disks (as_sent w c.args.store.now)) x) w every))))
           (λ x. record {
@@ -53,40 +53,40 @@ returns-clause-keeps g c honest =
             letters = o.letters;
             noted = ap (λ (x : GroupValue). x.notes) is;
             said = ap (λ (x : GroupValue). x.letters) is;
-            are = λ d listed spelled. subst (λ (y : GroupValue). AllCover m genesis n (disks (as_sent y.waits c.step_to_file.new.store)) x) (sym is)
+            are = λ d listed spelled. subst (λ (y : GroupValue). AllCover m genesis n (disks (as_sent y.needs_sync c.step_to_file.new.store)) x) (sym is)
                 (step.syncs honest genesis n x (room.recalls honest genesis n (mine genesis n r)) d listed spelled);
           })
           was;
     }
 
 pub returns-clause-runs : goal.returns-clause-runs
-returns-clause-runs g c none = c.in_ok-outbox.ensures.runs (c.in_ok-waits.ensures.alive.runs none)
+returns-clause-runs g c none = c.in_ok-outbox.ensures.runs (c.in_ok-needs_sync.ensures.alive.runs none)
 
 -- ---- at every exit
 
-pub returns-in_err-waits-clause-disks : goal.returns-in_err-waits-clause-disks
-returns-in_err-waits-clause-disks g c honest =
+pub returns-in_err-needs_sync-clause-disks : goal.returns-in_err-needs_sync-clause-disks
+returns-in_err-needs_sync-clause-disks g c honest =
     let m = g.M.Machine.meaning in
-    let w = sym (ap (λ (y : GroupValue). y.waits) c.group.view_is) in
+    let w = sym (ap (λ (y : GroupValue). y.needs_sync) c.group.view_is) in
     record {
       ends = λ h n s heard. c.make_room.ensures.ends honest h n (subst (λ (w : Bool). GroupStays m h n c.args.node.now c.args.store.now w) w s);
       covers = λ genesis n x r every. c.make_room.ensures.covers honest genesis n x (subst (λ (w : Bool). Recalls c.args.node.now c.args.store.now w genesis n) w r) every;
       room = refused_room (disks c.args.store.now) (disks c.make_room.new.store) (c.make_room.ensures.room honest);
     }
 
-pub returns-in_err-waits-clause-grows : goal.returns-in_err-waits-clause-grows
-returns-in_err-waits-clause-grows g c honest = grown_base (disks c.args.store.now) (disks c.make_room.new.store) (c.make_room.ensures.room honest)
+pub returns-in_err-needs_sync-clause-grows : goal.returns-in_err-needs_sync-clause-grows
+returns-in_err-needs_sync-clause-grows g c honest = grown_base (disks c.args.store.now) (disks c.make_room.new.store) (c.make_room.ensures.room honest)
 
 pub returns-in_err-outbox-clause-disks : goal.returns-in_err-outbox-clause-disks
 returns-in_err-outbox-clause-disks g c honest =
     let m = g.M.Machine.meaning in
-    let w = sym (ap (λ (y : GroupValue). y.waits) c.group.view_is) in
+    let w = sym (ap (λ (y : GroupValue). y.needs_sync) c.group.view_is) in
     record {
-      ends = λ h n s heard. c.step_to_file.ensures.ends honest h n (c.in_ok-waits.ensures.stays honest h n (subst (λ (w : Bool). GroupStays m h n c.args.node.now c.args.store.now w) w s)) heard;
+      ends = λ h n s heard. c.step_to_file.ensures.ends honest h n (c.in_ok-needs_sync.ensures.stays honest h n (subst (λ (w : Bool). GroupStays m h n c.args.node.now c.args.store.now w) w s)) heard;
       covers = λ genesis n x r every.
           let mine = subst (λ (w : Bool). Recalls c.args.node.now c.args.store.now w genesis n) w r in
-          c.step_to_file.ensures.covers honest genesis n x (c.in_ok-waits.ensures.recalls honest genesis n mine) (c.make_room.ensures.covers honest genesis n x mine every);
-      room = within_first 132704 (disks c.args.store.now) (disks c.make_room.new.store) (disks c.step_to_file.new.store) (refused_room (disks c.args.store.now) (disks c.make_room.new.store) (c.make_room.ensures.room honest)) (c.step_to_file.ensures.room honest (c.in_ok-waits.ensures.small honest));
+          c.step_to_file.ensures.covers honest genesis n x (c.in_ok-needs_sync.ensures.recalls honest genesis n mine) (c.make_room.ensures.covers honest genesis n x mine every);
+      room = within_first 132704 (disks c.args.store.now) (disks c.make_room.new.store) (disks c.step_to_file.new.store) (refused_room (disks c.args.store.now) (disks c.make_room.new.store) (c.make_room.ensures.room honest)) (c.step_to_file.ensures.room honest (c.in_ok-needs_sync.ensures.small honest));
     }
 
 pub returns-in_err-outbox-clause-grows : goal.returns-in_err-outbox-clause-grows
@@ -95,13 +95,13 @@ returns-in_err-outbox-clause-grows g c honest = grown_then (disks c.args.store.n
 pub returns-in_err-add-clause-disks : goal.returns-in_err-add-clause-disks
 returns-in_err-add-clause-disks g c honest =
     let m = g.M.Machine.meaning in
-    let w = sym (ap (λ (y : GroupValue). y.waits) c.group.view_is) in
+    let w = sym (ap (λ (y : GroupValue). y.needs_sync) c.group.view_is) in
     record {
-      ends = λ h n s heard. c.step_to_file.ensures.ends honest h n (c.in_ok-waits.ensures.stays honest h n (subst (λ (w : Bool). GroupStays m h n c.args.node.now c.args.store.now w) w s)) heard;
+      ends = λ h n s heard. c.step_to_file.ensures.ends honest h n (c.in_ok-needs_sync.ensures.stays honest h n (subst (λ (w : Bool). GroupStays m h n c.args.node.now c.args.store.now w) w s)) heard;
       covers = λ genesis n x r every.
           let mine = subst (λ (w : Bool). Recalls c.args.node.now c.args.store.now w genesis n) w r in
-          c.step_to_file.ensures.covers honest genesis n x (c.in_ok-waits.ensures.recalls honest genesis n mine) (c.make_room.ensures.covers honest genesis n x mine every);
-      room = within_first 132704 (disks c.args.store.now) (disks c.make_room.new.store) (disks c.step_to_file.new.store) (refused_room (disks c.args.store.now) (disks c.make_room.new.store) (c.make_room.ensures.room honest)) (c.step_to_file.ensures.room honest (c.in_ok-waits.ensures.small honest));
+          c.step_to_file.ensures.covers honest genesis n x (c.in_ok-needs_sync.ensures.recalls honest genesis n mine) (c.make_room.ensures.covers honest genesis n x mine every);
+      room = within_first 132704 (disks c.args.store.now) (disks c.make_room.new.store) (disks c.step_to_file.new.store) (refused_room (disks c.args.store.now) (disks c.make_room.new.store) (c.make_room.ensures.room honest)) (c.step_to_file.ensures.room honest (c.in_ok-needs_sync.ensures.small honest));
     }
 
 pub returns-in_err-add-clause-grows : goal.returns-in_err-add-clause-grows
@@ -110,13 +110,13 @@ returns-in_err-add-clause-grows g c honest = grown_then (disks c.args.store.now)
 pub returns-clause-disks : goal.returns-clause-disks
 returns-clause-disks g c honest =
     let m = g.M.Machine.meaning in
-    let w = sym (ap (λ (y : GroupValue). y.waits) c.group.view_is) in
+    let w = sym (ap (λ (y : GroupValue). y.needs_sync) c.group.view_is) in
     record {
-      ends = λ h n s heard. c.step_to_file.ensures.ends honest h n (c.in_ok-waits.ensures.stays honest h n (subst (λ (w : Bool). GroupStays m h n c.args.node.now c.args.store.now w) w s)) heard;
+      ends = λ h n s heard. c.step_to_file.ensures.ends honest h n (c.in_ok-needs_sync.ensures.stays honest h n (subst (λ (w : Bool). GroupStays m h n c.args.node.now c.args.store.now w) w s)) heard;
       covers = λ genesis n x r every.
           let mine = subst (λ (w : Bool). Recalls c.args.node.now c.args.store.now w genesis n) w r in
-          c.step_to_file.ensures.covers honest genesis n x (c.in_ok-waits.ensures.recalls honest genesis n mine) (c.make_room.ensures.covers honest genesis n x mine every);
-      room = within_first 132704 (disks c.args.store.now) (disks c.make_room.new.store) (disks c.step_to_file.new.store) (refused_room (disks c.args.store.now) (disks c.make_room.new.store) (c.make_room.ensures.room honest)) (c.step_to_file.ensures.room honest (c.in_ok-waits.ensures.small honest));
+          c.step_to_file.ensures.covers honest genesis n x (c.in_ok-needs_sync.ensures.recalls honest genesis n mine) (c.make_room.ensures.covers honest genesis n x mine every);
+      room = within_first 132704 (disks c.args.store.now) (disks c.make_room.new.store) (disks c.step_to_file.new.store) (refused_room (disks c.args.store.now) (disks c.make_room.new.store) (c.make_room.ensures.room honest)) (c.step_to_file.ensures.room honest (c.in_ok-needs_sync.ensures.small honest));
     }
 
 pub returns-clause-grows : goal.returns-clause-grows
@@ -128,8 +128,8 @@ pub returns-clause-exact : goal.returns-clause-exact
 returns-clause-exact g c honest = record {
   mid = c.make_room.new.node;
   between = c.make_room.new.store;
-  waits = c.in_ok-waits.waits;
-  room = subst (λ (w : Bool). MakesRoom g.D.LogDisk.is_metered c.args.node.now c.args.store.now w c.make_room.new.node c.make_room.new.store c.in_ok-waits.waits) (ap (λ (y : GroupValue). y.waits) c.group.view_is) (c.in_ok-waits.ensures.exact honest);
+  needs_sync = c.in_ok-needs_sync.needs_sync;
+  room = subst (λ (w : Bool). MakesRoom g.D.LogDisk.is_metered c.args.node.now c.args.store.now w c.make_room.new.node c.make_room.new.store c.in_ok-needs_sync.needs_sync) (ap (λ (y : GroupValue). y.needs_sync) c.group.view_is) (c.in_ok-needs_sync.ensures.exact honest);
   out = c.in_ok-outbox.outbox;
   steps = c.in_ok-outbox.ensures.exact honest;
   adds = c.in_ok-add.ensures;
@@ -140,9 +140,9 @@ returns-clause-alive g c = c.in_ok-outbox.ensures.alive
 
 -- ---- what a refusal leaves
 
-pub returns-in_err-waits-clause-refused : goal.returns-in_err-waits-clause-refused
-returns-in_err-waits-clause-refused g c =
-    let was = c.in_err-waits.ensures.refused in
+pub returns-in_err-needs_sync-clause-refused : goal.returns-in_err-needs_sync-clause-refused
+returns-in_err-needs_sync-clause-refused g c =
+    let was = c.in_err-needs_sync.ensures.refused in
     err_as _ _ _ c.from_residual.ensures.1 (record {
       told = was.told;
       only = was.only;
@@ -158,7 +158,7 @@ returns-in_err-waits-clause-refused g c =
 pub returns-in_err-outbox-clause-refused : goal.returns-in_err-outbox-clause-refused
 returns-in_err-outbox-clause-refused g c =
     let was = c.in_err-outbox.ensures.refused in
-    let before = c.in_ok-waits.ensures in
+    let before = c.in_ok-needs_sync.ensures in
     err_as _ _ _ c.from_residual-in_err-outbox.ensures.1 (record {
       told = was.told;
       only = was.only;
@@ -176,7 +176,7 @@ returns-in_err-add-clause-refused g c =
     err_as _ _ fault.NoMemory c.from_residual-in_err-add.ensures.1 (record {
       told = tt;
       only = tt;
-      calls = λ metered honest. let first = (c.in_ok-waits.ensures.exact honest).calls metered in (_, passes_on first.0 first.2 _ ((c.in_ok-outbox.ensures.exact honest).calls metered));
+      calls = λ metered honest. let first = (c.in_ok-needs_sync.ensures.exact honest).calls metered in (_, passes_on first.0 first.2 _ ((c.in_ok-outbox.ensures.exact honest).calls metered));
       earlier = λ is alive further. cc is;
       second = λ honest is alive less. absurd (cc is);
       file = λ honest. tt;

@@ -5,8 +5,8 @@ use Rattle.lk_log.specs.StoreValue.{disks}
 use Rattle.lk_log.specs.Stores.{Holds, KeepsAtLeast}
 use Rattle.lk_log.proofs.Room.{within_same, behind_room, refused_room}
 use Rattle.lk_state.specs.Meanings.{Meaning}
-use Rattle.lk_step.specs.Letters.{batch_of}
-use Rattle.lk_step.specs.Outboxes.{OutboxValue}
+use Rattle.lk_node_io.specs.Letters.{batch_of}
+use Rattle.lk_node_io.specs.Outboxes.{OutboxValue}
 use Rattle.lk_node.specs.Calls.{Goes}
 use Rattle.lk_node.specs.Keeping.{Stands}
 use Rattle.lk_node.specs.NodeValue.{NodeValue}
@@ -15,7 +15,7 @@ use Rattle.lk_replica.proofs.Going.{put_leaves, put_goes, remembered, step_keeps
 use Rattle.lk_replica.proofs.replica.step_to_disk.Goals as goal
 use Rattle.lk_node.proofs.Nodes.{few_entries, step_told}
 use Rattle.lk_disk.specs.Meters.{start}
-use Rattle.lk_step.specs.declared.fault.ReplicaFault.TheVariants as fault
+use Rattle.lk_node_io.specs.declared.fault.ReplicaFault.TheVariants as fault
 use Rattle.lk_recovery.proofs.Recoveries.{err_as, refused_after, put_refused, grown_none, grown_base, grown_put, grown_less, put_spares, not_failed_so}
 use Rattle.lk_replica.proofs.Refusals.{store_told, store_only, store_awake}
 

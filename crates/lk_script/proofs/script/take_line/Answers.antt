@@ -1,6 +1,6 @@
 use Rattle.std.proofs.Common.{rules, subst}
 use Rattle.lk_script.specs.TableServers.{Fits}
-use Rattle.lk_script.proofs.ScriptLaws.{some_line, none_line, world_line, world_refusal, no_begin, no_bytes, no_order}
+use Rattle.lk_script.proofs.ScriptLaws.{some_line, none_line, world_line, world_refusal, no_begin, no_bytes, no_instruction}
 use Rattle.lk_script.proofs.PrintLaws.{done_is}
 use Rattle.lk_script.proofs.script.take_line.Goals as goal
 
@@ -31,4 +31,4 @@ returns-in-World-clause-refused g c = λ r refused s fits.
 
 pub returns-in-World-clause-not_understood : goal.returns-in-World-clause-not_understood
 returns-in-World-clause-not_understood g c = λ bad s fits.
-    no_order s _ c.args.line.now (subst (Fits s) c.in-World.is fits) (c.print_line-in-World.ensures.not_understood bad)
+    no_instruction s _ c.args.line.now (subst (Fits s) c.in-World.is fits) (c.print_line-in-World.ensures.not_understood bad)

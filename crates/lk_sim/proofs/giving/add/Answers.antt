@@ -11,5 +11,5 @@ returns-then-is_nothing-clause-wants g c = search rules
 pub returns-in_err-all-clause-wants : goal.returns-in_err-all-clause-wants
 returns-in_err-all-clause-wants g c = search rules
 
-pub returns-in_err-join-clause-wants : goal.returns-in_err-join-clause-wants
-returns-in_err-join-clause-wants g c = search rules
+pub returns-in_err-append_both-clause-wants : goal.returns-in_err-append_both-clause-wants
+returns-in_err-append_both-clause-wants g c = search rules

@@ -7,6 +7,6 @@ use Rattle.lk_status.proofs.lines.write_unled.Goals as goal
 pub returns : goal.returns
 returns g c =
     subst (λ (unit : List ℕ). OnOk c.write.result
-        (Appends (g.W.Write.contents c.args.out.now) (g.W.Write.contents c.write.new.self)
-        (codes "knows no leader for " ++ (decimal c.args.ticks ++ 32 ∷ unit))))
+    (Appends (g.W.Write.contents c.args.out.now) (g.W.Write.contents c.write.new.self)
+    (codes "knows no leader for " ++ (decimal c.args.ticks ++ 32 ∷ unit))))
     c.one_or_many-unit.ensures c.write.ensures.bytes

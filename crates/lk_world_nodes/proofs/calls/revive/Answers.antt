@@ -26,7 +26,7 @@ returns-in-Err-clause-falls g c h w same lawful f d down =
     let whose : c.new.result ≡ header_of h.genesis n = same_header c.new.result h.genesis c.args.genesis.now n _ _ _ c.new.ensures c.copy.ensures.cluster c.copy.ensures.alpha c.copy.ensures.members same in
     let left : DisksFit g.R.MemoryReplica.meaning h n (disk_of c.take_device-device.result) =
     subst (λ k. DisksFit g.R.MemoryReplica.meaning h k (disk_of c.take_device-device.result)) (sym c.take_device-device.ensures.number) (c.take_device-device.ensures.fits h w f) in
-    c.fall.ensures.fits h w (c.in-Err.ensures.down h n whose lawful left).1
+    c.take_down.ensures.fits h w (c.in-Err.ensures.down h n whose lawful left).1
     (based_short (disk_of c.take_device-device.result) (disk_of c.in-Err.refused.device) c.in-Err.ensures.room_err (c.take_device-device.ensures.room h w f))
 
 pub returns-in-Err-clause-told : goal.returns-in-Err-clause-told
@@ -35,4 +35,4 @@ returns-in-Err-clause-told g c h w same lawful f =
     let whose : c.new.result ≡ header_of h.genesis n = same_header c.new.result h.genesis c.args.genesis.now n _ _ _ c.new.ensures c.copy.ensures.cluster c.copy.ensures.alpha c.copy.ensures.members same in
     let left : DisksFit g.R.MemoryReplica.meaning h n (disk_of c.take_device-device.result) =
     subst (λ k. DisksFit g.R.MemoryReplica.meaning h k (disk_of c.take_device-device.result)) (sym c.take_device-device.ensures.number) (c.take_device-device.ensures.fits h w f) in
-    c.fall.ensures.told (sound_back _ (c.in-Err.ensures.down h n whose lawful left).0)
+    c.take_down.ensures.told (sound_back _ (c.in-Err.ensures.down h n whose lawful left).0)

@@ -25,7 +25,7 @@ returns-in-Ok-clause-goes g c h w lawful f input q same =
 pub returns-in-Err-clause-falls : goal.returns-in-Err-clause-falls
 returns-in-Err-clause-falls g c h w lawful f input d down =
     let is : c.args.seat.now.life ≡ Up c.in-Up.replica = search rules in
-    c.fall.ensures.fits h w
+    c.take_down.ensures.fits h w
     (subst (λ k. DisksFit g.R.MemoryReplica.meaning h k (disk_of c.take_device-device.result)) (sym c.take_device-device.ensures.number)
     (subst (λ (m : Memory). DisksFit g.R.MemoryReplica.meaning h c.args.seat.now.number (disk_of m)) (sym c.take_device-device.ensures.is)
     (c.in-Err.ensures.ends h c.args.seat.now.number (node_fits _ _ _ h w _ _ lawful (f.up c.in-Up.replica is)) input)))
@@ -38,4 +38,4 @@ pub returns-in-Ok-clause-told : goal.returns-in-Ok-clause-told
 returns-in-Ok-clause-told g c = told_as _ _ c.ended_at.ensures (told_at c.count_sends-stop.result _)
 
 pub returns-in-Err-clause-told : goal.returns-in-Err-clause-told
-returns-in-Err-clause-told g c = c.fall.ensures.told (sound_up _ c.in-Err.ensures.told)
+returns-in-Err-clause-told g c = c.take_down.ensures.told (sound_up _ c.in-Err.ensures.told)

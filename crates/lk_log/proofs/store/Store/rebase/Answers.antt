@@ -28,26 +28,26 @@ returns-in_err-bytes-clause-any g c honest ks ls holds =
     let mine = subst (λ (s : StoreValue). Holds s ks ls) (sym c.self.view_is) holds in
     keeps_still c.self.inside.live (g.D.LogDisk.disk c.self.inside.device c.self.inside.live) (g.D.LogDisk.disk c.self.inside.device (other c.self.inside.live)) ks ls (next_base c.args.self.now c.args.standing.now) mine.on
 
-pub returns-in_err-go_over-clause-any : goal.returns-in_err-go_over-clause-any
-returns-in_err-go_over-clause-any g c honest ks ls holds =
+pub returns-in_err-switch_files-clause-any : goal.returns-in_err-switch_files-clause-any
+returns-in_err-switch_files-clause-any g c honest ks ls holds =
     let mine = subst (λ (s : StoreValue). Holds s ks ls) (sym c.self.view_is) holds in
-    let new = g.D.LogDisk.disk c.go_over.new.device in
+    let new = g.D.LogDisk.disk c.switch_files.new.device in
     let b : BaseValue = record { generation = c.self.inside.generation + 1; format = 2; header = c.self.inside.header; standing = c.args.standing.now } in
     let fits = base_fits b refl (omega arith, omega (arith, c.if-self-ge-MAX_COUNT.false)) c.facts.ensures c.facts-2.ensures.promised c.facts-2.ensures.position c.facts-2.ensures.votes c.facts-2.ensures.pairs c.requires in
     subst (λ (s : StoreValue). KeepsOrIs (pick c.self.inside.live (new c.self.inside.live) (new (other c.self.inside.live))) ks ls (next_base s c.args.standing.now)) c.self.view_is
-    (keeps_pick c.self.inside.live new ks ls b (c.go_over.ensures.any honest b ks ls mine.on (omega (arith, mine.generation_is)) refl fits (c.deref.ensures ∙ c.in_ok-bytes.ensures)))
+    (keeps_pick c.self.inside.live new ks ls b (c.switch_files.ensures.any honest b ks ls mine.on (omega (arith, mine.generation_is)) refl fits (c.deref.ensures ∙ c.in_ok-bytes.ensures)))
 
 pub returns-clause-base : goal.returns-clause-base
 returns-clause-base g c honest ks ls holds =
-    let new = g.D.LogDisk.disk c.go_over.new.device in
+    let new = g.D.LogDisk.disk c.switch_files.new.device in
     let b : BaseValue = record { generation = c.self.inside.generation + 1; format = 2; header = c.self.inside.header; standing = c.args.standing.now } in
     let fits = base_fits b refl (omega arith, omega (arith, c.if-self-ge-MAX_COUNT.false)) c.facts.ensures c.facts-2.ensures.promised c.facts-2.ensures.position c.facts-2.ensures.votes c.facts-2.ensures.pairs c.requires in
     let is : b ≡ next_base c.args.self.now c.args.standing.now = ap (λ (s : StoreValue). next_base s c.args.standing.now) c.self.view_is in
     subst (λ (x : BaseValue). Holds (record {
       live_disk = new c.other-self-inside.result;
       other_disk = new (other c.other-self-inside.result);
-      failures = g.D.LogDisk.failures c.go_over.new.device;
-      meter = g.D.LogDisk.meter c.go_over.new.device;
+      failures = g.D.LogDisk.failures c.switch_files.new.device;
+      meter = g.D.LogDisk.meter c.switch_files.new.device;
       live = c.other-self-inside.result;
       generation = c.self.inside.generation + 1;
       format = 2;
@@ -55,7 +55,7 @@ returns-clause-base g c honest ks ls holds =
       failed = false;
     }) (Base x ∷ []) []) is
     (record {
-      on = held_at new c.self.inside.live c.other-self-inside.result (Base b ∷ []) c.other-self-inside.ensures (c.in_ok-go_over.ensures.holds honest b refl fits (c.deref.ensures ∙ c.in_ok-bytes.ensures));
+      on = held_at new c.self.inside.live c.other-self-inside.result (Base b ∷ []) c.other-self-inside.ensures (c.in_ok-switch_files.ensures.holds honest b refl fits (c.deref.ensures ∙ c.in_ok-bytes.ensures));
       generation_is = refl;
       format_is = refl;
       header_is = refl;
@@ -64,11 +64,11 @@ returns-clause-base g c honest ks ls holds =
 pub returns-clause-any : goal.returns-clause-any
 returns-clause-any g c honest ks ls holds =
     let mine = subst (λ (s : StoreValue). Holds s ks ls) (sym c.self.view_is) holds in
-    let new = g.D.LogDisk.disk c.go_over.new.device in
+    let new = g.D.LogDisk.disk c.switch_files.new.device in
     let b : BaseValue = record { generation = c.self.inside.generation + 1; format = 2; header = c.self.inside.header; standing = c.args.standing.now } in
     let fits = base_fits b refl (omega arith, omega (arith, c.if-self-ge-MAX_COUNT.false)) c.facts.ensures c.facts-2.ensures.promised c.facts-2.ensures.position c.facts-2.ensures.votes c.facts-2.ensures.pairs c.requires in
     subst (λ (s : StoreValue). KeepsOrIs (pick c.other-self-inside.result (new c.other-self-inside.result) (new (other c.other-self-inside.result))) ks ls (next_base s c.args.standing.now)) c.self.view_is
-    (keeps_pick c.other-self-inside.result new ks ls b (c.go_over.ensures.any honest b ks ls mine.on (omega (arith, mine.generation_is)) refl fits (c.deref.ensures ∙ c.in_ok-bytes.ensures)))
+    (keeps_pick c.other-self-inside.result new ks ls b (c.switch_files.ensures.any honest b ks ls mine.on (omega (arith, mine.generation_is)) refl fits (c.deref.ensures ∙ c.in_ok-bytes.ensures)))
 
 pub returns-then-self-clause-room : goal.returns-then-self-clause-room
 returns-then-self-clause-room g c honest = within_same 49152 (disks c.args.self.now) (disks c.args.self.now) (λ s. refl)
@@ -79,36 +79,36 @@ returns-in_err-bytes-clause-room g c honest =
     let is = pick c.self.inside.live (old c.self.inside.live) (old (other c.self.inside.live)) in
     subst (λ (s : StoreValue). StaysWithin 49152 (disks s) is) c.self.view_is (within_same 49152 is is (λ s. refl))
 
-pub returns-in_err-go_over-clause-room : goal.returns-in_err-go_over-clause-room
-returns-in_err-go_over-clause-room g c honest =
+pub returns-in_err-switch_files-clause-room : goal.returns-in_err-switch_files-clause-room
+returns-in_err-switch_files-clause-room g c honest =
     let old = g.D.LogDisk.disk c.self.inside.device in
-    let new = g.D.LogDisk.disk c.go_over.new.device in
+    let new = g.D.LogDisk.disk c.switch_files.new.device in
     let b : BaseValue = record { generation = c.self.inside.generation + 1; format = 2; header = c.self.inside.header; standing = c.args.standing.now } in
     let fits = base_fits b refl (omega arith, omega (arith, c.if-self-ge-MAX_COUNT.false)) c.facts.ensures c.facts-2.ensures.promised c.facts-2.ensures.position c.facts-2.ensures.votes c.facts-2.ensures.pairs c.requires in
     let few : length c.deref.result.now ≤ 49152 = omega (arith, ap length (c.deref.ensures ∙ c.in_ok-bytes.ensures), spelling_room (Base b) fits) in
     let live = c.self.inside.live in
     subst (λ (s : StoreValue). StaysWithin 49152 (disks s) (pick live (new live) (new (other live)))) c.self.view_is
-    (within_from 49152 live old (pick live (new live) (new (other live))) (within_pick 49152 live old new (c.go_over.ensures.room honest few)))
+    (within_from 49152 live old (pick live (new live) (new (other live))) (within_pick 49152 live old new (c.switch_files.ensures.room honest few)))
 
 pub returns-clause-room : goal.returns-clause-room
 returns-clause-room g c honest =
     let old = g.D.LogDisk.disk c.self.inside.device in
-    let new = g.D.LogDisk.disk c.go_over.new.device in
+    let new = g.D.LogDisk.disk c.switch_files.new.device in
     let b : BaseValue = record { generation = c.self.inside.generation + 1; format = 2; header = c.self.inside.header; standing = c.args.standing.now } in
     let fits = base_fits b refl (omega arith, omega (arith, c.if-self-ge-MAX_COUNT.false)) c.facts.ensures c.facts-2.ensures.promised c.facts-2.ensures.position c.facts-2.ensures.votes c.facts-2.ensures.pairs c.requires in
     let few : length c.deref.result.now ≤ 49152 = omega (arith, ap length (c.deref.ensures ∙ c.in_ok-bytes.ensures), spelling_room (Base b) fits) in
     let live = c.other-self-inside.result in
     subst (λ (s : StoreValue). StaysWithin 49152 (disks s) (pick live (new live) (new (other live)))) c.self.view_is
-    (within_from 49152 c.self.inside.live old (pick live (new live) (new (other live))) (within_pick 49152 live old new (c.go_over.ensures.room honest few)))
+    (within_from 49152 c.self.inside.live old (pick live (new live) (new (other live))) (within_pick 49152 live old new (c.switch_files.ensures.room honest few)))
 
 pub returns-clause-left : goal.returns-clause-left
 returns-clause-left g c honest =
-    let new = g.D.LogDisk.disk c.go_over.new.device in
+    let new = g.D.LogDisk.disk c.switch_files.new.device in
     let b : BaseValue = record { generation = c.self.inside.generation + 1; format = 2; header = c.self.inside.header; standing = c.args.standing.now } in
     let fits = base_fits b refl (omega arith, omega (arith, c.if-self-ge-MAX_COUNT.false)) c.facts.ensures c.facts-2.ensures.promised c.facts-2.ensures.position c.facts-2.ensures.votes c.facts-2.ensures.pairs c.requires in
     let few : length c.deref.result.now ≤ 49152 = omega (arith, ap length (c.deref.ensures ∙ c.in_ok-bytes.ensures), spelling_room (Base b) fits) in (
-      left_at new c.self.inside.live c.other-self-inside.result c.other-self-inside.ensures (c.in_ok-go_over.ensures.left honest),
-      subst (λ (k : Side). length (contents (new k)) ≤ 49152) (sym c.other-self-inside.ensures) (c.in_ok-go_over.ensures.short honest few),
+      left_at new c.self.inside.live c.other-self-inside.result c.other-self-inside.ensures (c.in_ok-switch_files.ensures.left honest),
+      subst (λ (k : Side). length (contents (new k)) ≤ 49152) (sym c.other-self-inside.ensures) (c.in_ok-switch_files.ensures.short honest few),
     )
 
 -- ---- which calls were made

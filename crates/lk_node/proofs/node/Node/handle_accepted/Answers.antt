@@ -3,7 +3,7 @@ use Rattle.lk_messages.specs.declared.message.NodeMessage.TheVariants as kinds
 use Rattle.lk_state.specs.Meanings.{Meaning}
 use Rattle.lk_agreement.specs.Chosen.{ChosenAt}
 use Rattle.lk_agreement.specs.Datagrams.{HasSent}
-use Rattle.lk_step.specs.Outboxes.{OutboxValue, nothing}
+use Rattle.lk_node_io.specs.Outboxes.{OutboxValue, nothing}
 use Rattle.lk_node.specs.Deciding.{Decides}
 use Rattle.lk_node.specs.Serving.{GoesOn}
 use Rattle.lk_node.proofs.DecidingLaws.{only_heard_goes_on, are_members, accepted_goes_on, hears_accepted}

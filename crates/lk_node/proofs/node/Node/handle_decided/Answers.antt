@@ -3,7 +3,7 @@ use Rattle.lk_types.specs.declared.command.Command.{Command}
 use Rattle.lk_messages.specs.declared.message.NodeMessage.TheVariants as kinds
 use Rattle.lk_state.specs.Meanings.{Meaning}
 use Rattle.lk_agreement.specs.Datagrams.{HasSent}
-use Rattle.lk_step.specs.Outboxes.{OutboxValue, nothing}
+use Rattle.lk_node_io.specs.Outboxes.{OutboxValue, nothing}
 use Rattle.lk_node.specs.DecidedPairs.{TakesFirst, TakesPairs, none_yet}
 use Rattle.lk_node.specs.Serving.{GoesOn}
 use Rattle.lk_node.proofs.LearnerLaws.{told_goes_on, takes_more, walked, not_walked}

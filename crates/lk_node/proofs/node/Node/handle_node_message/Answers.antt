@@ -5,7 +5,7 @@ use Rattle.lk_wire.specs.declared.viewing.message.NodeMessageRef.{NodeMessageRef
 use Rattle.lk_agreement.specs.Datagrams.{HasSent}
 use Rattle.lk_state.specs.Meanings.{Meaning}
 use Rattle.lk_types.specs.declared.vote.Vote.{Vote}
-use Rattle.lk_step.specs.Outboxes.{nothing}
+use Rattle.lk_node_io.specs.Outboxes.{nothing}
 use Rattle.lk_node.specs.Deciding.{HearsAccepted}
 use Rattle.lk_node.specs.Serving.{GoesOn}
 use Rattle.lk_node.specs.Steps.{HearsNode}

@@ -2,7 +2,7 @@ use Rattle.std.proofs.Common.{◌∙◌, ap, sym, subst}
 use Rattle.lk_messages.specs.declared.message.NodeMessage.TheVariants as kinds
 use Rattle.lk_agreement.specs.Datagrams.{HasSent}
 use Rattle.lk_state.specs.Meanings.{Meaning, KeepsTexts}
-use Rattle.lk_step.specs.Outboxes.{OutboxValue, nothing}
+use Rattle.lk_node_io.specs.Outboxes.{OutboxValue, nothing}
 use Rattle.lk_node.specs.Histories.{History}
 use Rattle.lk_node.specs.NodeValue.{NodeValue}
 use Rattle.lk_node.specs.Serving.{GoesOn}
@@ -27,6 +27,6 @@ returns-clause-goes_on g c = λ from.
     let began : BeganWell c.args.self.now = (λ k n is. began_well c.genesis.result.now k c.self.inside.header n c.genesis.ensures.cluster c.genesis.ensures.alpha c.genesis.ensures.members
     c.facts.ensures (ap (λ (node : NodeValue). node.header) c.self.view_is ∙ is)) in
     let Heard : History → Type 0 = λ (h : History). HasSent h.genesis h.sent from (kinds.Part c.args.part.now) in
-    then_goes_on m Heard c.args.self.now c.add_part.new.self c.take_up.new.self nothing nothing c.in_ok-out.out
+    then_goes_on m Heard c.args.self.now c.add_part.new.self c.install_gathered.new.self nothing nothing c.in_ok-out.out
     (gathers_goes_on m from g.M.Machine.IsText keeps c.in_ok-add_part.field-0 c.args.part.now c.args.self.now c.add_part.new.self nothing began c.in_ok-add_part.ensures)
-    (unheard m Heard c.add_part.new.self c.take_up.new.self nothing c.in_ok-out.out c.in_ok-out.ensures.goes_on)
+    (unheard m Heard c.add_part.new.self c.install_gathered.new.self nothing c.in_ok-out.out c.in_ok-out.ensures.goes_on)

@@ -1,6 +1,6 @@
 use Rattle.std.proofs.Common.{subst}
 use Rattle.lk_state.specs.Meanings.{Meaning}
-use Rattle.lk_step.specs.Outboxes.{OutboxValue, nothing}
+use Rattle.lk_node_io.specs.Outboxes.{OutboxValue, nothing}
 use Rattle.lk_node.specs.Histories.{History}
 use Rattle.lk_node.specs.Serving.{GoesOn}
 use Rattle.lk_node.proofs.Serving.{then_goes_on}

@@ -1,5 +1,5 @@
 use Rattle.lk_state.specs.Meanings.{Meaning}
-use Rattle.lk_step.specs.Outboxes.{nothing}
+use Rattle.lk_node_io.specs.Outboxes.{nothing}
 use Rattle.lk_node.specs.Histories.{History, IsHeard}
 use Rattle.lk_node.proofs.Serving.{then_goes_on, heard_goes_on}
 use Rattle.lk_node.proofs.node.Node.take_datagram.Goals as goal

@@ -11,7 +11,7 @@ use Rattle.lk_state.specs.Meanings.{Meaning}
 use Rattle.lk_node.specs.Calls.{Goes}
 use Rattle.lk_node.specs.Keeping.{Stands}
 use Rattle.lk_node.specs.Leavings.{AllCover}
-use Rattle.lk_step.specs.Faults.{fault_number, failures_by, RefusedAfter}
+use Rattle.lk_node_io.specs.Faults.{fault_number, failures_by, RefusedAfter}
 use Rattle.lk_recovery.specs.Revivals.{IsRefusedFor, CallsOfRevival}
 use Rattle.lk_replica.specs.Revived.{IsNotRevived}
 use Rattle.lk_replica.proofs.OnDevices.{on_device}

@@ -4,13 +4,13 @@ use Rattle.lk_entries.specs.Values.{HeaderValue}
 use Rattle.lk_replica.specs.ReplicaValue.{device_of}
 use Rattle.lk_simulated_disk.specs.Memory.{disk_of}
 use Rattle.lk_state.specs.Meanings.{Meaning}
-use Rattle.lk_step.specs.Letters.{batch_of}
+use Rattle.lk_node_io.specs.Letters.{batch_of}
 use Rattle.lk_node.specs.Calls.{NodeFits, Goes}
 use Rattle.lk_node.specs.Histories.{Datagram}
 use Rattle.lk_node.specs.Keeping.{Stands}
 use Rattle.lk_node.specs.Leavings.{DisksFit, AllCover}
-use Rattle.lk_step.specs.Faults.{fault_number, IsNumberOfCalls}
-use Rattle.lk_replica.specs.Posts.{CollectedValue}
+use Rattle.lk_node_io.specs.Faults.{fault_number, IsNumberOfCalls}
+use Rattle.lk_replica.specs.Posts.{MemoryPostValue}
 use Rattle.lk_replica.specs.Taking.{IsOfLast, IsRefused}
 use Rattle.lk_recovery.proofs.Recoveries.{err_as}
 use Rattle.lk_replica.proofs.Going.{remembered}
@@ -28,7 +28,7 @@ returns-in-Ok-clause-goes g c h n fits heard =
     let all = c.in_ok-notes.ensures.gives.letters in
     let by = c.in_ok-notes.ensures.gives.holds tt in
     let went = by.goes h n (off_device (λ d. NodeFits m h n (Stands m own.node own.store h.genesis n) d) own.store fits) heard in
-    let letters : c.take.new.post.letters ≡ all = by.taken.sent.1 tt ∙ ap (λ (p : CollectedValue). p.letters ++ by.taken.out.letters) c.empty_post-post.ensures ∙ by.taken.sent.0 in
+    let letters : c.take.new.post.letters ≡ all = by.taken.sent.1 tt ∙ ap (λ (p : MemoryPostValue). p.letters ++ by.taken.out.letters) c.empty_post-post.ensures ∙ by.taken.sent.0 in
     let is : c.number-node.result ≡ n = c.number-node.ensures ∙ ap (λ (w : HeaderValue). w.node) fits.shown.whose in
     let batch : c.in-Ok.sent.items ≡ batch_of n all = c.in-Ok.ensures.ok ∙ (λ i. batch_of (is i) (letters i)) in
     subst (λ (ds : List Datagram). Goes m h n (Stands m c.take.new.self.node c.take.new.self.store h.genesis n) (disk_of (device_of c.take.new.self.store)) c.in_ok-notes.notes.items ds) (sym batch)
@@ -39,7 +39,7 @@ returns-in-Ok-clause-syncs g c genesis n held x shown =
     let m : Meaning = g.M.Machine.meaning in
     let all = c.in_ok-notes.ensures.gives.letters in
     let by = c.in_ok-notes.ensures.gives.holds tt in
-    let letters : c.take.new.post.letters ≡ all = by.taken.sent.1 tt ∙ ap (λ (p : CollectedValue). p.letters ++ by.taken.out.letters) c.empty_post-post.ensures ∙ by.taken.sent.0 in
+    let letters : c.take.new.post.letters ≡ all = by.taken.sent.1 tt ∙ ap (λ (p : MemoryPostValue). p.letters ++ by.taken.out.letters) c.empty_post-post.ensures ∙ by.taken.sent.0 in
     let is : c.number-node.result ≡ n = c.number-node.ensures ∙ ap (λ (w : HeaderValue). w.node) shown.whose in
     let batch : c.in-Ok.sent.items ≡ batch_of n all = c.in-Ok.ensures.ok ∙ (λ i. batch_of (is i) (letters i)) in
     λ d listed said. on_device (λ z. AllCover m genesis n z x) c.take.new.self.store
@@ -48,7 +48,7 @@ returns-in-Ok-clause-syncs g c genesis n held x shown =
 pub returns-in-Ok-clause-exact : goal.returns-in-Ok-clause-exact
 returns-in-Ok-clause-exact g c =
     let taken = (c.in_ok-notes.ensures.gives.holds tt).taken in
-    let letters : c.take.new.post.letters ≡ taken.out.letters = taken.sent.1 tt ∙ ap (λ (p : CollectedValue). p.letters ++ taken.out.letters) c.empty_post-post.ensures in
+    let letters : c.take.new.post.letters ≡ taken.out.letters = taken.sent.1 tt ∙ ap (λ (p : MemoryPostValue). p.letters ++ taken.out.letters) c.empty_post-post.ensures in
     record {
       input = c.args.input;
       given = refl;

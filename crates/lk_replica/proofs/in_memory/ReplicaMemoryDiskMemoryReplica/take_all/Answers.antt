@@ -9,12 +9,12 @@ use Rattle.lk_simulated_disk.specs.Memory.{disk_of}
 use Rattle.lk_disk.specs.Meters.{Passes}
 use Rattle.lk_disk.proofs.Devices.{passes_on}
 use Rattle.lk_disk.specs.declared.meter.Meter.{Meter}
-use Rattle.lk_step.specs.Letters.{batch_of, LetterValue}
-use Rattle.lk_step.specs.declared.input.Input.{Input}
+use Rattle.lk_node_io.specs.Letters.{batch_of, LetterValue}
+use Rattle.lk_node_io.specs.declared.input.Input.{Input}
 use Rattle.lk_node.specs.Calls.{heard_by, InputFits, NodeFits}
 use Rattle.lk_node.specs.Keeping.{Stands}
 use Rattle.lk_node.specs.Leavings.{DisksFit, AllCover}
-use Rattle.lk_step.specs.Faults.{fault_number, RefusedAfter, IsNumberOfCalls}
+use Rattle.lk_node_io.specs.Faults.{fault_number, RefusedAfter, IsNumberOfCalls}
 use Rattle.lk_replica.specs.Groups.{GroupValue, IsSettled, LeavesInGroup, gather_calls, settle_calls}
 use Rattle.lk_replica.specs.ReplicaValue.{ReplicaValue, device_of}
 use Rattle.lk_replica.specs.Together.{IsTogetherRefused}
@@ -126,8 +126,8 @@ returns-in_err-keep-clause-calls_err g c =
     let s = c.inputs.invariant in
     let exact = c.in_ok-gather.ensures.exact tt in
     let room = exact.room.calls tt in
-    let made : ℕ = room.0 + gather_calls exact.waits exact.out in
-    let passes = passes_on s.calls s.passes made (passes_on room.0 room.2 (gather_calls exact.waits exact.out) (exact.steps.calls tt)) in
+    let made : ℕ = room.0 + gather_calls exact.needs_sync exact.out in
+    let passes = passes_on s.calls s.passes made (passes_on room.0 room.2 (gather_calls exact.needs_sync exact.out) (exact.steps.calls tt)) in
     err_as (λ e. RefusedAfter (fault_number e) own.store.meter c.keep.new.self.store.meter) _ _ c.from_residual-in_err-keep.ensures.1
     (not_by_the_device _ own.store.meter c.keep.new.self.store.meter c.in_err-keep.ensures.refused.no_memory
     (s.calls + made, subst (λ (r : ReplicaValue). Passes own.store.meter r.store.meter (s.calls + made)) (sym c.in_err-keep.ensures.refused.ends) passes))
@@ -154,7 +154,7 @@ returns-in_err-sync_group-clause-ends g c h n fits heard =
     let m = g.M.Machine.meaning in
     let own = c.args.self.now in
     let k = c.inputs.invariant.stays h n (off_device (λ d. NodeFits m h n (Stands m own.node own.store h.genesis n) d) own.store fits) heard in
-    let ended = subst (λ (w : Bool). LeavesInGroup g.M.Machine.meaning (λ h. ⊤) 0 c.inputs.self.node c.inputs.self.store w (disks c.sync_group.new.self.store)) c.waits.ensures (c.sync_group.ensures.disks tt) in
+    let ended = subst (λ (w : Bool). LeavesInGroup g.M.Machine.meaning (λ h. ⊤) 0 c.inputs.self.node c.inputs.self.store w (disks c.sync_group.new.self.store)) c.needs_sync.ensures (c.sync_group.ensures.disks tt) in
     on_device (DisksFit m h n) c.sync_group.new.self.store (ended.ends h n k.0 tt)
 
 pub returns-in_err-sync_group-clause-covers : goal.returns-in_err-sync_group-clause-covers
@@ -163,7 +163,7 @@ returns-in_err-sync_group-clause-covers g c genesis n held x shown every =
     let own = c.args.self.now in
     let r = remembered m genesis n held own.node own.store shown in
     let s = c.inputs.invariant in
-    let ended = subst (λ (w : Bool). LeavesInGroup g.M.Machine.meaning (λ h. ⊤) 0 c.inputs.self.node c.inputs.self.store w (disks c.sync_group.new.self.store)) c.waits.ensures (c.sync_group.ensures.disks tt) in
+    let ended = subst (λ (w : Bool). LeavesInGroup g.M.Machine.meaning (λ h. ⊤) 0 c.inputs.self.node c.inputs.self.store w (disks c.sync_group.new.self.store)) c.needs_sync.ensures (c.sync_group.ensures.disks tt) in
     on_device (λ d. AllCover m genesis n d x) c.sync_group.new.self.store
     (ended.covers genesis n x (s.recalls genesis n r) (s.covers genesis n x r (off_device (λ d. AllCover m genesis n d x) own.store every)))
 
@@ -194,7 +194,7 @@ returns-in-Err-clause-ends g c h n fits heard =
     let m = g.M.Machine.meaning in
     let own = c.args.self.now in
     let k = c.inputs.invariant.stays h n (off_device (λ d. NodeFits m h n (Stands m own.node own.store h.genesis n) d) own.store fits) heard in
-    let ended = subst (λ (w : Bool). LeavesInGroup g.M.Machine.meaning (λ h. ⊤) 0 c.inputs.self.node c.inputs.self.store w (disks c.sync_group.new.self.store)) c.waits.ensures (c.sync_group.ensures.disks tt) in
+    let ended = subst (λ (w : Bool). LeavesInGroup g.M.Machine.meaning (λ h. ⊤) 0 c.inputs.self.node c.inputs.self.store w (disks c.sync_group.new.self.store)) c.needs_sync.ensures (c.sync_group.ensures.disks tt) in
     on_device (DisksFit m h n) c.sync_group.new.self.store (ended.ends h n k.0 tt)
 
 pub returns-in-Err-clause-covers : goal.returns-in-Err-clause-covers
@@ -203,7 +203,7 @@ returns-in-Err-clause-covers g c genesis n held x shown every =
     let own = c.args.self.now in
     let r = remembered m genesis n held own.node own.store shown in
     let s = c.inputs.invariant in
-    let ended = subst (λ (w : Bool). LeavesInGroup g.M.Machine.meaning (λ h. ⊤) 0 c.inputs.self.node c.inputs.self.store w (disks c.sync_group.new.self.store)) c.waits.ensures (c.sync_group.ensures.disks tt) in
+    let ended = subst (λ (w : Bool). LeavesInGroup g.M.Machine.meaning (λ h. ⊤) 0 c.inputs.self.node c.inputs.self.store w (disks c.sync_group.new.self.store)) c.needs_sync.ensures (c.sync_group.ensures.disks tt) in
     on_device (λ d. AllCover m genesis n d x) c.sync_group.new.self.store
     (ended.covers genesis n x (s.recalls genesis n r) (s.covers genesis n x r (off_device (λ d. AllCover m genesis n d x) own.store every)))
 
@@ -217,14 +217,14 @@ returns-in-Err-clause-room g c =
 pub returns-in-Err-clause-calls_err : goal.returns-in-Err-clause-calls_err
 returns-in-Err-clause-calls_err g c =
     let s = c.inputs.invariant in
-    (s.calls + settle_calls c.waits.result, passes_on s.calls s.passes (settle_calls c.waits.result) ((c.in_ok-sync_group.ensures.exact tt).calls tt))
+    (s.calls + settle_calls c.needs_sync.result, passes_on s.calls s.passes (settle_calls c.needs_sync.result) ((c.in_ok-sync_group.ensures.exact tt).calls tt))
 
 pub returns-in-Err-clause-refused : goal.returns-in-Err-clause-refused
 returns-in-Err-clause-refused g c =
     let m = g.M.Machine.meaning in
     let new = c.sync_group.new.self in
     let all = c.args.inputs.items in
-    let settled = subst (λ (w : Bool). IsSettled ⊤ c.inputs.self w new) c.waits.ensures (c.in_ok-sync_group.ensures.exact tt) in (
+    let settled = subst (λ (w : Bool). IsSettled ⊤ c.inputs.self w new) c.needs_sync.ensures (c.in_ok-sync_group.ensures.exact tt) in (
       inr (inr (inr (inr refl))),
       refused_in_all m g.M.Machine.IsText c.args.self.now all c.inputs.self new _ _ _ _ c.inputs.invariant
           (inr (inr (record { not_sent = refl; settled = settled }))),
@@ -237,7 +237,7 @@ returns-in-Ok-clause-ends g c h n fits heard =
     let m = g.M.Machine.meaning in
     let own = c.args.self.now in
     let k = c.inputs.invariant.stays h n (off_device (λ d. NodeFits m h n (Stands m own.node own.store h.genesis n) d) own.store fits) heard in
-    let ended = subst (λ (w : Bool). LeavesInGroup g.M.Machine.meaning (λ h. ⊤) 0 c.inputs.self.node c.inputs.self.store w (disks c.sync_group.new.self.store)) c.waits.ensures (c.sync_group.ensures.disks tt) in
+    let ended = subst (λ (w : Bool). LeavesInGroup g.M.Machine.meaning (λ h. ⊤) 0 c.inputs.self.node c.inputs.self.store w (disks c.sync_group.new.self.store)) c.needs_sync.ensures (c.sync_group.ensures.disks tt) in
     on_device (DisksFit m h n) c.sync_group.new.self.store (ended.ends h n k.0 tt)
 
 pub returns-in-Ok-clause-covers : goal.returns-in-Ok-clause-covers
@@ -246,7 +246,7 @@ returns-in-Ok-clause-covers g c genesis n held x shown every =
     let own = c.args.self.now in
     let r = remembered m genesis n held own.node own.store shown in
     let s = c.inputs.invariant in
-    let ended = subst (λ (w : Bool). LeavesInGroup g.M.Machine.meaning (λ h. ⊤) 0 c.inputs.self.node c.inputs.self.store w (disks c.sync_group.new.self.store)) c.waits.ensures (c.sync_group.ensures.disks tt) in
+    let ended = subst (λ (w : Bool). LeavesInGroup g.M.Machine.meaning (λ h. ⊤) 0 c.inputs.self.node c.inputs.self.store w (disks c.sync_group.new.self.store)) c.needs_sync.ensures (c.sync_group.ensures.disks tt) in
     on_device (λ d. AllCover m genesis n d x) c.sync_group.new.self.store
     (ended.covers genesis n x (s.recalls genesis n r) (s.covers genesis n x r (off_device (λ d. AllCover m genesis n d x) own.store every)))
 
@@ -260,7 +260,7 @@ returns-in-Ok-clause-room g c =
 pub returns-in-Ok-clause-calls : goal.returns-in-Ok-clause-calls
 returns-in-Ok-clause-calls g c =
     let s = c.inputs.invariant in
-    (s.calls + settle_calls c.waits.result, passes_on s.calls s.passes (settle_calls c.waits.result) ((c.in_ok-sync_group.ensures.exact tt).calls tt))
+    (s.calls + settle_calls c.needs_sync.result, passes_on s.calls s.passes (settle_calls c.needs_sync.result) ((c.in_ok-sync_group.ensures.exact tt).calls tt))
 
 pub returns-in-Ok-clause-syncs : goal.returns-in-Ok-clause-syncs
 returns-in-Ok-clause-syncs g c genesis n held x shown =
@@ -268,7 +268,7 @@ returns-in-Ok-clause-syncs g c genesis n held x shown =
     let own = c.args.self.now in
     let new = c.sync_group.new.self in
     let r = remembered m genesis n held own.node own.store shown in
-    let settled = subst (λ (w : Bool). IsSettled ⊤ c.inputs.self w new) c.waits.ensures (c.in_ok-sync_group.ensures.exact tt) in
+    let settled = subst (λ (w : Bool). IsSettled ⊤ c.inputs.self w new) c.needs_sync.ensures (c.in_ok-sync_group.ensures.exact tt) in
     let batch : c.in-Ok.sent.items ≡ batch_of own.node.header.node c.inputs.group.letters = c.in-Ok.ensures.ok ∙ (λ i. batch_of (c.number-node.ensures i) (c.into_letters.ensures i)) in
     λ d listed spelled. on_device (λ z. AllCover m genesis n z x) new.store
     (covered_in_all m g.M.Machine.IsText own c.args.inputs.items c.inputs.self new _ _ _ _ c.inputs.invariant settled batch genesis n x r d listed spelled)
@@ -280,7 +280,7 @@ returns-in-Ok-clause-goes g c genesis n held shown =
     let new = c.sync_group.new.self in
     let r = remembered m genesis n held own.node own.store shown in
     let none : c.inputs.input-iterator.rest.items ≡ [] = nil_from_length c.inputs.input-iterator.rest.items (sym c.inputs.input-iterator.rest.ok.0 ∙ c.in-None.ensures.steps.0) in
-    let settled = subst (λ (w : Bool). IsSettled ⊤ c.inputs.self w new) c.waits.ensures (c.in_ok-sync_group.ensures.exact tt) in
+    let settled = subst (λ (w : Bool). IsSettled ⊤ c.inputs.self w new) c.needs_sync.ensures (c.in_ok-sync_group.ensures.exact tt) in
     let batch : c.in-Ok.sent.items ≡ batch_of own.node.header.node c.inputs.group.letters = c.in-Ok.ensures.ok ∙ (λ i. batch_of (c.number-node.ensures i) (c.into_letters.ensures i)) in
     gone_in_all m g.M.Machine.IsText own c.args.inputs.items c.inputs.self new _ _ _ _ c.inputs.invariant none settled (c.sync_group.ensures.disks tt).room batch genesis n r
 
@@ -290,6 +290,6 @@ returns-in-Ok-clause-exact g c =
     let own = c.args.self.now in
     let new = c.sync_group.new.self in
     let none : c.inputs.input-iterator.rest.items ≡ [] = nil_from_length c.inputs.input-iterator.rest.items (sym c.inputs.input-iterator.rest.ok.0 ∙ c.in-None.ensures.steps.0) in
-    let settled = subst (λ (w : Bool). IsSettled ⊤ c.inputs.self w new) c.waits.ensures (c.in_ok-sync_group.ensures.exact tt) in
+    let settled = subst (λ (w : Bool). IsSettled ⊤ c.inputs.self w new) c.needs_sync.ensures (c.in_ok-sync_group.ensures.exact tt) in
     let batch : c.in-Ok.sent.items ≡ batch_of own.node.header.node c.inputs.group.letters = c.in-Ok.ensures.ok ∙ (λ i. batch_of (c.number-node.ensures i) (c.into_letters.ensures i)) in
     taken_in_all m g.M.Machine.IsText own c.args.inputs.items c.inputs.self new _ _ _ _ c.inputs.invariant none settled c.in_ok-sync_group.ensures.alive batch

@@ -5,8 +5,8 @@ use Rattle.lk_state.specs.Meanings.{Meaning}
 use Rattle.lk_log.proofs.Room.{within_same}
 use Rattle.lk_disk.specs.Meters.{start}
 use Rattle.lk_replica.specs.Compacted.{IsNotCompacted}
-use Rattle.lk_step.specs.Faults.{fault_number}
-use Rattle.lk_recovery.specs.Rebased.{StandsOnBase, HasGoneOver, LeavesDisks}
+use Rattle.lk_node_io.specs.Faults.{fault_number}
+use Rattle.lk_recovery.specs.Rebased.{StandsOnBase, HasSwitchedFiles, LeavesDisks}
 use Rattle.lk_replica.specs.ReplicaValue.{ReplicaValue}
 use Rattle.lk_recovery.proofs.Recoveries.{grown_none, leaves_safe}
 use Rattle.lk_replica.proofs.Refusals.{not_compacted_by_parts}
@@ -17,7 +17,7 @@ use Rattle.lk_replica.proofs.replica.Replica.compact.Goals as goal
 pub returns-clause-done : goal.returns-clause-done
 returns-clause-done g c honest =
     let m : Meaning = g.M.Machine.meaning in
-    subst (λ (r : ReplicaValue). HasGoneOver m g.D.LogDisk.is_metered r.node r.store c.write_base.new.node c.write_base.new.store) c.self.view_is (c.in_ok-write_base.ensures.done honest)
+    subst (λ (r : ReplicaValue). HasSwitchedFiles m g.D.LogDisk.is_metered r.node r.store c.write_base.new.node c.write_base.new.store) c.self.view_is (c.in_ok-write_base.ensures.done honest)
 
 pub returns-clause-becomes : goal.returns-clause-becomes
 returns-clause-becomes g c = subst (λ (r : ReplicaValue). StandsOnBase r.node r.store c.write_base.new.node c.write_base.new.store) c.self.view_is c.in_ok-write_base.ensures.becomes

@@ -1,10 +1,10 @@
 use Rattle.std.proofs.Common.{◌≡◌, inl, inr, true, false, refl, sym, ap, subst, ◌∙◌, arith}
 use Rattle.std.specs.Prelude.{IfErr}
 use Rattle.lk_disk.specs.Meters.{start}
-use Rattle.lk_step.specs.Faults.{fault_number}
+use Rattle.lk_node_io.specs.Faults.{fault_number}
 use Rattle.lk_log.specs.StoreValue.{disks}
 use Rattle.lk_log.proofs.Room.{within_same}
-use Rattle.lk_step.specs.Letters.{batch_of}
+use Rattle.lk_node_io.specs.Letters.{batch_of}
 use Rattle.lk_node.specs.Calls.{InputFits, NodeFits}
 use Rattle.lk_node.specs.Keeping.{Stands}
 use Rattle.lk_replica.specs.Groups.{IsGathered, IsRefusedInGroup, KeepsGroup, LeavesInGroup, as_sent, Recalls}
@@ -17,7 +17,7 @@ use Rattle.lk_replica.proofs.replica.Replica.gather.Goals as goal
 pub returns-clause-goes : goal.returns-clause-goes
 returns-clause-goes g c honest =
     let m = g.M.Machine.meaning in
-    let w = c.args.group.now.waits in
+    let w = c.args.group.now.needs_sync in
     let a = c.in_ok-step_in_group.ensures.goes honest in
     record {
       notes = a.notes;
@@ -27,7 +27,7 @@ returns-clause-goes g c honest =
       are = λ genesis k r h n f heard sent among.
           let mine = subst (λ (k : ReplicaValue). NodeFits m h n (Stands m k.node (as_sent w k.store) h.genesis n) (disks (as_sent w k.store))) (sym c.self.view_is) f in
           let was = subst (λ (x : ReplicaValue). Recalls x.node x.store w genesis k) (sym c.self.view_is) r in
-          goes_as_sent m h n c.step_in_group.new.node c.step_in_group.new.store c.step_in_group.new.group.waits a.notes (batch_of n sent)
+          goes_as_sent m h n c.step_in_group.new.node c.step_in_group.new.store c.step_in_group.new.group.needs_sync a.notes (batch_of n sent)
           (a.are h n (as_gathered m genesis k c.self.inside.node c.self.inside.store w was h n mine) heard sent among);
     }
 
@@ -49,14 +49,14 @@ returns-then-self-clause-grows g c honest = grown_none (disks c.args.self.now.st
 
 pub returns-in_err-step_in_group-clause-disks : goal.returns-in_err-step_in_group-clause-disks
 returns-in_err-step_in_group-clause-disks g c honest =
-    subst (λ (k : ReplicaValue). LeavesInGroup g.M.Machine.meaning (λ h. InputFits h c.args.input) 132704 k.node k.store c.args.group.now.waits (disks c.step_in_group.new.store)) c.self.view_is (c.step_in_group.ensures.disks honest)
+    subst (λ (k : ReplicaValue). LeavesInGroup g.M.Machine.meaning (λ h. InputFits h c.args.input) 132704 k.node k.store c.args.group.now.needs_sync (disks c.step_in_group.new.store)) c.self.view_is (c.step_in_group.ensures.disks honest)
 
 pub returns-in_err-step_in_group-clause-grows : goal.returns-in_err-step_in_group-clause-grows
 returns-in_err-step_in_group-clause-grows g c honest = subst (λ (k : ReplicaValue). GrowsFromBase (disks k.store) (disks c.step_in_group.new.store)) c.self.view_is (c.step_in_group.ensures.grows honest)
 
 pub returns-clause-disks : goal.returns-clause-disks
 returns-clause-disks g c honest =
-    subst (λ (k : ReplicaValue). LeavesInGroup g.M.Machine.meaning (λ h. InputFits h c.args.input) 132704 k.node k.store c.args.group.now.waits (disks c.step_in_group.new.store)) c.self.view_is (c.step_in_group.ensures.disks honest)
+    subst (λ (k : ReplicaValue). LeavesInGroup g.M.Machine.meaning (λ h. InputFits h c.args.input) 132704 k.node k.store c.args.group.now.needs_sync (disks c.step_in_group.new.store)) c.self.view_is (c.step_in_group.ensures.disks honest)
 
 pub returns-clause-grows : goal.returns-clause-grows
 returns-clause-grows g c honest = subst (λ (k : ReplicaValue). GrowsFromBase (disks k.store) (disks c.step_in_group.new.store)) c.self.view_is (c.step_in_group.ensures.grows honest)

@@ -3,7 +3,7 @@ use Rattle.std.specs.Prelude.{IfErr, ⊤}
 use Rattle.lk_disk.specs.Meters.{start}
 use Rattle.lk_log.specs.StoreValue.{disks}
 use Rattle.lk_log.proofs.Room.{within_same}
-use Rattle.lk_step.specs.Faults.{fault_number}
+use Rattle.lk_node_io.specs.Faults.{fault_number}
 use Rattle.lk_replica.specs.Groups.{IsRefusedInGroup, IsSettled, LeavesInGroup}
 use Rattle.lk_replica.specs.ReplicaValue.{ReplicaValue}
 use Rattle.lk_replica.proofs.Grouped.{ended_in_group, group_refused}
@@ -18,7 +18,7 @@ pub returns-clause-exact : goal.returns-clause-exact
 returns-clause-exact g c honest =
     let done = c.in_ok-sync_if_waiting.ensures in
     let metered = g.D.LogDisk.is_metered in
-    subst (λ (r : ReplicaValue). IsSettled metered r c.args.waits (record { node = c.self.inside.node; store = c.sync_if_waiting.new.store; failed = false })) c.self.view_is (record {
+    subst (λ (r : ReplicaValue). IsSettled metered r c.args.needs_sync (record { node = c.self.inside.node; store = c.sync_if_waiting.new.store; failed = false })) c.self.view_is (record {
       lived = c.if-self.false;
       node = refl;
       settles = done.settles honest;
@@ -35,13 +35,13 @@ returns-then-self-clause-disks g c honest = record {
 
 pub returns-in_err-sync_if_waiting-clause-disks : goal.returns-in_err-sync_if_waiting-clause-disks
 returns-in_err-sync_if_waiting-clause-disks g c honest =
-    subst (λ (r : ReplicaValue). LeavesInGroup g.M.Machine.meaning (λ h. ⊤) 0 r.node r.store c.args.waits (disks c.sync_if_waiting.new.store)) c.self.view_is
-    (ended_in_group g.M.Machine.meaning (record { node = c.self.inside.node; store = c.self.inside.store; failed = c.self.inside.failed }) c.args.waits c.sync_if_waiting.new.store (c.sync_if_waiting.ensures.any honest) (c.sync_if_waiting.ensures.room honest))
+    subst (λ (r : ReplicaValue). LeavesInGroup g.M.Machine.meaning (λ h. ⊤) 0 r.node r.store c.args.needs_sync (disks c.sync_if_waiting.new.store)) c.self.view_is
+    (ended_in_group g.M.Machine.meaning (record { node = c.self.inside.node; store = c.self.inside.store; failed = c.self.inside.failed }) c.args.needs_sync c.sync_if_waiting.new.store (c.sync_if_waiting.ensures.any honest) (c.sync_if_waiting.ensures.room honest))
 
 pub returns-clause-disks : goal.returns-clause-disks
 returns-clause-disks g c honest =
-    subst (λ (r : ReplicaValue). LeavesInGroup g.M.Machine.meaning (λ h. ⊤) 0 r.node r.store c.args.waits (disks c.sync_if_waiting.new.store)) c.self.view_is
-    (ended_in_group g.M.Machine.meaning (record { node = c.self.inside.node; store = c.self.inside.store; failed = c.self.inside.failed }) c.args.waits c.sync_if_waiting.new.store (c.sync_if_waiting.ensures.any honest) (c.sync_if_waiting.ensures.room honest))
+    subst (λ (r : ReplicaValue). LeavesInGroup g.M.Machine.meaning (λ h. ⊤) 0 r.node r.store c.args.needs_sync (disks c.sync_if_waiting.new.store)) c.self.view_is
+    (ended_in_group g.M.Machine.meaning (record { node = c.self.inside.node; store = c.self.inside.store; failed = c.self.inside.failed }) c.args.needs_sync c.sync_if_waiting.new.store (c.sync_if_waiting.ensures.any honest) (c.sync_if_waiting.ensures.room honest))
 
 pub returns-then-self-clause-refused : goal.returns-then-self-clause-refused
 returns-then-self-clause-refused g c = record {

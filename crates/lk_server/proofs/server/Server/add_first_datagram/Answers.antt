@@ -1,11 +1,11 @@
 use Rattle.std.proofs.Common.{◌≡◌, ◌∙◌, sym, ap}
 use Rattle.lk_pace.specs.declared.turn_input.TurnInput.TheVariants.{Beside, Something}
-use Rattle.lk_transport.specs.Addresses.{circle_of}
+use Rattle.lk_transport.specs.Addresses.{filter_of}
 use Rattle.lk_server.specs.Servers.{ServerValue}
-use Rattle.lk_server.proofs.Apart.{not_beside}
+use Rattle.lk_server.proofs.FilteredOut.{not_beside}
 use Rattle.lk_server.proofs.Asking.{keeps_given, keeps_found}
 use Rattle.lk_server.proofs.Carrying.{if_ok_both, if_ok_four, if_err_on}
-use Rattle.lk_server.proofs.Gatherings.{socket_one, ends_socket, finds, apart_as}
+use Rattle.lk_server.proofs.Gatherings.{socket_one, ends_socket, finds, still_not_out}
 use Rattle.lk_server.proofs.server.Server.add_first_datagram.Goals as goal
 use Rattle.lk_transport.specs.Hearing.{BufferValue, listed}
 
@@ -15,13 +15,13 @@ returns-clause-takes g c =
     let l = c.receive.ensures in
     if_ok_both c.add_received.result (λ found takes rest yes.
     let t = takes yes in
-    let apart = apart_as c.args.self.now c.receive.new.self t.0 l.others t.2 in
+    let apart = still_not_out c.args.self.now c.receive.new.self t.0 l.others t.2 in
     let same = rest (λ is. let both : Something ≡ Beside = sym yes ∙ is in cc both) in (
       t.0,
       apart,
       socket_one g.R.ServedReplica.Gathers g.S.DatagramSocket.is_telling c.receive.new.buffer.last t.0 c.args.group.now c.add_received.new.group c.args.self.now c.receive.new.self c.add_received.new.self t.1 l.comes l.others
           (ap (λ (s : ServerValue _). s.coming) h.others) t.3,
-      keeps_given c.args.self.now.node c.args.self.now.addresses.seals t.0 c.args.buffer.now c.add_received.new.buffer (not_beside (circle_of c.args.self.now.addresses) t.0 apart)
+      keeps_given c.args.self.now.node c.args.self.now.addresses.seals t.0 c.args.buffer.now c.add_received.new.buffer (not_beside (filter_of c.args.self.now.addresses) t.0 apart)
           (ap (λ (b : BufferValue). b.asked) same ∙ l.asked) (ap (λ (b : BufferValue). b.reported) same ∙ l.reported),
     )) h.takes h.rest
 
@@ -45,7 +45,7 @@ returns-clause-ends g c =
     let l = c.receive.ensures in
     if_err_on c.add_received.result (λ e. (
       e.0,
-      apart_as c.args.self.now c.receive.new.self e.0 l.others e.2,
+      still_not_out c.args.self.now c.receive.new.self e.0 l.others e.2,
       ends_socket g.R.ServedReplica.Says g.R.ServedReplica.Gathers g.S.DatagramSocket.is_telling c.receive.new.buffer.last e.0 c.args.group.now c.args.self.now c.receive.new.self c.add_received.new.self e.1 l.comes l.others
           (ap (λ (s : ServerValue _). s.coming) h.others) e.3,
     )) h.ends

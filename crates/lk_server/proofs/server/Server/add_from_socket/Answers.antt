@@ -1,5 +1,5 @@
 use Rattle.std.proofs.Common.{◌≡◌, ◌∙◌, true, false, [], ◌∷◌, ap, sym, arith}
-use Rattle.lk_transport.specs.Addresses.{Circle}
+use Rattle.lk_transport.specs.Addresses.{Filter}
 use Rattle.lk_server.specs.Servers.{ServerValue}
 use Rattle.lk_server.proofs.Asking.{keeps_more}
 use Rattle.lk_server.proofs.Carrying.{on_err}
@@ -26,7 +26,7 @@ returns-clause-takes g c = λ yes.
           (ap (λ (s : ServerValue _). s.own) two ∙ ap (λ (s : ServerValue _). s.own) one) more.1 first.1
           (socket_more r.Gathers tells (first.0 ∷ []) more.0 c.args.group.now c.add_first_datagram.new.group c.add_further_datagrams.new.group c.args.self.now c.add_first_datagram.new.self c.add_further_datagrams.new.self (ap (λ (s : ServerValue _). s.cluster) one) first.2 more.2),
       keeps_more c.args.self.now.node c.add_first_datagram.new.self.node c.args.self.now.addresses.seals c.add_first_datagram.new.self.addresses.seals (first.0 ∷ []) more.0 c.args.buffer.now c.add_first_datagram.new.buffer c.add_further_datagrams.new.buffer
-          (ap (λ (s : ServerValue _). s.node) one) (ap (λ (c : Circle). c.seals) first.2.takes.network.1) first.3 more.3,
+          (ap (λ (s : ServerValue _). s.node) one) (ap (λ (c : Filter). c.seals) first.2.takes.network.1) first.3 more.3,
     )
 
 pub returns-in_err-found-clause-ends : goal.returns-in_err-found-clause-ends

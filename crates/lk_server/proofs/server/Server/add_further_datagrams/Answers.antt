@@ -1,5 +1,5 @@
 use Rattle.std.proofs.Common.{◌≡◌, [], ◌∷◌, ◌++◌, refl, ap, ◌∙◌, length-append, arith}
-use Rattle.lk_transport.specs.Addresses.{Circle}
+use Rattle.lk_transport.specs.Addresses.{Filter}
 use Rattle.lk_server.specs.Servers.{ServerValue}
 use Rattle.lk_server.proofs.Asking.{keeps_more, keeps_still, keeps_on}
 use Rattle.lk_server.proofs.Carrying.{on_err}
@@ -26,7 +26,7 @@ datagrams-preserved g c =
       c.add_next_datagram.ensures.others
           ∙ ap (λ (s : ServerValue _). record s { replica = new.replica; failed = new.failed; received = new.received; ticks = new.ticks; addresses = new.addresses; coming = new.coming }) i.3,
       keeps_more c.args.self.now.node c.datagrams.self.node c.args.self.now.addresses.seals c.datagrams.self.addresses.seals i.0 (t.0 ∷ []) c.args.buffer.now c.datagrams.buffer c.add_next_datagram.new.buffer
-          (ap (λ (s : ServerValue _). s.node) i.3) (ap (λ (c : Circle). c.seals) i.2.takes.network.1) i.4 t.2,
+          (ap (λ (s : ServerValue _). s.node) i.3) (ap (λ (c : Filter). c.seals) i.2.takes.network.1) i.4 t.2,
     )
 
 pub returns-then-not-branch-clause-takes : goal.returns-then-not-branch-clause-takes

@@ -1,10 +1,10 @@
 use Rattle.std.proofs.Common.{rules, ap, ◌∙◌}
-use Rattle.lk_transport.specs.Addresses.{circle_of}
+use Rattle.lk_transport.specs.Addresses.{filter_of}
 use Rattle.lk_server.specs.Servers.{ServerValue}
-use Rattle.lk_server.proofs.Apart.{not_beside}
+use Rattle.lk_server.proofs.FilteredOut.{not_beside}
 use Rattle.lk_server.proofs.Asking.{keeps_given, keeps_beside}
 use Rattle.lk_server.proofs.Carrying.{on_err}
-use Rattle.lk_server.proofs.Gatherings.{socket_one, socket_beside, ends_socket, none_came, apart_as}
+use Rattle.lk_server.proofs.Gatherings.{socket_one, socket_beside, ends_socket, none_came, still_not_out}
 use Rattle.lk_server.proofs.server.Server.add_next_datagram.Goals as goal
 use Rattle.lk_transport.specs.Hearing.{BufferValue}
 
@@ -16,7 +16,7 @@ returns-in-Something-clause-takes g c = λ came.
       t.0,
       socket_one g.R.ServedReplica.Gathers g.S.DatagramSocket.is_telling c.receive_or_pause.new.buffer.last t.0 c.args.group.now c.add_received.new.group c.args.self.now c.receive_or_pause.new.self c.add_received.new.self t.1 l.comes l.others
           (ap (λ (s : ServerValue _). s.coming) c.add_received.ensures.others) t.3,
-      keeps_given c.args.self.now.node c.args.self.now.addresses.seals t.0 c.args.buffer.now c.add_received.new.buffer (not_beside (circle_of c.args.self.now.addresses) t.0 (apart_as c.args.self.now c.receive_or_pause.new.self t.0 l.others t.2))
+      keeps_given c.args.self.now.node c.args.self.now.addresses.seals t.0 c.args.buffer.now c.add_received.new.buffer (not_beside (filter_of c.args.self.now.addresses) t.0 (still_not_out c.args.self.now c.receive_or_pause.new.self t.0 l.others t.2))
           (ap (λ (b : BufferValue). b.asked) same ∙ l.asked) (ap (λ (b : BufferValue). b.reported) same ∙ l.reported),
     )
 

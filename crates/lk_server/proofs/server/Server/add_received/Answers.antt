@@ -1,9 +1,9 @@
 use Rattle.std.proofs.Common.{rules, ◌≡◌, false}
 use Rattle.lk_probe.specs.Neighbours.{is_stranger}
 use Rattle.lk_seal.specs.Seals.{heard}
-use Rattle.lk_transport.specs.Addresses.{circle_of}
-use Rattle.lk_transport.specs.Posts.{is_apart, is_beside}
-use Rattle.lk_server.proofs.Apart.{not_apart}
+use Rattle.lk_transport.specs.Addresses.{filter_of}
+use Rattle.lk_transport.specs.Posts.{is_filtered_out, is_beside}
+use Rattle.lk_server.proofs.FilteredOut.{is_not_out}
 use Rattle.lk_server.proofs.Asking.{keeps_strange}
 use Rattle.lk_server.proofs.Carrying.{on_err}
 use Rattle.lk_server.proofs.Gatherings.{heard_one, ends_heard}
@@ -13,7 +13,7 @@ pub returns-clause-takes : goal.returns-clause-takes
 returns-clause-takes g c = λ yes.
     let beside : is_beside (heard c.args.self.now.addresses.seals c.in-Some.frame.now) ≡ false = search rules in
     let known : is_stranger c.args.self.now.addresses.neighbours c.in-Some.from ≡ false = search rules in
-    let apart : is_apart (circle_of c.args.self.now.addresses) (c.in-Some.from, c.in-Some.frame.now) ≡ false = not_apart (circle_of c.args.self.now.addresses) (c.in-Some.from, c.in-Some.frame.now) beside known in (
+    let apart : is_filtered_out (filter_of c.args.self.now.addresses) (c.in-Some.from, c.in-Some.frame.now) ≡ false = is_not_out (filter_of c.args.self.now.addresses) (c.in-Some.from, c.in-Some.frame.now) beside known in (
       (c.in-Some.from, c.in-Some.frame.now),
       c.in-Some.ensures.some,
       apart,
@@ -25,7 +25,7 @@ pub returns-in_err-add_datagram-clause-ends : goal.returns-in_err-add_datagram-c
 returns-in_err-add_datagram-clause-ends g c =
     let beside : is_beside (heard c.args.self.now.addresses.seals c.in-Some.frame.now) ≡ false = search rules in
     let known : is_stranger c.args.self.now.addresses.neighbours c.in-Some.from ≡ false = search rules in
-    let apart : is_apart (circle_of c.args.self.now.addresses) (c.in-Some.from, c.in-Some.frame.now) ≡ false = not_apart (circle_of c.args.self.now.addresses) (c.in-Some.from, c.in-Some.frame.now) beside known in
+    let apart : is_filtered_out (filter_of c.args.self.now.addresses) (c.in-Some.from, c.in-Some.frame.now) ≡ false = is_not_out (filter_of c.args.self.now.addresses) (c.in-Some.from, c.in-Some.frame.now) beside known in
     on_err c.from_residual.result (
       (c.in-Some.from, c.in-Some.frame.now),
       c.in-Some.ensures.some,

@@ -2,7 +2,7 @@ use Rattle.std.proofs.Common.{Option, ap, subst}
 use Rattle.lk_probe.specs.declared.reported.Reported.{Reported}
 use Rattle.lk_transport.specs.Hearing.{BufferValue}
 use Rattle.lk_transport.specs.Inquiring.{LearnsKept, ReadmitsKept}
-use Rattle.lk_transport.specs.declared.asked.Asked.{Asked}
+use Rattle.lk_transport.specs.declared.received_probe.ReceivedProbe.{ReceivedProbe}
 use Rattle.lk_server.proofs.Acting.{acted}
 use Rattle.lk_server.specs.Probes.{AnswersKept}
 use Rattle.lk_server.proofs.server.Server.handle_probes.Goals as goal
@@ -11,13 +11,13 @@ pub returns-clause-acts : goal.returns-clause-acts
 returns-clause-acts g c =
     let shows = g.R.ServedReplica.Shows in
     let tells = g.S.DatagramSocket.is_telling in
-    let t = c.take_asked-asked.ensures in
+    let t = c.take_probe-asked.ensures in
     let a = c.answer.ensures in
     let r = c.readmit.ensures in
     let l = c.learn.ensures in
     let q = c.probe_next.ensures in
-    let answers = subst (λ (o : Option Asked). AnswersKept shows tells o c.args.self.now c.answer.new.self) t.value a.answers in
-    let readmits = subst (λ (o : Option Asked). ReadmitsKept o c.answer.new.self.addresses c.readmit.new.self.addresses) t.value r.readmits in
+    let answers = subst (λ (o : Option ReceivedProbe). AnswersKept shows tells o c.args.self.now c.answer.new.self) t.value a.answers in
+    let readmits = subst (λ (o : Option ReceivedProbe). ReadmitsKept o c.answer.new.self.addresses c.readmit.new.self.addresses) t.value r.readmits in
     let learns = subst (λ (o : Option Reported). LearnsKept o c.readmit.new.self.addresses c.learn.new.self.addresses) (ap (λ (b : BufferValue). b.reported) t.rest) l.learns in
     acted shows tells c.args.buffer.now.asked c.args.buffer.now.reported _ c.args.self.now c.answer.new.self c.readmit.new.self c.learn.new.self c.probe_next.new.self
     answers a.others readmits r.network r.others learns l.network l.others c.now-now.ensures q.asks q.network q.still q.others

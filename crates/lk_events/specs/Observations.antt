@@ -1,0 +1,17 @@
+-- What is seen of a node after a turn.
+use Rattle.std.specs.Prelude.{Bool, ◌||◌, is_some, if◌then◌else◌}
+use Rattle.lk_types.specs.BallotValue.{BallotValue}
+use Rattle.lk_types.specs.Ballots.{is_below}
+use Rattle.lk_events.specs.declared.event.Why.{Why}
+use Rattle.lk_events.specs.declared.event.Why.TheVariants.{Promised, NoMember, Told}
+use Rattle.lk_events.specs.declared.observation.Observation.{Observation}
+
+-- why a node leads no more in this ballot: it is no member, or else it has promised a greater ballot, or else it was
+-- told of one
+abbrev pub why_of : Observation → BallotValue → Why
+why_of seen ballot =
+    if seen.is_member then (if is_below ballot seen.promised then Promised seen.promised.node else Told) else NoMember
+
+-- somebody leads, as far as the node knows
+abbrev pub has_leader : Observation → Bool
+has_leader seen = is_some seen.leads || is_some seen.follows

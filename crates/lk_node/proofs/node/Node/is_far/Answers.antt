@@ -1,6 +1,0 @@
--- One tactic for each goal that a wrong body breaks.
-use Rattle.std.proofs.Common.{rules}
-use Rattle.lk_node.proofs.node.Node.is_far.Goals as goal
-
-pub returns : goal.returns
-returns g c = search rules

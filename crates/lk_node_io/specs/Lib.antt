@@ -1,0 +1,10 @@
+pub mod Letters
+pub mod Outboxes
+pub mod Saying
+pub mod Ticks
+pub mod DecidedMessages
+pub mod Grants
+pub mod KeptReplies
+pub mod Recipients
+pub mod Rounds
+pub mod Faults

@@ -1,0 +1,17 @@
+use crate::to::To;
+use std::marker::Model;
+
+/// A letter of a node: its recipient, and its bytes.
+#[derive(Drop)]
+pub struct Letter {
+    pub to: To,
+    pub bytes: Vec<u8>,
+}
+
+impl Model for Letter {
+    ghost use Rattle.lk_node_io.specs.Letters.{LetterValue};
+
+    ghost Value = { LetterValue };
+
+    ghost view = { λ l. record { to = l.to; bytes = l.bytes.items } };
+}

@@ -1,0 +1,35 @@
+//! The input and the output of a node's step: a tick or a datagram (`Input`); entries, notes and letters (`Outbox`);
+//! and the parts of a step that need no node: replies, recipients, spellings, and the counts of
+//! ticks and rounds. What a replica adds is here too: its errors (`ReplicaFault`, and `Halted` and `SendFault`, two of
+//! their causes), and the trait `Post`, which sends its letters.
+#![tactic(auto)]
+
+mod decision;
+mod fault;
+mod halted;
+mod input;
+mod letter;
+mod note;
+mod outbox;
+mod post;
+mod recipients;
+mod replies;
+mod seen_round;
+mod spelling;
+mod tick_count;
+mod to;
+
+pub use decision::decided_message;
+pub use fault::ReplicaFault;
+pub use halted::Halted;
+pub use input::Input;
+pub use letter::Letter;
+pub use note::Note;
+pub use outbox::Outbox;
+pub use post::{Post, SendFault};
+pub use recipients::{letters_to, others, place_of, window_nodes};
+pub use replies::{is_granted, kept_reply, session_of, session_reply};
+pub use seen_round::SeenRound;
+pub use spelling::spelled;
+pub use tick_count::TickCount;
+pub use to::To;

@@ -1,0 +1,24 @@
+// The bytes of a node's message.
+ghost use Rattle.std.specs.Prelude.{◌≡◌, IfOk};
+ghost use Rattle.lk_messages.specs.Grammar.{spelling, IsMessage};
+ghost use Rattle.lk_node_io.specs.Saying.{saying};
+
+use bytes::BytesMut;
+use lk_entries::Header;
+use lk_types::NoMemory;
+use lk_wire::{Content, Message, NodeMessage, write};
+use std::alloc::Global;
+
+/// The bytes of this message from a node of this header.
+pub fn spelled(alloc: Global, header: &Header, message: NodeMessage) -> Result<Vec<u8>, NoMemory>
+    ensures bytes { IfOk result (λ bytes. bytes.items ≡ spelling (saying header.now message)) }
+    ensures fits { IfOk result (λ bytes. IsMessage (saying header.now message)) }
+{
+    let message = Message {
+        cluster: header.genesis().cluster,
+        content: Content::Node(header.node(), message),
+    };
+    let mut out = BytesMut::new(alloc);
+    write(&message, &mut out)?;
+    Ok(out.as_slice().to_vec(alloc)?)
+}

@@ -1,6 +1,0 @@
-use Rattle.std.proofs.Common.{◌≡◌}
-use Rattle.lk_step.specs.Letters.{batch_of}
-use Rattle.lk_replica.proofs.collected.datagrams.Given as goal
-
-abbrev pub invariant-loop-letter : goal.invariant-loop-letter
-invariant-loop-letter l = l.datagrams.items ≡ batch_of l.node l.yielded

@@ -1,0 +1,79 @@
+//! What a replica shows of itself to whoever probes its node.
+
+ghost use Rattle.std.specs.Prelude.{◌≡◌, Some, min, length, slice_get};
+ghost use Rattle.lk_served_replica.specs.Showing.{pending_in, IsShown};
+
+use lk_disk::LogDisk;
+use lk_members::Roster;
+use lk_node::Node;
+use lk_probe::{Leadership, Progress};
+use lk_replica::Replica;
+use lk_state::Machine;
+use lk_types::Members;
+
+/// What a replica shows of itself to whoever probes its node.
+#[derive(Drop)]
+pub struct ProbedState {
+    pub leadership: Leadership,
+    pub progress: Progress,
+    /// The requests that wait to be proposed.
+    pub waiting: u16,
+    /// The members of the next position.
+    pub members: Members,
+    /// The format of its store.
+    pub format: u8,
+}
+
+// The members of the next position.
+fn next_members(roster: &Roster) -> &Members
+    ensures { slice_get roster.now.sets 0 ≡ Some result.now }
+{
+    roster.facts();
+    roster.window().as_slice()[0].set()
+}
+
+// How many positions from the next one on come before the one from which on the last join or leave is in force.
+fn pending(roster: &Roster) -> u8
+    ensures { result ≡ min (pending_in roster.now) 255 }
+{
+    let changed = roster.changed().get();
+    if changed == 0 {
+        return 0;
+    }
+    let in_force = changed + u64::from(roster.alpha());
+    let left = in_force.saturating_sub(roster.executed().get() + 1);
+    if left < 255 { left as u8 } else { 255 }
+}
+
+// How many requests wait to be proposed; 65,535 where there are more.
+fn waiting<M: Machine>(node: &Node<M>) -> u16
+    ensures { result ≡ min (length node.now.leader.waiting) 65535 }
+{
+    let count = node.waiting();
+    if count < 65535 { count as u16 } else { 65535 }
+}
+
+impl ProbedState {
+    /// What that replica shows.
+    pub fn of<M: Machine, D: LogDisk + Drop>(replica: &Replica<M, D>) -> ProbedState
+        ensures { IsShown replica.now result }
+    {
+        let node = replica.node();
+        ProbedState {
+            leadership: Leadership {
+                leads: node.leads(),
+                leader: node.presumed_leader(),
+                silence: u64::from(node.ticks()),
+                promised: node.promised(),
+            },
+            progress: Progress {
+                executed: node.executed(),
+                snapshot: node.snapshot_position(),
+                pending: pending(node.roster()),
+            },
+            waiting: waiting(node),
+            members: next_members(node.roster()).copy(),
+            format: replica.format(),
+        }
+    }
+}

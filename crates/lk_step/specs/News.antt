@@ -1,9 +1,0 @@
--- What the other nodes are told of a decided position.
-use Rattle.std.specs.Prelude.{[], ◌∷◌}
-use Rattle.lk_messages.specs.declared.message.NodeMessage.{NodeMessage}
-use Rattle.lk_messages.specs.declared.message.NodeMessage.TheVariants as kinds
-use Rattle.lk_learner.specs.Learners.{Pair}
-
--- that the pair is decided
-abbrev pub news_of : Pair → NodeMessage
-news_of p = kinds.Decided (record { first = p.0; commands = p.1 ∷ [] })
