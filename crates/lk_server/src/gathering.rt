@@ -1,24 +1,19 @@
 //! How a server collects one group. It sends nothing until the group ends.
 //!
 //! `fill_group` takes what a turn brings: by `add_pending` the letters of the node to itself (`add_own_letter`) or else
-//! what comes to the socket (`add_from_socket`: `add_first_datagram`, then `add_next_datagram` up to 63 times), and by
-//! `add_tick` a tick where one is due. `add_received` filters a datagram of the socket, `add_datagram` counts it, and
-//! `add_input` gives it to the replica.
+//! what comes to the socket (`add_from_socket`), and by `add_tick` a tick where one is due. `add_datagram` counts a
+//! datagram, and `add_input` gives it to the replica.
 
-ghost use Rattle.std.specs.Prelude.{◌≡◌, ◌≤◌, ◌++◌, ℕ, List, ◌∷◌, [], length, Some, None, true, false, OnOk, OnErr, IfOk, IfSome, IsNone};
+ghost use Rattle.std.specs.Prelude.{◌≡◌, ℕ, List, ◌∷◌, [], Some, None, true, false, OnOk, OnErr, IfOk, IfSome, IsNone};
 ghost use Rattle.std.specs.declared.net.socket_addr.SocketAddr.{SocketAddr as Address};
 ghost use Rattle.lk_node_io.specs.Letters.{LetterValue};
 ghost use Rattle.lk_node.specs.Calls.{heard_by};
-ghost use Rattle.lk_transport.specs.Addresses.{filter_of, IsSameFilter};
 ghost use Rattle.lk_served_replica.specs.Groups.{GathersMore, SaysNoMore};
-ghost use Rattle.lk_server.specs.Gatherings.{Finds, TakesAll, EndsWithin, TakesOwn, EndsOwn, TakesHeard, EndsHeard, TakesSocket, EndsSocket, TakesWaiting, TakesGroup, EndsGroup};
-ghost use Rattle.lk_transport.specs.Hearing.{listed};
-ghost use Rattle.lk_transport.specs.Posts.{Hears, is_filtered_out};
-ghost use Rattle.lk_transport.specs.Kept.{Keeps, KeepsOf};
+ghost use Rattle.lk_server.specs.Gatherings.{Finds, TakesAll, EndsWithin, TakesOwn, EndsOwn, TakesWaiting, TakesGroup, EndsGroup};
+ghost use Rattle.lk_transport.specs.Kept.{KeepsOf};
 ghost use Rattle.lk_server.specs.Servers.{HasReceived, IsIdle, one_more_tick};
 
 use crate::group_fault::GroupFault;
-use crate::pausing::receive_or_pause;
 use crate::server::Server;
 use crate::watching::{log_changes, log_served};
 use lk_node_io::{Input, Letter};
@@ -28,15 +23,13 @@ use lk_replica::Group;
 use lk_served_replica::ServedReplica;
 use lk_transport::arrival::Arrival;
 use lk_transport::receive_buffer::ReceiveBuffer;
-use lk_transport::received_probe::is_beside;
 use lk_transport::socket::DatagramSocket;
 use lk_wire::Datagram;
 use log::Log;
-use std::net::SocketAddr;
 use std::time::{Clock, Duration};
 
 // A group has at most this many datagrams after its first.
-const FURTHER: u64 = 63;
+pub(crate) const FURTHER: u64 = 63;
 
 impl<R: ServedReplica, S: DatagramSocket + Drop> Server<R, S> {
     // Removes the first letter of the node to itself.
@@ -53,59 +46,6 @@ impl<R: ServedReplica, S: DatagramSocket + Drop> Server<R, S> {
         ensures { self.new ≡ self.old }
     {
         self.post.set_timeout(time);
-    }
-
-    // Receives the next datagram of the socket into the buffer, if one arrives.
-    fn receive(&mut self, buffer: &mut ReceiveBuffer)
-        ensures comes { S.is_telling → self.old.coming ≡ listed buffer.new.last ++ self.new.coming }
-        ensures none { S.is_telling → buffer.new.last ≡ None → self.old.coming ≡ [] }
-        ensures asked { buffer.new.asked ≡ buffer.old.asked }
-        ensures reported { buffer.new.reported ≡ buffer.old.reported }
-        ensures others { self.new ≡ record self.old { coming = self.new.coming } }
-    {
-        self.post.receive(buffer);
-    }
-
-    // Receives a datagram that is already waiting, and where none is, one that comes in a pause, if one is due before the
-    // group's sync.
-    fn receive_or_pause<C: Clock>(
-        &mut self,
-        buffer: &mut ReceiveBuffer,
-        metronome: &Metronome<C>,
-        group: &Group,
-    )
-        ensures comes { S.is_telling → self.old.coming ≡ listed buffer.new.last ++ self.new.coming }
-        ensures none { S.is_telling → buffer.new.last ≡ None → self.old.coming ≡ [] }
-        ensures asked { buffer.new.asked ≡ buffer.old.asked }
-        ensures reported { buffer.new.reported ≡ buffer.old.reported }
-        ensures others { self.new ≡ record self.old { coming = self.new.coming } }
-    {
-        receive_or_pause(
-            &mut self.post,
-            &mut self.sync_pause,
-            buffer,
-            metronome,
-            group,
-        );
-    }
-
-    // Records the source of a datagram of this cluster, and counts a datagram that means nothing to it.
-    fn record_sender<L: Log>(
-        &mut self,
-        datagram: &Datagram<'_>,
-        from: SocketAddr,
-        log: &L,
-    ) -> Arrival
-        ensures heard { Hears self.old.cluster datagram.now from self.old.addresses self.new.addresses }
-        // Where nodes live and the keys do not change.
-        ensures network { IsSameFilter self.old.addresses self.new.addresses }
-        ensures others { self.new ≡ record self.old { addresses = self.new.addresses } }
-    {
-        let came = self.post.record_sender(self.cluster, datagram, from);
-        if let Some(count) = self.ignored.count(&came, log) {
-            self.events.foreign = Some(count);
-        }
-        came
     }
 
     // The replica takes a tick or a datagram into the group, and logs what changes.
@@ -149,7 +89,7 @@ impl<R: ServedReplica, S: DatagramSocket + Drop> Server<R, S> {
     }
 
     // Adds a datagram to the group, and a tick where one follows it.
-    fn add_datagram<L: Log>(
+    pub(crate) fn add_datagram<L: Log>(
         &mut self,
         datagram: Datagram<'_>,
         came: &Arrival,
@@ -199,133 +139,6 @@ impl<R: ServedReplica, S: DatagramSocket + Drop> Server<R, S> {
             }
         }
         Ok(())
-    }
-
-    // Adds the datagram in the buffer, out of its frame, to the group, unless it is beside the protocol or came from a
-    // node of another genesis. Keeps the first probe and the first report. Returns what was found.
-    fn add_received<L: Log>(
-        &mut self,
-        buffer: &mut ReceiveBuffer,
-        group: &mut Group,
-        log: &L,
-    ) -> Result<TurnInput, GroupFault>
-        ensures takes { IfOk result (λ found. found ≡ TurnInput.Something → (frame : Address × List ℕ) × (buffer.old.last ≡ Some frame) × (is_filtered_out (filter_of self.old.addresses) frame ≡ false) × TakesHeard R.Gathers (frame ∷ []) group.old group.new self.old self.new) }
-        ensures beside { IfOk result (λ found. found ≡ TurnInput.Beside → (frame : Address × List ℕ) × (buffer.old.last ≡ Some frame) × (is_filtered_out (filter_of self.old.addresses) frame ≡ true) × (self.new ≡ self.old) × (group.new ≡ group.old)) }
-        ensures none { IfOk result (λ found. found ≡ TurnInput.Nothing → (buffer.old.last ≡ None) × (self.new ≡ self.old) × (group.new ≡ group.old)) }
-        ensures ends { OnErr result ((frame : Address × List ℕ) × (buffer.old.last ≡ Some frame) × (is_filtered_out (filter_of self.old.addresses) frame ≡ false) × EndsHeard R.Says R.Gathers (frame ∷ []) group.old self.old self.new) }
-        ensures kept { IfOk result (λ found. found ≡ TurnInput.Beside → Keeps self.old.node self.old.addresses.seals buffer.old buffer.new) }
-        ensures rest { IfOk result (λ found. (found ≡ TurnInput.Beside → ⊥) → buffer.new ≡ buffer.old) }
-        ensures spares { OnErr result (buffer.new ≡ buffer.old) }
-        ensures others { self.new ≡ record self.old { replica = self.new.replica; failed = self.new.failed; received = self.new.received; ticks = self.new.ticks; addresses = self.new.addresses } }
-        ensures broken { OnErr result (self.new.failed ≡ true) }
-    {
-        let Some((frame, from)) = buffer.latest() else {
-            return Ok(TurnInput::Nothing);
-        };
-        let datagram = self.post.open(frame);
-        if is_beside(datagram) {
-            let asked = self.post.read_probe(from, frame, datagram);
-            let reported = self.post.read_report(from, datagram);
-            buffer.keep_probe(asked);
-            buffer.keep_report(reported);
-            return Ok(TurnInput::Beside);
-        }
-        if let Some(node) = self.post.stranger(from) {
-            self.warn_of_stranger(node, log);
-            return Ok(TurnInput::Beside);
-        }
-        let viewed = Datagram::of(datagram);
-        let came = self.record_sender(&viewed, from, log);
-        self.add_datagram(viewed, &came, group, log)?;
-        Ok(TurnInput::Something)
-    }
-
-    // Adds the next datagram of the socket to the group, if one comes. Returns what was found.
-    fn add_first_datagram<L: Log>(
-        &mut self,
-        buffer: &mut ReceiveBuffer,
-        group: &mut Group,
-        log: &L,
-    ) -> Result<TurnInput, GroupFault>
-        ensures takes { IfOk result (λ found. found ≡ TurnInput.Something → (frame : Address × List ℕ) × (is_filtered_out (filter_of self.old.addresses) frame ≡ false) × TakesSocket R.Gathers S.is_telling (frame ∷ []) group.old group.new self.old self.new × KeepsOf self.old.node self.old.addresses.seals (frame ∷ []) buffer.old buffer.new) }
-        ensures none { IfOk result (λ found. (found ≡ TurnInput.Something → ⊥) → (frames : List (Address × List ℕ)) × Finds S.is_telling found frames self.old self.new × (group.new ≡ group.old) × KeepsOf self.old.node self.old.addresses.seals frames buffer.old buffer.new) }
-        ensures ends { OnErr result ((frame : Address × List ℕ) × (is_filtered_out (filter_of self.old.addresses) frame ≡ false) × EndsSocket R.Says R.Gathers S.is_telling (frame ∷ []) group.old self.old self.new) }
-        ensures others { self.new ≡ record self.old { replica = self.new.replica; failed = self.new.failed; received = self.new.received; ticks = self.new.ticks; addresses = self.new.addresses; coming = self.new.coming } }
-        ensures broken { OnErr result (self.new.failed ≡ true) }
-    {
-        self.receive(buffer);
-        self.add_received(buffer, group, log)
-    }
-
-    // Adds the next datagram of the socket to the group, if one waits already or comes in a pause before the sync,
-    // and if the group has something to send. Returns whether one came.
-    fn add_next_datagram<C: Clock, L: Log>(
-        &mut self,
-        buffer: &mut ReceiveBuffer,
-        metronome: &Metronome<C>,
-        group: &mut Group,
-        log: &L,
-    ) -> Result<bool, GroupFault>
-        ensures takes { IfOk result (λ came. came ≡ true → (frame : Address × List ℕ) × TakesSocket R.Gathers S.is_telling (frame ∷ []) group.old group.new self.old self.new × KeepsOf self.old.node self.old.addresses.seals (frame ∷ []) buffer.old buffer.new) }
-        ensures none { IfOk result (λ came. came ≡ false → (S.is_telling → self.new.coming ≡ self.old.coming) × (record self.new { coming = self.old.coming } ≡ self.old) × (group.new ≡ group.old) × (buffer.new.asked ≡ buffer.old.asked) × (buffer.new.reported ≡ buffer.old.reported)) }
-        ensures ends { OnErr result ((frame : Address × List ℕ) × EndsSocket R.Says R.Gathers S.is_telling (frame ∷ []) group.old self.old self.new) }
-        ensures others { self.new ≡ record self.old { replica = self.new.replica; failed = self.new.failed; received = self.new.received; ticks = self.new.ticks; addresses = self.new.addresses; coming = self.new.coming } }
-        ensures broken { OnErr result (self.new.failed ≡ true) }
-    {
-        if group.letters().is_empty() {
-            return Ok(false);
-        }
-        self.receive_or_pause(buffer, metronome, group);
-        match self.add_received(buffer, group, log)? {
-            TurnInput::Nothing => Ok(false),
-            TurnInput::Beside => Ok(true),
-            TurnInput::Something => Ok(true),
-        }
-    }
-
-    // Adds up to 63 further datagrams to the group, in order: those that already wait or come in a pause, as long
-    // as the group has something to send.
-    fn add_further_datagrams<C: Clock, L: Log>(
-        &mut self,
-        buffer: &mut ReceiveBuffer,
-        metronome: &Metronome<C>,
-        group: &mut Group,
-        log: &L,
-    ) -> Result<(), GroupFault>
-        ensures takes { OnOk result ((frames : List (Address × List ℕ)) × (length frames ≤ 63) × TakesSocket R.Gathers S.is_telling frames group.old group.new self.old self.new × KeepsOf self.old.node self.old.addresses.seals frames buffer.old buffer.new) }
-        ensures ends { OnErr result ((frames : List (Address × List ℕ)) × (length frames ≤ 63) × EndsSocket R.Says R.Gathers S.is_telling frames group.old self.old self.new) }
-        ensures others { self.new ≡ record self.old { replica = self.new.replica; failed = self.new.failed; received = self.new.received; ticks = self.new.ticks; addresses = self.new.addresses; coming = self.new.coming } }
-        ensures broken { OnErr result (self.new.failed ≡ true) }
-    {
-        'datagrams: for _ in 0..FURTHER {
-            if !self.add_next_datagram(buffer, metronome, group, log)? {
-                return Ok(());
-            }
-        }
-        Ok(())
-    }
-
-    // Adds what comes to the socket: the next datagram, and those that wait behind it. Returns what was found.
-    fn add_from_socket<C: Clock, L: Log>(
-        &mut self,
-        buffer: &mut ReceiveBuffer,
-        metronome: &Metronome<C>,
-        group: &mut Group,
-        log: &L,
-    ) -> Result<TurnInput, GroupFault>
-        requires { self.old.own ≡ [] }
-        ensures takes { IfOk result (λ found. found ≡ TurnInput.Something → (frames : List (Address × List ℕ)) × TakesWaiting R.Gathers S.is_telling frames group.old group.new self.old self.new × KeepsOf self.old.node self.old.addresses.seals frames buffer.old buffer.new) }
-        ensures none { IfOk result (λ found. (found ≡ TurnInput.Something → ⊥) → (self.old.own ≡ []) × (frames : List (Address × List ℕ)) × Finds S.is_telling found frames self.old self.new × (group.new ≡ group.old) × KeepsOf self.old.node self.old.addresses.seals frames buffer.old buffer.new) }
-        ensures ends { OnErr result ((frames : List (Address × List ℕ)) × EndsGroup R.Says R.Gathers S.is_telling frames group.old self.old self.new) }
-        ensures others { self.new ≡ record self.old { replica = self.new.replica; failed = self.new.failed; received = self.new.received; ticks = self.new.ticks; addresses = self.new.addresses; coming = self.new.coming } }
-        ensures broken { OnErr result (self.new.failed ≡ true) }
-    {
-        let found = self.add_first_datagram(buffer, group, log)?;
-        if !found.is_something() {
-            return Ok(found);
-        }
-        self.add_further_datagrams(buffer, metronome, group, log)?;
-        Ok(TurnInput::Something)
     }
 
     // Adds what waits to the group: the letters of the node to itself, the first 64 of them, and where there is none

@@ -11,5 +11,6 @@ pub mod notes;
 mod pausing;
 mod probing;
 pub mod server;
+mod socket_input;
 pub mod turn_events;
 pub mod watching;
