@@ -36,15 +36,18 @@ pub record GrantsAccept (a : AcceptorValue) (e : ℕ) (x : Vote) : Type 0 where
 -- ---- its response, what it writes and then holds
 
 -- it promises the ballot and reports its votes from the position on; a ballot above the promised one is written
-pub record Promises (a : AcceptorValue) (b : BallotValue) (first : ℕ) (r : Response) (new : AcceptorValue) : Type 0 where
+pub record Promises (a : AcceptorValue) (b : BallotValue) (first : ℕ) (r : Response)
+    (new : AcceptorValue) : Type 0 where
   pub reply : r.reply ≡ message.Promise (record { ballot = b; first = first; votes = votes_from first a.state.votes })
-  pub entry : (IsBelow a.state.promised b × (r.entry ≡ Some (entry.Promise b))) ⊎ ((a.state.promised ≡ b) × (r.entry ≡ None))
+  pub entry : (IsBelow a.state.promised b × (r.entry ≡ Some (entry.Promise b)))
+      ⊎ ((a.state.promised ≡ b) × (r.entry ≡ None))
   pub state : new ≡ with_state a (with_promise a.state b)
 
 -- it casts this vote; a vote that was not kept already is written
 pub record Votes (a : AcceptorValue) (x : Vote) (r : Response) (new : AcceptorValue) : Type 0 where
   pub reply : r.reply ≡ message.Accepted x
-  pub entry : (Contains a.state.votes x × (r.entry ≡ None)) ⊎ ((Contains a.state.votes x → ⊥) × (r.entry ≡ Some (entry.Vote x)))
+  pub entry : (Contains a.state.votes x × (r.entry ≡ None))
+      ⊎ ((Contains a.state.votes x → ⊥) × (r.entry ≡ Some (entry.Vote x)))
   pub state : new ≡ with_state a (with_vote a.state x)
 
 -- it rejects the ballot, reports the promised one and how far it has executed, and nothing changes

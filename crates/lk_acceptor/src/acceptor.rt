@@ -43,7 +43,12 @@ impl Model for Acceptor {
       state = record { promised = a.promised; votes = a.votes.items; snapshot_position = a.snapshot_position };
     } };
 
-    ghost invariant = { λ a. IsAlpha a.alpha × AllByRecursion IsVote a.votes.items × IsOrdered (record { promised = a.promised; votes = a.votes.items; snapshot_position = a.snapshot_position }) };
+    ghost invariant = { λ a. IsAlpha a.alpha × AllByRecursion IsVote a.votes.items
+        × IsOrdered (record {
+          promised = a.promised;
+          votes = a.votes.items;
+          snapshot_position = a.snapshot_position;
+        }) };
 }
 
 // Each vote is in its range. The function does nothing.
@@ -65,8 +70,12 @@ impl Acceptor {
         snapshot_position: Executed,
     ) -> Acceptor
         requires alpha { IsAlpha alpha }
-        requires kept { IsOrdered (record { promised = promised; votes = votes.items; snapshot_position = snapshot_position }) }
-        ensures { result ≡ record { alpha = alpha; state = record { promised = promised; votes = votes.items; snapshot_position = snapshot_position } } }
+        requires kept { IsOrdered
+            (record { promised = promised; votes = votes.items; snapshot_position = snapshot_position }) }
+        ensures { result ≡ record {
+          alpha = alpha;
+          state = record { promised = promised; votes = votes.items; snapshot_position = snapshot_position };
+        } }
     {
         votes_facts(&votes);
         Acceptor {
@@ -150,7 +159,8 @@ impl Acceptor {
     // Promises a ballot that is not below the promised one, and returns its entry if it is above.
     fn promise_ballot(&mut self, ballot: RealBallot) -> Option<Entry>
         requires { IsAtMost self.old.state.promised ballot }
-        ensures entry { (IsBelow self.old.state.promised ballot × (result ≡ Some (entry.Promise ballot))) ⊎ ((self.old.state.promised ≡ ballot) × (result ≡ None)) }
+        ensures entry { (IsBelow self.old.state.promised ballot × (result ≡ Some (entry.Promise ballot)))
+            ⊎ ((self.old.state.promised ≡ ballot) × (result ≡ None)) }
         ensures state { self.new ≡ with_state self.old (with_promise self.old.state ballot) }
     {
         if !self.promised.is_below(ballot.get()) {
@@ -163,7 +173,9 @@ impl Acceptor {
     fn vote(&mut self, vote: &Vote) -> Result<Option<Entry>, NoMemory>
         requires ballot { IsAtMost self.old.state.promised vote.now.ballot }
         requires above { self.old.state.snapshot_position < vote.now.position }
-        ensures entry { IfOk result (λ e. (Contains self.old.state.votes vote.now × (e ≡ None)) ⊎ ((Contains self.old.state.votes vote.now → ⊥) × (e ≡ Some (entry.Vote vote.now)))) }
+        ensures entry { IfOk result
+            (λ e. (Contains self.old.state.votes vote.now × (e ≡ None))
+            ⊎ ((Contains self.old.state.votes vote.now → ⊥) × (e ≡ Some (entry.Vote vote.now)))) }
         ensures state { OnOk result (self.new ≡ with_state self.old (with_vote self.old.state vote.now)) }
         ensures err { OnErr result (self.new ≡ self.old) }
         ensures memory { OnErr result (Contains self.old.state.votes vote.now → ⊥) }

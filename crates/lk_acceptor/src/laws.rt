@@ -17,35 +17,45 @@ ghost use Rattle.lk_acceptor.specs.declared.response.Response.{Response};
 
 /// What an Accept and a snapshot make of an acceptor is what a sound history permits.
 pub fn votes_are_taken_over()
-    ensures vote { (a : AcceptorValue) (e : ℕ) (x : Vote) → IsOrdered a.state → GrantsAccept a e x → TakesVote a.state x (with_vote a.state x) }
-    ensures snapshot { (s : AcceptorState) (i : ℕ) → s.snapshot_position ≤ i → TakesSnapshot s i (without_votes_to s i) }
+    ensures vote { (a : AcceptorValue) (e : ℕ) (x : Vote) → IsOrdered a.state → GrantsAccept a e x
+        → TakesVote a.state x (with_vote a.state x) }
+    ensures snapshot { (s : AcceptorState) (i : ℕ) → s.snapshot_position ≤ i
+        → TakesSnapshot s i (without_votes_to s i) }
 {}
 
 /// A node whose acceptor is in the state that the call left may send the response, in every history.
 pub fn an_answer_may_be_sent()
-    ensures prepare { (genesis : Genesis) (sent : List Datagram) (w : View) (a : AcceptorValue) (e : ℕ) (b : BallotValue) (first : ℕ) (r : Response) (new : AcceptorValue)
+    ensures prepare { (genesis : Genesis) (sent : List Datagram) (w : View) (a : AcceptorValue) (e : ℕ)
+        (b : BallotValue) (first : ℕ) (r : Response) (new : AcceptorValue)
         → AnswersPrepare a e b first r new → w.acceptor ≡ new.state → MaySend genesis sent w r.reply }
-    ensures accept { (genesis : Genesis) (sent : List Datagram) (w : View) (a : AcceptorValue) (e : ℕ) (x : Vote) (r : Response) (new : AcceptorValue)
+    ensures accept { (genesis : Genesis) (sent : List Datagram) (w : View) (a : AcceptorValue) (e : ℕ) (x : Vote)
+        (r : Response) (new : AcceptorValue)
         → IsOrdered a.state → AnswersAccept a e x r new → w.acceptor ≡ new.state → MaySend genesis sent w r.reply }
 {}
 
 /// What the acceptor then holds covers the response.
 pub fn an_answer_is_covered()
-    ensures prepare { (a : AcceptorValue) (e : ℕ) (b : BallotValue) (first : ℕ) (r : Response) (new : AcceptorValue) → AnswersPrepare a e b first r new → Covers new.state r.reply }
-    ensures accept { (a : AcceptorValue) (e : ℕ) (x : Vote) (r : Response) (new : AcceptorValue) → IsOrdered a.state → AnswersAccept a e x r new → Covers new.state r.reply }
+    ensures prepare { (a : AcceptorValue) (e : ℕ) (b : BallotValue) (first : ℕ) (r : Response) (new : AcceptorValue)
+        → AnswersPrepare a e b first r new → Covers new.state r.reply }
+    ensures accept { (a : AcceptorValue) (e : ℕ) (x : Vote) (r : Response) (new : AcceptorValue) → IsOrdered a.state
+        → AnswersAccept a e x r new → Covers new.state r.reply }
 {}
 
 /// What the acceptor then holds is what a store stands for that has the entry after those of what it held: without an
 /// entry nothing has changed.
 pub fn entries_tell_what_is_held()
-    ensures prepare { (a : AcceptorValue) (e : ℕ) (b : BallotValue) (first : ℕ) (r : Response) (new : AcceptorValue) → AnswersPrepare a e b first r new → new.state ≡ with_written r.entry a.state }
-    ensures accept { (a : AcceptorValue) (e : ℕ) (x : Vote) (r : Response) (new : AcceptorValue) → IsOrdered a.state → AnswersAccept a e x r new → new.state ≡ with_written r.entry a.state }
-    ensures own { (s : AcceptorState) (b : BallotValue) → IsBelow s.promised b → with_promise s b ≡ acceptor_with (entry.Promise b) s }
+    ensures prepare { (a : AcceptorValue) (e : ℕ) (b : BallotValue) (first : ℕ) (r : Response) (new : AcceptorValue)
+        → AnswersPrepare a e b first r new → new.state ≡ with_written r.entry a.state }
+    ensures accept { (a : AcceptorValue) (e : ℕ) (x : Vote) (r : Response) (new : AcceptorValue) → IsOrdered a.state
+        → AnswersAccept a e x r new → new.state ≡ with_written r.entry a.state }
+    ensures own { (s : AcceptorState) (b : BallotValue) → IsBelow s.promised b
+        → with_promise s b ≡ acceptor_with (entry.Promise b) s }
 {}
 
 /// There is one response, one entry and one state after it.
 pub fn there_is_one_answer()
-    ensures prepare { (a : AcceptorValue) (e : ℕ) (b : BallotValue) (first : ℕ) (r q : Response) (new other : AcceptorValue)
+    ensures prepare { (a : AcceptorValue) (e : ℕ) (b : BallotValue) (first : ℕ) (r q : Response)
+        (new other : AcceptorValue)
         → AnswersPrepare a e b first r new → AnswersPrepare a e b first q other → (r ≡ q) × (new ≡ other) }
     ensures accept { (a : AcceptorValue) (e : ℕ) (x : Vote) (r q : Response) (new other : AcceptorValue)
         → AnswersAccept a e x r new → AnswersAccept a e x q other → (r ≡ q) × (new ≡ other) }
@@ -54,5 +64,6 @@ pub fn there_is_one_answer()
 /// Votes that rise by position within a stretch are no more than its positions, so they fit a promise, and a store's
 /// base.
 pub fn rising_votes_are_few()
-    ensures { (low n : ℕ) (votes : List Vote) → IsTrue (are_votes_above low votes) → ((v : Vote) → Contains votes v → v.position ≤ low + n) → length votes ≤ n }
+    ensures { (low n : ℕ) (votes : List Vote) → IsTrue (are_votes_above low votes)
+        → ((v : Vote) → Contains votes v → v.position ≤ low + n) → length votes ≤ n }
 {}

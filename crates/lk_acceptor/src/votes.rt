@@ -13,7 +13,8 @@ use std::alloc::Global;
 // The vote at a position.
 fn vote_at(votes: &[Vote], position: Position) -> Option<&Vote>
     requires { AreRising votes.now }
-    ensures { MatchOption result ((v : VoteValue) → IsVoteAt position votes.now v → ⊥) (λ v. IsVoteAt position votes.now v.now × ((w : VoteValue) → IsVoteAt position votes.now w → w ≡ v.now)) }
+    ensures { MatchOption result ((v : VoteValue) → IsVoteAt position votes.now v → ⊥)
+        (λ v. IsVoteAt position votes.now v.now × ((w : VoteValue) → IsVoteAt position votes.now w → w ≡ v.now)) }
 {
     let vote = votes.get(votes_below(position, votes))?;
     (vote.position == position).then_some(vote)

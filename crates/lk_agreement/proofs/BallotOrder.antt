@@ -26,10 +26,15 @@ cases_ballot b c =
 
 -- a proof for each ballot, from the ballots below it
 module _ (P : BallotValue → Type 0) (step : (c : BallotValue) → ((d : BallotValue) → IsBelow d c → P d) → P c) where
-  below_node : (r : ℕ) → ((c : BallotValue) → c.round < r → P c) → (k : ℕ) (c : BallotValue) → c.round ≤ r → c.node < k → P c
+  below_node : (r : ℕ) → ((c : BallotValue) → c.round < r → P c) → (k : ℕ) (c : BallotValue)
+      → c.round ≤ r → c.node < k → P c
   below_node r outer zero c h l = absurd (omega arith)
   below_node r outer (suc k) c h l =
-      step c (λ d lt. elim lt [ inl e ↦ outer d (omega arith) | inr e ↦ below_node r outer k d (omega arith) (omega arith) ])
+      step c (λ d lt. elim lt [
+        | inl e ↦ outer d (omega arith)
+        | inr e ↦
+            below_node r outer k d (omega arith) (omega arith)
+      ])
 
   below_round : (r : ℕ) (c : BallotValue) → c.round < r → P c
   below_round zero c h = absurd (omega arith)
@@ -52,4 +57,5 @@ at_most_below b c d (inl h) k = below_trans b c d h k
 at_most_below b c d (inr e) k = subst (λ x. IsBelow x d) (sym e) k
 
 pub at_most_unless_below : (b c : BallotValue) → (IsBelow c b → ⊥) → IsAtMost b c
-at_most_unless_below b c h = elim (cases_ballot b c) [ inl lt ↦ inl lt | inr (inl e) ↦ inr e | inr (inr gt) ↦ absurd (h gt) ]
+at_most_unless_below b c h =
+    elim (cases_ballot b c) [ inl lt ↦ inl lt | inr (inl e) ↦ inr e | inr (inr gt) ↦ absurd (h gt) ]

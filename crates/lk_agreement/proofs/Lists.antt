@@ -1,5 +1,6 @@
 -- Lists and their beginnings.
-use Rattle.std.proofs.Common.{◌≡◌, ℕ, zero, suc, ◌<◌, Bool, true, false, cond, List, [], ◌∷◌, ◌++◌, length, take, Some, slice_get, Contains, filter, get_or, ◌⊎◌, refl, ap, sym, ◌∙◌, inl, inr, arith}
+use Rattle.std.proofs.Common.{◌≡◌, ℕ, zero, suc, ◌<◌, Bool, true, false, cond, List, [], ◌∷◌, ◌++◌, length, take, Some}
+use Rattle.std.proofs.Common.{slice_get, Contains, filter, get_or, ◌⊎◌, refl, ap, sym, ◌∙◌, inl, inr, arith}
 use Rattle.std.proofs.lemmas.Bool.{false≢true}
 use Rattle.std.proofs.lemmas.List.Elements.{All-contains, filter_passes}
 
@@ -26,11 +27,13 @@ only x y h = elim (cons_cases x [] y h) [ inl e ↦ e | inr n ↦ absurd (omega 
 pub contains_more : {X : Type 0} (y : X) (ys : List X) (x : X) → Contains ys x → Contains (y ∷ ys) x
 contains_more y ys x h = (suc h.0, omega (arith, h.1), h.2)
 
-pub filter_has : {X : Type 0} (p : X → Bool) (xs : List X) (x : X) → Contains xs x → p x ≡ true → Contains (filter p xs) x
+pub filter_has : {X : Type 0} (p : X → Bool) (xs : List X) (x : X) → Contains xs x → p x ≡ true
+    → Contains (filter p xs) x
 filter_has p [] x h pass = absurd (omega (arith, h.1))
 filter_has {X} p (y ∷ ys) x h pass = here (p y) refl (cons_cases y ys x h) (λ c. filter_has p ys x c pass)
   where
-    here : (t : Bool) → p y ≡ t → (y ≡ x) ⊎ Contains ys x → (Contains ys x → Contains (filter p ys) x) → Contains (cond t (y ∷ filter p ys) (filter p ys)) x
+    here : (t : Bool) → p y ≡ t → (y ≡ x) ⊎ Contains ys x → (Contains ys x → Contains (filter p ys) x)
+        → Contains (cond t (y ∷ filter p ys) (filter p ys)) x
     here true e (inl same) rest = (0, omega arith, same)
     here true e (inr c) rest = contains_more y (filter p ys) x (rest c)
     here false e (inl same) rest = absurd (false≢true (sym e ∙ ap p same ∙ pass))
@@ -40,8 +43,10 @@ pub filter_from : {X : Type 0} (p : X → Bool) (xs : List X) (x : X) → Contai
 filter_from p [] x h = h
 filter_from {X} p (y ∷ ys) x h = here (p y) h (filter_from p ys x)
   where
-    here : (t : Bool) → Contains (cond t (y ∷ filter p ys) (filter p ys)) x → (Contains (filter p ys) x → Contains ys x) → Contains (y ∷ ys) x
-    here true c rest = elim (cons_cases y (filter p ys) x c) [ inl same ↦ (0, omega arith, same) | inr d ↦ contains_more y ys x (rest d) ]
+    here : (t : Bool) → Contains (cond t (y ∷ filter p ys) (filter p ys)) x
+        → (Contains (filter p ys) x → Contains ys x) → Contains (y ∷ ys) x
+    here true c rest = elim (cons_cases y (filter p ys) x c)
+        [ inl same ↦ (0, omega arith, same) | inr d ↦ contains_more y ys x (rest d) ]
     here false c rest = contains_more y ys x (rest c)
 
 pub filter_passes_at : {X : Type 0} (p : X → Bool) (xs : List X) (x : X) → Contains (filter p xs) x → p x ≡ true

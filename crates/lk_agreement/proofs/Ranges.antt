@@ -12,7 +12,8 @@ use Rattle.lk_agreement.proofs.Lists.{entry_at}
 module _ (genesis : Genesis) (sent : List Datagram) where
   -- some node has sent it as accepted
   pub chosen_was_accepted : (i : ℕ) (v : Command) → ChosenAt genesis sent i v
-      → (n : ℕ) × (b : BallotValue) × HasSent genesis sent n (Accepted (record { position = i; ballot = b; command = v }))
+      → (n : ℕ) × (b : BallotValue)
+      × HasSent genesis sent n (Accepted (record { position = i; ballot = b; command = v }))
   chosen_was_accepted i v c = let n = accepted_once genesis sent c.under i c.ballot v c.accepted in (n.0, c.ballot, n.1)
 
   pub chosen_at_fits : (i : ℕ) (v : Command) → ChosenAt genesis sent i v → IsCount i × IsCommand v
@@ -21,7 +22,8 @@ module _ (genesis : Genesis) (sent : List Datagram) where
       let vote : IsVote (record { position = i; ballot = c.ballot; command = v }) = n.1.spelled.0.1.1 in
       (vote.0, vote.2)
 
-  pub chosen_fits : (L : List Command) → Chosen genesis sent L → (i : ℕ) (v : Command) → command_at L i ≡ Some v → IsCount i × IsCommand v
+  pub chosen_fits : (L : List Command) → Chosen genesis sent L → (i : ℕ) (v : Command) → command_at L i ≡ Some v
+      → IsCount i × IsCommand v
   chosen_fits L chosen i v at = chosen_at_fits i v (entry_chosen genesis sent L chosen i v at)
 
   pub chosen_short : (L : List Command) → Chosen genesis sent L → length L ≤ 281474976710656

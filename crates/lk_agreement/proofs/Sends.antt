@@ -5,7 +5,8 @@ use Rattle.lk_messages.specs.Grammar.{Spells}
 use Rattle.lk_messages.specs.Values.{PromiseValue}
 use Rattle.lk_agreement.specs.declared.party.Party.TheVariants as party
 use Rattle.lk_agreement.specs.Ballots.{BallotValue, IsBelow, IsAtMost}
-use Rattle.lk_agreement.specs.Datagrams.{Genesis, Vote, NodeMessage, Datagram, said_by, Prepare, Promise, Accept, Accepted, Decided, HasSent, WasSent}
+use Rattle.lk_agreement.specs.Datagrams.{Genesis, Vote, NodeMessage, Datagram, said_by, Prepare, Promise, Accept}
+use Rattle.lk_agreement.specs.Datagrams.{Accepted, Decided, HasSent, WasSent}
 use Rattle.lk_agreement.specs.Chosen.{Command}
 use Rattle.lk_agreement.specs.Soundness.{ReportsFrom, Justified, Sound}
 use Rattle.lk_agreement.specs.Acceptors.{AcceptorState, Covers}
@@ -15,7 +16,8 @@ use Rattle.lk_agreement.proofs.Agree.{vote}
 use Rattle.lk_agreement.proofs.Grow.{still_sent, still_was, still_chosen_from, still_justified, still_stems}
 
 -- a promise reports what its node has accepted
-answers_now : (s : AcceptorState) (p : PromiseValue) (x : Vote) → MayPromise s p → Covers s (Accepted x) → p.first ≤ x.position → ReportsFrom p.votes x.position x.ballot
+answers_now : (s : AcceptorState) (p : PromiseValue) (x : Vote) → MayPromise s p → Covers s (Accepted x)
+    → p.first ≤ x.position → ReportsFrom p.votes x.position x.ballot
 answers_now s p x o c le =
     elim c.1 [
       | inl under ↦ absurd (omega (arith, o.above))
@@ -23,30 +25,40 @@ answers_now s p x o c le =
     ]
 
 -- a promise and a vote of one standing: the vote is not in an earlier ballot
-not_earlier : (s : AcceptorState) (p : PromiseValue) (x : Vote) → s.promised ≡ x.ballot → IsAtMost p.ballot s.promised → IsBelow x.ballot p.ballot → ⊥
-not_earlier s p x e le lt = below_self x.ballot (subst (λ d. IsBelow x.ballot d) e (below_at_most x.ballot p.ballot s.promised lt le))
+not_earlier : (s : AcceptorState) (p : PromiseValue) (x : Vote) → s.promised ≡ x.ballot → IsAtMost p.ballot s.promised
+    → IsBelow x.ballot p.ballot → ⊥
+not_earlier s p x e le lt =
+    below_self x.ballot (subst (λ d. IsBelow x.ballot d) e (below_at_most x.ballot p.ballot s.promised lt le))
 
 -- two proposals of one term
-same_value : (genesis : Genesis) (sent : List Datagram) (n : ℕ) (w : View) (b : BallotValue) (i : ℕ) (v u : Command) → ((t : Term) → w.term ≡ Some t → TermFits genesis sent n w.acceptor t)
+same_value : (genesis : Genesis) (sent : List Datagram) (n : ℕ) (w : View) (b : BallotValue) (i : ℕ) (v u : Command)
+    → ((t : Term) → w.term ≡ Some t → TermFits genesis sent n w.acceptor t)
     → MaySend genesis sent w (Accept (vote i b v)) → MaySend genesis sent w (Accept (vote i b u)) → v ≡ u
 same_value genesis sent n w b i v u f o p =
     let same : p.0 ≡ o.0 = cc (p.1, o.1) in
     (f o.0 o.1).one_each i v u o.3 (subst (λ (t : Term). Contains t.proposals (i, u)) same p.3)
 
 -- a proposal of a term, and one that was sent before
-own_value : (genesis : Genesis) (sent : List Datagram) (n : ℕ) (w : View) (b : BallotValue) (i : ℕ) (v u : Command) → ((t : Term) → w.term ≡ Some t → TermFits genesis sent n w.acceptor t)
+own_value : (genesis : Genesis) (sent : List Datagram) (n : ℕ) (w : View) (b : BallotValue) (i : ℕ) (v u : Command)
+    → ((t : Term) → w.term ≡ Some t → TermFits genesis sent n w.acceptor t)
     → MaySend genesis sent w (Accept (vote i b v)) → WasSent genesis sent (Accept (vote i b u)) → v ≡ u
 own_value genesis sent n w b i v u f o h =
     let t = f o.0 o.1 in
     t.one_each i v u o.3 (t.complete i u (subst (λ d. WasSent genesis sent (Accept (vote i d u))) (sym o.2) h))
 
-module _ (genesis : Genesis) (sent new : List Datagram) (views : ℕ → View) (sound : Sound genesis sent) (fits : (k : ℕ) → ViewFits genesis sent k (views k))
-    (signed : (d : Datagram) → Contains new d → (k : ℕ) (m : NodeMessage) → Spells (said_by genesis k m) d.bytes → d.from ≡ party.Node k)
-    (n : ℕ) (cases : (k : ℕ) (m : NodeMessage) → HasSent genesis (sent ++ new) k m → HasSent genesis sent k m ⊎ ((n ≡ k) × MaySend genesis sent (views k) m)) where
-  was_cases : (m : NodeMessage) → WasSent genesis (sent ++ new) m → WasSent genesis sent m ⊎ ((k : ℕ) × (n ≡ k) × MaySend genesis sent (views k) m)
-  was_cases m h = elim (cases h.sender m h.has_sent) [ inl old ↦ inl (record { sender = h.sender; has_sent = old }) | inr o ↦ inr (h.sender, o.0, o.1) ]
+module _ (genesis : Genesis) (sent new : List Datagram) (views : ℕ → View) (sound : Sound genesis sent)
+    (fits : (k : ℕ) → ViewFits genesis sent k (views k))
+    (signed : (d : Datagram) → Contains new d → (k : ℕ) (m : NodeMessage)
+    → Spells (said_by genesis k m) d.bytes → d.from ≡ party.Node k)
+    (n : ℕ) (cases : (k : ℕ) (m : NodeMessage) → HasSent genesis (sent ++ new) k m
+    → HasSent genesis sent k m ⊎ ((n ≡ k) × MaySend genesis sent (views k) m)) where
+  was_cases : (m : NodeMessage) → WasSent genesis (sent ++ new) m
+      → WasSent genesis sent m ⊎ ((k : ℕ) × (n ≡ k) × MaySend genesis sent (views k) m)
+  was_cases m h = elim (cases h.sender m h.has_sent)
+      [ inl old ↦ inl (record { sender = h.sender; has_sent = old }) | inr o ↦ inr (h.sender, o.0, o.1) ]
 
-  one_value : (b : BallotValue) (i : ℕ) (v w : Command) → WasSent genesis (sent ++ new) (Accept (vote i b v)) → WasSent genesis (sent ++ new) (Accept (vote i b w)) → v ≡ w
+  one_value : (b : BallotValue) (i : ℕ) (v w : Command) → WasSent genesis (sent ++ new) (Accept (vote i b v))
+      → WasSent genesis (sent ++ new) (Accept (vote i b w)) → v ≡ w
   one_value b i v w p q =
       elim (was_cases (Accept (vote i b v)) p) [
         | inl old ↦ elim (was_cases (Accept (vote i b w)) q) [
@@ -55,14 +67,18 @@ module _ (genesis : Genesis) (sent new : List Datagram) (views : ℕ → View) (
         ]
         | inr o ↦ elim (was_cases (Accept (vote i b w)) q) [
           | inl old' ↦ own_value genesis sent o.0 (views o.0) b i v w (fits o.0).term o.2 old'
-          | inr o' ↦ same_value genesis sent o.0 (views o.0) b i v w (fits o.0).term o.2 (subst (λ k. MaySend genesis sent (views k) (Accept (vote i b w))) (sym o'.1 ∙ o.1) o'.2)
+          | inr o' ↦ same_value genesis sent o.0 (views o.0) b i v w (fits o.0).term o.2
+              (subst (λ k. MaySend genesis sent (views k) (Accept (vote i b w))) (sym o'.1 ∙ o.1) o'.2)
         ]
       ]
 
-  reported_now : (k : ℕ) (p : PromiseValue) → MayPromise (views k).acceptor p → (x : Vote) → Contains p.votes x → WasSent genesis sent (Accept x) × IsAtMost x.ballot p.ballot
-  reported_now k p o x h = let q = (fits k).stems.votes x (o.only x h) in (q.0, subst (λ d. IsAtMost x.ballot d) o.promised q.1)
+  reported_now : (k : ℕ) (p : PromiseValue) → MayPromise (views k).acceptor p → (x : Vote) → Contains p.votes x
+      → WasSent genesis sent (Accept x) × IsAtMost x.ballot p.ballot
+  reported_now k p o x h = let q = (fits k).stems.votes x (o.only x h) in
+      (q.0, subst (λ d. IsAtMost x.ballot d) o.promised q.1)
 
-  answers : (k : ℕ) (p : PromiseValue) (x : Vote) → HasSent genesis (sent ++ new) k (Promise p) → HasSent genesis (sent ++ new) k (Accepted x)
+  answers : (k : ℕ) (p : PromiseValue) (x : Vote) → HasSent genesis (sent ++ new) k (Promise p)
+      → HasSent genesis (sent ++ new) k (Accepted x)
       → IsBelow x.ballot p.ballot → p.first ≤ x.position → ReportsFrom p.votes x.position x.ballot
   answers k p x hp ha lt le =
       elim (cases k (Promise p) hp) [
@@ -95,7 +111,8 @@ module _ (genesis : Genesis) (sent new : List Datagram) (views : ℕ → View) (
     answers = answers;
     justified = λ x h. still_justified genesis sent new x.ballot x.position x.command (elim (was_cases (Accept x) h) [
       | inl old ↦ sound.justified x old
-      | inr o ↦ subst (λ d. Justified genesis sent d x.position x.command) o.2.2 (((fits o.0).term o.2.0 o.2.1).justified x.position x.command o.2.3)
+      | inr o ↦ subst (λ d. Justified genesis sent d x.position x.command) o.2.2
+          (((fits o.0).term o.2.0 o.2.1).justified x.position x.command o.2.3)
     ]);
     told = λ k d h. still_chosen_from genesis sent new d.first d.commands (elim (cases k (Decided d) h) [
       | inl old ↦ sound.told k d old
@@ -112,11 +129,13 @@ module _ (genesis : Genesis) (sent new : List Datagram) (views : ℕ → View) (
   covers_own k _ o = tt
 
   -- a proposal that is sent is its term's
-  complete_after : (k i : ℕ) (v : Command) (t : Term) → (views k).term ≡ Some t → WasSent genesis (sent ++ new) (Accept (vote i t.ballot v)) → Contains t.proposals (i, v)
+  complete_after : (k i : ℕ) (v : Command) (t : Term) → (views k).term ≡ Some t
+      → WasSent genesis (sent ++ new) (Accept (vote i t.ballot v)) → Contains t.proposals (i, v)
   complete_after k i v t at h =
       elim (was_cases (Accept (vote i t.ballot v)) h) [
         | inl old ↦ ((fits k).term t at).complete i v old
-        | inr o ↦ (let e : o.0 ≡ k = sym ((fits o.0).term o.2.0 o.2.1).own ∙ (ap (λ (d : BallotValue). d.node) o.2.2 ∙ ((fits k).term t at).own) in
+        | inr o ↦ (let e : o.0 ≡ k = sym ((fits o.0).term o.2.0 o.2.1).own
+            ∙ (ap (λ (d : BallotValue). d.node) o.2.2 ∙ ((fits k).term t at).own) in
             let p = subst (λ j. MaySend genesis sent (views j) (Accept (vote i t.ballot v))) e o.2 in
             let same : p.0 ≡ t = cc (p.1, at) in
             subst (λ (u : Term). Contains u.proposals (i, v)) same p.3)

@@ -13,12 +13,15 @@ use Rattle.lk_agreement.specs.Worlds.{IsClientRequest}
 node_alike : (n k : ℕ) (m M : NodeMessage) → content.Node n m ≡ content.Node k M → (n ≡ k) × (m ≡ M)
 node_alike n k m M e = (cc, cc)
 
-pub said_alike : (genesis : Genesis) (n k : ℕ) (m M : NodeMessage) (bytes : List ℕ) → Spells (said_by genesis n m) bytes → Spells (said_by genesis k M) bytes → (n ≡ k) × (m ≡ M)
+pub said_alike : (genesis : Genesis) (n k : ℕ) (m M : NodeMessage) (bytes : List ℕ)
+    → Spells (said_by genesis n m) bytes → Spells (said_by genesis k M) bytes → (n ≡ k) × (m ≡ M)
 said_alike genesis n k m M bytes s t =
-    node_alike n k m M (ap (λ (x : Message). x.content) (one_message (said_by genesis n m) (said_by genesis k M) bytes s t))
+    node_alike n k m M (ap (λ (x : Message). x.content)
+    (one_message (said_by genesis n m) (said_by genesis k M) bytes s t))
 
 -- what was sent up to now was sent before, or is sent now
-pub sent_cases : (genesis : Genesis) (sent new : List Datagram) (n : ℕ) (m : NodeMessage) → HasSent genesis (sent ++ new) n m → HasSent genesis sent n m ⊎ HasSent genesis new n m
+pub sent_cases : (genesis : Genesis) (sent new : List Datagram) (n : ℕ) (m : NodeMessage)
+    → HasSent genesis (sent ++ new) n m → HasSent genesis sent n m ⊎ HasSent genesis new n m
 sent_cases genesis sent new n m h =
     elim (Contains-append_cases sent new h.datagram h.listed) [
       | inl old ↦ inl (record { datagram = h.datagram; listed = old; from = h.from; spelled = h.spelled })
@@ -26,13 +29,17 @@ sent_cases genesis sent new n m h =
     ]
 
 -- a datagram that says so was sent by the node that it names
-pub heard_was_sent : (genesis : Genesis) (sent : List Datagram) → Sound genesis sent → (d : Datagram) → Contains sent d → (n : ℕ) (m : NodeMessage)
+pub heard_was_sent : (genesis : Genesis) (sent : List Datagram) → Sound genesis sent → (d : Datagram) → Contains sent d
+    → (n : ℕ) (m : NodeMessage)
     → Spells (said_by genesis n m) d.bytes → HasSent genesis sent n m
-heard_was_sent genesis sent sound d h n m s = record { datagram = d; listed = h; from = sound.signed d h n m s; spelled = s }
+heard_was_sent genesis sent sound d h n m s =
+    record { datagram = d; listed = h; from = sound.signed d h n m s; spelled = s }
 
 -- a client's request says nothing for a node
-pub asked_is_no_saying : (genesis : Genesis) (d : Datagram) → IsClientRequest d → (n : ℕ) (m : NodeMessage) → Spells (said_by genesis n m) d.bytes → ⊥
-asked_is_no_saying genesis d a n m s = no_node a.request n m (ap (λ (x : Message). x.content) (one_message _ _ d.bytes a.spelled s))
+pub asked_is_no_saying : (genesis : Genesis) (d : Datagram) → IsClientRequest d → (n : ℕ) (m : NodeMessage)
+    → Spells (said_by genesis n m) d.bytes → ⊥
+asked_is_no_saying genesis d a n m s =
+    no_node a.request n m (ap (λ (x : Message). x.content) (one_message _ _ d.bytes a.spelled s))
   where
     no_node : (r : Request) (k : ℕ) (x : NodeMessage) → content.Request r ≡ content.Node k x → ⊥
     no_node r k x e = cc e

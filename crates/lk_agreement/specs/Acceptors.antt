@@ -1,7 +1,8 @@
 -- What an acceptor holds, and which messages bind it to hold it.
 use Rattle.std.specs.Prelude.{◌≡◌, ℕ, ◌≤◌, ◌⊎◌, List, Contains}
 use Rattle.lk_agreement.specs.Ballots.{BallotValue, IsBelow, IsAtMost}
-use Rattle.lk_agreement.specs.Datagrams.{Genesis, Vote, NodeMessage, Datagram, Prepare, Promise, Accept, Accepted, HasSent, WasSent}
+use Rattle.lk_agreement.specs.Datagrams.{Genesis, Vote, NodeMessage, Datagram, Prepare, Promise, Accept, Accepted}
+use Rattle.lk_agreement.specs.Datagrams.{HasSent, WasSent}
 
 -- the greatest ballot that the node promised, voted in or began; its votes; and the position up to which its snapshot
 -- has replaced them
@@ -13,7 +14,8 @@ pub record AcceptorState : Type 0 where
 -- the votes have this one, or one for its position in a greater ballot
 abbrev pub CoversVote : List Vote → Vote → Type 0
 CoversVote votes x =
-    (y : Vote) × Contains votes y × (y.position ≡ x.position) × (IsBelow x.ballot y.ballot ⊎ ((y.ballot ≡ x.ballot) × (y.command ≡ x.command)))
+    (y : Vote) × Contains votes y × (y.position ≡ x.position)
+    × (IsBelow x.ballot y.ballot ⊎ ((y.ballot ≡ x.ballot) × (y.command ≡ x.command)))
 
 -- the standing holds what the message binds its sender to: the ballot is promised, and the vote is kept
 abbrev pub Covers : AcceptorState → NodeMessage → Type 0
@@ -29,7 +31,8 @@ CoversSent genesis sent n s = (m : NodeMessage) → HasSent genesis sent n m →
 
 -- each vote was proposed, in a ballot that is not above the promised one
 abbrev pub AreProposed : Genesis → List Datagram → AcceptorState → Type 0
-AreProposed genesis sent s = (x : Vote) → Contains s.votes x → WasSent genesis sent (Accept x) × IsAtMost x.ballot s.promised
+AreProposed genesis sent s =
+    (x : Vote) → Contains s.votes x → WasSent genesis sent (Accept x) × IsAtMost x.ballot s.promised
 
 -- the standing accepts a vote: its ballot is the promised one, and only votes for its position may go
 pub record TakesVote (old : AcceptorState) (x : Vote) (new : AcceptorState) : Type 0 where

@@ -39,13 +39,16 @@ abbrev pub with_done : View → List Command → List Pair → View
 with_done w done pairs = record { acceptor = w.acceptor; done = done; pairs = pairs; term = w.term }
 
 abbrev pub with_report : Term → Report → Term
-with_report t r = record { ballot = t.ballot; reports = t.reports ++ r ∷ []; proposals = t.proposals; accepted = t.accepted }
+with_report t r =
+    record { ballot = t.ballot; reports = t.reports ++ r ∷ []; proposals = t.proposals; accepted = t.accepted }
 
 abbrev pub with_proposal : Term → Pair → Term
-with_proposal t p = record { ballot = t.ballot; reports = t.reports; proposals = t.proposals ++ p ∷ []; accepted = t.accepted }
+with_proposal t p =
+    record { ballot = t.ballot; reports = t.reports; proposals = t.proposals ++ p ∷ []; accepted = t.accepted }
 
 abbrev pub with_acceptance : Term → Acceptance → Term
-with_acceptance t a = record { ballot = t.ballot; reports = t.reports; proposals = t.proposals; accepted = t.accepted ++ a ∷ [] }
+with_acceptance t a =
+    record { ballot = t.ballot; reports = t.reports; proposals = t.proposals; accepted = t.accepted ++ a ∷ [] }
 
 -- one change of a node, given what was sent so far
 pub data Changes (genesis : Genesis) (sent : List Datagram) (n : ℕ) : View → View → Type 0 where
@@ -53,7 +56,8 @@ pub data Changes (genesis : Genesis) (sent : List Datagram) (n : ℕ) : View →
   promises : {old : View} (b : BallotValue) → IsAtMost old.acceptor.promised b
       → Changes genesis sent n old (view_with old (with_promise old.acceptor b))
   -- it votes for what was proposed, in a ballot that is not below the promised one
-  accepts : {old : View} (x : Vote) (s : AcceptorState) → IsAtMost old.acceptor.promised x.ballot → WasSent genesis sent (Accept x) → TakesVote old.acceptor x s
+  accepts : {old : View} (x : Vote) (s : AcceptorState) → IsAtMost old.acceptor.promised x.ballot
+      → WasSent genesis sent (Accept x) → TakesVote old.acceptor x s
       → Changes genesis sent n old (view_with old s)
   -- it writes a snapshot of what it has executed
   packs : {old : View} (i : ℕ) (s : AcceptorState) → i ≤ length old.done → TakesSnapshot old.acceptor i s
@@ -69,7 +73,8 @@ pub data Changes (genesis : Genesis) (sent : List Datagram) (n : ℕ) : View →
       → Changes genesis sent n old (view_in old (Some (with_proposal t (i, v))))
   -- it counts a vote for it
   counts : {old : View} (t : Term) (a : Acceptance) → old.term ≡ Some t
-      → HasSent genesis sent a.node (Accepted (record { position = a.position; ballot = t.ballot; command = a.command }))
+      → HasSent genesis sent a.node
+      (Accepted (record { position = a.position; ballot = t.ballot; command = a.command }))
       → Changes genesis sent n old (view_in old (Some (with_acceptance t a)))
   -- its term ends
   leaves : {old : View} → Changes genesis sent n old (view_in old None)
@@ -77,16 +82,20 @@ pub data Changes (genesis : Genesis) (sent : List Datagram) (n : ℕ) : View →
   learns : {old : View} (i : ℕ) (v : Command) → ChosenAt genesis sent i v
       → Changes genesis sent n old (with_done old old.done (old.pairs ++ (i, v) ∷ []))
   -- it executes the command that it learned of the next position
-  executes : {old : View} (v : Command) (rest : List Pair) → Contains old.pairs (suc (length old.done), v) → AreAmong rest old.pairs
+  executes : {old : View} (v : Command) (rest : List Pair) → Contains old.pairs (suc (length old.done), v)
+      → AreAmong rest old.pairs
       → Changes genesis sent n old (with_done old (old.done ++ v ∷ []) rest)
   -- it installs a snapshot of a chosen list, which reaches as far as its own
-  installs : {old : View} (L : List Command) (rest : List Pair) → Chosen genesis sent L → old.acceptor.snapshot_position ≤ length L → AreAmong rest old.pairs
+  installs : {old : View} (L : List Command) (rest : List Pair) → Chosen genesis sent L
+      → old.acceptor.snapshot_position ≤ length L → AreAmong rest old.pairs
       → Changes genesis sent n old (with_done old L rest)
   -- it stops, and restarts from an image of its disk that covers everything it has sent, and stems from what was sent
-  restarts : {old : View} (image : View) → CoversSent genesis sent n image.acceptor → Stems genesis sent image → image.term ≡ None
+  restarts : {old : View} (image : View) → CoversSent genesis sent n image.acceptor
+      → Stems genesis sent image → image.term ≡ None
       → Changes genesis sent n old image
 
 -- any number of changes, one after another
 pub data Becomes (genesis : Genesis) (sent : List Datagram) (n : ℕ) (old : View) : View → Type 0 where
   stays : Becomes genesis sent n old old
-  goes_on : {mid new : View} → Becomes genesis sent n old mid → Changes genesis sent n mid new → Becomes genesis sent n old new
+  goes_on : {mid new : View} → Becomes genesis sent n old mid → Changes genesis sent n mid new
+      → Becomes genesis sent n old new

@@ -5,7 +5,8 @@ use Rattle.lk_messages.specs.Grammar.{Spells}
 use Rattle.lk_messages.specs.Values.{PromiseValue}
 use Rattle.lk_agreement.specs.declared.party.Party.TheVariants as party
 use Rattle.lk_agreement.specs.Ballots.{BallotValue, IsAtMost}
-use Rattle.lk_agreement.specs.Datagrams.{Genesis, Vote, NodeMessage, Datagram, said_by, Prepare, Promise, Accept, Accepted, Decided, HasSent, WasSent}
+use Rattle.lk_agreement.specs.Datagrams.{Genesis, Vote, NodeMessage, Datagram, said_by, Prepare, Promise, Accept}
+use Rattle.lk_agreement.specs.Datagrams.{Accepted, Decided, HasSent, WasSent}
 use Rattle.lk_agreement.specs.Chosen.{Command, Chosen, ChosenAt, AreChosenFrom}
 use Rattle.lk_agreement.specs.Soundness.{Report, WasPromised, Justified}
 use Rattle.lk_agreement.specs.Acceptors.{AcceptorState, CoversSent, AreProposed}
@@ -39,7 +40,12 @@ pub record View : Type 0 where
 
 -- nothing promised, voted for or executed
 abbrev pub fresh : View
-fresh = record { acceptor = record { promised = zero_ballot; votes = []; snapshot_position = 0 }; done = []; pairs = []; term = None }
+fresh = record {
+  acceptor = record { promised = zero_ballot; votes = []; snapshot_position = 0 };
+  done = [];
+  pairs = [];
+  term = None;
+}
 
 -- ---- how it fits what was sent
 
@@ -47,9 +53,13 @@ pub record TermFits (genesis : Genesis) (sent : List Datagram) (n : ℕ) (s : Ac
   pub own : t.ballot.node ≡ n
   pub promised : IsAtMost t.ballot s.promised
   pub reports : (r : Report) → Contains t.reports r → WasPromised genesis sent t.ballot r
-  pub accepted : (a : Acceptance) → Contains t.accepted a → HasSent genesis sent a.node (Accepted (record { position = a.position; ballot = t.ballot; command = a.command }))
+  pub accepted : (a : Acceptance) → Contains t.accepted a
+      → HasSent genesis sent a.node
+      (Accepted (record { position = a.position; ballot = t.ballot; command = a.command }))
   -- the proposals are all that was ever proposed in the ballot
-  pub complete : (i : ℕ) (v : Command) → WasSent genesis sent (Accept (record { position = i; ballot = t.ballot; command = v })) → Contains t.proposals (i, v)
+  pub complete : (i : ℕ) (v : Command)
+      → WasSent genesis sent (Accept (record { position = i; ballot = t.ballot; command = v }))
+      → Contains t.proposals (i, v)
   pub one_each : (i : ℕ) (v w : Command) → Contains t.proposals (i, v) → Contains t.proposals (i, w) → v ≡ w
   pub justified : (i : ℕ) (v : Command) → Contains t.proposals (i, v) → Justified genesis sent t.ballot i v
 
@@ -79,7 +89,8 @@ pub record MayPromise (s : AcceptorState) (p : PromiseValue) : Type 0 where
 abbrev pub MaySend : Genesis → List Datagram → View → NodeMessage → Type 0
 MaySend genesis sent w (Prepare b first) = IsAtMost b w.acceptor.promised
 MaySend genesis sent w (Promise p) = MayPromise w.acceptor p
-MaySend genesis sent w (Accept x) = (t : Term) × (w.term ≡ Some t) × (t.ballot ≡ x.ballot) × Contains t.proposals (x.position, x.command)
+MaySend genesis sent w (Accept x) =
+    (t : Term) × (w.term ≡ Some t) × (t.ballot ≡ x.ballot) × Contains t.proposals (x.position, x.command)
 MaySend genesis sent w (Accepted x) = (w.acceptor.promised ≡ x.ballot) × Contains w.acceptor.votes x
 MaySend genesis sent w (Decided d) = AreChosenFrom genesis sent d.first d.commands
 MaySend genesis sent w _ = Unit {0}

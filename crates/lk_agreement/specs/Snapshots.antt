@@ -5,7 +5,8 @@ use Rattle.lk_agreement.specs.Chosen.{Command, Chosen}
 
 -- the bytes are a slice, at the offset, of the text of a chosen list with this many commands; the text has this many
 -- bytes
-pub record IsSlice (genesis : Genesis) (sent : List Datagram) (text : List Command → List ℕ) (position total offset : ℕ) (bytes : List ℕ) : Type 0 where
+pub record IsSlice (genesis : Genesis) (sent : List Datagram) (text : List Command → List ℕ)
+    (position total offset : ℕ) (bytes : List ℕ) : Type 0 where
   pub under : List Command
   pub chosen : Chosen genesis sent under
   pub position_is : length under ≡ position

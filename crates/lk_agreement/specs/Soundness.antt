@@ -6,7 +6,8 @@ use Rattle.lk_members.specs.Rosters.{members}
 use Rattle.lk_members.specs.Majorities.{IsMajority}
 use Rattle.lk_agreement.specs.declared.party.Party.TheVariants as party
 use Rattle.lk_agreement.specs.Ballots.{BallotValue, IsBelow, IsAtMost}
-use Rattle.lk_agreement.specs.Datagrams.{Genesis, Vote, NodeMessage, Datagram, said_by, Promise, Accept, Accepted, Decided, HasSent, WasSent}
+use Rattle.lk_agreement.specs.Datagrams.{Genesis, Vote, NodeMessage, Datagram, said_by, Promise, Accept, Accepted}
+use Rattle.lk_agreement.specs.Datagrams.{Decided, HasSent, WasSent}
 use Rattle.lk_agreement.specs.Chosen.{Command, Chosen, AreChosenFrom}
 
 -- a promise that was heard: who gave it, and the votes that it reports from a position on
@@ -17,7 +18,8 @@ pub record Report : Type 0 where
 
 -- its node has sent it, as a promise of this ballot
 abbrev pub WasPromised : Genesis → List Datagram → BallotValue → Report → Type 0
-WasPromised genesis sent b r = HasSent genesis sent r.node (Promise (record { ballot = b; first = r.first; votes = r.votes }))
+WasPromised genesis sent b r =
+    HasSent genesis sent r.node (Promise (record { ballot = b; first = r.first; votes = r.votes }))
 
 -- one of the promises reports the vote
 abbrev pub IsReported : List Report → Vote → Type 0
@@ -46,13 +48,16 @@ pub record Justified (genesis : Genesis) (sent : List Datagram) (b : BallotValue
   -- each vote that they report at the position is matched by one for this command, in a ballot at least as great, and
   -- below the one of the proposal. So none is reported, or the command is that of the greatest
   pub highest : (x : Vote) → IsReported reports x → x.position ≡ i
-      → (y : Vote) × IsReported reports y × (y.position ≡ i) × (y.command ≡ v) × IsAtMost x.ballot y.ballot × IsBelow y.ballot b
+      → (y : Vote) × IsReported reports y × (y.position ≡ i) × (y.command ≡ v)
+      × IsAtMost x.ballot y.ballot × IsBelow y.ballot b
 
 pub record Sound (genesis : Genesis) (sent : List Datagram) : Type 0 where
   -- the named sender has sent it
-  pub signed : (d : Datagram) → Contains sent d → (n : ℕ) (m : NodeMessage) → Spells (said_by genesis n m) d.bytes → d.from ≡ party.Node n
+  pub signed : (d : Datagram) → Contains sent d → (n : ℕ) (m : NodeMessage)
+      → Spells (said_by genesis n m) d.bytes → d.from ≡ party.Node n
   -- at most one command is proposed at a position in a ballot
-  pub one_value : (b : BallotValue) (i : ℕ) (v w : Command) → WasSent genesis sent (Accept (record { position = i; ballot = b; command = v }))
+  pub one_value : (b : BallotValue) (i : ℕ) (v w : Command)
+      → WasSent genesis sent (Accept (record { position = i; ballot = b; command = v }))
       → WasSent genesis sent (Accept (record { position = i; ballot = b; command = w })) → v ≡ w
   -- a node proposes only in ballots of its own
   pub owned : (n : ℕ) (x : Vote) → HasSent genesis sent n (Accept x) → x.ballot.node ≡ n
@@ -62,9 +67,11 @@ pub record Sound (genesis : Genesis) (sent : List Datagram) : Type 0 where
   pub reported : (n : ℕ) (p : PromiseValue) → HasSent genesis sent n (Promise p)
       → (x : Vote) → Contains p.votes x → WasSent genesis sent (Accept x) × IsAtMost x.ballot p.ballot
   -- a promise reports, at each position from its first on, each vote of its node in an earlier ballot, or one above it
-  pub answers : (n : ℕ) (p : PromiseValue) (x : Vote) → HasSent genesis sent n (Promise p) → HasSent genesis sent n (Accepted x)
+  pub answers : (n : ℕ) (p : PromiseValue) (x : Vote) → HasSent genesis sent n (Promise p)
+      → HasSent genesis sent n (Accepted x)
       → IsBelow x.ballot p.ballot → p.first ≤ x.position → ReportsFrom p.votes x.position x.ballot
   -- what is proposed is justified
   pub justified : (x : Vote) → WasSent genesis sent (Accept x) → Justified genesis sent x.ballot x.position x.command
   -- what is sent as decided is chosen
-  pub told : (n : ℕ) (d : DecidedValue) → HasSent genesis sent n (Decided d) → AreChosenFrom genesis sent d.first d.commands
+  pub told : (n : ℕ) (d : DecidedValue) → HasSent genesis sent n (Decided d)
+      → AreChosenFrom genesis sent d.first d.commands

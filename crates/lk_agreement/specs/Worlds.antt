@@ -65,11 +65,13 @@ HoldsCommand state i v =
 
 -- a majority of the members that the list names for the position has accepted the command there, and holds it in each
 -- possible state of its nodes
-pub record IsKept (genesis : Genesis) (sent : List Datagram) (L : List Command) (i : ℕ) (v : Command) (may_be : ℕ → View → Type 0) : Type 0 where
+pub record IsKept (genesis : Genesis) (sent : List Datagram) (L : List Command) (i : ℕ) (v : Command)
+    (may_be : ℕ → View → Type 0) : Type 0 where
   pub ballot : BallotValue
   pub nodes : List ℕ
   pub majority : IsMajority nodes (members genesis L i)
-  pub accepted : (n : ℕ) → Contains nodes n → HasSent genesis sent n (Accepted (record { position = i; ballot = ballot; command = v }))
+  pub accepted : (n : ℕ) → Contains nodes n
+      → HasSent genesis sent n (Accepted (record { position = i; ballot = ballot; command = v }))
   pub held : (n : ℕ) → Contains nodes n → (state : View) → may_be n state → HoldsCommand state i v
 
 -- there are such worlds, and members change in them: a reachable world, and a list of two commands that is chosen in

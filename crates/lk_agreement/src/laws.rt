@@ -1,5 +1,6 @@
 //! Why chosen lists agree: laws about the definitions alone. A function without a body ensures each of them.
-ghost use Rattle.std.specs.Prelude.{◌≡◌, ◌<◌, ◌≤◌, ◌+◌, ◌==◌, nat_lt, nat_le, not, filter, ◌⊎◌, ℕ, suc, List, [], ◌∷◌, ◌++◌, length, take, drop, Some, None, Contains};
+ghost use Rattle.std.specs.Prelude.{◌≡◌, ◌<◌, ◌≤◌, ◌+◌, ◌==◌, nat_lt, nat_le, not, filter, ◌⊎◌, ℕ, suc, List, [], ◌∷◌};
+ghost use Rattle.std.specs.Prelude.{◌++◌, length, take, drop, Some, None, Contains};
 ghost use Rattle.lk_types.specs.Limits.{max_count};
 ghost use Rattle.lk_messages.specs.Grammar.{Spells};
 ghost use Rattle.lk_messages.specs.Values.{PromiseValue};
@@ -15,7 +16,8 @@ ghost use Rattle.lk_agreement.specs.Acceptors.{AcceptorState, CoversSent, TakesV
 ghost use Rattle.lk_agreement.specs.Nodes.{Term, View, Stems, ViewFits, MayPromise, MayPostAll};
 ghost use Rattle.lk_agreement.specs.Changes.{view_in, Changes, Becomes};
 ghost use Rattle.lk_agreement.specs.Snapshots.{IsSlice};
-ghost use Rattle.lk_agreement.specs.Worlds.{World, start, with_sent, with_view, IsClientRequest, Reaches, WorldFits, IsKept, MembersChange};
+ghost use Rattle.lk_agreement.specs.Worlds.{World, start, with_sent, with_view, IsClientRequest, Reaches, WorldFits};
+ghost use Rattle.lk_agreement.specs.Worlds.{IsKept, MembersChange};
 
 /// Of two chosen lists of a sound history one is a prefix of the other, and they name the same members.
 pub fn chosen_lists_agree()
@@ -56,8 +58,10 @@ pub fn chosen_commands_are_kept()
 
 /// What a majority of the members that the executed list names has accepted in a term is chosen.
 pub fn what_a_majority_accepted_is_chosen()
-    ensures { (genesis : Genesis) (sent : List Datagram) (n : ℕ) (w : View) (t : Term) (i : ℕ) (v : Command) (nodes : List ℕ)
-        → ViewFits genesis sent n w → w.term ≡ Some t → i ≤ length w.done + genesis.alpha → IsMajority nodes (members genesis w.done i)
+    ensures { (genesis : Genesis) (sent : List Datagram) (n : ℕ) (w : View) (t : Term) (i : ℕ)
+        (v : Command) (nodes : List ℕ)
+        → ViewFits genesis sent n w → w.term ≡ Some t → i ≤ length w.done + genesis.alpha
+        → IsMajority nodes (members genesis w.done i)
         → ((k : ℕ) → Contains nodes k → Contains t.accepted (record { node = k; position = i; command = v }))
         → ChosenAt genesis sent i v }
 {}
@@ -66,10 +70,12 @@ pub fn what_a_majority_accepted_is_chosen()
 /// position are in their ranges, and the list has at most 2^48 commands.
 pub fn what_is_chosen_was_accepted()
     ensures sent { (genesis : Genesis) (sent : List Datagram) (i : ℕ) (v : Command) → ChosenAt genesis sent i v
-        → (n : ℕ) × (b : BallotValue) × HasSent genesis sent n (Accepted (record { position = i; ballot = b; command = v })) }
+        → (n : ℕ) × (b : BallotValue)
+        × HasSent genesis sent n (Accepted (record { position = i; ballot = b; command = v })) }
     ensures in_range { (genesis : Genesis) (sent : List Datagram) (L : List Command) (i : ℕ) (v : Command)
         → Chosen genesis sent L → command_at L i ≡ Some v → IsCount i × IsCommand v }
-    ensures short { (genesis : Genesis) (sent : List Datagram) (L : List Command) → Chosen genesis sent L → length L ≤ max_count }
+    ensures short { (genesis : Genesis) (sent : List Datagram) (L : List Command)
+        → Chosen genesis sent L → length L ≤ max_count }
 {}
 
 /// In a sound history the node that a datagram names as its sender has sent it.
@@ -86,7 +92,8 @@ pub fn the_start_fits()
 /// A node that fits what was sent still fits it after any changes. The law needs this node's view alone, so a node
 /// that knows of no other can establish it.
 pub fn changes_keep_the_node()
-    ensures { (genesis : Genesis) (sent : List Datagram) (n : ℕ) (old new : View) → Sound genesis sent → ViewFits genesis sent n old
+    ensures { (genesis : Genesis) (sent : List Datagram) (n : ℕ) (old new : View) → Sound genesis sent
+        → ViewFits genesis sent n old
         → Becomes genesis sent n old new → ViewFits genesis sent n new }
 {}
 
@@ -128,9 +135,11 @@ pub fn images_go_on_covering()
 /// The simple ways to keep votes in a list are permitted: a vote replaces any other for its position, a snapshot
 /// replaces those up to its position, and a promise reports those from its first position on.
 pub fn votes_may_be_kept_in_a_list()
-    ensures vote { (old new : AcceptorState) (x : Vote) → new.promised ≡ x.ballot → new.snapshot_position ≡ old.snapshot_position
+    ensures vote { (old new : AcceptorState) (x : Vote) → new.promised ≡ x.ballot
+        → new.snapshot_position ≡ old.snapshot_position
         → new.votes ≡ filter (λ y. not (y.position == x.position)) old.votes ++ x ∷ [] → TakesVote old x new }
-    ensures snapshot { (old new : AcceptorState) (i : ℕ) → old.snapshot_position ≤ i → new.promised ≡ old.promised → new.snapshot_position ≡ i
+    ensures snapshot { (old new : AcceptorState) (i : ℕ) → old.snapshot_position ≤ i → new.promised ≡ old.promised
+        → new.snapshot_position ≡ i
         → new.votes ≡ filter (λ y. nat_lt i y.position) old.votes → TakesSnapshot old i new }
     ensures promise { (s : AcceptorState) (p : PromiseValue) → s.promised ≡ p.ballot → s.snapshot_position < p.first
         → p.votes ≡ filter (λ y. nat_le p.first y.position) s.votes → MayPromise s p }
@@ -139,16 +148,23 @@ pub fn votes_may_be_kept_in_a_list()
 /// Slices of snapshots of one position, from whichever nodes, join into one text, which when complete is that of a
 /// chosen list. Slices of the text of a prefix of a chosen list are such.
 pub fn slices_join()
-    ensures join { (genesis : Genesis) (sent : List Datagram) (text : List Command → List ℕ) (position total : ℕ) (gathered bytes : List ℕ)
-        → Sound genesis sent → IsSlice genesis sent text position total 0 gathered → IsSlice genesis sent text position total (length gathered) bytes
+    ensures join { (genesis : Genesis) (sent : List Datagram) (text : List Command → List ℕ) (position total : ℕ)
+        (gathered bytes : List ℕ)
+        → Sound genesis sent → IsSlice genesis sent text position total 0 gathered
+        → IsSlice genesis sent text position total (length gathered) bytes
         → IsSlice genesis sent text position total 0 (gathered ++ bytes) }
-    ensures whole { (genesis : Genesis) (sent : List Datagram) (text : List Command → List ℕ) (position total : ℕ) (bytes : List ℕ)
+    ensures whole { (genesis : Genesis) (sent : List Datagram) (text : List Command → List ℕ)
+        (position total : ℕ) (bytes : List ℕ)
         → IsSlice genesis sent text position total 0 bytes → length bytes ≡ total
         → (L : List Command) × Chosen genesis sent L × (length L ≡ position) × (bytes ≡ text L) }
-    ensures later { (genesis : Genesis) (sent new : List Datagram) (text : List Command → List ℕ) (position total offset : ℕ) (bytes : List ℕ)
-        → IsSlice genesis sent text position total offset bytes → IsSlice genesis (sent ++ new) text position total offset bytes }
-    ensures beginning { (genesis : Genesis) (sent : List Datagram) (text : List Command → List ℕ) (L : List Command) (position offset : ℕ) (bytes : List ℕ)
-        → Chosen genesis sent L → position ≤ length L → bytes ≡ take (length bytes) (drop offset (text (take position L)))
+    ensures later { (genesis : Genesis) (sent new : List Datagram) (text : List Command → List ℕ)
+        (position total offset : ℕ) (bytes : List ℕ)
+        → IsSlice genesis sent text position total offset bytes
+        → IsSlice genesis (sent ++ new) text position total offset bytes }
+    ensures beginning { (genesis : Genesis) (sent : List Datagram) (text : List Command → List ℕ) (L : List Command)
+        (position offset : ℕ) (bytes : List ℕ)
+        → Chosen genesis sent L → position ≤ length L
+        → bytes ≡ take (length bytes) (drop offset (text (take position L)))
         → IsSlice genesis sent text position (length (text (take position L))) offset bytes }
 {}
 
@@ -164,7 +180,8 @@ pub fn worlds_come_about()
     ensures changes { (genesis : Genesis) (w : World) (n : ℕ) (new : View) → Reaches genesis w
         → Changes genesis w.sent n (w.views n) new → Reaches genesis (with_view w n new) }
     ensures restarts { (genesis : Genesis) (w : World) (n : ℕ) (image : View) → Reaches genesis w
-        → CoversSent genesis w.sent n image.acceptor → Stems genesis w.sent image → image.term ≡ None → Reaches genesis (with_view w n image) }
+        → CoversSent genesis w.sent n image.acceptor → Stems genesis w.sent image → image.term ≡ None
+        → Reaches genesis (with_view w n image) }
     ensures leaves { (genesis : Genesis) (w : World) (n : ℕ) → Reaches genesis w
         → Reaches genesis (with_view w n (view_in (w.views n) None)) }
 {}
@@ -175,14 +192,16 @@ pub fn every_world_agrees()
     ensures agree { (genesis : Genesis) (w : World) (L K : List Command) → Reaches genesis w
         → Chosen genesis w.sent L → Chosen genesis w.sent K → IsBeginning L K ⊎ IsBeginning K L }
     ensures kept { (genesis : Genesis) (w : World) (L : List Command) (i : ℕ) (v : Command) → Reaches genesis w
-        → Chosen genesis w.sent L → command_at L i ≡ Some v → IsKept genesis w.sent L i v (λ n state. state ≡ w.views n) }
+        → Chosen genesis w.sent L → command_at L i ≡ Some v
+        → IsKept genesis w.sent L i v (λ n state. state ≡ w.views n) }
 {}
 
 /// Such worlds are reachable, and members change in them: node 1 alone decides the first command of a chosen list,
 /// which makes node 2 a member, and both decide the second.
 pub fn members_change_in_some_world()
     ensures some { (genesis : Genesis) × (w : World) × (L : List Command) × MembersChange genesis w L }
-    ensures plain { (genesis : Genesis) × (w : World) × (L : List Command) × Reaches genesis w × Chosen genesis w.sent L × (length L ≡ 2)
+    ensures plain { (genesis : Genesis) × (w : World) × (L : List Command) × Reaches genesis w
+        × Chosen genesis w.sent L × (length L ≡ 2)
         × (members genesis L 1 ≡ record { node = 1; port = 7001 } ∷ [])
         × (members genesis L 2 ≡ record { node = 1; port = 7001 } ∷ record { node = 2; port = 7002 } ∷ []) }
 {}

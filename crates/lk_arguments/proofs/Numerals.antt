@@ -1,5 +1,6 @@
 -- Numbers in decimal digits, read and written.
-use Rattle.std.proofs.Common.{◌≡◌, ◌≢◌, ℕ, ◌<◌, ◌^◌, inl, inr, true, List, [], ◌∷◌, length, get_or, Result, Ok, refl, sym, ap, ◌∙◌, subst, arith}
+use Rattle.std.proofs.Common.{◌≡◌, ◌≢◌, ℕ, ◌<◌, ◌^◌, inl, inr, true, List, [], ◌∷◌, length, get_or, Result, Ok, refl}
+use Rattle.std.proofs.Common.{sym, ap, ◌∙◌, subst, arith}
 use Rattle.std.proofs.lemmas.Fmt.{first_decimal, decimal_digit, decimal-digits_value, decimal_injective}
 use Rattle.std.proofs.lemmas.Str.Parse.{IsNumeralModel, numerals_by_value, tells_digits, parse_plain}
 use Rattle.std.proofs.lemmas.Grind.{common_steps}
@@ -23,10 +24,14 @@ no_zero (b ∷ []) h e = refl
 no_zero (b ∷ c ∷ rest) h e = grind (arith, common_steps)
 
 -- what plain digits are read as is written so
-pub plain_is_decimal : {E : Type 0} (ds : List ℕ) (r : Result ℕ E) (n : ℕ) → ParsesUnsigned 64 10 ds r → r ≡ Ok n → is_plain ds ≡ true → ds ≡ decimal n
+pub plain_is_decimal : {E : Type 0} (ds : List ℕ) (r : Result ℕ E) (n : ℕ) → ParsesUnsigned 64 10 ds r → r ≡ Ok n
+    → is_plain ds ≡ true → ds ≡ decimal n
 plain_is_decimal {E} ds r n h e p =
     let at = parse_plain own 64 ds r h (no_plus ds p) in
-    let read : OkIff {T = ℕ} {E = E} (Ok n) (AllDigits 10 ds × (0 < length ds) × (digits_value 10 ds < 2 ^ 64)) (digits_value 10 ds) = subst (λ (x : Result ℕ E). OkIff x (AllDigits 10 ds × (0 < length ds) × (digits_value 10 ds < 2 ^ 64)) (digits_value 10 ds)) e at in
+    let read : OkIff {T = ℕ} {E = E} (Ok n) (AllDigits 10 ds × (0 < length ds) × (digits_value 10 ds < 2 ^ 64))
+    (digits_value 10 ds) = subst
+    (λ (x : Result ℕ E). OkIff x (AllDigits 10 ds × (0 < length ds) × (digits_value 10 ds < 2 ^ 64))
+    (digits_value 10 ds)) e at in
     sym (decimal-digits_value own ds read.0.0 read.0.1 (no_zero ds p) read.0.2) ∙ ap decimal (sym read.1)
 
 plain_from_first : (ds : List ℕ) → 48 < get_or ds 0 0 → is_plain ds ≡ true
@@ -38,7 +43,8 @@ plain_from_first (b ∷ c ∷ rest) h = grind (arith, common_steps)
 pub decimal_is_plain : (n : ℕ) → n < 2 ^ 64 → is_plain (decimal n) ≡ true
 decimal_is_plain n small = elim (cases_lt 0 n) [
   | inl above ↦ plain_from_first (decimal n) (first_decimal n above small)
-  | inr none ↦ let zero_is : n ≡ 0 = omega (arith, none) in ap (λ (m : ℕ). is_plain (decimal m)) zero_is ∙ ap is_plain (decimal_digit 0 (omega arith))
+  | inr none ↦ let zero_is : n ≡ 0 = omega (arith, none) in
+      ap (λ (m : ℕ). is_plain (decimal m)) zero_is ∙ ap is_plain (decimal_digit 0 (omega arith))
 ]
 
 -- a word tells one number

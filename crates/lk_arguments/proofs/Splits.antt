@@ -1,5 +1,6 @@
 -- Where the first space, or another sign, of a text stands.
-use Rattle.std.proofs.Common.{◌≡◌, ℕ, ◌+◌, ◌%◌, ◌<◌, ◌^◌, ◌==◌, ◌||◌, true, false, List, [], ◌∷◌, ◌++◌, refl, sym, ◌∙◌, arith}
+use Rattle.std.proofs.Common.{◌≡◌, ℕ, ◌+◌, ◌%◌, ◌<◌, ◌^◌, ◌==◌, ◌||◌, true, false, List, [], ◌∷◌, ◌++◌, refl, sym, ◌∙◌}
+use Rattle.std.proofs.Common.{arith}
 use Rattle.std.proofs.lemmas.List.Folds.{list_any-append}
 use Rattle.std.proofs.lemmas.Fmt.{decimal_by_steps, decimal_injective}
 use Rattle.std.proofs.lemmas.Bool.{eq-eqb}
@@ -39,7 +40,8 @@ module _ (sign : ℕ) where
 
 -- ---- a text of words
 
-pub one_way : (text a b c d : List ℕ) → HasNoSpace a → text ≡ a ++ 32 ∷ b → HasNoSpace c → text ≡ c ++ 32 ∷ d → (a ≡ c) × (b ≡ d)
+pub one_way : (text a b c d : List ℕ) → HasNoSpace a → text ≡ a ++ 32 ∷ b → HasNoSpace c
+    → text ≡ c ++ 32 ∷ d → (a ≡ c) × (b ≡ d)
 one_way text a b c d ha e hc f = one_parting 32 a c b d ha hc (sym e ∙ f)
 
 pub has_space : (word rest : List ℕ) → HasNoSpace (word ++ 32 ∷ rest) → ⊥
@@ -67,7 +69,8 @@ number_has_no_colon = decimal_by_steps (λ _ ds. HasNo 58 ds)
     (λ n ds large h. last 58 ds (48 + n % 10) (grind (arith, common_steps)) h)
 
 -- two numbers with a space after them, in front of the same text, are one
-pub one_number_behind : (text : List ℕ) (m n : ℕ) (a b : List ℕ) → m < 2 ^ 64 → n < 2 ^ 64 → text ≡ decimal m ++ 32 ∷ a → text ≡ decimal n ++ 32 ∷ b → (m ≡ n) × (a ≡ b)
+pub one_number_behind : (text : List ℕ) (m n : ℕ) (a b : List ℕ) → m < 2 ^ 64 → n < 2 ^ 64 → text ≡ decimal m ++ 32 ∷ a
+    → text ≡ decimal n ++ 32 ∷ b → (m ≡ n) × (a ≡ b)
 one_number_behind text m n a b sm sn em en =
     let parts = one_way text (decimal m) a (decimal n) b (number_has_no_space m sm) em (number_has_no_space n sn) en in
     (decimal_injective m n sm sn parts.0, parts.1)

@@ -12,7 +12,8 @@ IsMemberWord m word = IsNode m.node × IsPort m.port × (word ≡ decimal m.node
 -- members in words, one or more, separated by a sign
 pub data SpellsMembers (sign : ℕ) : List ℕ → List Member → Type 0 where
   one : (m : Member) (word : List ℕ) → IsMemberWord m word → SpellsMembers sign word (m ∷ [])
-  more : (m : Member) (word rest : List ℕ) (members : List Member) → IsMemberWord m word → SpellsMembers sign rest members → SpellsMembers sign (word ++ sign ∷ rest) (m ∷ members)
+  more : (m : Member) (word rest : List ℕ) (members : List Member) → IsMemberWord m word
+      → SpellsMembers sign rest members → SpellsMembers sign (word ++ sign ∷ rest) (m ∷ members)
 
 -- `CLUSTER,ALPHA,NODE:PORT,..`, which is valid
 pub record SpellsGenesis (text : List ℕ) (cluster alpha : ℕ) (members : List Member) : Type 0 where

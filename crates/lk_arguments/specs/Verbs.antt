@@ -1,7 +1,8 @@
 -- The word of each verb.
 use Rattle.std.specs.Prelude.{ℕ, List, codes}
 use Rattle.lk_arguments.specs.declared.verb.Verb.{Verb}
-use Rattle.lk_arguments.specs.declared.verb.Verb.TheVariants.{Acquire, Release, Ask, Check, Share, Break, Join, Leave, Raise, Raw}
+use Rattle.lk_arguments.specs.declared.verb.Verb.TheVariants.{Acquire, Release, Ask, Check, Share, Break, Join, Leave}
+use Rattle.lk_arguments.specs.declared.verb.Verb.TheVariants.{Raise, Raw}
 
 abbrev pub word_of : Verb → List ℕ
 word_of Acquire = codes "acquire"

@@ -14,7 +14,8 @@ use lk_types::limits::MAX_ALPHA;
 /// Takes no memory.
 pub fn read_genesis(text: &[u8]) -> Option<Genesis>
     ensures some { IfSome result (λ g. SpellsGenesis text.now g.cluster g.alpha g.members) }
-    ensures none { IsNone result → (cluster alpha : ℕ) (ms : List MemberValue) → SpellsGenesis text.now cluster alpha ms → ⊥ }
+    ensures none { IsNone result → (cluster alpha : ℕ) (ms : List MemberValue)
+        → SpellsGenesis text.now cluster alpha ms → ⊥ }
 {
     let (cluster, words) = split_at(text, b',')?;
     let (alpha, words) = split_at(words, b',')?;

@@ -4,7 +4,8 @@ ghost use Rattle.std.specs.Prelude.{◌≡◌, ◌≤◌, ℕ, List, [], length,
 ghost use Rattle.std.specs.Fmt.{decimal};
 ghost use Rattle.lk_types.specs.Ranges.{IsNode, IsPort};
 ghost use Rattle.lk_types.specs.declared.command.Op.{Op as OpValue};
-ghost use Rattle.lk_arguments.specs.Operations.{IsNameWord, body, AsksOfName, AsksOfFence, AsksToJoin, AsksToLeave, AsksToRaise, AsksInHex, Asks, SpellsOp};
+ghost use Rattle.lk_arguments.specs.Operations.{IsNameWord, body, AsksOfName, AsksOfFence, AsksToJoin, AsksToLeave};
+ghost use Rattle.lk_arguments.specs.Operations.{AsksToRaise, AsksInHex, Asks, SpellsOp};
 
 use crate::number::read_number;
 use crate::verb::Verb;

@@ -1,10 +1,12 @@
 -- A client that asks its ports in turn keeps the rule: it has sent its request alone, and returns what a datagram says.
-use Rattle.std.proofs.Common.{◌≡◌, ◌∙◌, ◌++◌, ◌<◌, ◌≤◌, List, ℕ, Option, Some, None, [], ◌∷◌, length, take, arith, append_assoc, append-nil, ap, sym, subst, inl, inr}
+use Rattle.std.proofs.Common.{◌≡◌, ◌∙◌, ◌++◌, ◌<◌, ◌≤◌, List, ℕ, Option, Some, None, [], ◌∷◌, length, take, arith}
+use Rattle.std.proofs.Common.{append_assoc, append-nil, ap, sym, subst, inl, inr}
 use Rattle.std.specs.Prelude.{Result, Ok, Err, IfOk, OnErr, IfSome}
 use Rattle.std.specs.List.{AllByRecursion}
 use Rattle.std.specs.declared.net.socket_addr.SocketAddr.{SocketAddr}
 use Rattle.lk_transport.specs.Chains.{Chain}
-use Rattle.lk_client.specs.Questions.{Place, Asker, IsAsked, IsReply, Hears, followed_to, ended_by, SendsOnce, SendsEach, Receives, WaitsFor, Tries, TriesInVain, TriesUntil, Exchanges}
+use Rattle.lk_client.specs.Questions.{Place, Asker, IsAsked, IsReply, Hears, followed_to, ended_by, SendsOnce}
+use Rattle.lk_client.specs.Questions.{SendsEach, Receives, WaitsFor, Tries, TriesInVain, TriesUntil, Exchanges}
 use Rattle.lk_client.specs.Rules.{SendsOnly, IsReplied, KeepsRule, Asks}
 use Rattle.lk_client.specs.declared.question.Heard.{Heard}
 use Rattle.lk_client.specs.declared.question.Heard.TheVariants.{Nothing, Other, Reply}
@@ -17,7 +19,8 @@ use Rattle.lk_client.specs.declared.reply.Reply.TheVariants.{Answer, Passed, Els
 abbrev Datagrams : Type 0
 Datagrams = List (SocketAddr × List ℕ)
 
-all_both : {A : Type 0} (P : A → Type 0) (first second : List A) → AllByRecursion P first → AllByRecursion P second → AllByRecursion P (first ++ second)
+all_both : {A : Type 0} (P : A → Type 0) (first second : List A) → AllByRecursion P first → AllByRecursion P second
+    → AllByRecursion P (first ++ second)
 all_both P [] second one two = two
 all_both P (x ∷ xs) second one two = (one.0, all_both P xs second one.1 two)
 
@@ -31,57 +34,78 @@ only_both {q = q} {old = old} one two = record {
   same = all_both (λ (d : SocketAddr × List ℕ). IsAsked q d.1) one.more two.more one.same two.same;
 }
 
-only_once : (q : Question) (place : Place) (bytes : List ℕ) (old : Datagrams) (f : ℕ) (new : Datagrams) (g : ℕ) → IsAsked q bytes → SendsOnce place bytes old f new g
+only_once : (q : Question) (place : Place) (bytes : List ℕ) (old : Datagrams) (f : ℕ) (new : Datagrams) (g : ℕ)
+    → IsAsked q bytes → SendsOnce place bytes old f new g
     → SendsOnly q old new
-only_once q place bytes old f new g asked (inl s) = record { more = (s.0, bytes) ∷ []; behind = s.2; same = (asked, tt) }
+only_once q place bytes old f new g asked (inl s) =
+    record { more = (s.0, bytes) ∷ []; behind = s.2; same = (asked, tt) }
 only_once q place bytes old f new g asked (inr none) = only_nothing q old new none.0
 
-only_each : (q : Question) (places : List Place) (bytes : List ℕ) (old : Datagrams) (f : ℕ) (new : Datagrams) (g : ℕ) → IsAsked q bytes → SendsEach places bytes old f new g
+only_each : (q : Question) (places : List Place) (bytes : List ℕ) (old : Datagrams) (f : ℕ) (new : Datagrams) (g : ℕ)
+    → IsAsked q bytes → SendsEach places bytes old f new g
     → SendsOnly q old new
 only_each q [] bytes old f new g asked s = only_nothing q old new s.0
 only_each q (place ∷ places) bytes old f new g asked s =
     only_both (only_once q place bytes old f s.0 s.1 asked s.2) (only_each q places bytes s.0 s.1 new g asked s.3)
 
-module _ {S : Type 0} (sent : S → List (SocketAddr × List ℕ)) (failures : S → ℕ) (next : S → Option (SocketAddr × List ℕ)) (q : Question) where
-  only_receive : {bytes : List ℕ} {told : Option ReplyValue} {old new : Asker S} → IsAsked q bytes → Receives sent failures next q bytes told old new
+module _ {S : Type 0} (sent : S → List (SocketAddr × List ℕ)) (failures : S → ℕ)
+    (next : S → Option (SocketAddr × List ℕ)) (q : Question) where
+  only_receive : {bytes : List ℕ} {told : Option ReplyValue} {old new : Asker S} → IsAsked q bytes
+      → Receives sent failures next q bytes told old new
       → SendsOnly q (sent old.socket) (sent new.socket)
   only_receive {bytes = bytes} {old = old} {new = new} asked r =
-      only_each q (followed_to q.destination r.heard old.followed) bytes (sent old.socket) (failures old.socket) (sent new.socket) (failures new.socket) asked r.sends
+      only_each q (followed_to q.destination r.heard old.followed) bytes (sent old.socket) (failures old.socket)
+      (sent new.socket) (failures new.socket) asked r.sends
 
-  only_receives : (bytes : List ℕ) (first : Asker S) (states : List (Asker S)) (last : Asker S) → IsAsked q bytes → Chain (Receives sent failures next q bytes None) first states last
+  only_receives : (bytes : List ℕ) (first : Asker S) (states : List (Asker S)) (last : Asker S) → IsAsked q bytes
+      → Chain (Receives sent failures next q bytes None) first states last
       → SendsOnly q (sent first.socket) (sent last.socket)
-  only_receives bytes first [] last asked c = only_nothing q (sent first.socket) (sent last.socket) (ap (λ (s : Asker S). sent s.socket) c)
-  only_receives bytes first (state ∷ states) last asked c = only_both (only_receive asked c.0) (only_receives bytes state states last asked c.1)
+  only_receives bytes first [] last asked c =
+      only_nothing q (sent first.socket) (sent last.socket) (ap (λ (s : Asker S). sent s.socket) c)
+  only_receives bytes first (state ∷ states) last asked c =
+      only_both (only_receive asked c.0) (only_receives bytes state states last asked c.1)
 
-  only_waits : (most : ℕ) (bytes : List ℕ) (told : Option ReplyValue) (old new : Asker S) → IsAsked q bytes → WaitsFor sent failures next q most bytes told old new
+  only_waits : (most : ℕ) (bytes : List ℕ) (told : Option ReplyValue) (old new : Asker S) → IsAsked q bytes
+      → WaitsFor sent failures next q most bytes told old new
       → SendsOnly q (sent old.socket) (sent new.socket)
   only_waits most bytes None old new asked w = only_receives bytes old w.states new asked w.chain
-  only_waits most bytes (Some reply) old new asked w = only_both (only_receives bytes old w.3.states w.2 asked w.3.chain) (only_receive asked w.4)
+  only_waits most bytes (Some reply) old new asked w =
+      only_both (only_receives bytes old w.3.states w.2 asked w.3.chain) (only_receive asked w.4)
 
-  only_tries : {most port : ℕ} {bytes : List ℕ} {told : Option ReplyValue} {old new : Asker S} → IsAsked q bytes → Tries sent failures next q most port bytes told old new
+  only_tries : {most port : ℕ} {bytes : List ℕ} {told : Option ReplyValue} {old new : Asker S} → IsAsked q bytes
+      → Tries sent failures next q most port bytes told old new
       → SendsOnly q (sent old.socket) (sent new.socket)
   only_tries {most = most} {port = port} {bytes = bytes} {told = told} {old = old} {new = new} asked t =
-      only_both (only_once q (q.destination.address, port) bytes (sent old.socket) (failures old.socket) (sent t.begun) (failures t.begun) asked t.asks)
+      only_both (only_once q (q.destination.address, port) bytes (sent old.socket) (failures old.socket) (sent t.begun)
+      (failures t.begun) asked t.asks)
       (only_waits most bytes told (record { socket = t.begun; followed = old.followed }) new asked t.waits)
 
-  only_vain : (most : ℕ) (ports bytes : List ℕ) (old new : Asker S) → IsAsked q bytes → TriesInVain sent failures next q most ports bytes old new
+  only_vain : (most : ℕ) (ports bytes : List ℕ) (old new : Asker S) → IsAsked q bytes
+      → TriesInVain sent failures next q most ports bytes old new
       → SendsOnly q (sent old.socket) (sent new.socket)
-  only_vain most [] bytes old new asked v = only_nothing q (sent old.socket) (sent new.socket) (ap (λ (s : Asker S). sent s.socket) v)
-  only_vain most (port ∷ ports) bytes old new asked v = only_both (only_tries asked v.1) (only_vain most ports bytes v.0 new asked v.2)
+  only_vain most [] bytes old new asked v =
+      only_nothing q (sent old.socket) (sent new.socket) (ap (λ (s : Asker S). sent s.socket) v)
+  only_vain most (port ∷ ports) bytes old new asked v =
+      only_both (only_tries asked v.1) (only_vain most ports bytes v.0 new asked v.2)
 
-  only_until : (most : ℕ) (ports bytes : List ℕ) (told : Option ReplyValue) (old new : Asker S) → IsAsked q bytes → TriesUntil sent failures next q most ports bytes told old new
+  only_until : (most : ℕ) (ports bytes : List ℕ) (told : Option ReplyValue) (old new : Asker S) → IsAsked q bytes
+      → TriesUntil sent failures next q most ports bytes told old new
       → SendsOnly q (sent old.socket) (sent new.socket)
   only_until most ports bytes None old new asked u = only_vain most ports bytes old new asked u
-  only_until most ports bytes (Some reply) old new asked u = only_both (only_vain most (take u.0 ports) bytes old u.3 asked u.4) (only_tries asked u.5)
+  only_until most ports bytes (Some reply) old new asked u =
+      only_both (only_vain most (take u.0 ports) bytes old u.3 asked u.4) (only_tries asked u.5)
 
 -- ---- what is returned was said by a datagram
 
 some_same : (x y : ReplyValue) → Some x ≡ Some y → x ≡ y
 some_same x y e = cc e
 
-module _ {S : Type 0} (sent : S → List (SocketAddr × List ℕ)) (failures : S → ℕ) (next : S → Option (SocketAddr × List ℕ)) (q : Question) where
-  replied_by : (reply : ReplyValue) (heard : Heard) (bytes : List ℕ) (old new : Asker S) → Some reply ≡ ended_by heard → Hears q (next old.socket) heard
-      → SendsEach (followed_to q.destination heard old.followed) bytes (sent old.socket) (failures old.socket) (sent new.socket) (failures new.socket)
+module _ {S : Type 0} (sent : S → List (SocketAddr × List ℕ)) (failures : S → ℕ)
+    (next : S → Option (SocketAddr × List ℕ)) (q : Question) where
+  replied_by : (reply : ReplyValue) (heard : Heard) (bytes : List ℕ) (old new : Asker S) → Some reply ≡ ended_by heard
+      → Hears q (next old.socket) heard
+      → SendsEach (followed_to q.destination heard old.followed) bytes (sent old.socket) (failures old.socket)
+      (sent new.socket) (failures new.socket)
       → IsReplied sent next q reply new.socket
   replied_by reply (Reply (Answer a)) bytes old new is hears sends = record {
     last = old.socket;
@@ -101,17 +125,21 @@ module _ {S : Type 0} (sent : S → List (SocketAddr × List ℕ)) (failures : S
   replied_by reply Nothing bytes old new is hears sends = absurd (cc is)
   replied_by reply Other bytes old new is hears sends = absurd (cc is)
 
-  replied : {reply : ReplyValue} {bytes : List ℕ} {old new : Asker S} → Receives sent failures next q bytes (Some reply) old new → IsReplied sent next q reply new.socket
-  replied {reply = reply} {bytes = bytes} {old = old} {new = new} r = replied_by reply r.heard bytes old new r.tells r.hears r.sends
+  replied : {reply : ReplyValue} {bytes : List ℕ} {old new : Asker S}
+      → Receives sent failures next q bytes (Some reply) old new → IsReplied sent next q reply new.socket
+  replied {reply = reply} {bytes = bytes} {old = old} {new = new} r =
+      replied_by reply r.heard bytes old new r.tells r.hears r.sends
 
-  ends_until : (most : ℕ) (ports bytes : List ℕ) (told : Option ReplyValue) (old new : Asker S) → TriesUntil sent failures next q most ports bytes told old new
+  ends_until : (most : ℕ) (ports bytes : List ℕ) (told : Option ReplyValue) (old new : Asker S)
+      → TriesUntil sent failures next q most ports bytes told old new
       → IfSome told (λ (reply : ReplyValue). IsReplied sent next q reply new.socket)
   ends_until most ports bytes None old new u = tt
   ends_until most ports bytes (Some reply) old new u = replied u.5.waits.4
 
   -- ---- the rule
 
-  keeps_rule : {most : ℕ} {ports : List ℕ} {told : Option ReplyValue} {old new : S} → Exchanges sent failures next q most ports told old new
+  keeps_rule : {most : ℕ} {ports : List ℕ} {told : Option ReplyValue} {old new : S}
+      → Exchanges sent failures next q most ports told old new
       → KeepsRule sent failures next q most ports told old new
   keeps_rule {most = most} {ports = ports} {told = told} {old = old} {new = new} e =
       let first : Asker S = record { socket = old; followed = 0 } in
@@ -123,8 +151,10 @@ module _ {S : Type 0} (sent : S → List (SocketAddr × List ℕ)) (failures : S
       }
 
   -- of an exchange that is over, whether it fails or not
-  pub all_same : {E : Type 0} (most : ℕ) (ports : List ℕ) (old new : S) (result : Result (Option ReplyValue) E) → OnErr result (new ≡ old)
-      → IfOk result (λ (told : Option ReplyValue). Exchanges sent failures next q most ports told old new) → SendsOnly q (sent old) (sent new)
+  pub all_same : {E : Type 0} (most : ℕ) (ports : List ℕ) (old new : S) (result : Result (Option ReplyValue) E)
+      → OnErr result (new ≡ old)
+      → IfOk result (λ (told : Option ReplyValue). Exchanges sent failures next q most ports told old new)
+      → SendsOnly q (sent old) (sent new)
   all_same most ports old new (Ok told) failed e = (keeps_rule e).same
   all_same most ports old new (Err fault) failed e = only_nothing q (sent old) (sent new) (ap sent failed)
 
@@ -135,13 +165,15 @@ module _ {S : Type 0} (sent : S → List (SocketAddr × List ℕ)) (failures : S
   all_keep most ports old new (Err fault) e = tt
 
   -- by its turns: none, or several
-  pub asks_alone : {E : Type 0} (turns : List ℕ) (old new : S) (result : Result (Option ReplyValue) E) → length turns < 1
+  pub asks_alone : {E : Type 0} (turns : List ℕ) (old new : S) (result : Result (Option ReplyValue) E)
+      → length turns < 1
       → IfOk result (λ (told : Option ReplyValue). Exchanges sent failures next q 50 (q.port ∷ []) told old new)
       → IfOk result (λ (told : Option ReplyValue). Asks sent failures next q turns told old new)
   asks_alone [] old new result none e = all_keep 50 (q.port ∷ []) old new result e
   asks_alone (port ∷ ports) old new result none e = absurd (omega (arith, none))
 
-  pub asks_several : {E : Type 0} (turns : List ℕ) (old new : S) (result : Result (Option ReplyValue) E) → 1 ≤ length turns
+  pub asks_several : {E : Type 0} (turns : List ℕ) (old new : S) (result : Result (Option ReplyValue) E)
+      → 1 ≤ length turns
       → IfOk result (λ (told : Option ReplyValue). Exchanges sent failures next q 5 turns told old new)
       → IfOk result (λ (told : Option ReplyValue). Asks sent failures next q turns told old new)
   asks_several [] old new result some e = absurd (omega (arith, some))

@@ -19,7 +19,8 @@ said_of other (content.Node n m) = m
 said_of other (content.Request q) = other
 
 -- what a node is seen to say is the reply that is shown
-pub same_said : (m : MessageRef) (node : ℕ) (said : NodeMessageRef) (cluster n client number : ℕ) (r : Reply) → m.content ≡ seen.Node node said
+pub same_said : (m : MessageRef) (node : ℕ) (said : NodeMessageRef) (cluster n client number : ℕ) (r : Reply)
+    → m.content ≡ seen.Node node said
     → shown m ≡ reply_of cluster n client number r → shown_node said ≡ reply_message client number r
 unfolding said_of
 same_said m node said cluster n client number r is shows =
@@ -32,7 +33,9 @@ IsAsked (content.Request q) = Unit {0}
 IsAsked (content.Node n m) = ⊥
 
 -- where a client is seen to ask no reply is shown
-pub not_asked : (m : MessageRef) (q : Request) (cluster n client number : ℕ) (r : Reply) → m.content ≡ seen.Request q → shown m ≡ reply_of cluster n client number r → ⊥
+pub not_asked : (m : MessageRef) (q : Request) (cluster n client number : ℕ) (r : Reply) → m.content ≡ seen.Request q
+    → shown m ≡ reply_of cluster n client number r → ⊥
 unfolding IsAsked
 not_asked m q cluster n client number r is shows =
-    subst IsAsked (ap (λ (x : Message). x.content) shows) (subst (λ (x : ContentRef). IsAsked (shown_content x)) (sym is) tt)
+    subst IsAsked (ap (λ (x : Message). x.content) shows)
+    (subst (λ (x : ContentRef). IsAsked (shown_content x)) (sym is) tt)

@@ -1,6 +1,7 @@
 -- What a client asks, what it receives, and what it sends in response.
 use Rattle.std.specs.Net.Socket.{socket_ip, socket_port}
-use Rattle.std.specs.Prelude.{◌≡◌, ◌⊎◌, ◌+◌, ◌<◌, ◌≤◌, ℕ, nat_lt, Option, Some, None, List, [], ◌∷◌, ◌++◌, length, take, slice_get, if◌then◌else◌}
+use Rattle.std.specs.Prelude.{◌≡◌, ◌⊎◌, ◌+◌, ◌<◌, ◌≤◌, ℕ, nat_lt, Option, Some, None, List, [], ◌∷◌, ◌++◌, length, take}
+use Rattle.std.specs.Prelude.{slice_get, if◌then◌else◌}
 use Rattle.std.specs.declared.net.ip_addr.IpAddr.{IpAddr}
 use Rattle.std.specs.declared.net.socket_addr.SocketAddr.{SocketAddr}
 use Rattle.lk_types.specs.declared.member.Member.{Member}
@@ -42,11 +43,15 @@ asking q = record { cluster = q.cluster; content = content.Request q.request }
 
 -- the bytes to send: those of its message, in a frame of its client if there is a key
 abbrev pub IsAsked : Question → List ℕ → Type 0
-IsAsked q frame = (bytes : List ℕ) × Spells (asking q) bytes × (frame ≡ framed_by (key_list q.destination.seals.keys) (seals.asking q.destination.seals.cluster q.request.client) bytes)
+IsAsked q frame = (bytes : List ℕ) × Spells (asking q) bytes
+    × (frame ≡ framed_by (key_list q.destination.seals.keys)
+    (seals.asking q.destination.seals.cluster q.request.client) bytes)
 
 -- the datagram, out of its frame if there is a key, is that reply of a node of the cluster to the request
 abbrev pub IsReply : Question → List ℕ → ReplyValue → Type 0
-IsReply q bytes r = (node : ℕ) × Spells (reply_of q.cluster node q.request.client q.request.number r) (replied (key_list q.destination.seals.keys) q.destination.seals.cluster q.request.client bytes)
+IsReply q bytes r = (node : ℕ)
+    × Spells (reply_of q.cluster node q.request.client q.request.number r)
+    (replied (key_list q.destination.seals.keys) q.destination.seals.cluster q.request.client bytes)
 
 -- what the client receives if this arrives next: a reply if it is one to the request, nothing if nothing arrives
 abbrev pub Hears : Question → Option (SocketAddr × List ℕ) → Heard → Type 0
@@ -97,7 +102,8 @@ pub record Asker (S : Type 0) : Type 0 where
 
 -- what a kind of socket has sent, how many of its sends have failed, and what arrives next; and the question of a
 -- client at such a socket
-module _ {S : Type 0} (sent : S → List (SocketAddr × List ℕ)) (failures : S → ℕ) (next : S → Option (SocketAddr × List ℕ)) (q : Question) where
+module _ {S : Type 0} (sent : S → List (SocketAddr × List ℕ)) (failures : S → ℕ)
+    (next : S → Option (SocketAddr × List ℕ)) (q : Question) where
   -- the client receives what arrives next, which tells it nothing or this; if it is an Elsewhere to follow, the bytes
   -- go to the member that it names, and nothing else is sent
   pub record Receives (bytes : List ℕ) (told : Option ReplyValue) (old new : Asker S) : Type 0 where
@@ -105,30 +111,35 @@ module _ {S : Type 0} (sent : S → List (SocketAddr × List ℕ)) (failures : S
     pub hears : Hears q (next old.socket) heard
     pub tells : told ≡ ended_by heard
     pub follows : new.followed ≡ old.followed + length (followed_to q.destination heard old.followed)
-    pub sends : SendsEach (followed_to q.destination heard old.followed) bytes (sent old.socket) (failures old.socket) (sent new.socket) (failures new.socket)
+    pub sends : SendsEach (followed_to q.destination heard old.followed) bytes (sent old.socket) (failures old.socket)
+        (sent new.socket) (failures new.socket)
 
   -- it was told this after fewer than so many receives that told nothing, or so many have told nothing
   abbrev pub WaitsFor : ℕ → List ℕ → Option ReplyValue → Asker S → Asker S → Type 0
   WaitsFor most bytes None old new = Repeats (Receives bytes None) most old new
   WaitsFor most bytes (Some reply) old new =
-      (count : ℕ) × (count < most) × (last : Asker S) × Repeats (Receives bytes None) count old last × Receives bytes (Some reply) last new
+      (count : ℕ) × (count < most) × (last : Asker S) × Repeats (Receives bytes None) count old last
+      × Receives bytes (Some reply) last new
 
   -- the bytes went to the port of the question's address, and then it waited for at most so many receives
   pub record Tries (most port : ℕ) (bytes : List ℕ) (told : Option ReplyValue) (old new : Asker S) : Type 0 where
     pub begun : S
-    pub asks : SendsOnce (q.destination.address, port) bytes (sent old.socket) (failures old.socket) (sent begun) (failures begun)
+    pub asks : SendsOnce (q.destination.address, port) bytes (sent old.socket) (failures old.socket)
+        (sent begun) (failures begun)
     pub waits : WaitsFor most bytes told (record { socket = begun; followed = old.followed }) new
 
   -- so with each of these ports in turn, and none told anything
   abbrev pub TriesInVain : ℕ → List ℕ → List ℕ → Asker S → Asker S → Type 0
   TriesInVain most [] bytes old new = new ≡ old
-  TriesInVain most (port ∷ ports) bytes old new = (mid : Asker S) × Tries most port bytes None old mid × TriesInVain most ports bytes mid new
+  TriesInVain most (port ∷ ports) bytes old new =
+      (mid : Asker S) × Tries most port bytes None old mid × TriesInVain most ports bytes mid new
 
   -- so with all of them, or with each in turn until it was told this
   abbrev pub TriesUntil : ℕ → List ℕ → List ℕ → Option ReplyValue → Asker S → Asker S → Type 0
   TriesUntil most ports bytes None old new = TriesInVain most ports bytes old new
   TriesUntil most ports bytes (Some reply) old new =
-      (count : ℕ) × (port : ℕ) × (slice_get ports count ≡ Some port) × (last : Asker S) × TriesInVain most (take count ports) bytes old last
+      (count : ℕ) × (port : ℕ) × (slice_get ports count ≡ Some port) × (last : Asker S)
+      × TriesInVain most (take count ports) bytes old last
       × Tries most port bytes (Some reply) last new
 
   -- the bytes of the question went to these ports, one after another, until it was told something, and beyond them to
@@ -138,4 +149,5 @@ module _ {S : Type 0} (sent : S → List (SocketAddr × List ℕ)) (failures : S
     pub spelled : IsAsked q bytes
     pub followed : ℕ
     pub few : followed ≤ 20
-    pub tries : TriesUntil most ports bytes told (record { socket = old; followed = 0 }) (record { socket = new; followed = followed })
+    pub tries : TriesUntil most ports bytes told (record { socket = old; followed = 0 })
+        (record { socket = new; followed = followed })

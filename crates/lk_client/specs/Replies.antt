@@ -15,4 +15,5 @@ reply_message client number (Elsewhere m) = node.Elsewhere (record { client = cl
 
 -- the same as a message of a node of the cluster
 abbrev pub reply_of : ℕ → ℕ → ℕ → ℕ → Reply → Message
-reply_of cluster n client number reply = record { cluster = cluster; content = content.Node n (reply_message client number reply) }
+reply_of cluster n client number reply =
+    record { cluster = cluster; content = content.Node n (reply_message client number reply) }

@@ -14,7 +14,8 @@ pub record SendsOnly (q : Question) (old new : List (SocketAddr × List ℕ)) : 
   pub same : AllByRecursion (λ (d : SocketAddr × List ℕ). IsAsked q d.1) more
 
 -- the datagram that arrived after everything was sent is that reply of a node of the cluster to the request
-pub record IsReplied {S : Type 0} (sent : S → List (SocketAddr × List ℕ)) (next : S → Option (SocketAddr × List ℕ)) (q : Question) (reply : ReplyValue) (new : S) : Type 0 where
+pub record IsReplied {S : Type 0} (sent : S → List (SocketAddr × List ℕ)) (next : S → Option (SocketAddr × List ℕ))
+    (q : Question) (reply : ReplyValue) (new : S) : Type 0 where
   pub last : S
   pub datagram : SocketAddr × List ℕ
   pub came : next last ≡ Some datagram
@@ -23,7 +24,8 @@ pub record IsReplied {S : Type 0} (sent : S → List (SocketAddr × List ℕ)) (
 
 -- what a kind of socket has sent, how many of its sends have failed, and what arrives next; and the question of a
 -- client at such a socket
-module _ {S : Type 0} (sent : S → List (SocketAddr × List ℕ)) (failures : S → ℕ) (next : S → Option (SocketAddr × List ℕ)) (q : Question) where
+module _ {S : Type 0} (sent : S → List (SocketAddr × List ℕ)) (failures : S → ℕ)
+    (next : S → Option (SocketAddr × List ℕ)) (q : Question) where
   -- a client that keeps the rule, with so many receives for each port
   pub record KeepsRule (most : ℕ) (ports : List ℕ) (told : Option ReplyValue) (old new : S) : Type 0 where
     -- it has sent nothing but that request

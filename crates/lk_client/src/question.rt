@@ -113,7 +113,8 @@ fn bytes_to_send(alloc: Global, question: &Question) -> Result<Vec<u8>, ServiceF
 
 // Sends bytes to a port of an address. What could not be sent is lost.
 fn send<S: DatagramSocket>(socket: &mut S, address: IpAddr, port: Port, bytes: &[u8])
-    ensures { S.is_telling → SendsOnce (address, port) bytes.now (S.sent socket.old) (S.failures socket.old) (S.sent socket.new) (S.failures socket.new) }
+    ensures { S.is_telling → SendsOnce (address, port) bytes.now (S.sent socket.old) (S.failures socket.old)
+        (S.sent socket.new) (S.failures socket.new) }
 {
     let place = SocketAddr::from((address, port.get()));
     let _ = socket.send_to(place, bytes);
@@ -130,7 +131,8 @@ fn take_next<S: DatagramSocket>(
 ) -> Option<Reply>
     // It receives what arrives next, which either ends the exchange or is followed to the member that it names.
     ensures heard { S.is_telling → Receives S.sent S.failures (next_of S.coming) question.now bytes.now result
-        (record { socket = socket.old; followed = followed.old }) (record { socket = socket.new; followed = followed.new }) }
+        (record { socket = socket.old; followed = followed.old })
+        (record { socket = socket.new; followed = followed.new }) }
     ensures told { IfSome result IsTold }
     ensures most { followed.old ≤ 20 → followed.new ≤ 20 }
 {
@@ -162,8 +164,10 @@ fn ask_port<S: DatagramSocket>(
 ) -> Option<Reply>
     requires { followed.old ≤ 20 }
     // The bytes go to the port, and of what comes next it hears at most that many, until it is told something.
-    ensures tries { S.is_telling → Tries S.sent S.failures (next_of S.coming) question.now patience port bytes.now result
-        (record { socket = socket.old; followed = followed.old }) (record { socket = socket.new; followed = followed.new }) }
+    ensures tries { S.is_telling
+        → Tries S.sent S.failures (next_of S.coming) question.now patience port bytes.now result
+        (record { socket = socket.old; followed = followed.old })
+        (record { socket = socket.new; followed = followed.new }) }
     ensures told { IfSome result IsTold }
     ensures most { followed.new ≤ 20 }
 {
@@ -188,7 +192,9 @@ fn exchange_in_turn<S: DatagramSocket>(
 ) -> Result<Option<Reply>, ServiceFault>
     // The bytes of the question go to each port in turn until it is told something, and further only to the members of
     // Elsewhere that it hears.
-    ensures tries { S.is_telling → IfOk result (λ told. Exchanges S.sent S.failures (next_of S.coming) question.now patience ports.now told socket.old socket.new) }
+    ensures tries { S.is_telling
+        → IfOk result (λ told. Exchanges S.sent S.failures
+        (next_of S.coming) question.now patience ports.now told socket.old socket.new) }
     ensures told { IfOk result (λ reply. IfSome reply IsTold) }
     ensures unchanged { OnErr result (socket.new ≡ socket.old) }
     ensures only { IfErr result (λ f. f ≡ ServiceFault.NoMemory) }
@@ -223,7 +229,9 @@ pub fn exchange<S: DatagramSocket>(
     // Whether it fails or not, it has sent nothing but that request.
     ensures same { S.is_telling → SendsOnly question.now (S.sent socket.old) (S.sent socket.new) }
     // It keeps the rule of a client that asks one request.
-    ensures rule { S.is_telling → IfOk result (λ told. Asks S.sent S.failures (next_of S.coming) question.now turns.now told socket.old socket.new) }
+    ensures rule { S.is_telling
+        → IfOk result (λ told. Asks S.sent S.failures
+        (next_of S.coming) question.now turns.now told socket.old socket.new) }
     ensures told { IfOk result (λ reply. IfSome reply IsTold) }
     ensures unchanged { OnErr result (socket.new ≡ socket.old) }
     ensures only { IfErr result (λ f. f ≡ ServiceFault.NoMemory) }
@@ -273,7 +281,9 @@ fn ask_and_write<S: DatagramSocket, W: Write>(
     // Whether it fails or not, it has sent nothing but that request.
     ensures same { S.is_telling → SendsOnly question.now (S.sent socket.old) (S.sent socket.new) }
     // It learned the fate exactly if the exchange got a reply.
-    ensures told { S.is_telling → IfOk result (λ is_told. Comes S.sent S.failures (next_of S.coming) question.now turns.now is_told socket.old socket.new) }
+    ensures told { S.is_telling
+        → IfOk result (λ is_told. Comes S.sent S.failures
+        (next_of S.coming) question.now turns.now is_told socket.old socket.new) }
     ensures only { IfErr result (λ f. (f ≡ ServiceFault.NoMemory) ⊎ (f ≡ ServiceFault.Write)) }
 {
     let reply = exchange(alloc, socket, question, turns)?;
@@ -297,7 +307,9 @@ pub fn ask<S: DatagramSocket, W: Write, E: Write>(
     // Whatever the status, it has sent nothing but that request.
     ensures same { S.is_telling → SendsOnly question.now (S.sent socket.old) (S.sent socket.new) }
     // Status 0 only if it has sent the request and learned its fate.
-    ensures asked { S.is_telling → result ≡ 0 → (reply : ReplyValue) × Asks S.sent S.failures (next_of S.coming) question.now turns.now (Some reply) socket.old socket.new }
+    ensures asked { S.is_telling → result ≡ 0
+        → (reply : ReplyValue) × Asks S.sent S.failures (next_of S.coming) question.now turns.now
+        (Some reply) socket.old socket.new }
 {
     match ask_and_write(alloc, socket, question, turns, out) {
         Ok(true) => 0,

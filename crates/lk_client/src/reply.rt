@@ -22,7 +22,8 @@ pub enum Reply {
 // The reply that a node's message gives to a client's request of that number.
 fn reply_in(message: &NodeMessageRef<'_>, request: &Request) -> Option<Reply>
     ensures some { IfSome result (λ r. shown_node message.now ≡ reply_message request.now.client request.now.number r) }
-    ensures none { IsNone result → (r : ReplyValue) → shown_node message.now ≡ reply_message request.now.client request.now.number r → ⊥ }
+    ensures none { IsNone result → (r : ReplyValue)
+        → shown_node message.now ≡ reply_message request.now.client request.now.number r → ⊥ }
 {
     let key = (request.client, request.number);
     match message {
@@ -39,8 +40,10 @@ fn reply_in(message: &NodeMessageRef<'_>, request: &Request) -> Option<Reply>
 
 /// The reply that a datagram gives to the request in the cluster.
 pub fn read_reply(cluster: u64, request: &Request, bytes: &[u8]) -> Option<Reply>
-    ensures some { IfSome result (λ r. (n : ℕ) × Spells (reply_of cluster n request.now.client request.now.number r) bytes.now) }
-    ensures none { IsNone result → (n : ℕ) (r : ReplyValue) → Spells (reply_of cluster n request.now.client request.now.number r) bytes.now → ⊥ }
+    ensures some { IfSome result
+        (λ r. (n : ℕ) × Spells (reply_of cluster n request.now.client request.now.number r) bytes.now) }
+    ensures none { IsNone result → (n : ℕ) (r : ReplyValue)
+        → Spells (reply_of cluster n request.now.client request.now.number r) bytes.now → ⊥ }
 {
     let Ok(message) = view(bytes) else {
         return None;

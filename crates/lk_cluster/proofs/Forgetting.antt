@@ -36,17 +36,23 @@ remains : (d : Disk) → d ≡ record { synced = []; unsynced = [] } → MayRema
 remains d e = subst (λ (x : Disk). MayRemain x []) (sym e) (0, refl)
 
 remain : (life : Life (ServerValue ReplicaValue)) → HasEmptyDisks life → MayRemainOf (life_of life) no_bytes
-remain (Up server) empty = (remains _ (sym (device_disks server.replica.store A) ∙ empty A), remains _ (sym (device_disks server.replica.store B) ∙ empty B))
+remain (Up server) empty = (
+  remains _ (sym (device_disks server.replica.store A) ∙ empty A),
+  remains _ (sym (device_disks server.replica.store B) ∙ empty B),
+)
 remain (Down device) empty = (remains _ (empty A), remains _ (empty B))
 
 -- ---- and nothing is remembered by that
 
-begun_with_none : (whose : HeaderValue) (blank : List ℕ) (entries : List Stored) (memory : StandingValue) → StandsFor entries memory → entries ≡ Base (first_base whose blank) ∷ [] → memory.promised ≡ zero_ballot
+begun_with_none : (whose : HeaderValue) (blank : List ℕ) (entries : List Stored) (memory : StandingValue)
+    → StandsFor entries memory → entries ≡ Base (first_base whose blank) ∷ [] → memory.promised ≡ zero_ballot
 begun_with_none whose blank entries memory stands e =
     ap (λ (s : StandingValue). s.promised)
-    (one_standing entries memory (first_base whose blank).standing stands (subst (λ (es : List Stored). StandsFor es (first_base whose blank).standing) (sym e) (first_stands whose blank)))
+    (one_standing entries memory (first_base whose blank).standing stands
+    (subst (λ (es : List Stored). StandsFor es (first_base whose blank).standing) (sym e) (first_stands whose blank)))
 
-no_promise : (genesis : Genesis) (n : ℕ) (memory : StandingValue) → Remembers genesis n no_bytes memory → memory.promised ≡ zero_ballot
+no_promise : (genesis : Genesis) (n : ℕ) (memory : StandingValue) → Remembers genesis n no_bytes memory
+    → memory.promised ≡ zero_ballot
 no_promise genesis n memory r = elim r.live [
   | inl live ↦ absurd (not_both no_bytes r.entries live (empty_image no_bytes (λ s. refl)))
   | inr none ↦ begun_with_none _ none.1.0 r.entries memory r.stand_for none.1.2
@@ -59,15 +65,20 @@ not_below_all b promised real e (inl (inl round)) = omega (arith, round, ap (λ 
 not_below_all b promised real e (inl (inr node)) = omega (arith, node.1, ap (λ (x : BallotValue). x.node) e)
 not_below_all b promised real e (inr same) = omega (arith, real.0.0, ap (λ (x : BallotValue). x.round) (same ∙ e))
 
-forgotten : (memory : StandingValue) (m : NodeMessage) → MustBeRemembered m → IsNodeMessage m → memory.promised ≡ zero_ballot → IsCovered memory m → ⊥
-forgotten memory (message.Prepare ballot first) must fits none covered = not_below_all ballot memory.promised fits.0 none covered
+forgotten : (memory : StandingValue) (m : NodeMessage) → MustBeRemembered m → IsNodeMessage m
+    → memory.promised ≡ zero_ballot → IsCovered memory m → ⊥
+forgotten memory (message.Prepare ballot first) must fits none covered =
+    not_below_all ballot memory.promised fits.0 none covered
 forgotten memory (message.Promise p) must fits none covered = not_below_all p.ballot memory.promised fits.0 none covered
 forgotten memory (message.Accept x) must fits none covered = not_below_all x.ballot memory.promised fits.1 none covered
-forgotten memory (message.Accepted x) must fits none covered = not_below_all x.ballot memory.promised fits.1 none covered.0
+forgotten memory (message.Accepted x) must fits none covered =
+    not_below_all x.ballot memory.promised fits.1 none covered.0
 forgotten memory _ must fits none covered = must
 
-pub not_forgotten : (c : Cluster) → KeepsPromise (scene_of c) → (node : Node) → Contains c.seats node → (m : NodeMessage) → MustBeRemembered m → HasSent c.genesis c.sent node.number m → HasEmptyDisks node.life → ⊥
+pub not_forgotten : (c : Cluster) → KeepsPromise (scene_of c) → (node : Node) → Contains c.seats node
+    → (m : NodeMessage) → MustBeRemembered m → HasSent c.genesis c.sent node.number m → HasEmptyDisks node.life → ⊥
 not_forgotten c keeps node here m must sent empty =
     let x = keeps.covered (seat_of node) (in_map seat_of c.seats node here) no_bytes (remain node.life empty) in
-    let says : Says c.genesis c.sent node.number m = record { datagram = sent.datagram; is_sent = sent.listed; by_node = sent.from; in_words = sent.spelled } in
+    let says : Says c.genesis c.sent node.number m =
+    record { datagram = sent.datagram; is_sent = sent.listed; by_node = sent.from; in_words = sent.spelled } in
     forgotten x.0 m must sent.spelled.0.1.1 (no_promise c.genesis node.number x.0 x.1) (x.2 m says)

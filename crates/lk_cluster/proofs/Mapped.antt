@@ -29,7 +29,8 @@ use Rattle.lk_cluster.specs.Clusters.{Node, seat_of, life_of, ServerStands, serv
 at_map : {X Y : Type 0} (f : X → Y) (xs : List X) (k : ℕ) (y : Y) → At (map f xs) k y → (x : X) × At xs k x × (y ≡ f x)
 at_map f [] k y c = absurd (omega (arith, c.0))
 at_map f (x ∷ xs) zero y c = (x, (omega arith, refl), sym c.1)
-at_map f (x ∷ xs) (suc k) y c = let r = at_map f xs k y (omega (arith, c.0), c.1) in (r.0, (omega (arith, r.1.0), r.1.1), r.2)
+at_map f (x ∷ xs) (suc k) y c = let r = at_map f xs k y (omega (arith, c.0), c.1) in
+    (r.0, (omega (arith, r.1.0), r.1.1), r.2)
 
 to_map : {X Y : Type 0} (f : X → Y) (xs : List X) (k : ℕ) (x : X) → At xs k x → At (map f xs) k (f x)
 to_map f [] k x c = absurd (omega (arith, c.0))
@@ -55,7 +56,8 @@ abbrev pub replica_disks : ReplicaValue → Side → Disk
 replica_disks r = disk_of (device_of r.store)
 
 module _ (h : History) (v : View) where
-  up_fits : (n : ℕ) (q : ServerValue ReplicaValue) → UpFits ServerStands server_disks table_meaning h v n q → UpFits ReplicaStands replica_disks table_meaning h v n q.replica
+  up_fits : (n : ℕ) (q : ServerValue ReplicaValue) → UpFits ServerStands server_disks table_meaning h v n q
+      → UpFits ReplicaStands replica_disks table_meaning h v n q.replica
   up_fits n q u = record {
     holding = u.holding;
     view = u.view;
@@ -68,9 +70,12 @@ module _ (h : History) (v : View) where
   same_up : (r q : ReplicaValue) → Up q ≡ Up r → q ≡ r
   same_up r q e = cc e
 
-  fits_by : (t : Node) (life : Life (ServerValue ReplicaValue)) → t.life ≡ life → SeatFits ServerStands server_disks table_meaning h v t → SeatFits ReplicaStands replica_disks table_meaning h v (seat_of t)
+  fits_by : (t : Node) (life : Life (ServerValue ReplicaValue)) → t.life ≡ life
+      → SeatFits ServerStands server_disks table_meaning h v t
+      → SeatFits ReplicaStands replica_disks table_meaning h v (seat_of t)
   fits_by t (Up q) is f = record {
-    up = λ r up. subst (λ z. UpFits ReplicaStands replica_disks table_meaning h v t.number z) (same_up r q.replica (sym (ap life_of is) ∙ up)) (up_fits t.number q (f.up q is));
+    up = λ r up. subst (λ z. UpFits ReplicaStands replica_disks table_meaning h v t.number z)
+        (same_up r q.replica (sym (ap life_of is) ∙ up)) (up_fits t.number q (f.up q is));
     down = λ d down. absurd (cc (sym (ap life_of is) ∙ down));
     room = λ d down. absurd (cc (sym (ap life_of is) ∙ down));
   }
@@ -80,25 +85,30 @@ module _ (h : History) (v : View) where
     room = λ d down. f.room d (is ∙ same_down d e (sym (ap life_of is) ∙ down));
   }
     where
-      same_down : (d e : Memory) → ◌≡◌ {A = Life ReplicaValue} (Down e) (Down d) → ◌≡◌ {A = Life (ServerValue ReplicaValue)} (Down e) (Down d)
+      same_down : (d e : Memory) → ◌≡◌ {A = Life ReplicaValue} (Down e) (Down d)
+          → ◌≡◌ {A = Life (ServerValue ReplicaValue)} (Down e) (Down d)
       same_down d e p = let same : e ≡ d = cc p in ap Down same
 
-  pub seat_fits : (t : Node) → SeatFits ServerStands server_disks table_meaning h v t → SeatFits ReplicaStands replica_disks table_meaning h v (seat_of t)
+  pub seat_fits : (t : Node) → SeatFits ServerStands server_disks table_meaning h v t
+      → SeatFits ReplicaStands replica_disks table_meaning h v (seat_of t)
   seat_fits t f = fits_by t t.life refl f
 
 -- so with all of it
-pub mapped : (genesis : Genesis) (seats : List Node) (sent : List Datagram) (trace : List Note) → Holds ServerStands server_disks table_meaning genesis seats sent trace
+pub mapped : (genesis : Genesis) (seats : List Node) (sent : List Datagram) (trace : List Note)
+    → Holds ServerStands server_disks table_meaning genesis seats sent trace
     → Holds ReplicaStands replica_disks table_meaning genesis (map seat_of seats) sent trace
 mapped genesis seats sent trace w = record {
   views = w.views;
   world = w.world;
   seated = λ k s c. let a = at_map seat_of seats k s c in
-      subst (λ (z : Seat ReplicaValue). SeatFits ReplicaStands replica_disks table_meaning (happened genesis sent trace) (w.views z.number) z) (sym a.2)
+      subst (λ (z : Seat ReplicaValue). SeatFits ReplicaStands replica_disks table_meaning
+      (happened genesis sent trace) (w.views z.number) z) (sym a.2)
       (seat_fits (happened genesis sent trace) (w.views a.0.number) a.0 (w.seated k a.0 a.1));
   apart = λ i j s t c d same.
       let a = at_map seat_of seats i s c in
       let b = at_map seat_of seats j t d in
-      w.apart i j a.0 b.0 a.1 b.1 (sym (ap (λ (z : Seat ReplicaValue). z.number) a.2) ∙ same ∙ ap (λ (z : Seat ReplicaValue). z.number) b.2);
+      w.apart i j a.0 b.0 a.1 b.1
+      (sym (ap (λ (z : Seat ReplicaValue). z.number) a.2) ∙ same ∙ ap (λ (z : Seat ReplicaValue). z.number) b.2);
   known = λ n x h. let a = w.known n x h in (a.0, seat_of a.1, to_map seat_of seats a.0 a.1 a.2, a.3);
   requests = w.requests;
   proposed = w.proposed;

@@ -1,5 +1,6 @@
 -- Of any bytes it can be told whether they are a client's request, and of datagrams that read what they answer.
-use Rattle.std.proofs.Common.{◌≡◌, ℕ, ◌<◌, ◌≤◌, ◌^◌, ◌⊎◌, inl, inr, Option, Some, None, List, [], ◌∷◌, ◌++◌, length, drop, Contains, refl, ap, sym, ◌∙◌, subst, append_assoc, arith}
+use Rattle.std.proofs.Common.{◌≡◌, ℕ, ◌<◌, ◌≤◌, ◌^◌, ◌⊎◌, inl, inr, Option, Some, None, List, [], ◌∷◌, ◌++◌, length}
+use Rattle.std.proofs.Common.{drop, Contains, refl, ap, sym, ◌∙◌, subst, append_assoc, arith}
 use Rattle.std.proofs.lemmas.Bool.{cases_lt, cases_eq}
 use Rattle.lk_types.specs.Commands.{IsOp, IsRequest}
 use Rattle.lk_types.specs.declared.command.Op.{Op}
@@ -34,7 +35,8 @@ decided_as to back (inl a) = inl (to a)
 decided_as to back (inr no_a) = inr (λ b. no_a (back b))
 
 decided_below : (m n : ℕ) → Decided (m < n)
-decided_below m n = elim (cases_lt m n) [ inl below ↦ inl below | inr above ↦ inr (λ below. omega (arith, above, below)) ]
+decided_below m n =
+    elim (cases_lt m n) [ inl below ↦ inl below | inr above ↦ inr (λ below. omega (arith, above, below)) ]
 
 decided_most : (m n : ℕ) → Decided (m ≤ n)
 decided_most m n = elim (cases_lt n m) [ inl above ↦ inr (λ most. omega (arith, above, most)) | inr most ↦ inl most ]
@@ -73,7 +75,8 @@ asks_in cluster r = record { cluster = cluster; content = content.Request r }
 
 decided_asking : (cluster : ℕ) (r : RequestValue) (bytes : List ℕ) → Decided (Spells (asks_in cluster r) bytes)
 decided_asking cluster r bytes =
-    decided_both (decided_both (decided_below cluster (2 ^ 64)) (decided_request r)) (decided_same bytes (spelling (asks_in cluster r)))
+    decided_both (decided_both (decided_below cluster (2 ^ 64)) (decided_request r))
+    (decided_same bytes (spelling (asks_in cluster r)))
 
 -- what stands behind the first four bytes of a request: the cluster, four bytes, and the request
 abbrev read_behind : List ℕ → Option ((ℕ × (ℕ × RequestValue)) × List ℕ)
@@ -86,13 +89,17 @@ abbrev IsBehind : ℕ × (ℕ × RequestValue) → Type 0
 IsBehind x = (x.0 < 2 ^ 64) × ((x.1.0 < 2 ^ 32) × IsRequest x.1.1)
 
 behind_reads : Reads read_behind behind IsBehind
-behind_reads = both_reads read_eight eight (λ n. n < 2 ^ 64) _ _ _ eight_reads (both_reads read_four four (λ n. n < 2 ^ 32) read_request request IsRequest four_reads request_reads)
+behind_reads = both_reads read_eight eight (λ n. n < 2 ^ 64) _ _ _ eight_reads
+    (both_reads read_four four (λ n. n < 2 ^ 32) read_request request IsRequest four_reads request_reads)
 
 -- a request is read there
-read_there : (cluster : ℕ) (r : RequestValue) (bytes : List ℕ) → Spells (asks_in cluster r) bytes → whole read_behind (drop 4 bytes) ≡ Some (cluster, (0, r))
+read_there : (cluster : ℕ) (r : RequestValue) (bytes : List ℕ) → Spells (asks_in cluster r) bytes
+    → whole read_behind (drop 4 bytes) ≡ Some (cluster, (0, r))
 read_there cluster r bytes s =
-    let here : drop 4 bytes ≡ behind (cluster, (0, r)) = ap (drop 4) s.1 ∙ append_assoc (eight cluster) (four 0) (request r) in
-    ap (whole read_behind) here ∙ whole_again read_behind behind IsBehind behind_reads (cluster, (0, r)) (s.0.0, (omega arith, s.0.1))
+    let here : drop 4 bytes ≡ behind (cluster, (0, r)) = ap (drop 4) s.1
+    ∙ append_assoc (eight cluster) (four 0) (request r) in
+    ap (whole read_behind) here
+    ∙ whole_again read_behind behind IsBehind behind_reads (cluster, (0, r)) (s.0.0, (omega arith, s.0.1))
 
 request_of : (a b : RequestValue) → content.Request a ≡ content.Request b → a ≡ b
 request_of a b e = cc e
@@ -101,14 +108,18 @@ some_same : {A : Type 0} (x y : A) → Some x ≡ Some y → x ≡ y
 some_same x y e = cc e
 
 -- no other request is spelled so
-one_request : (k cluster : ℕ) (q r : RequestValue) (bytes : List ℕ) → Spells (asks_in k q) bytes → Spells (asks_in cluster r) bytes → q ≡ r
-one_request k cluster q r bytes s t = request_of q r (ap (λ (m : Message). m.content) (one_message (asks_in k q) (asks_in cluster r) bytes s t))
+one_request : (k cluster : ℕ) (q r : RequestValue) (bytes : List ℕ) → Spells (asks_in k q) bytes
+    → Spells (asks_in cluster r) bytes → q ≡ r
+one_request k cluster q r bytes s t =
+    request_of q r (ap (λ (m : Message). m.content) (one_message (asks_in k q) (asks_in cluster r) bytes s t))
 
-request_in : (bytes : List ℕ) (read : Option (ℕ × (ℕ × RequestValue))) → whole read_behind (drop 4 bytes) ≡ read → (o : Option RequestValue) × IsRequestIn bytes o
+request_in : (bytes : List ℕ) (read : Option (ℕ × (ℕ × RequestValue))) → whole read_behind (drop 4 bytes) ≡ read
+    → (o : Option RequestValue) × IsRequestIn bytes o
 request_in bytes None is = (
   None,
   record {
-    only = λ r cluster s. absurd (let bad : None ≡ Some (cluster, (0, r)) = sym is ∙ read_there cluster r bytes s in cc bad);
+    only = λ r cluster s. absurd
+        (let bad : None ≡ Some (cluster, (0, r)) = sym is ∙ read_there cluster r bytes s in cc bad);
     some = λ r e. absurd (cc e);
   },
 )
@@ -123,7 +134,9 @@ request_in bytes (Some x) is = elim (decided_asking x.0 x.1.1 bytes) [
   | inr none ↦ (
     None,
     record {
-      only = λ r cluster t. absurd (none (subst (λ (y : ℕ × (ℕ × RequestValue)). Spells (asks_in y.0 y.1.1) bytes) (sym (some_same x (cluster, (0, r)) (sym is ∙ read_there cluster r bytes t))) t));
+      only = λ r cluster t. absurd
+          (none (subst (λ (y : ℕ × (ℕ × RequestValue)). Spells (asks_in y.0 y.1.1) bytes)
+          (sym (some_same x (cluster, (0, r)) (sym is ∙ read_there cluster r bytes t))) t));
       some = λ r e. absurd (cc e);
     },
   )
@@ -137,7 +150,9 @@ asks_something (Some bytes) = request_in bytes (whole read_behind (drop 4 bytes)
 -- ---- what datagrams answer
 
 -- where each of them reads there are notes of their answers and passes
-pub tells_something : (datagrams : List Datagram) → ((d : Datagram) → Contains datagrams d → (m : Message) × Spells m d.bytes) → (told : List Note) × TellsOf datagrams told
+pub tells_something : (datagrams : List Datagram)
+    → ((d : Datagram) → Contains datagrams d → (m : Message) × Spells m d.bytes)
+    → (told : List Note) × TellsOf datagrams told
 tells_something [] reads = ([], refl)
 tells_something (d ∷ datagrams) reads =
     let m = reads d (0, omega arith, refl) in

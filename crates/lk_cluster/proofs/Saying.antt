@@ -7,11 +7,21 @@ use Rattle.lk_transport.specs.Addresses.{Filter, filter_of}
 use Rattle.lk_transport.specs.Posts.{all_filtered}
 use Rattle.lk_server.specs.Servers.{ServerValue, HandsOn, HasReceived, Turn, LastTurn, TakesTurn}
 
-module _ {R : Type 0} (S T : R → List (Option (List ℕ)) → List LetterValue → R → Type 0) (so : (old : R) (given : List (Option (List ℕ))) (letters : List LetterValue) (new : R) → S old given letters new → T old given letters new) where
-  abbrev pub hands_so : (tells : Type 0) (given : List (Option (List ℕ))) (own : List LetterValue) (old new : ServerValue R) → HandsOn S tells given own old new → HandsOn T tells given own old new
-  hands_so tells given own old new h = record { letters = h.letters; says = so old.replica given h.letters new.replica h.says; kept = h.kept; carried = h.carried }
+module _ {R : Type 0} (S T : R → List (Option (List ℕ)) → List LetterValue → R → Type 0)
+    (so : (old : R) (given : List (Option (List ℕ))) (letters : List LetterValue) (new : R) → S old given letters new
+    → T old given letters new) where
+  abbrev pub hands_so : (tells : Type 0) (given : List (Option (List ℕ))) (own : List LetterValue)
+      (old new : ServerValue R) → HandsOn S tells given own old new → HandsOn T tells given own old new
+  hands_so tells given own old new h =
+      record {
+        letters = h.letters;
+        says = so old.replica given h.letters new.replica h.says;
+        kept = h.kept;
+        carried = h.carried;
+      }
 
-  abbrev pub turn_so : (tells : Type 0) (came : List (SocketAddr × List ℕ)) (old new : ServerValue R) → Turn S tells came old new → Turn T tells came old new
+  abbrev pub turn_so : (tells : Type 0) (came : List (SocketAddr × List ℕ)) (old new : ServerValue R)
+      → Turn S tells came old new → Turn T tells came old new
   turn_so tells came old new t = record {
     takes = t.takes;
     given = t.given;
@@ -24,11 +34,13 @@ module _ {R : Type 0} (S T : R → List (Option (List ℕ)) → List LetterValue
     alive = t.alive;
   }
 
-  pub taken_so : (tells : Type 0) (frames : List (SocketAddr × List ℕ)) (old new : ServerValue R) → TakesTurn S tells frames old new → TakesTurn T tells frames old new
+  pub taken_so : (tells : Type 0) (frames : List (SocketAddr × List ℕ)) (old new : ServerValue R)
+      → TakesTurn S tells frames old new → TakesTurn T tells frames old new
   taken_so tells frames old new (inl t) = inl (turn_so tells (all_filtered (filter_of old.addresses) frames) old new t)
   taken_so tells frames old new (inr idle) = inr idle
 
-  abbrev pub last_so : (tells : Type 0) (came : List (SocketAddr × List ℕ)) (old new : ServerValue R) → LastTurn S tells came old new → LastTurn T tells came old new
+  abbrev pub last_so : (tells : Type 0) (came : List (SocketAddr × List ℕ)) (old new : ServerValue R)
+      → LastTurn S tells came old new → LastTurn T tells came old new
   last_so tells came old new t = record {
     takes = t.takes;
     count = t.count;
@@ -43,12 +55,19 @@ module _ {R : Type 0} (S T : R → List (Option (List ℕ)) → List LetterValue
     ended = t.ended;
   }
 
-  pub on_ok_so : {A E : Type 0} (Keeps : List (SocketAddr × List ℕ) → Type 0) (r : Result A E) (tells : Type 0) (old new : ServerValue R) → OnOk r ((frames : List (SocketAddr × List ℕ)) × HasReceived tells frames old new × TakesTurn S tells frames old new × Keeps frames)
-      → OnOk r ((frames : List (SocketAddr × List ℕ)) × HasReceived tells frames old new × TakesTurn T tells frames old new × Keeps frames)
+  pub on_ok_so : {A E : Type 0} (Keeps : List (SocketAddr × List ℕ) → Type 0) (r : Result A E) (tells : Type 0)
+      (old new : ServerValue R)
+      → OnOk r ((frames : List (SocketAddr × List ℕ)) × HasReceived tells frames old new
+      × TakesTurn S tells frames old new × Keeps frames)
+      → OnOk r ((frames : List (SocketAddr × List ℕ)) × HasReceived tells frames old new
+      × TakesTurn T tells frames old new × Keeps frames)
   on_ok_so Keeps (Ok x) tells old new t = (t.0, t.1, taken_so tells t.0 old new t.2, t.3)
   on_ok_so Keeps (Err e) tells old new t = tt
 
-  pub on_err_so : {A E : Type 0} (r : Result A E) (tells : Type 0) (filter : Filter) (old new : ServerValue R) → OnErr r ((frames : List (SocketAddr × List ℕ)) × HasReceived tells frames old new × LastTurn S tells (all_filtered filter frames) old new)
-      → OnErr r ((frames : List (SocketAddr × List ℕ)) × HasReceived tells frames old new × LastTurn T tells (all_filtered filter frames) old new)
+  pub on_err_so : {A E : Type 0} (r : Result A E) (tells : Type 0) (filter : Filter) (old new : ServerValue R)
+      → OnErr r ((frames : List (SocketAddr × List ℕ)) × HasReceived tells frames old new
+      × LastTurn S tells (all_filtered filter frames) old new)
+      → OnErr r ((frames : List (SocketAddr × List ℕ)) × HasReceived tells frames old new
+      × LastTurn T tells (all_filtered filter frames) old new)
   on_err_so (Ok x) tells filter old new t = tt
   on_err_so (Err e) tells filter old new t = (t.0, t.1, last_so tells (all_filtered filter t.0) old new t.2)

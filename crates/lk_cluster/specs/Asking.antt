@@ -24,10 +24,11 @@ Carries q d r = IsAsked (record { cluster = q.cluster; port = q.port; request = 
 -- the request may be asked after these notes: its client has asked no other one, or each other one has a smaller number
 -- and was answered
 abbrev pub MayAsk : List Note → Request → Type 0
-MayAsk before r = (x : Request) → Asks before r.client x → (x ≡ r) ⊎ ((x.number < r.number) × WasAnswered before r.client x.number)
+MayAsk before r =
+    (x : Request) → Asks before r.client x → (x ≡ r) ⊎ ((x.number < r.number) × WasAnswered before r.client x.number)
 
--- nobody else asks on behalf of the client: each of its requests in the later notes is in the earlier ones, or in one of
--- these datagrams
+-- nobody else asks on behalf of the client: each of its requests in the later notes is in the earlier ones, or in one
+-- of these datagrams
 abbrev pub OnlyRunAsks : Question → List Note → List Note → List (SocketAddr × List ℕ) → Type 0
 OnlyRunAsks q before later datagrams =
     (x : Request) → Asks later q.request.client x
@@ -45,7 +46,8 @@ pub record Run : Type 0 where
 abbrev pub AreRuns : ℕ → List Note → List Run → Type 0
 AreRuns client before [] = Unit {0}
 AreRuns client before (run ∷ runs) =
-    (run.question.request.client ≡ client) × MayAsk before run.question.request × OnlyRunAsks run.question before run.later run.sends.more
+    (run.question.request.client ≡ client) × MayAsk before run.question.request
+    × OnlyRunAsks run.question before run.later run.sends.more
     × AreRuns client (before ++ run.later) runs
 
 -- these notes, and those of the runs
@@ -61,7 +63,9 @@ Tells q d answer = IsReply q d.1 (reply.Answer answer)
 
 -- the datagram is not forged: what it says on behalf of a node, out of its frame if there is a key, that node has said
 abbrev pub MayReach : Genesis → List Datagram → Question → SocketAddr × List ℕ → Type 0
-MayReach genesis sent q d = MayCome genesis sent (Some (replied (key_list q.destination.seals.keys) q.destination.seals.cluster q.request.client d.1))
+MayReach genesis sent q d =
+    MayCome genesis sent (Some
+    (replied (key_list q.destination.seals.keys) q.destination.seals.cluster q.request.client d.1))
 
 -- a node has given this answer to the request
 abbrev pub HasAnswer : List Note → Request → Answer → Type 0

@@ -76,7 +76,8 @@ Network = Genesis → List Datagram → ServerValue ReplicaValue → List (Socke
 -- whatever the bytes of each say on behalf of a node of the cluster, that node has said. Everything else is free:
 -- datagrams are lost, repeated, late, cut, or come from clients, from other clusters, or from nobody
 abbrev pub ForgesNothing : Network
-ForgesNothing genesis sent server came = AllByRecursion (λ (c : SocketAddr × List ℕ). MayCome genesis sent (Some c.1)) came
+ForgesNothing genesis sent server came =
+    AllByRecursion (λ (c : SocketAddr × List ℕ). MayCome genesis sent (Some c.1)) came
 
 -- ---- what a replica says
 
@@ -86,7 +87,8 @@ module _ (Metered : Type 0) where
   Says = SaysOf table_meaning IsTableText Metered
 
   -- the notes and letters of each step of a group; of a rejected group nothing
-  abbrev pub steps_of : {old new : ReplicaValue} {given : List (Option (List ℕ))} {letters : List LetterValue} → SaysByGroup table_meaning IsTableText Metered old given letters new ⊎ IsSilenced letters new → List StepSaid
+  abbrev pub steps_of : {old new : ReplicaValue} {given : List (Option (List ℕ))} {letters : List LetterValue}
+      → SaysByGroup table_meaning IsTableText Metered old given letters new ⊎ IsSilenced letters new → List StepSaid
   steps_of (inl s) = s.said
   steps_of (inr s) = []
 
@@ -107,7 +109,9 @@ pub record JoinsByStep (n : ℕ) (o : Option (List ℕ)) (step : StepSaid) (trac
 -- and what a group adds, one step after another
 abbrev pub Joins : ℕ → List (Option (List ℕ)) → List StepSaid → List Note → Type 0
 Joins n [] said trace = trace ≡ []
-Joins n (o ∷ given) said trace = (here : List Note) × (rest : List Note) × (trace ≡ here ++ rest) × JoinsByStep n o (next_step said) here × Joins n given (drop 1 said) rest
+Joins n (o ∷ given) said trace =
+    (here : List Note) × (rest : List Note) × (trace ≡ here ++ rest) × JoinsByStep n o (next_step said) here
+    × Joins n given (drop 1 said) rest
 
 -- ---- what happens
 
@@ -129,7 +133,9 @@ pub record Idles (tells : Type 0) (old new : Cluster) : Type 0 where
   pub was : node.life ≡ Up server
   pub after : ServerValue ReplicaValue
   pub up : next.life ≡ Up after
-  pub idle : ((frames : List (SocketAddr × List ℕ)) × IsIdle tells frames server after) ⊎ ((asked : Option ReceivedProbe) × (reported : Option Reported) × HandlesProbes IsShown tells asked reported server after)
+  pub idle : ((frames : List (SocketAddr × List ℕ)) × IsIdle tells frames server after)
+      ⊎ ((asked : Option ReceivedProbe) × (reported : Option Reported)
+      × HandlesProbes IsShown tells asked reported server after)
   pub adds : Adds old new [] []
 
 -- `May` says what the network may bring, `Metered` that the devices count their calls, and `tells` that the sockets
@@ -177,7 +183,8 @@ module _ (May : Network) (Metered tells : Type 0) where
   -- probes, or ends by a turn; or it stops, up or down, and its disks have what a stop may leave
   abbrev pub Happens : Cluster → Cluster → Type 0
   Happens old new =
-      Appears old new ⊎ Starts old new ⊎ Rests table_meaning old new ⊎ TakesTurn old new ⊎ Idles tells old new ⊎ EndsByTurn old new ⊎ Stops server_disks old new
+      Appears old new ⊎ Starts old new ⊎ Rests table_meaning old new ⊎ TakesTurn old new ⊎ Idles tells old new
+      ⊎ EndsByTurn old new ⊎ Stops server_disks old new
 
   -- one after another, up to this
   abbrev pub HappenAll : Cluster → List Cluster → Cluster → Type 0

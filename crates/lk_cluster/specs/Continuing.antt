@@ -24,7 +24,8 @@ HasNode c place n life = At c.seats place (node_of n life)
 module _ (May : Network) (Metered tells : Type 0) where
   -- the cluster continues to a reachable one: the node at that place is in this state, the others are unchanged, and
   -- these letters of the node have joined what has been sent
-  pub record Continues (genesis : Genesis) (old : Cluster) (place n : ℕ) (life : Life (ServerValue ReplicaValue)) (letters : List LetterValue) : Type 0 where
+  pub record Continues (genesis : Genesis) (old : Cluster) (place n : ℕ) (life : Life (ServerValue ReplicaValue))
+      (letters : List LetterValue) : Type 0 where
     pub cluster : Cluster
     pub reachable : IsReachable May Metered tells genesis cluster
     pub began : cluster.genesis ≡ old.genesis
@@ -32,14 +33,20 @@ module _ (May : Network) (Metered tells : Type 0) where
     pub sent : cluster.sent ≡ old.sent ++ batch_of n letters
 
 -- `Says` relates a replica's input to its letters, and `tells` says that the sockets reveal what they send
-module _ (Says : ReplicaValue → List (Option (List ℕ)) → List LetterValue → ReplicaValue → Type 0) (tells : Type 0) where
+module _ (Says : ReplicaValue → List (Option (List ℕ)) → List LetterValue → ReplicaValue → Type 0)
+    (tells : Type 0) where
   -- the letters that it sent in these turns, in order
-  abbrev pub letters_of : (first : ServerValue ReplicaValue) (states : List (ServerValue ReplicaValue)) (last : ServerValue ReplicaValue) → Chain (ServerTurn Says tells) first states last → List LetterValue
+  abbrev pub letters_of : (first : ServerValue ReplicaValue) (states : List (ServerValue ReplicaValue))
+      (last : ServerValue ReplicaValue) → Chain (ServerTurn Says tells) first states last → List LetterValue
   letters_of first [] last turns = []
-  letters_of first (next ∷ states) last turns = letters_in Says tells turns.0.turn ++ letters_of next states last turns.1
+  letters_of first (next ∷ states) last turns =
+      letters_in Says tells turns.0.turn ++ letters_of next states last turns.1
 
   -- in each of these turns the network may bring what arrived, given the letters of the earlier turns
-  abbrev pub MayAllCome : Network → Genesis → ℕ → List Datagram → (first : ServerValue ReplicaValue) (states : List (ServerValue ReplicaValue)) (last : ServerValue ReplicaValue) → Chain (ServerTurn Says tells) first states last → Type 0
+  abbrev pub MayAllCome : Network → Genesis → ℕ → List Datagram
+      → (first : ServerValue ReplicaValue) (states : List (ServerValue ReplicaValue)) (last : ServerValue ReplicaValue)
+      → Chain (ServerTurn Says tells) first states last → Type 0
   MayAllCome May genesis n sent first [] last turns = Unit {0}
   MayAllCome May genesis n sent first (next ∷ states) last turns =
-      May genesis sent first turns.0.came × MayAllCome May genesis n (sent ++ batch_of n (letters_in Says tells turns.0.turn)) next states last turns.1
+      May genesis sent first turns.0.came
+      × MayAllCome May genesis n (sent ++ batch_of n (letters_in Says tells turns.0.turn)) next states last turns.1

@@ -25,36 +25,50 @@ pub record IsDownOn (c : Cluster) (place n : ℕ) (disks : Side → Disk) : Type
 
 -- the node of a reachable cluster that was down there with these disks, and was run on them with these seals.
 -- `Metered` and `Honest` say that its device counts its calls, and that it is honest
-module _ (Metered tells Honest : Type 0) (Says : ReplicaValue → List (Option (List ℕ)) → List LetterValue → ReplicaValue → Type 0) (genesis : Genesis) (old : Cluster) (place n : ℕ) (disks : Side → Disk) (seals : Seals) where
+module _ (Metered tells Honest : Type 0)
+    (Says : ReplicaValue → List (Option (List ℕ)) → List LetterValue → ReplicaValue → Type 0) (genesis : Genesis)
+    (old : Cluster) (place n : ℕ) (disks : Side → Disk) (seals : Seals) where
   -- it has taken this many turns, and they continue the cluster to one in which it is up, if nothing that arrived in
   -- them is forged
   pub record ServesIn (count : ℕ) : Type 0 where
-    pub served : Serves (IsTakenUp table_meaning Honest disks (header_of old.genesis n)) (header_of old.genesis n) seals Says tells count
-    pub continues : MayAllCome Says tells ForgesNothing old.genesis n old.sent served.begun served.turns.states served.ended served.turns.chain
-        → Continues ForgesNothing Metered tells genesis old place n (Up served.ended) (letters_of Says tells served.begun served.turns.states served.ended served.turns.chain)
+    pub served : Serves (IsTakenUp table_meaning Honest disks (header_of old.genesis n))
+        (header_of old.genesis n) seals Says tells count
+    pub continues : MayAllCome Says tells ForgesNothing old.genesis n old.sent served.begun served.turns.states
+        served.ended served.turns.chain
+        → Continues ForgesNothing Metered tells genesis old place n (Up served.ended)
+        (letters_of Says tells served.begun served.turns.states served.ended served.turns.chain)
 
   -- it has taken fewer, and then one that ended it, and they continue the cluster to one in which it is down with what
   -- that has left
   pub record EndsIn (most : ℕ) : Type 0 where
-    pub served : EndsEarly (IsTakenUp table_meaning Honest disks (header_of old.genesis n)) (header_of old.genesis n) seals Says tells most
-    pub continues : (let said = letters_of Says tells served.begun served.breaks.turns.states served.breaks.last served.breaks.turns.chain in
-        MayAllCome Says tells ForgesNothing old.genesis n old.sent served.begun served.breaks.turns.states served.breaks.last served.breaks.turns.chain
+    pub served : EndsEarly (IsTakenUp table_meaning Honest disks (header_of old.genesis n))
+        (header_of old.genesis n) seals Says tells most
+    pub continues : (let said =
+        letters_of Says tells served.begun served.breaks.turns.states served.breaks.last served.breaks.turns.chain in
+        MayAllCome Says tells ForgesNothing old.genesis n old.sent served.begun served.breaks.turns.states
+        served.breaks.last served.breaks.turns.chain
         → ForgesNothing old.genesis (old.sent ++ batch_of n said) served.breaks.last served.breaks.ends.came
         → (left : Memory) → ((s : Side) → disk_of left s ≡ server_disks served.ended s)
-        → Continues ForgesNothing Metered tells genesis old place n (Down left) (said ++ served.breaks.ends.turn.hands_on.letters))
+        → Continues ForgesNothing Metered tells genesis old place n (Down left)
+        (said ++ served.breaks.ends.turn.hands_on.letters))
 
-  -- it has taken fewer, and then one after which it ended, since it had followed a node of another genesis; they continue
-  -- the cluster to one in which it is down with what its device has, as after a stop
+  -- it has taken fewer, and then one after which it ended, since it had followed a node of another genesis; they
+  -- continue the cluster to one in which it is down with what its device has, as after a stop
   pub record LeavesIn (most : ℕ) : Type 0 where
-    pub served : LeavesEarly (IsTakenUp table_meaning Honest disks (header_of old.genesis n)) (header_of old.genesis n) seals Says tells most
-    pub continues : (let said = letters_of Says tells served.begun served.leaves.turns.states served.leaves.last served.leaves.turns.chain in
-        MayAllCome Says tells ForgesNothing old.genesis n old.sent served.begun served.leaves.turns.states served.leaves.last served.leaves.turns.chain
+    pub served : LeavesEarly (IsTakenUp table_meaning Honest disks (header_of old.genesis n))
+        (header_of old.genesis n) seals Says tells most
+    pub continues : (let said =
+        letters_of Says tells served.begun served.leaves.turns.states served.leaves.last served.leaves.turns.chain in
+        MayAllCome Says tells ForgesNothing old.genesis n old.sent served.begun served.leaves.turns.states
+        served.leaves.last served.leaves.turns.chain
         → ForgesNothing old.genesis (old.sent ++ batch_of n said) served.leaves.last served.leaves.leave.came
         → (left : Memory) → ((s : Side) → (k : ℕ) × (disk_of left s ≡ kept_by k (server_disks served.ended s)))
-        → Continues ForgesNothing Metered tells genesis old place n (Down left) (said ++ letters_in Says tells served.leaves.leave.turn))
+        → Continues ForgesNothing Metered tells genesis old place n (Down left)
+        (said ++ letters_in Says tells served.leaves.leave.turn))
 
   -- it did not start, and the cluster continues to one in which it is down with what the rejection has left
   pub record RestsIn : Type 0 where
     pub told : ServiceFault
     pub refused : IsRefusedWith table_meaning IsTableText Honest disks (header_of old.genesis n) told
-    pub continues : (left : Memory) → ((s : Side) → disk_of left s ≡ refused.left s) → Continues ForgesNothing Metered tells genesis old place n (Down left) []
+    pub continues : (left : Memory) → ((s : Side) → disk_of left s ≡ refused.left s)
+        → Continues ForgesNothing Metered tells genesis old place n (Down left) []

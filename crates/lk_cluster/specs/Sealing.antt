@@ -23,24 +23,31 @@ WasGiven sent bytes = (d : Datagram) × Contains sent d × (d.bytes ≡ bytes)
 -- it: nobody without a key can compute the HMAC-SHA-256 of a message under it (RFC 2104, section 6). Frames may be
 -- lost, repeated, delayed or cut, and anybody may send other bytes
 abbrev pub OnlyNodesSeal : List Datagram → Seals → List ℕ → Type 0
-OnlyNodesSeal sent s frame = (datagram : List ℕ) → IsSealedBy (key_list s.nodes) (to_node s s.node) frame datagram → WasGiven sent datagram
+OnlyNodesSeal sent s frame =
+    (datagram : List ℕ) → IsSealedBy (key_list s.nodes) (to_node s s.node) frame datagram → WasGiven sent datagram
 
 -- the same of everything that arrives in a turn
 abbrev pub OnlyNodesSealWhatComes : List Datagram → Seals → List (SocketAddr × List ℕ) → Type 0
-OnlyNodesSealWhatComes sent s frames = AllByRecursion (λ (frame : SocketAddr × List ℕ). OnlyNodesSeal sent s frame.1) frames
+OnlyNodesSealWhatComes sent s frames =
+    AllByRecursion (λ (frame : SocketAddr × List ℕ). OnlyNodesSeal sent s frame.1) frames
 
 -- the network of such a cluster: the nodes have a key under which only they seal, and a server takes from each frame
 -- what it opens
-pub record IsSealed (genesis : Genesis) (sent : List Datagram) (server : ServerValue ReplicaValue) (came : List (SocketAddr × List ℕ)) : Type 0 where
+pub record IsSealed (genesis : Genesis) (sent : List Datagram) (server : ServerValue ReplicaValue)
+    (came : List (SocketAddr × List ℕ)) : Type 0 where
   pub frames : List (SocketAddr × List ℕ)
   pub opened : came ≡ all_filtered (filter_of server.addresses) frames
   pub has_key : key_list server.addresses.seals.nodes ≢ []
   pub only_nodes_seal : OnlyNodesSealWhatComes sent server.addresses.seals frames
 
 -- `Says` relates a replica's input to its letters, and `tells` says that the sockets reveal what they send
-module _ (Says : ReplicaValue → List (Option (List ℕ)) → List LetterValue → ReplicaValue → Type 0) (tells : Type 0) (s : Seals) (n : ℕ) where
+module _ (Says : ReplicaValue → List (Option (List ℕ)) → List LetterValue → ReplicaValue → Type 0) (tells : Type 0)
+    (s : Seals) (n : ℕ) where
   -- the same of all frames that arrived in these turns, given the letters of the earlier turns
-  abbrev pub OnlyNodesSealAll : List Datagram → (first : ServerValue ReplicaValue) (states : List (ServerValue ReplicaValue)) (last : ServerValue ReplicaValue) → Chain (ServerTurn Says tells) first states last → Type 0
+  abbrev pub OnlyNodesSealAll : List Datagram
+      → (first : ServerValue ReplicaValue) (states : List (ServerValue ReplicaValue)) (last : ServerValue ReplicaValue)
+      → Chain (ServerTurn Says tells) first states last → Type 0
   OnlyNodesSealAll sent first [] last turns = Unit {0}
   OnlyNodesSealAll sent first (next ∷ states) last turns =
-      OnlyNodesSealWhatComes sent s turns.0.frames × OnlyNodesSealAll (sent ++ batch_of n (letters_in Says tells turns.0.turn)) next states last turns.1
+      OnlyNodesSealWhatComes sent s turns.0.frames
+      × OnlyNodesSealAll (sent ++ batch_of n (letters_in Says tells turns.0.turn)) next states last turns.1

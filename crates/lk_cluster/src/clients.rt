@@ -14,7 +14,8 @@ ghost use Rattle.lk_cluster.specs.Asking.{AreRuns, HasAnswer, MayAsk, MayReach, 
 /// A client that follows the rule and runs `locks ask` once more still follows it, whatever the run sends and however
 /// it ends, if all that it asked before has a smaller number and was answered, or is the same request.
 pub fn a_run_follows_the_rule()
-    ensures { (q : Question) (before later : List Note) (old new : List (SocketAddr × List ℕ)) (run : SendsOnly q old new)
+    ensures { (q : Question) (before later : List Note) (old new : List (SocketAddr × List ℕ))
+        (run : SendsOnly q old new)
         → FollowsRule before q.request.client → MayAsk before q.request → OnlyRunAsks q before later run.more
         → FollowsRule (before ++ later) q.request.client }
 {}

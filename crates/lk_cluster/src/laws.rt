@@ -28,7 +28,8 @@ ghost use Rattle.lk_promise.specs.Converging.{Converges};
 ghost use Rattle.lk_promise.specs.ExactlyOnce.{AreServedOnce};
 ghost use Rattle.lk_promise.specs.Linear.{IsLinearizable};
 ghost use Rattle.lk_promise.specs.Promise.{KeepsPromise};
-ghost use Rattle.lk_cluster.specs.Clusters.{Node, Cluster, IsReachable, ForgesNothing, IsBegun, Says, scene_of, server_disks};
+ghost use Rattle.lk_cluster.specs.Clusters.{Node, Cluster, IsReachable, ForgesNothing, IsBegun, Says, scene_of};
+ghost use Rattle.lk_cluster.specs.Clusters.{server_disks};
 ghost use Rattle.lk_cluster.specs.Continuing.{Continues, HasNode, MayAllCome, letters_of};
 ghost use Rattle.lk_cluster.specs.Forgetting.{HasEmptyDisks, MustBeRemembered};
 ghost use Rattle.lk_cluster.specs.Sealing.{IsSealed, OnlyNodesSeal, OnlyNodesSealAll, OnlyNodesSealWhatComes};
@@ -47,12 +48,15 @@ use lk_transport::socket::DatagramSocket;
 /// forges nothing: the promise holds of everything that they send, of what happens, and of their disks. So the
 /// processes that people run keep the promise of a world of replicas (after IronFleet: Hawblitzel et al., 2015).
 pub fn a_cluster_keeps_the_promise<D: LogDisk, S: DatagramSocket>()
-    ensures { (genesis : GenesisValue) (cluster : Cluster) → IsReachable ForgesNothing D.is_metered S.is_telling genesis cluster → KeepsPromise (scene_of cluster) }
+    ensures { (genesis : GenesisValue) (cluster : Cluster)
+        → IsReachable ForgesNothing D.is_metered S.is_telling genesis cluster → KeepsPromise (scene_of cluster) }
 {}
 
 /// The history that clients of such a cluster see is linearizable (Herlihy and Wing, 1990).
 pub fn a_cluster_is_linearizable<D: LogDisk, S: DatagramSocket>()
-    ensures { (genesis : GenesisValue) (cluster : Cluster) → IsReachable ForgesNothing D.is_metered S.is_telling genesis cluster → IsLinearizable cluster.genesis cluster.trace }
+    ensures { (genesis : GenesisValue) (cluster : Cluster)
+        → IsReachable ForgesNothing D.is_metered S.is_telling genesis cluster
+        → IsLinearizable cluster.genesis cluster.trace }
 {
     a_cluster_keeps_the_promise::<D, S>();
     worlds_are_linearizable();
@@ -60,7 +64,9 @@ pub fn a_cluster_is_linearizable<D: LogDisk, S: DatagramSocket>()
 
 /// Each operation of a client that follows the rule takes effect exactly once in such a cluster, in the client's order.
 pub fn a_cluster_serves_exactly_once<D: LogDisk, S: DatagramSocket>()
-    ensures { (genesis : GenesisValue) (cluster : Cluster) → IsReachable ForgesNothing D.is_metered S.is_telling genesis cluster → AreServedOnce cluster.genesis cluster.sent cluster.trace }
+    ensures { (genesis : GenesisValue) (cluster : Cluster)
+        → IsReachable ForgesNothing D.is_metered S.is_telling genesis cluster
+        → AreServedOnce cluster.genesis cluster.sent cluster.trace }
 {
     a_cluster_keeps_the_promise::<D, S>();
     operations_take_effect_exactly_once();
@@ -68,7 +74,8 @@ pub fn a_cluster_serves_exactly_once<D: LogDisk, S: DatagramSocket>()
 
 /// Nodes of such a cluster that have executed as many commands keep the same, to the byte.
 pub fn a_cluster_converges<D: LogDisk, S: DatagramSocket>()
-    ensures { (genesis : GenesisValue) (cluster : Cluster) → IsReachable ForgesNothing D.is_metered S.is_telling genesis cluster → Converges (scene_of cluster) }
+    ensures { (genesis : GenesisValue) (cluster : Cluster)
+        → IsReachable ForgesNothing D.is_metered S.is_telling genesis cluster → Converges (scene_of cluster) }
 {
     a_cluster_keeps_the_promise::<D, S>();
     nodes_converge();
@@ -78,7 +85,8 @@ pub fn a_cluster_converges<D: LogDisk, S: DatagramSocket>()
 /// on behalf of a node of the cluster, that node has said. The premise is that nobody without the key can make such a
 /// frame (HMAC-SHA-256, RFC 2104).
 pub fn a_sealed_datagram_is_not_forged<D: LogDisk, S: DatagramSocket>()
-    ensures { (genesis : GenesisValue) (cluster : Cluster) → IsReachable ForgesNothing D.is_metered S.is_telling genesis cluster
+    ensures { (genesis : GenesisValue) (cluster : Cluster)
+        → IsReachable ForgesNothing D.is_metered S.is_telling genesis cluster
         → (seals : Seals) → key_list seals.nodes ≢ [] → (frame : List ℕ) → OnlyNodesSeal cluster.sent seals frame
         → MayCome cluster.genesis cluster.sent (Some (heard seals frame)) }
 {
@@ -88,14 +96,17 @@ pub fn a_sealed_datagram_is_not_forged<D: LogDisk, S: DatagramSocket>()
 /// A cluster whose nodes share such a key needs no other premise about the network: whatever frames arrive, nothing is
 /// forged.
 pub fn a_sealed_cluster_forges_nothing<D: LogDisk, S: DatagramSocket>()
-    ensures { (genesis : GenesisValue) (cluster : Cluster) → IsReachable IsSealed D.is_metered S.is_telling genesis cluster → IsReachable ForgesNothing D.is_metered S.is_telling genesis cluster }
+    ensures { (genesis : GenesisValue) (cluster : Cluster)
+        → IsReachable IsSealed D.is_metered S.is_telling genesis cluster
+        → IsReachable ForgesNothing D.is_metered S.is_telling genesis cluster }
 {
     is_told_by_a_node();
 }
 
 /// So a cluster whose nodes share such a key keeps the promise.
 pub fn a_sealed_cluster_keeps_the_promise<D: LogDisk, S: DatagramSocket>()
-    ensures { (genesis : GenesisValue) (cluster : Cluster) → IsReachable IsSealed D.is_metered S.is_telling genesis cluster → KeepsPromise (scene_of cluster) }
+    ensures { (genesis : GenesisValue) (cluster : Cluster)
+        → IsReachable IsSealed D.is_metered S.is_telling genesis cluster → KeepsPromise (scene_of cluster) }
 {
     a_sealed_cluster_forges_nothing::<D, S>();
     a_cluster_keeps_the_promise::<D, S>();
@@ -104,7 +115,8 @@ pub fn a_sealed_cluster_keeps_the_promise<D: LogDisk, S: DatagramSocket>()
 /// A server that starts from the disks of a node continues its cluster: the cluster in which that node is up is
 /// reachable too.
 pub fn a_start_continues_a_cluster<D: LogDisk, S: DatagramSocket>()
-    ensures { (genesis : GenesisValue) (cluster : Cluster) → IsReachable ForgesNothing D.is_metered S.is_telling genesis cluster
+    ensures { (genesis : GenesisValue) (cluster : Cluster)
+        → IsReachable ForgesNothing D.is_metered S.is_telling genesis cluster
         → (place n : ℕ) (device : Memory) → HasNode cluster place n (Down device)
         → (disks : Side → Disk) → ((s : Side) → disk_of device s ≡ disks s)
         → (server : ServerValue ReplicaValue) → IsBegun cluster.genesis n disks server
@@ -114,10 +126,12 @@ pub fn a_start_continues_a_cluster<D: LogDisk, S: DatagramSocket>()
 /// A rejected start continues its cluster: the node stays down, with the disks that the rejection has left. The
 /// contract of the program ensures such a rejection.
 pub fn a_refused_start_continues_a_cluster<D: LogDisk, S: DatagramSocket>()
-    ensures { D.is_honest → (genesis : GenesisValue) (cluster : Cluster) → IsReachable ForgesNothing D.is_metered S.is_telling genesis cluster
+    ensures { D.is_honest → (genesis : GenesisValue) (cluster : Cluster)
+        → IsReachable ForgesNothing D.is_metered S.is_telling genesis cluster
         → (place n : ℕ) (device : Memory) → HasNode cluster place n (Down device)
         → (disks : Side → Disk) → ((s : Side) → disk_of device s ≡ disks s)
-        → (told : ServiceFault) (refused : IsRefusedWith table_meaning IsTableText D.is_honest disks (header_of cluster.genesis n) told)
+        → (told : ServiceFault) (refused : IsRefusedWith table_meaning IsTableText D.is_honest disks
+        (header_of cluster.genesis n) told)
         → (left : Memory) → ((s : Side) → disk_of left s ≡ refused.left s)
         → Continues ForgesNothing D.is_metered S.is_telling genesis cluster place n (Down left) [] }
 {}
@@ -125,7 +139,8 @@ pub fn a_refused_start_continues_a_cluster<D: LogDisk, S: DatagramSocket>()
 /// A turn of a server continues its cluster if what arrived in it is not forged. What the turn adds to the trace
 /// follows from what its replica says.
 pub fn a_turn_continues_a_cluster<D: LogDisk, S: DatagramSocket>()
-    ensures { (genesis : GenesisValue) (cluster : Cluster) → IsReachable ForgesNothing D.is_metered S.is_telling genesis cluster
+    ensures { (genesis : GenesisValue) (cluster : Cluster)
+        → IsReachable ForgesNothing D.is_metered S.is_telling genesis cluster
         → (place n : ℕ) (server after : ServerValue ReplicaValue) → HasNode cluster place n (Up server)
         → (came : List (SocketAddr × List ℕ)) → ForgesNothing cluster.genesis cluster.sent server came
         → (turn : Turn (Says D.is_metered) S.is_telling came server after) → after.replica.failed ≡ false
@@ -135,10 +150,13 @@ pub fn a_turn_continues_a_cluster<D: LogDisk, S: DatagramSocket>()
 /// A turn of a server that has the key of the nodes continues its cluster whatever frames came in it.
 /// `turning::serve_turn` ensures such a turn, or an idle one.
 pub fn a_sealed_turn_continues_a_cluster<D: LogDisk, S: DatagramSocket>()
-    ensures { (genesis : GenesisValue) (cluster : Cluster) → IsReachable IsSealed D.is_metered S.is_telling genesis cluster
+    ensures { (genesis : GenesisValue) (cluster : Cluster)
+        → IsReachable IsSealed D.is_metered S.is_telling genesis cluster
         → (place n : ℕ) (server after : ServerValue ReplicaValue) → HasNode cluster place n (Up server)
-        → key_list server.addresses.seals.nodes ≢ [] → (frames : List (SocketAddr × List ℕ)) → OnlyNodesSealWhatComes cluster.sent server.addresses.seals frames
-        → (turn : Turn (Says D.is_metered) S.is_telling (all_filtered (filter_of server.addresses) frames) server after) → after.replica.failed ≡ false
+        → key_list server.addresses.seals.nodes ≢ [] → (frames : List (SocketAddr × List ℕ))
+        → OnlyNodesSealWhatComes cluster.sent server.addresses.seals frames
+        → (turn : Turn (Says D.is_metered) S.is_telling
+        (all_filtered (filter_of server.addresses) frames) server after) → after.replica.failed ≡ false
         → Continues IsSealed D.is_metered S.is_telling genesis cluster place n (Up after) turn.hands_on.letters }
 {
     is_told_by_a_node();
@@ -146,7 +164,8 @@ pub fn a_sealed_turn_continues_a_cluster<D: LogDisk, S: DatagramSocket>()
 
 /// An idle turn of a server continues its cluster, and gives nothing to be sent.
 pub fn an_idle_turn_continues_a_cluster<D: LogDisk, S: DatagramSocket>()
-    ensures { (genesis : GenesisValue) (cluster : Cluster) → IsReachable ForgesNothing D.is_metered S.is_telling genesis cluster
+    ensures { (genesis : GenesisValue) (cluster : Cluster)
+        → IsReachable ForgesNothing D.is_metered S.is_telling genesis cluster
         → (place n : ℕ) (server after : ServerValue ReplicaValue) → HasNode cluster place n (Up server)
         → (frames : List (SocketAddr × List ℕ)) → IsIdle S.is_telling frames server after
         → Continues ForgesNothing D.is_metered S.is_telling genesis cluster place n (Up after) [] }
@@ -154,7 +173,8 @@ pub fn an_idle_turn_continues_a_cluster<D: LogDisk, S: DatagramSocket>()
 
 /// A turn that ends a server continues its cluster: the node is then down, with the disks that its replica has left.
 pub fn a_last_turn_continues_a_cluster<D: LogDisk, S: DatagramSocket>()
-    ensures { (genesis : GenesisValue) (cluster : Cluster) → IsReachable ForgesNothing D.is_metered S.is_telling genesis cluster
+    ensures { (genesis : GenesisValue) (cluster : Cluster)
+        → IsReachable ForgesNothing D.is_metered S.is_telling genesis cluster
         → (place n : ℕ) (server after : ServerValue ReplicaValue) → HasNode cluster place n (Up server)
         → (came : List (SocketAddr × List ℕ)) → ForgesNothing cluster.genesis cluster.sent server came
         → (turn : LastTurn (Says D.is_metered) S.is_telling came server after) → after.replica.failed ≡ true
@@ -165,10 +185,12 @@ pub fn a_last_turn_continues_a_cluster<D: LogDisk, S: DatagramSocket>()
 /// The turns of a process on an honest device continue its cluster, one after another, if nothing that arrived in any
 /// of them is forged.
 pub fn turns_continue_a_cluster<D: LogDisk + Drop, S: DatagramSocket>()
-    ensures { D.is_honest → (genesis : GenesisValue) (cluster : Cluster) → IsReachable ForgesNothing D.is_metered S.is_telling genesis cluster
+    ensures { D.is_honest → (genesis : GenesisValue) (cluster : Cluster)
+        → IsReachable ForgesNothing D.is_metered S.is_telling genesis cluster
         → (place n count : ℕ) (first last : ServerValue ReplicaValue) → HasNode cluster place n (Up first)
         → (turns : Repeats (TakesTurn ⟦<Replica<LockTable, D> as ServedReplica>⟧.Says S.is_telling) count first last)
-        → MayAllCome ⟦<Replica<LockTable, D> as ServedReplica>⟧.Says S.is_telling ForgesNothing cluster.genesis n cluster.sent first turns.states last turns.chain
+        → MayAllCome ⟦<Replica<LockTable, D> as ServedReplica>⟧.Says S.is_telling ForgesNothing cluster.genesis n
+        cluster.sent first turns.states last turns.chain
         → Continues ForgesNothing D.is_metered S.is_telling genesis cluster place n (Up last)
         (letters_of ⟦<Replica<LockTable, D> as ServedReplica>⟧.Says S.is_telling first turns.states last turns.chain) }
 {}
@@ -176,70 +198,95 @@ pub fn turns_continue_a_cluster<D: LogDisk + Drop, S: DatagramSocket>()
 /// A node that serves continues its cluster, from its start to its last turn. The contract of the program ensures such
 /// a service.
 pub fn a_service_continues_a_cluster<D: LogDisk + Drop, S: DatagramSocket>()
-    ensures { D.is_honest → (genesis : GenesisValue) (cluster : Cluster) → IsReachable ForgesNothing D.is_metered S.is_telling genesis cluster
+    ensures { D.is_honest → (genesis : GenesisValue) (cluster : Cluster)
+        → IsReachable ForgesNothing D.is_metered S.is_telling genesis cluster
         → (place n count : ℕ) (device : Memory) → HasNode cluster place n (Down device)
         → (disks : Side → Disk) → ((s : Side) → disk_of device s ≡ disks s)
-        → (seals : Seals) (served : Serves (IsTakenUp table_meaning D.is_honest disks (header_of cluster.genesis n)) (header_of cluster.genesis n) seals ⟦<Replica<LockTable, D> as ServedReplica>⟧.Says S.is_telling count)
-        → MayAllCome ⟦<Replica<LockTable, D> as ServedReplica>⟧.Says S.is_telling ForgesNothing cluster.genesis n cluster.sent served.begun served.turns.states served.ended served.turns.chain
+        → (seals : Seals) (served : Serves (IsTakenUp table_meaning D.is_honest disks (header_of cluster.genesis n))
+        (header_of cluster.genesis n) seals ⟦<Replica<LockTable, D> as ServedReplica>⟧.Says S.is_telling count)
+        → MayAllCome ⟦<Replica<LockTable, D> as ServedReplica>⟧.Says S.is_telling ForgesNothing cluster.genesis n
+        cluster.sent served.begun served.turns.states served.ended served.turns.chain
         → Continues ForgesNothing D.is_metered S.is_telling genesis cluster place n (Up served.ended)
-        (letters_of ⟦<Replica<LockTable, D> as ServedReplica>⟧.Says S.is_telling served.begun served.turns.states served.ended served.turns.chain) }
+        (letters_of ⟦<Replica<LockTable, D> as ServedReplica>⟧.Says S.is_telling served.begun served.turns.states
+        served.ended served.turns.chain) }
 {}
 
 /// A node whose service breaks off continues its cluster: its last turn ends it, and it is down with the disks that
 /// its replica has left.
 pub fn a_service_that_breaks_off_continues_a_cluster<D: LogDisk + Drop, S: DatagramSocket>()
-    ensures { D.is_honest → (genesis : GenesisValue) (cluster : Cluster) → IsReachable ForgesNothing D.is_metered S.is_telling genesis cluster
+    ensures { D.is_honest → (genesis : GenesisValue) (cluster : Cluster)
+        → IsReachable ForgesNothing D.is_metered S.is_telling genesis cluster
         → (place n most : ℕ) (device : Memory) → HasNode cluster place n (Down device)
         → (disks : Side → Disk) → ((s : Side) → disk_of device s ≡ disks s)
-        → (seals : Seals) (served : EndsEarly (IsTakenUp table_meaning D.is_honest disks (header_of cluster.genesis n)) (header_of cluster.genesis n) seals ⟦<Replica<LockTable, D> as ServedReplica>⟧.Says S.is_telling most)
-        → MayAllCome ⟦<Replica<LockTable, D> as ServedReplica>⟧.Says S.is_telling ForgesNothing cluster.genesis n cluster.sent served.begun served.breaks.turns.states served.breaks.last served.breaks.turns.chain
+        → (seals : Seals) (served : EndsEarly (IsTakenUp table_meaning D.is_honest disks (header_of cluster.genesis n))
+        (header_of cluster.genesis n) seals ⟦<Replica<LockTable, D> as ServedReplica>⟧.Says S.is_telling most)
+        → MayAllCome ⟦<Replica<LockTable, D> as ServedReplica>⟧.Says S.is_telling ForgesNothing cluster.genesis n
+        cluster.sent served.begun served.breaks.turns.states served.breaks.last served.breaks.turns.chain
         → ForgesNothing cluster.genesis
-        (cluster.sent ++ batch_of n (letters_of ⟦<Replica<LockTable, D> as ServedReplica>⟧.Says S.is_telling served.begun served.breaks.turns.states served.breaks.last served.breaks.turns.chain)) served.breaks.last served.breaks.ends.came
+        (cluster.sent ++ batch_of n
+        (letters_of ⟦<Replica<LockTable, D> as ServedReplica>⟧.Says S.is_telling served.begun
+        served.breaks.turns.states served.breaks.last served.breaks.turns.chain))
+        served.breaks.last served.breaks.ends.came
         → (left : Memory) → ((s : Side) → disk_of left s ≡ server_disks served.ended s)
         → Continues ForgesNothing D.is_metered S.is_telling genesis cluster place n (Down left)
-        (letters_of ⟦<Replica<LockTable, D> as ServedReplica>⟧.Says S.is_telling served.begun served.breaks.turns.states served.breaks.last served.breaks.turns.chain ++ served.breaks.ends.turn.hands_on.letters) }
+        (letters_of ⟦<Replica<LockTable, D> as ServedReplica>⟧.Says S.is_telling served.begun
+        served.breaks.turns.states served.breaks.last served.breaks.turns.chain
+        ++ served.breaks.ends.turn.hands_on.letters) }
 {}
 
 /// A node that serves with the nodes' key continues its cluster whatever frames arrive. The contract of the program
 /// ensures such a service.
 pub fn a_sealed_service_continues_a_cluster<D: LogDisk + Drop, S: DatagramSocket>()
-    ensures { D.is_honest → (genesis : GenesisValue) (cluster : Cluster) → IsReachable IsSealed D.is_metered S.is_telling genesis cluster
+    ensures { D.is_honest → (genesis : GenesisValue) (cluster : Cluster)
+        → IsReachable IsSealed D.is_metered S.is_telling genesis cluster
         → (place n count : ℕ) (device : Memory) → HasNode cluster place n (Down device)
         → (disks : Side → Disk) → ((s : Side) → disk_of device s ≡ disks s)
-        → (seals : Seals) (served : Serves (IsTakenUp table_meaning D.is_honest disks (header_of cluster.genesis n)) (header_of cluster.genesis n) seals ⟦<Replica<LockTable, D> as ServedReplica>⟧.Says S.is_telling count)
+        → (seals : Seals) (served : Serves (IsTakenUp table_meaning D.is_honest disks (header_of cluster.genesis n))
+        (header_of cluster.genesis n) seals ⟦<Replica<LockTable, D> as ServedReplica>⟧.Says S.is_telling count)
         → key_list seals.nodes ≢ []
-        → OnlyNodesSealAll ⟦<Replica<LockTable, D> as ServedReplica>⟧.Says S.is_telling seals n cluster.sent served.begun served.turns.states served.ended served.turns.chain
+        → OnlyNodesSealAll ⟦<Replica<LockTable, D> as ServedReplica>⟧.Says S.is_telling seals n cluster.sent
+        served.begun served.turns.states served.ended served.turns.chain
         → Continues IsSealed D.is_metered S.is_telling genesis cluster place n (Up served.ended)
-        (letters_of ⟦<Replica<LockTable, D> as ServedReplica>⟧.Says S.is_telling served.begun served.turns.states served.ended served.turns.chain) }
+        (letters_of ⟦<Replica<LockTable, D> as ServedReplica>⟧.Says S.is_telling served.begun served.turns.states
+        served.ended served.turns.chain) }
 {
     is_told_by_a_node();
 }
 
 /// So does one whose service breaks off.
 pub fn a_sealed_service_that_breaks_off_continues_a_cluster<D: LogDisk + Drop, S: DatagramSocket>()
-    ensures { D.is_honest → (genesis : GenesisValue) (cluster : Cluster) → IsReachable IsSealed D.is_metered S.is_telling genesis cluster
+    ensures { D.is_honest → (genesis : GenesisValue) (cluster : Cluster)
+        → IsReachable IsSealed D.is_metered S.is_telling genesis cluster
         → (place n most : ℕ) (device : Memory) → HasNode cluster place n (Down device)
         → (disks : Side → Disk) → ((s : Side) → disk_of device s ≡ disks s)
-        → (seals : Seals) (served : EndsEarly (IsTakenUp table_meaning D.is_honest disks (header_of cluster.genesis n)) (header_of cluster.genesis n) seals ⟦<Replica<LockTable, D> as ServedReplica>⟧.Says S.is_telling most)
+        → (seals : Seals) (served : EndsEarly (IsTakenUp table_meaning D.is_honest disks (header_of cluster.genesis n))
+        (header_of cluster.genesis n) seals ⟦<Replica<LockTable, D> as ServedReplica>⟧.Says S.is_telling most)
         → key_list seals.nodes ≢ []
-        → OnlyNodesSealAll ⟦<Replica<LockTable, D> as ServedReplica>⟧.Says S.is_telling seals n cluster.sent served.begun served.breaks.turns.states served.breaks.last served.breaks.turns.chain
+        → OnlyNodesSealAll ⟦<Replica<LockTable, D> as ServedReplica>⟧.Says S.is_telling seals n cluster.sent
+        served.begun served.breaks.turns.states served.breaks.last served.breaks.turns.chain
         → OnlyNodesSealWhatComes
-        (cluster.sent ++ batch_of n (letters_of ⟦<Replica<LockTable, D> as ServedReplica>⟧.Says S.is_telling served.begun served.breaks.turns.states served.breaks.last served.breaks.turns.chain)) seals served.breaks.ends.frames
+        (cluster.sent ++ batch_of n
+        (letters_of ⟦<Replica<LockTable, D> as ServedReplica>⟧.Says S.is_telling served.begun
+        served.breaks.turns.states served.breaks.last served.breaks.turns.chain)) seals served.breaks.ends.frames
         → (left : Memory) → ((s : Side) → disk_of left s ≡ server_disks served.ended s)
         → Continues IsSealed D.is_metered S.is_telling genesis cluster place n (Down left)
-        (letters_of ⟦<Replica<LockTable, D> as ServedReplica>⟧.Says S.is_telling served.begun served.breaks.turns.states served.breaks.last served.breaks.turns.chain ++ served.breaks.ends.turn.hands_on.letters) }
+        (letters_of ⟦<Replica<LockTable, D> as ServedReplica>⟧.Says S.is_telling served.begun
+        served.breaks.turns.states served.breaks.last served.breaks.turns.chain
+        ++ served.breaks.ends.turn.hands_on.letters) }
 {
     is_told_by_a_node();
 }
 
-/// A node of a cluster that is down comes back: whatever it was doing when it stopped, and whatever the stop left of its
-/// files, a restart is refused for nothing but memory or a call of the device that failed, or because a file of format 1
-/// has no generation left. What a crash may leave is what recovery takes (Chen et al., FSCQ, 2015).
+/// A node of a cluster that is down comes back: whatever it was doing when it stopped, and whatever the stop left of
+/// its files, a restart is refused for nothing but memory or a call of the device that failed, or because a file of
+/// format 1 has no generation left. What a crash may leave is what recovery takes (Chen et al., FSCQ, 2015).
 pub fn a_restart_comes_back<D: LogDisk, S: DatagramSocket>()
-    ensures { D.is_honest → (genesis : GenesisValue) (cluster : Cluster) → IsReachable ForgesNothing D.is_metered S.is_telling genesis cluster
+    ensures { D.is_honest → (genesis : GenesisValue) (cluster : Cluster)
+        → IsReachable ForgesNothing D.is_metered S.is_telling genesis cluster
         → (place n : ℕ) (device : Memory) → HasNode cluster place n (Down device)
         → (disks : Side → Disk) → ((s : Side) → disk_of device s ≡ disks s)
-        → (number : ℕ) (left : Side → Disk) → IsNotTakenUp table_meaning IsTableText D.is_honest disks (header_of cluster.genesis n) number left
+        → (number : ℕ) (left : Side → Disk)
+        → IsNotTakenUp table_meaning IsTableText D.is_honest disks (header_of cluster.genesis n) number left
         → IsExcused disks number }
 {}
 
@@ -247,7 +294,8 @@ pub fn a_restart_comes_back<D: LogDisk, S: DatagramSocket>()
 /// never has two empty ones (an acceptor must remember, even if it fails and restarts: Lamport, Paxos Made Simple,
 /// 2001, section 2.2).
 pub fn no_node_forgets<D: LogDisk, S: DatagramSocket>()
-    ensures { (genesis : GenesisValue) (cluster : Cluster) → IsReachable ForgesNothing D.is_metered S.is_telling genesis cluster
+    ensures { (genesis : GenesisValue) (cluster : Cluster)
+        → IsReachable ForgesNothing D.is_metered S.is_telling genesis cluster
         → (node : Node) → Contains cluster.seats node
         → (m : NodeMessage) → MustBeRemembered m → HasSent cluster.genesis cluster.sent node.number m
         → HasEmptyDisks node.life → ⊥ }

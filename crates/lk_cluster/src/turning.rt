@@ -33,8 +33,14 @@ pub fn serve_turn<D: LogDisk + Drop, S: DatagramSocket + Drop, C: Clock, L: Log>
     metronome: &mut Metronome<C>,
     log: &L,
 ) -> Result<(), GroupFault>
-    ensures turn { D.is_honest → OnOk result ((frames : List (Address × List ℕ)) × HasReceived S.is_telling frames server.old server.new × TakesTurn (Says D.is_metered) S.is_telling frames server.old server.new × KeepsOf server.old.node server.old.addresses.seals frames buffer.old buffer.new) }
-    ensures ends { D.is_honest → OnErr result ((frames : List (Address × List ℕ)) × HasReceived S.is_telling frames server.old server.new × LastTurn (Says D.is_metered) S.is_telling (all_filtered (filter_of server.old.addresses) frames) server.old server.new) }
+    ensures turn { D.is_honest
+        → OnOk result ((frames : List (Address × List ℕ)) × HasReceived S.is_telling frames server.old server.new
+        × TakesTurn (Says D.is_metered) S.is_telling frames server.old server.new
+        × KeepsOf server.old.node server.old.addresses.seals frames buffer.old buffer.new) }
+    ensures ends { D.is_honest
+        → OnErr result ((frames : List (Address × List ℕ)) × HasReceived S.is_telling frames server.old server.new
+        × LastTurn (Says D.is_metered) S.is_telling
+        (all_filtered (filter_of server.old.addresses) frames) server.old server.new) }
     ensures failed { server.new.failed ≡ server.new.replica.failed }
 {
     let taken = node_turn(server, buffer, metronome, log);
@@ -49,7 +55,8 @@ pub fn start<D: LogDisk + Drop, S: DatagramSocket + Drop, L: Log>(
     resources: Resources<D, S>,
     log: &L,
 ) -> Result<Server<Replica<LockTable, D>, S>, ReviveFault<D>>
-    ensures { D.is_honest → (genesis : GenesisValue) → header.now ≡ header_of genesis header.now.node → IfOk result (IsBegun genesis header.now.node (D.disk resources.device)) }
+    ensures { D.is_honest → (genesis : GenesisValue) → header.now ≡ header_of genesis header.now.node
+        → IfOk result (IsBegun genesis header.now.node (D.disk resources.device)) }
 {
     let server = revive::<LockTable, D, S, L>(alloc, header, resources, log)?;
     let _ = server.replica();

@@ -1,6 +1,7 @@
 -- What lemmas of other crates rest on: what a read returns is one of the images that a stop may leave, a cut leaves as
 -- many bytes as it names, and calls follow calls.
-use Rattle.std.proofs.Common.{◌≡◌, ◌∙◌, ℕ, ◌+◌, ◌≤◌, List, [], length, take, ◌++◌, ap, sym, subst, true, false, ◌⊎◌, inl, inr, arith}
+use Rattle.std.proofs.Common.{◌≡◌, ◌∙◌, ℕ, ◌+◌, ◌≤◌, List, [], length, take, ◌++◌, ap, sym, subst, true, false, ◌⊎◌}
+use Rattle.std.proofs.Common.{inl, inr, arith}
 use Rattle.std.proofs.Math.Seq.{take-length}
 use Rattle.std.proofs.lemmas.List.{append-nil, length-take-le}
 use Rattle.lk_disk.specs.Disk.{Disk, MayLeave, contents, cut_to}
@@ -21,12 +22,14 @@ cut_length n d le = sym (length-front n (contents d) le)
 pub passes_on : {l m : Meter} (j : ℕ) → Passes l m j → {n : Meter} (k : ℕ) → Passes m n k → Passes l n (j + k)
 passes_on {l} {m} j before _ start = let e : j ≡ j + 0 = omega arith in subst (λ (x : ℕ). Passes l m x) e before
 passes_on {l} j before _ (call {n} {k} after passed) =
-    let e : j + k + 1 ≡ j + (k + 1) = omega arith in subst (λ (x : ℕ). Passes l (called n) x) e (call (passes_on j before k after) passed)
+    let e : j + k + 1 ≡ j + (k + 1) = omega arith in
+    subst (λ (x : ℕ). Passes l (called n) x) e (call (passes_on j before k after) passed)
 passes_on j before _ (read {n} {k} after passed) = read (passes_on j before k after) passed
 
 -- a call that failed, after calls that passed
 pub breaks_on : {l m n : Meter} (j : ℕ) → Passes l m j → Breaks m n → Breaks l n
-breaks_on j before b = record { passed = j + b.passed; last = b.last; passes = passes_on j before b.passed b.passes; broke = b.broke }
+breaks_on j before b =
+    record { passed = j + b.passed; last = b.last; passes = passes_on j before b.passed b.passes; broke = b.broke }
 
 -- a changing call that passed
 pub call_passes : (m n : Meter) → (is_failing m ≡ false) × (n ≡ called m) → Passes m n 1

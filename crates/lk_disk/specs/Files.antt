@@ -1,5 +1,6 @@
 -- A file that grows at its end, what its calls do to it, and what a stop may leave.
-use Rattle.std.specs.Prelude.{◌≡◌, ℕ, ◌<◌, ◌⊎◌, ◌++◌, [], Bool, true, false, Option, Some, None, Result, Ok, Err, ⊤, length, take, drop}
+use Rattle.std.specs.Prelude.{◌≡◌, ℕ, ◌<◌, ◌⊎◌, ◌++◌, [], Bool, true, false, Option, Some, None, Result, Ok, Err, ⊤}
+use Rattle.std.specs.Prelude.{length, take, drop}
 use Rattle.lk_disk.specs.Disk.{Disk, contents, one_more}
 use Rattle.lk_disk.specs.declared.device.Side.{Side}
 use Rattle.lk_disk.specs.declared.device.Side.TheVariants.{A, B}
@@ -61,7 +62,9 @@ IsCaused old new (Err _) = IsUntried old new ⊎ HasFailed old new
 -- or, for a cut, since this is more than the file has, if its length is known
 abbrev pub IsCutCaused : {T E : Type 0} → Type 0 → ℕ → UsedFile → UsedFile → Result T E → Type 0
 IsCutCaused is_honest len old new (Ok _) = HasPassed old new
-IsCutCaused is_honest len old new (Err _) = IsUntried old new ⊎ HasFailed old new ⊎ (HasPassed old new × (is_honest → length (contents (left_of old.file)) < len))
+IsCutCaused is_honest len old new (Err _) =
+    IsUntried old new ⊎ HasFailed old new
+    ⊎ (HasPassed old new × (is_honest → length (contents (left_of old.file)) < len))
 
 -- what a contract sees of a device of two such files
 pub record FilePair : Type 0 where

@@ -1,5 +1,6 @@
 -- What makes a metered device fail, and what each call does to that.
-use Rattle.std.specs.Prelude.{◌≡◌, ℕ, ◌+◌, ◌-◌, ◌==◌, ◌||◌, ◌⊎◌, is_some, Bool, true, false, Option, Some, None, Result, Ok, Err, if◌then◌else◌}
+use Rattle.std.specs.Prelude.{◌≡◌, ℕ, ◌+◌, ◌-◌, ◌==◌, ◌||◌, ◌⊎◌, is_some, Bool, true, false, Option, Some, None, Result}
+use Rattle.std.specs.Prelude.{Ok, Err, if◌then◌else◌}
 use Rattle.lk_disk.specs.Disk.{one_more}
 use Rattle.lk_disk.specs.Traps.{is_due, fails_next, stops_next, trap_after, armed_for}
 use Rattle.lk_disk.specs.declared.meter.Meter.{Meter}
@@ -82,7 +83,8 @@ pub record Breaks (m n : Meter) : Type 0 where
   pub passed : ℕ
   pub last : Meter
   pub passes : Passes m last passed
-  pub broke : ((is_failing last ≡ true) × (n ≡ called last)) ⊎ (n ≡ starving last) ⊎ ((is_unread last ≡ true) × (n ≡ asked last))
+  pub broke : ((is_failing last ≡ true) × (n ≡ called last)) ⊎ (n ≡ starving last)
+      ⊎ ((is_unread last ≡ true) × (n ≡ asked last))
 
 -- ---- the trap
 

@@ -1,5 +1,6 @@
 // A file whose appended bytes wait in memory, and are handed over to the file below together.
-ghost use Rattle.std.specs.Prelude.{◌≡◌, ◌≤◌, ◌+◌, ◌++◌, ℕ, [], length, true, false, slice_range, IsTrue, IsFalse, IfOk, OnOk, OnErr};
+ghost use Rattle.std.specs.Prelude.{◌≡◌, ◌≤◌, ◌+◌, ◌++◌, ℕ, [], length, true, false, slice_range, IsTrue, IsFalse};
+ghost use Rattle.std.specs.Prelude.{IfOk, OnOk, OnErr};
 ghost use Rattle.lk_disk.specs.Disk.{Disk, contents, appended, flushed, cut_to, one_more, AppendsSome, CutShort};
 ghost use Rattle.lk_disk.specs.Files.{whole, shortened, left_of, IsWhole};
 ghost use Rattle.lk_disk.specs.Buffers.{known_of, LeavesNoMore};
@@ -32,9 +33,18 @@ impl<F: AppendFile + Drop> Model for BufferedFile<F> {
 
     ghost Value = { BufferedValue };
 
-    ghost view = { λ b. record { below = F.file b.below; size = b.size; pending = b.pending.items; is_short = b.is_short; failed = b.failed; failures = b.failures } };
+    ghost view = { λ b. record {
+      below = F.file b.below;
+      size = b.size;
+      pending = b.pending.items;
+      is_short = b.is_short;
+      failed = b.failed;
+      failures = b.failures;
+    } };
 
-    ghost invariant = { λ b. F.is_honest → (b.failed ≡ false → IsReady b.is_short b.size b.pending.items (F.file b.below)) × HasNoMore b.is_short b.size b.pending.items (F.file b.below) };
+    ghost invariant = { λ b. F.is_honest
+        → (b.failed ≡ false → IsReady b.is_short b.size b.pending.items (F.file b.below))
+        × HasNoMore b.is_short b.size b.pending.items (F.file b.below) };
 }
 
 impl<F: AppendFile + Drop> BufferedFile<F> {
@@ -116,8 +126,10 @@ impl<F: AppendFile + Drop> BufferedFile<F> {
     fn give(&mut self, piece: &[u8]) -> Result<(), FileFault>
         requires empty { self.old.pending ≡ [] }
         requires goes_on { IsFalse self.old.failed }
-        ensures ok { F.is_honest → IsWhole (known_of self.old) → OnOk result (known_of self.new ≡ whole (appended (left_of (known_of self.old)) piece.now)) }
-        ensures err { F.is_honest → IsWhole (known_of self.old) → OnErr result (AppendsSome piece.now (left_of (known_of self.old)) (left_of (known_of self.new))) }
+        ensures ok { F.is_honest → IsWhole (known_of self.old)
+            → OnOk result (known_of self.new ≡ whole (appended (left_of (known_of self.old)) piece.now)) }
+        ensures err { F.is_honest → IsWhole (known_of self.old)
+            → OnErr result (AppendsSome piece.now (left_of (known_of self.old)) (left_of (known_of self.new))) }
         ensures failures { self.new.failures ≡ self.old.failures }
     {
         if self.is_short {
@@ -135,8 +147,10 @@ impl<F: AppendFile + Drop> BufferedFile<F> {
 
     // Appends a piece to the bytes that wait, or, out of memory, hands over both.
     fn add(&mut self, piece: &[u8]) -> Result<(), FileFault>
-        ensures ok { F.is_honest → IsWhole (known_of self.old) → OnOk result (known_of self.new ≡ whole (appended (left_of (known_of self.old)) piece.now)) }
-        ensures err { F.is_honest → IsWhole (known_of self.old) → OnErr result (AppendsSome piece.now (left_of (known_of self.old)) (left_of (known_of self.new))) }
+        ensures ok { F.is_honest → IsWhole (known_of self.old)
+            → OnOk result (known_of self.new ≡ whole (appended (left_of (known_of self.old)) piece.now)) }
+        ensures err { F.is_honest → IsWhole (known_of self.old)
+            → OnErr result (AppendsSome piece.now (left_of (known_of self.old)) (left_of (known_of self.new))) }
         ensures failures { self.new.failures ≡ self.old.failures }
     {
         if self.keeps(piece) {
@@ -148,8 +162,11 @@ impl<F: AppendFile + Drop> BufferedFile<F> {
 
     // Hands over what waits, and reads.
     fn read(&mut self, offset: usize, buffer: &mut [u8]) -> Result<(), FileFault>
-        ensures value { F.is_honest → IsWhole (known_of self.old) → OnOk result (buffer.new ≡ slice_range (contents (left_of (known_of self.old))) offset (offset + length buffer.old)) }
-        ensures within { F.is_honest → IsWhole (known_of self.old) → OnOk result (offset + length buffer.old ≤ length (contents (left_of (known_of self.old)))) }
+        ensures value { F.is_honest → IsWhole (known_of self.old)
+            → OnOk result (buffer.new
+            ≡ slice_range (contents (left_of (known_of self.old))) offset (offset + length buffer.old)) }
+        ensures within { F.is_honest → IsWhole (known_of self.old)
+            → OnOk result (offset + length buffer.old ≤ length (contents (left_of (known_of self.old)))) }
         ensures known { F.is_honest → known_of self.new ≡ known_of self.old }
         ensures failures { self.new.failures ≡ self.old.failures }
     {
@@ -168,8 +185,10 @@ impl<F: AppendFile + Drop> BufferedFile<F> {
 
     // Hands over what waits, and syncs the file below.
     fn sync_below(&mut self) -> Result<(), FileFault>
-        ensures ok { F.is_honest → IsWhole (known_of self.old) → OnOk result (known_of self.new ≡ whole (flushed (left_of (known_of self.old)))) }
-        ensures short { F.is_honest → (n : ℕ) (d : Disk) → known_of self.old ≡ shortened n d → OnOk result (known_of self.new ≡ whole (cut_to n d)) }
+        ensures ok { F.is_honest → IsWhole (known_of self.old)
+            → OnOk result (known_of self.new ≡ whole (flushed (left_of (known_of self.old)))) }
+        ensures short { F.is_honest → (n : ℕ) (d : Disk) → known_of self.old ≡ shortened n d
+            → OnOk result (known_of self.new ≡ whole (cut_to n d)) }
         ensures err { F.is_honest → OnErr result (left_of (known_of self.new) ≡ left_of (known_of self.old)) }
         ensures failures { self.new.failures ≡ self.old.failures }
     {
@@ -183,8 +202,10 @@ impl<F: AppendFile + Drop> BufferedFile<F> {
 
     // Hands over what waits, and shortens the file below.
     fn shorten_below(&mut self, len: usize) -> Result<(), FileFault>
-        ensures ok { F.is_honest → IsWhole (known_of self.old) → len ≤ length (contents (left_of (known_of self.old))) → OnOk result (known_of self.new ≡ shortened len (left_of (known_of self.old))) }
-        ensures err { F.is_honest → IsWhole (known_of self.old) → len ≤ length (contents (left_of (known_of self.old))) → OnErr result (CutShort len (left_of (known_of self.old)) (left_of (known_of self.new))) }
+        ensures ok { F.is_honest → IsWhole (known_of self.old) → len ≤ length (contents (left_of (known_of self.old)))
+            → OnOk result (known_of self.new ≡ shortened len (left_of (known_of self.old))) }
+        ensures err { F.is_honest → IsWhole (known_of self.old) → len ≤ length (contents (left_of (known_of self.old)))
+            → OnErr result (CutShort len (left_of (known_of self.old)) (left_of (known_of self.new))) }
         ensures failures { self.new.failures ≡ self.old.failures }
     {
         self.hand_over()?;

@@ -60,10 +60,13 @@ pub trait LogDisk {
     /// Fills the buffer with the bytes from the offset on. A read past the end fails. After an `Err` the buffer may
     /// hold anything.
     fn read_into(&mut self, side: Side, offset: usize, buffer: &mut [u8]) -> Result<(), DeviceFault>
-        ensures value { is_honest → OnOk result (buffer.new ≡ slice_range (contents (disk self.old side)) offset (offset + length buffer.old)) }
+        ensures value { is_honest
+            → OnOk result (buffer.new
+            ≡ slice_range (contents (disk self.old side)) offset (offset + length buffer.old)) }
         ensures within { is_honest → OnOk result (offset + length buffer.old ≤ length (contents (disk self.old side))) }
         ensures unchanged { is_honest → (s : Side) → disk self.new s ≡ disk self.old s }
-        ensures metered { is_honest → is_metered → offset + length buffer.old ≤ length (contents (disk self.old side)) → Reads (meter self.old) (meter self.new) result }
+        ensures metered { is_honest → is_metered → offset + length buffer.old ≤ length (contents (disk self.old side))
+            → Reads (meter self.old) (meter self.new) result }
         ensures cause { HasCause (failures self.old) (failures self.new) result };
 
     /// Appends a piece, unsynced. A failed call appends a prefix of it.
@@ -96,8 +99,10 @@ pub trait LogDisk {
         ensures ok { is_honest → OnOk result (disk self.new side ≡ cut_to len (disk self.old side)) }
         ensures within { is_honest → OnOk result (len ≤ length (contents (disk self.old side))) }
         ensures err { is_honest → OnErr result (CutShort len (disk self.old side) (disk self.new side)) }
-        ensures past_end { is_honest → length (contents (disk self.old side)) < len → disk self.new side ≡ disk self.old side }
+        ensures past_end { is_honest → length (contents (disk self.old side)) < len
+            → disk self.new side ≡ disk self.old side }
         ensures beside { is_honest → disk self.new (other side) ≡ disk self.old (other side) }
-        ensures metered { is_honest → is_metered → len ≤ length (contents (disk self.old side)) → Calls (meter self.old) (meter self.new) result }
+        ensures metered { is_honest → is_metered → len ≤ length (contents (disk self.old side))
+            → Calls (meter self.old) (meter self.new) result }
         ensures cause { HasCause (failures self.old) (failures self.new) result };
 }

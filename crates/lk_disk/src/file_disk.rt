@@ -1,6 +1,7 @@
 // A device of two files.
 ghost use Rattle.std.specs.Prelude.{◌≡◌, ◌≤◌, ◌<◌, ◌+◌, length, slice_range, IsFalse, OnOk, OnErr, IfOk};
-ghost use Rattle.lk_disk.specs.Disk.{contents, appended, flushed, cut_to, other, one_more, AppendsSome, CutShort, HasCause};
+ghost use Rattle.lk_disk.specs.Disk.{contents, appended, flushed, cut_to, other, one_more, AppendsSome, CutShort};
+ghost use Rattle.lk_disk.specs.Disk.{HasCause};
 ghost use Rattle.lk_disk.specs.Meters.{fresh};
 ghost use Rattle.lk_disk.specs.Files.{FilePair, IsWhole, IsCaused, IsCutCaused, used_at, disk_at};
 ghost use Rattle.lk_disk.specs.declared.device.Side.{Side};
@@ -111,8 +112,11 @@ impl<F: AppendFile + Drop> LogDisk for FileDisk<F> {
     }
 
     fn read_into(&mut self, side: Side, offset: usize, buffer: &mut [u8]) -> Result<(), DeviceFault>
-        ensures value { F.is_honest → OnOk result (buffer.new ≡ slice_range (contents (disk_at self.old side)) offset (offset + length buffer.old)) }
-        ensures within { F.is_honest → OnOk result (offset + length buffer.old ≤ length (contents (disk_at self.old side))) }
+        ensures value { F.is_honest
+            → OnOk result (buffer.new
+            ≡ slice_range (contents (disk_at self.old side)) offset (offset + length buffer.old)) }
+        ensures within { F.is_honest
+            → OnOk result (offset + length buffer.old ≤ length (contents (disk_at self.old side))) }
         ensures unchanged { F.is_honest → (s : Side) → disk_at self.new s ≡ disk_at self.old s }
         ensures alive { (used_at self.new side).failed ≡ (used_at self.old side).failed }
         ensures cause { HasCause self.old.failures self.new.failures result }
@@ -132,7 +136,8 @@ impl<F: AppendFile + Drop> LogDisk for FileDisk<F> {
 
     fn append(&mut self, side: Side, piece: &[u8]) -> Result<(), DeviceFault>
         ensures ok { F.is_honest → OnOk result (disk_at self.new side ≡ appended (disk_at self.old side) piece.now) }
-        ensures err { F.is_honest → OnErr result (AppendsSome piece.now (disk_at self.old side) (disk_at self.new side)) }
+        ensures err { F.is_honest
+            → OnErr result (AppendsSome piece.now (disk_at self.old side) (disk_at self.new side)) }
         ensures cause { HasCause self.old.failures self.new.failures result }
         // It fails only if the file's call did, or had failed before.
         ensures file { IsCaused (used_at self.old side) (used_at self.new side) result }
@@ -187,7 +192,8 @@ impl<F: AppendFile + Drop> LogDisk for FileDisk<F> {
         ensures ok { F.is_honest → OnOk result (disk_at self.new side ≡ cut_to len (disk_at self.old side)) }
         ensures within { F.is_honest → OnOk result (len ≤ length (contents (disk_at self.old side))) }
         ensures err { F.is_honest → OnErr result (CutShort len (disk_at self.old side) (disk_at self.new side)) }
-        ensures past_end { F.is_honest → length (contents (disk_at self.old side)) < len → disk_at self.new side ≡ disk_at self.old side }
+        ensures past_end { F.is_honest → length (contents (disk_at self.old side)) < len
+            → disk_at self.new side ≡ disk_at self.old side }
         ensures cause { HasCause self.old.failures self.new.failures result }
         // It fails only if a call of the file did, or had failed before, or past the end.
         ensures file { IsCutCaused F.is_honest len (used_at self.old side) (used_at self.new side) result }

@@ -1,5 +1,6 @@
 // One file that is used until a call of it fails.
-ghost use Rattle.std.specs.Prelude.{◌≡◌, ◌≤◌, ◌<◌, ◌+◌, ℕ, List, length, true, false, slice_range, IsTrue, IsFalse, IsOk, OnOk, OnErr, IfOk};
+ghost use Rattle.std.specs.Prelude.{◌≡◌, ◌≤◌, ◌<◌, ◌+◌, ℕ, List, length, true, false, slice_range, IsTrue, IsFalse};
+ghost use Rattle.std.specs.Prelude.{IsOk, OnOk, OnErr, IfOk};
 ghost use Rattle.lk_disk.specs.Disk.{Disk, contents, appended, flushed, cut_to, AppendsSome, CutShort};
 ghost use Rattle.lk_disk.specs.Files.{left_of, HasLength, IsWhole, IsCaused, IsCutCaused};
 
@@ -18,7 +19,8 @@ pub(crate) struct UsedFile<F: AppendFile + Drop> {
 
 // A known length after this many more bytes.
 fn lengthened(known: Option<usize>, more: usize) -> Option<usize>
-    ensures { (d : Disk) (piece : List ℕ) → length piece ≡ more → HasLength known d → HasLength result (appended d piece) }
+    ensures { (d : Disk) (piece : List ℕ) → length piece ≡ more → HasLength known d
+        → HasLength result (appended d piece) }
 {
     known?.checked_add(more)
 }
@@ -31,7 +33,8 @@ impl<F: AppendFile + Drop> Model for UsedFile<F> {
 
     ghost view = { λ u. record { file = F.file u.file; failures = F.failures u.file; failed = u.failed } };
 
-    ghost invariant = { λ u. F.is_honest → u.failed ≡ false → IsWhole (F.file u.file) × HasLength u.length (left_of (F.file u.file)) };
+    ghost invariant = { λ u. F.is_honest → u.failed ≡ false
+        → IsWhole (F.file u.file) × HasLength u.length (left_of (F.file u.file)) };
 }
 
 impl<F: AppendFile + Drop> UsedFile<F> {
@@ -87,8 +90,11 @@ impl<F: AppendFile + Drop> UsedFile<F> {
     /// Fills the buffer with the bytes from the offset on. It fails after a failed changing call, if the file has
     /// fewer bytes, and if the file itself fails.
     pub fn read_into(&mut self, offset: usize, buffer: &mut [u8]) -> Result<(), FileFault>
-        ensures value { F.is_honest → OnOk result (buffer.new ≡ slice_range (contents (left_of self.old.file)) offset (offset + length buffer.old)) }
-        ensures within { F.is_honest → OnOk result (offset + length buffer.old ≤ length (contents (left_of self.old.file))) }
+        ensures value { F.is_honest
+            → OnOk result (buffer.new
+            ≡ slice_range (contents (left_of self.old.file)) offset (offset + length buffer.old)) }
+        ensures within { F.is_honest
+            → OnOk result (offset + length buffer.old ≤ length (contents (left_of self.old.file))) }
         ensures unchanged { F.is_honest → self.new.file ≡ self.old.file }
         ensures failed { self.new.failed ≡ self.old.failed }
         ensures cause { IsCaused self.old self.new result }
@@ -126,7 +132,8 @@ impl<F: AppendFile + Drop> UsedFile<F> {
     /// Appends the piece. If it fails, the file may have a prefix of the piece, and rejects every later call.
     pub fn append(&mut self, piece: &[u8]) -> Result<(), FileFault>
         ensures ok { F.is_honest → OnOk result (left_of self.new.file ≡ appended (left_of self.old.file) piece.now) }
-        ensures err { F.is_honest → OnErr result (AppendsSome piece.now (left_of self.old.file) (left_of self.new.file)) }
+        ensures err { F.is_honest
+            → OnErr result (AppendsSome piece.now (left_of self.old.file) (left_of self.new.file)) }
         ensures cause { IsCaused self.old self.new result }
     {
         let length = self.begin()?;
@@ -164,7 +171,8 @@ impl<F: AppendFile + Drop> UsedFile<F> {
         ensures ok { F.is_honest → OnOk result (left_of self.new.file ≡ cut_to len (left_of self.old.file)) }
         ensures within { F.is_honest → OnOk result (len ≤ length (contents (left_of self.old.file))) }
         ensures err { F.is_honest → OnErr result (CutShort len (left_of self.old.file) (left_of self.new.file)) }
-        ensures past_end { F.is_honest → length (contents (left_of self.old.file)) < len → left_of self.new.file ≡ left_of self.old.file }
+        ensures past_end { F.is_honest → length (contents (left_of self.old.file)) < len
+            → left_of self.new.file ≡ left_of self.old.file }
         ensures cause { IsCutCaused F.is_honest len self.old self.new result }
     {
         if self.length()? < len {

@@ -6,7 +6,8 @@ use Rattle.std.proofs.lemmas.Bool.Decides.{nat_tests}
 use Rattle.lk_types.specs.declared.member.Member.{Member}
 use Rattle.lk_entries.specs.Values.{HeaderValue}
 
-pub same_header : (h g : HeaderValue) → h.node ≡ g.node → h.cluster ≡ g.cluster → h.alpha ≡ g.alpha → h.members ≡ g.members → h ≡ g
+pub same_header : (h g : HeaderValue) → h.node ≡ g.node → h.cluster ≡ g.cluster → h.alpha ≡ g.alpha
+    → h.members ≡ g.members → h ≡ g
 same_header h g n c a m = λ i. record { node = n i; cluster = c i; alpha = a i; members = m i }
 
 abbrev same_member : Member → Member → Bool

@@ -1,5 +1,6 @@
 -- No spelling begins another, and none is empty.
-use Rattle.std.proofs.Common.{◌≡◌, ℕ, zero, suc, ◌+◌, ◌<◌, List, [], ◌∷◌, ◌++◌, length, take, drop, refl, sym, ◌∙◌, ap, arith, append_assoc, length-append, take-append-drop}
+use Rattle.std.proofs.Common.{◌≡◌, ℕ, zero, suc, ◌+◌, ◌<◌, List, [], ◌∷◌, ◌++◌, length, take, drop, refl, sym, ◌∙◌, ap}
+use Rattle.std.proofs.Common.{arith, append_assoc, length-append, take-append-drop}
 use Rattle.std.specs.List.{AllByRecursion}
 use Rattle.std.proofs.lemmas.List.{append-nil, length-take}
 use Rattle.lk_fields.specs.Fields.{four}
@@ -10,12 +11,14 @@ use Rattle.lk_entries.specs.Parsing.{read_entry}
 use Rattle.lk_entries.specs.declared.stored.Stored.{Stored}
 use Rattle.lk_entries.proofs.EntryLaws.{entry_reads}
 
-pub same_front : (e f : Stored) (x y : List ℕ) → IsStored e → IsStored f → spelling e ++ x ≡ spelling f ++ y → (e ≡ f) × (x ≡ y)
+pub same_front : (e f : Stored) (x y : List ℕ) → IsStored e → IsStored f
+    → spelling e ++ x ≡ spelling f ++ y → (e ≡ f) × (x ≡ y)
 same_front e f x y = one_front read_entry spelling IsStored entry_reads e f x y
 
 -- bytes spell one entry at most
 pub one_entry : (e f : Stored) (bytes : List ℕ) → SpellsEntry e bytes → SpellsEntry f bytes → e ≡ f
-one_entry e f bytes a b = (same_front e f [] [] a.0 b.0 (append-nil (spelling e) ∙ sym a.1 ∙ b.1 ∙ sym (append-nil (spelling f)))).0
+one_entry e f bytes a b =
+    (same_front e f [] [] a.0 b.0 (append-nil (spelling e) ∙ sym a.1 ∙ b.1 ∙ sym (append-nil (spelling f)))).0
 
 pub spelled_long : (e : Stored) → 0 < length (spelling e)
 unfolding spelling
@@ -25,9 +28,11 @@ spelled_long e = omega (arith, length-append (four (length (body e))) (body e))
 pub front_begins_none : (e : Stored) (n : ℕ) → IsStored e → n < length (spelling e) → NoneBegins (take n (spelling e))
 front_begins_none e n fits short f more fits' is =
     let whole : spelling e ++ [] ≡ spelling f ++ (more ++ drop n (spelling e)) =
-    append-nil (spelling e) ∙ sym (take-append-drop n (spelling e)) ∙ ap (λ (l : List ℕ). l ++ drop n (spelling e)) is ∙ append_assoc (spelling f) more (drop n (spelling e)) in
+    append-nil (spelling e) ∙ sym (take-append-drop n (spelling e)) ∙ ap (λ (l : List ℕ). l ++ drop n (spelling e)) is
+    ∙ append_assoc (spelling f) more (drop n (spelling e)) in
     let same : e ≡ f = (same_front e f [] (more ++ drop n (spelling e)) fits fits' whole).0 in
-    let len : length (take n (spelling e)) ≡ length (spelling e) + length more = ap length is ∙ length-append (spelling f) more ∙ ap (λ (g : Stored). length (spelling g) + length more) (sym same) in
+    let len : length (take n (spelling e)) ≡ length (spelling e) + length more = ap length is
+    ∙ length-append (spelling f) more ∙ ap (λ (g : Stored). length (spelling g) + length more) (sym same) in
     omega (arith, len, length-take n (spelling e))
 
 pub none_begins_nil : NoneBegins []
@@ -35,17 +40,22 @@ none_begins_nil e more fits is = omega (arith, ap length is ∙ length-append (s
 
 pub spelled-append : (xs ys : List Stored) → spelling_of_all (xs ++ ys) ≡ spelling_of_all xs ++ spelling_of_all ys
 spelled-append [] ys = refl
-spelled-append (e ∷ xs) ys = ap (λ (l : List ℕ). spelling e ++ l) (spelled-append xs ys) ∙ sym (append_assoc (spelling e) (spelling_of_all xs) (spelling_of_all ys))
+spelled-append (e ∷ xs) ys =
+    ap (λ (l : List ℕ). spelling e ++ l) (spelled-append xs ys)
+    ∙ sym (append_assoc (spelling e) (spelling_of_all xs) (spelling_of_all ys))
 
-pub spelled-push : (xs : List Stored) (e : Stored) (more : List ℕ) → spelling_of_all (xs ++ e ∷ []) ++ more ≡ spelling_of_all xs ++ (spelling e ++ more)
+pub spelled-push : (xs : List Stored) (e : Stored) (more : List ℕ)
+    → spelling_of_all (xs ++ e ∷ []) ++ more ≡ spelling_of_all xs ++ (spelling e ++ more)
 spelled-push xs e more =
-    ap (λ (l : List ℕ). l ++ more) (spelled-append xs (e ∷ []) ∙ ap (λ (l : List ℕ). spelling_of_all xs ++ l) (append-nil (spelling e)))
+    ap (λ (l : List ℕ). l ++ more)
+    (spelled-append xs (e ∷ []) ∙ ap (λ (l : List ℕ). spelling_of_all xs ++ l) (append-nil (spelling e)))
     ∙ append_assoc (spelling_of_all xs) (spelling e) more
 
 -- ---- facts of each element
 
 module _ {X : Type 0} where
-  pub all-append : (P : X → Type 0) (xs ys : List X) → AllByRecursion P xs → AllByRecursion P ys → AllByRecursion P (xs ++ ys)
+  pub all-append : (P : X → Type 0) (xs ys : List X) → AllByRecursion P xs → AllByRecursion P ys
+      → AllByRecursion P (xs ++ ys)
   all-append P [] ys a b = b
   all-append P (x ∷ xs) ys a b = (a.0, all-append P xs ys a.1 b)
 

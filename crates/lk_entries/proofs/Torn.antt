@@ -1,5 +1,6 @@
 -- The front of an entry, and of what is torn, is torn.
-use Rattle.std.proofs.Common.{◌≡◌, ℕ, ◌+◌, ◌-◌, ◌^◌, ◌<◌, ◌≤◌, true, ltb, leb, ◌&&◌, ◌||◌, inl, inr, List, [], ◌++◌, length, take, refl, ap, ◌∙◌, arith, length-append}
+use Rattle.std.proofs.Common.{◌≡◌, ℕ, ◌+◌, ◌-◌, ◌^◌, ◌<◌, ◌≤◌, true, ltb, leb, ◌&&◌, ◌||◌, inl, inr, List, [], ◌++◌}
+use Rattle.std.proofs.Common.{length, take, refl, ap, ◌∙◌, arith, length-append}
 use Rattle.std.specs.Int.{w32, to_be_bytes, from_be_bytes}
 use Rattle.std.proofs.Math.Seq.{take-append-add}
 use Rattle.std.proofs.lemmas.Bool.{cases_lt}
@@ -16,10 +17,12 @@ use Rattle.lk_entries.proofs.EntryLaws.{body_short}
 short_torn : (len told : ℕ) → len < 4 → (ltb len 4 || (leb 1 told && leb told 65536 && ltb len (4 + told))) ≡ true
 short_torn len told h = grind (arith, nat_tests)
 
-told_torn : (len told : ℕ) → 1 ≤ told → told ≤ 65536 → len < 4 + told → (ltb len 4 || (leb 1 told && leb told 65536 && ltb len (4 + told))) ≡ true
+told_torn : (len told : ℕ) → 1 ≤ told → told ≤ 65536 → len < 4 + told
+    → (ltb len 4 || (leb 1 told && leb told 65536 && ltb len (4 + told))) ≡ true
 told_torn len told a b c = grind (arith, nat_tests)
 
-torn_told : (len told : ℕ) → 4 ≤ len → (ltb len 4 || (leb 1 told && leb told 65536 && ltb len (4 + told))) ≡ true → (1 ≤ told) × (told ≤ 65536) × (len < 4 + told)
+torn_told : (len told : ℕ) → 4 ≤ len → (ltb len 4 || (leb 1 told && leb told 65536 && ltb len (4 + told))) ≡ true
+    → (1 ≤ told) × (told ≤ 65536) × (len < 4 + told)
 torn_told len told a e = grind (arith, nat_tests)
 
 pub nil_torn : is_torn [] ≡ true
@@ -28,23 +31,31 @@ nil_torn = refl
 -- a rest of these first four bytes tells this length
 told_four : (rest behind : List ℕ) (n : ℕ) → n < 2 ^ 32 → rest ≡ four n ++ behind → told_length rest ≡ n
 unfolding told_length four
-told_four rest behind n fits is = ap (λ (l : List ℕ). from_be_bytes w32 (take 4 l)) is ∙ ap (from_be_bytes w32) (take_at (to_be_bytes w32 n) behind 4 refl) ∙ from_be_bytes-to_be_bytes_4 n fits
+told_four rest behind n fits is =
+    ap (λ (l : List ℕ). from_be_bytes w32 (take 4 l)) is
+    ∙ ap (from_be_bytes w32) (take_at (to_be_bytes w32 n) behind 4 refl) ∙ from_be_bytes-to_be_bytes_4 n fits
 
 front_of_four : (e : Stored) (n : ℕ) → 4 ≤ n → take n (spelling e) ≡ four (length (body e)) ++ take (n - 4) (body e)
 unfolding spelling
 front_of_four e n h =
     let at : n ≡ length (four (length (body e))) + (n - 4) = omega (arith, length-four (length (body e))) in
-    ap (λ (k : ℕ). take k (four (length (body e)) ++ body e)) at ∙ take-append-add (four (length (body e))) (body e) (n - 4)
+    ap (λ (k : ℕ). take k (four (length (body e)) ++ body e)) at
+    ∙ take-append-add (four (length (body e))) (body e) (n - 4)
 
 spelled_len : (e : Stored) → length (spelling e) ≡ 4 + length (body e)
 unfolding spelling
-spelled_len e = length-append (four (length (body e))) (body e) ∙ ap (λ (k : ℕ). k + length (body e)) (length-four (length (body e)))
+spelled_len e = length-append (four (length (body e))) (body e)
+    ∙ ap (λ (k : ℕ). k + length (body e)) (length-four (length (body e)))
 
-pub entry_front_torn : (e : Stored) (n : ℕ) → IsStored e → n < length (spelling e) → is_torn (take n (spelling e)) ≡ true
+pub entry_front_torn : (e : Stored) (n : ℕ) → IsStored e → n < length (spelling e)
+    → is_torn (take n (spelling e)) ≡ true
 entry_front_torn e n fits short = elim (cases_lt n 4) [
-  | inl few ↦ short_torn (length (take n (spelling e))) (told_length (take n (spelling e))) (omega (arith, length-take n (spelling e)))
+  | inl few ↦ short_torn (length (take n (spelling e))) (told_length (take n (spelling e)))
+      (omega (arith, length-take n (spelling e)))
   | inr four_more ↦
-      let told : told_length (take n (spelling e)) ≡ length (body e) = told_four (take n (spelling e)) (take (n - 4) (body e)) (length (body e)) (omega (arith, body_short e fits)) (front_of_four e n four_more) in
+      let told : told_length (take n (spelling e)) ≡ length (body e) =
+      told_four (take n (spelling e)) (take (n - 4) (body e)) (length (body e)) (omega (arith, body_short e fits))
+      (front_of_four e n four_more) in
       told_torn (length (take n (spelling e))) (told_length (take n (spelling e)))
       (omega (arith, told))
       (omega (arith, told, body_short e fits))
@@ -62,5 +73,6 @@ torn_front rest n torn = elim (cases_lt (length (take n rest)) 4) [
       let fits : 4 ≤ n = omega (arith, length-take n rest) in
       let was = torn_told (length rest) (told_length rest) (omega (arith, length-take n rest)) torn in
       let told : told_length (take n rest) ≡ told_length rest = same_told rest n fits in
-      told_torn (length (take n rest)) (told_length (take n rest)) (omega (arith, told, was.0)) (omega (arith, told, was.1)) (omega (arith, told, was.2, length-take n rest))
+      told_torn (length (take n rest)) (told_length (take n rest)) (omega (arith, told, was.0))
+      (omega (arith, told, was.1)) (omega (arith, told, was.2, length-take n rest))
 ]

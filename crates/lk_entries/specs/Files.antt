@@ -24,7 +24,9 @@ told_length rest = from_be_bytes w32 (take 4 rest)
 
 -- what a stop may leave of an entry: under four bytes, or a length of 1 to 65,536 and fewer bytes than it states
 abbrev pub is_torn : List ℕ → Bool
-is_torn rest = nat_lt (length rest) 4 || (nat_le 1 (told_length rest) && nat_le (told_length rest) max_torn && nat_lt (length rest) (4 + told_length rest))
+is_torn rest = nat_lt (length rest) 4
+    || (nat_le 1 (told_length rest) && nat_le (told_length rest) max_torn
+    && nat_lt (length rest) (4 + told_length rest))
 
 -- A file's whole entries, and whether it is damaged: they are followed by a rest that is not torn, or they mix the two
 -- formats.

@@ -32,7 +32,8 @@ is_raise (Request r) = asks_raise r.op
 
 -- the entry has such a command: in a vote, or as a decided one
 abbrev pub tells_raise : Stored → Bool
-tells_raise (Base b) = list_any (λ v. is_raise v.command) b.standing.votes || list_any (λ p. is_raise p.1) b.standing.pairs
+tells_raise (Base b) =
+    list_any (λ v. is_raise v.command) b.standing.votes || list_any (λ p. is_raise p.1) b.standing.pairs
 tells_raise (Plain (Promise b)) = false
 tells_raise (Plain (Vote v)) = is_raise v.command
 tells_raise (Plain (Decided position c)) = is_raise c

@@ -6,4 +6,5 @@ use Rattle.lk_types.specs.Rosters.{IsMember, AreMembers}
 use Rattle.lk_entries.specs.Values.{HeaderValue}
 
 abbrev pub IsHeader : HeaderValue → Type 0
-IsHeader h = (h.cluster < 2 ^ 64) × IsNode h.node × IsAlpha h.alpha × AllByRecursion IsMember h.members × AreMembers h.members
+IsHeader h =
+    (h.cluster < 2 ^ 64) × IsNode h.node × IsAlpha h.alpha × AllByRecursion IsMember h.members × AreMembers h.members

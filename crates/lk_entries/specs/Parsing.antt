@@ -5,7 +5,8 @@ use Rattle.lk_types.specs.declared.command.Command.{Command}
 use Rattle.lk_types.specs.declared.entry.Entry.TheVariants.{Promise, Vote, Decided}
 use Rattle.lk_types.specs.declared.vote.Vote.{Vote as VoteValue}
 use Rattle.lk_fields.specs.Parser.{◌>>=◌, read_byte, both, made, tested, counted, sized, tagged, kind, no_kind, whole}
-use Rattle.lk_fields.specs.FieldReading.{is_from_1_to, read_two, read_four, read_eight, read_node, read_count, read_total, read_ballot, read_mark, read_members, read_vote, read_pair}
+use Rattle.lk_fields.specs.FieldReading.{is_from_1_to, read_two, read_four, read_eight, read_node, read_count}
+use Rattle.lk_fields.specs.FieldReading.{read_total, read_ballot, read_mark, read_members, read_vote, read_pair}
 use Rattle.lk_types.specs.Votes.{are_votes_above}
 use Rattle.lk_entries.specs.Entries.{are_pairs_above}
 use Rattle.lk_entries.specs.Values.{HeaderValue, StandingValue, BaseValue}
@@ -31,7 +32,8 @@ unfoldable pub read_format : List ℕ → Option (ℕ × List ℕ)
 read_format = tested (is_from_1_to 2) read_byte
 
 unfoldable pub read_header : List ℕ → Option (HeaderValue × List ℕ)
-read_header = made (λ h. record { node = h.1.0; cluster = h.0; alpha = h.1.1.0; members = h.1.1.1 }) (both read_eight (both read_node (both read_alpha read_members)))
+read_header = made (λ h. record { node = h.1.0; cluster = h.0; alpha = h.1.1.0; members = h.1.1.1 })
+    (both read_eight (both read_node (both read_alpha read_members)))
 
 unfoldable pub read_snapshot : List ℕ → Option (List ℕ × List ℕ)
 read_snapshot = sized (tested (is_from_1_to max_base) read_four)
@@ -56,7 +58,8 @@ read_standing = tested is_in_order
     (both read_mark (both read_total (both read_snapshot (both read_votes read_pairs)))))
 
 unfoldable pub read_base : List ℕ → Option (BaseValue × List ℕ)
-read_base = made (λ b. record { generation = b.0; format = b.1.0; header = b.1.1.0; standing = b.1.1.1 }) (both read_count (both read_format (both read_header read_standing)))
+read_base = made (λ b. record { generation = b.0; format = b.1.0; header = b.1.1.0; standing = b.1.1.1 })
+    (both read_count (both read_format (both read_header read_standing)))
 
 unfoldable pub read_fields : ℕ → List ℕ → Option (Stored × List ℕ)
 read_fields =
@@ -74,7 +77,8 @@ unfoldable pub read_size : List ℕ → Option (ℕ × List ℕ)
 read_size = tested (λ n. nat_le n (max_base - 4)) read_four
 
 -- all of the bytes that the length covers are one body
-abbrev pub within : {X : Type 0} → (List ℕ → Option (ℕ × List ℕ)) → (List ℕ → Option (X × List ℕ)) → List ℕ → Option (X × List ℕ)
+abbrev pub within : {X : Type 0} → (List ℕ → Option (ℕ × List ℕ)) → (List ℕ → Option (X × List ℕ))
+    → List ℕ → Option (X × List ℕ)
 within c p bytes = sized c bytes >>= λ text. whole p text.0 >>= λ x. Some (x, text.1)
 
 unfoldable pub read_entry : List ℕ → Option (Stored × List ℕ)

@@ -1,5 +1,6 @@
 -- What entries stand for.
-use Rattle.std.specs.Prelude.{◌≡◌, ℕ, suc, ◌<◌, nat_lt, ◌==◌, List, [], ◌∷◌, ◌++◌, Option, Some, None, map, IsTrue, if◌then◌else◌}
+use Rattle.std.specs.Prelude.{◌≡◌, ℕ, suc, ◌<◌, nat_lt, ◌==◌, List, [], ◌∷◌, ◌++◌, Option, Some, None, map, IsTrue}
+use Rattle.std.specs.Prelude.{if◌then◌else◌}
 use Rattle.lk_types.specs.BallotValue.{BallotValue}
 use Rattle.lk_types.specs.Ballots.{is_below, zero_ballot}
 use Rattle.lk_types.specs.declared.command.Command.{Command}
@@ -141,7 +142,8 @@ with_plain (Vote v) s = record s {
   promised = greater s.promised v.ballot;
   votes = if nat_lt s.position v.position then votes_with v s.votes else s.votes;
 }
-with_plain (Decided position c) s = record s { pairs = if nat_lt s.position position then with_pair (position, c) s.pairs else s.pairs }
+with_plain (Decided position c) s =
+    record s { pairs = if nat_lt s.position position then with_pair (position, c) s.pairs else s.pairs }
 
 -- a standing with more entries, one after the other
 abbrev pub with_all : List Entry → StandingValue → StandingValue

@@ -17,5 +17,10 @@ impl Model for Base {
 
     ghost Value = { BaseValue };
 
-    ghost view = { λ b. record { generation = b.generation; format = b.format; header = b.header; standing = b.standing } };
+    ghost view = { λ b. record {
+      generation = b.generation;
+      format = b.format;
+      header = b.header;
+      standing = b.standing;
+    } };
 }

@@ -15,6 +15,7 @@ pub fn whole_entries(bytes: &[u8])
 /// Bytes spell at most one entry, no spelling is a prefix of another, and none is empty.
 pub fn one_spelling()
     ensures one { (e f : Stored) (bytes : List ℕ) → SpellsEntry e bytes → SpellsEntry f bytes → e ≡ f }
-    ensures no_front { (e f : Stored) (x y : List ℕ) → IsStored e → IsStored f → spelling e ++ x ≡ spelling f ++ y → (e ≡ f) × (x ≡ y) }
+    ensures no_front { (e f : Stored) (x y : List ℕ) → IsStored e → IsStored f
+        → spelling e ++ x ≡ spelling f ++ y → (e ≡ f) × (x ≡ y) }
     ensures long { (e : Stored) → 0 < length (spelling e) }
 {}

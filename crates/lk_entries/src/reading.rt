@@ -6,7 +6,9 @@ ghost use Rattle.lk_fields.specs.Parser.{Finds, many, whole};
 ghost use Rattle.lk_types.specs.Votes.{are_votes_above};
 ghost use Rattle.lk_entries.specs.Entries.{are_pairs_above, spelling, IsStored};
 ghost use Rattle.lk_entries.specs.Files.{NoneBegins};
-ghost use Rattle.lk_entries.specs.Parsing.{Gives, read_alpha, read_format, read_header, read_snapshot, read_few, read_votes, read_pairs, is_in_order, read_standing, read_base, read_fields, read_body, read_size, read_entry};
+ghost use Rattle.lk_entries.specs.Parsing.{Gives, read_alpha, read_format, read_header, read_snapshot, read_few};
+ghost use Rattle.lk_entries.specs.Parsing.{read_votes, read_pairs, is_in_order, read_standing, read_base, read_fields};
+ghost use Rattle.lk_entries.specs.Parsing.{read_body, read_size, read_entry};
 
 use crate::base::Base;
 use crate::entry_fault::EntryFault;

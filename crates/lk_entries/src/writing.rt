@@ -2,7 +2,8 @@
 ghost use Rattle.std.specs.Prelude.{◌≡◌, ◌≤◌, ◌+◌, ◌-◌, ◌++◌, ◌∷◌, length, OnOk, IfOk};
 ghost use Rattle.std.specs.List.{AllByRecursion};
 ghost use Rattle.lk_types.specs.Limits.{max_votes, max_base};
-ghost use Rattle.lk_entries.specs.Entries.{header, snapshot, votes, pairs, standing, base, body, spelling, spelling_of_all, IsStanding, IsBase, IsEntry, IsStored, plain};
+ghost use Rattle.lk_entries.specs.Entries.{header, snapshot, votes, pairs, standing, base, body, spelling};
+ghost use Rattle.lk_entries.specs.Entries.{spelling_of_all, IsStanding, IsBase, IsEntry, IsStored, plain};
 ghost use Rattle.lk_fields.specs.Fields.{four, pair};
 ghost use Rattle.lk_entries.specs.declared.stored.Stored.TheVariants.{Base as base_entry, Plain};
 
@@ -88,7 +89,13 @@ fn put_base_body(
     value: &Standing,
 ) -> Result<(), AllocError>
     requires { IsBase (record { generation = generation; format = format; header = whose.now; standing = value.now }) }
-    ensures { OnOk result (out.new.items ≡ out.old.items ++ body (base_entry (record { generation = generation; format = format; header = whose.now; standing = value.now }))) }
+    ensures { OnOk result (out.new.items ≡ out.old.items
+        ++ body (base_entry (record {
+          generation = generation;
+          format = format;
+          header = whose.now;
+          standing = value.now;
+        }))) }
 {
     put_u8(out, 1)?;
     put_u64(out, generation)?;
@@ -138,8 +145,15 @@ pub fn spelled_parts(
     whose: &Header,
     value: &Standing,
 ) -> Result<BytesMut, AllocError>
-    requires { IsStored (base_entry (record { generation = generation; format = format; header = whose.now; standing = value.now })) }
-    ensures { IfOk result (λ out. out.items ≡ spelling (base_entry (record { generation = generation; format = format; header = whose.now; standing = value.now }))) }
+    requires { IsStored (base_entry
+        (record { generation = generation; format = format; header = whose.now; standing = value.now })) }
+    ensures { IfOk result (λ out. out.items
+        ≡ spelling (base_entry (record {
+          generation = generation;
+          format = format;
+          header = whose.now;
+          standing = value.now;
+        }))) }
 {
     let mut text = BytesMut::new(alloc);
     put_base_body(&mut text, generation, format, whose, value)?;

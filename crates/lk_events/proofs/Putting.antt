@@ -9,7 +9,8 @@ use Rattle.lk_events.specs.declared.slot.Slot.{Slot}
 use Rattle.lk_events.specs.declared.story.Story.{Story}
 use Rattle.lk_events.specs.declared.observation.Observation.{Observation}
 
-pub puts_both : {now : ℕ} {story : Story} {seen : Observation} {first second : List Topic} {old mid new : List Slot} → PutsNews now story seen first old mid → PutsNews now story seen second mid new
+pub puts_both : {now : ℕ} {story : Story} {seen : Observation} {first second : List Topic} {old mid new : List Slot}
+    → PutsNews now story seen first old mid → PutsNews now story seen second mid new
     → PutsNews now story seen (first ++ second) old new
 puts_both nothing after = after
 puts_both (news event gives puts rest) after = news event gives puts (puts_both rest after)

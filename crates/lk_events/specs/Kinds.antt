@@ -1,7 +1,9 @@
 -- The kinds of events.
 use Rattle.std.specs.Prelude.{ℕ, Bool, true, false}
 use Rattle.lk_events.specs.declared.event.Event.{Event}
-use Rattle.lk_events.specs.declared.event.Event.TheVariants.{Begun, Found, Leads, Ended, Follows, Leaderless, Joined, Left, Wrote, Installed, Unsent, Behind, CaughtUp, OtherGenesis, OtherCluster}
+use Rattle.lk_events.specs.declared.event.Event.TheVariants.{Begun, Found, Leads, Ended, Follows, Leaderless, Joined}
+use Rattle.lk_events.specs.declared.event.Event.TheVariants.{Left, Wrote, Installed, Unsent, Behind, CaughtUp}
+use Rattle.lk_events.specs.declared.event.Event.TheVariants.{OtherGenesis, OtherCluster}
 
 -- so many kinds of events there are
 abbrev pub kinds : ℕ

@@ -5,7 +5,9 @@ use Rattle.lk_types.specs.declared.member.Member.{Member}
 use Rattle.lk_types.specs.BallotValue.{BallotValue}
 use Rattle.lk_events.specs.Observations.{why_of}
 use Rattle.lk_events.specs.declared.event.Event.{Event}
-use Rattle.lk_events.specs.declared.event.Event.TheVariants.{Begun, Found, Leads, Ended, Follows, Leaderless, Joined, Left, Wrote, Installed, Unsent, Behind, CaughtUp, OtherGenesis, OtherCluster}
+use Rattle.lk_events.specs.declared.event.Event.TheVariants.{Begun, Found, Leads, Ended, Follows, Leaderless, Joined}
+use Rattle.lk_events.specs.declared.event.Event.TheVariants.{Left, Wrote, Installed, Unsent, Behind, CaughtUp}
+use Rattle.lk_events.specs.declared.event.Event.TheVariants.{OtherGenesis, OtherCluster}
 use Rattle.lk_events.specs.declared.event.Why.{Why}
 use Rattle.lk_events.specs.declared.story.Story.{Story}
 use Rattle.lk_events.specs.declared.observation.Observation.{Observation}
@@ -21,10 +23,13 @@ newer (Some node) old = Some node
 -- what is seen differs so from what was told, or the turn has brought it
 abbrev pub IsNews : Story → Observation → Event → Type 0
 IsNews story seen (Leads ballot) = (seen.leads ≡ Some ballot) × (story.leads ≢ Some ballot)
-IsNews story seen (Ended ballot why) = (story.leads ≡ Some ballot) × (seen.leads ≢ Some ballot) × (why ≡ why_of seen ballot)
+IsNews story seen (Ended ballot why) =
+    (story.leads ≡ Some ballot) × (seen.leads ≢ Some ballot) × (why ≡ why_of seen ballot)
 IsNews story seen (Follows node) = (seen.follows ≡ Some node) × (story.follows ≢ Some node)
-IsNews story seen (Joined node members) = (members ≡ seen.members) × (is_one_of node seen.members ≡ true) × (is_one_of node story.members ≡ false)
-IsNews story seen (Left node members) = (members ≡ seen.members) × (is_one_of node story.members ≡ true) × (is_one_of node seen.members ≡ false)
+IsNews story seen (Joined node members) =
+    (members ≡ seen.members) × (is_one_of node seen.members ≡ true) × (is_one_of node story.members ≡ false)
+IsNews story seen (Left node members) =
+    (members ≡ seen.members) × (is_one_of node story.members ≡ true) × (is_one_of node seen.members ≡ false)
 IsNews story seen (Wrote position) = (position ≡ seen.snapshot) × (story.snapshot < position) × (seen.installed ≡ None)
 IsNews story seen (Installed position node) = seen.installed ≡ Some (position, node)
 IsNews story seen (Unsent node) = seen.unsent ≡ Some node
@@ -38,7 +43,12 @@ IsNews story seen (CaughtUp executed) = ⊥
 
 -- what is told once that is seen
 abbrev pub told_with : Observation → Story → Story
-told_with seen story = record { leads = seen.leads; follows = newer seen.follows story.follows; members = seen.members; snapshot = seen.snapshot }
+told_with seen story = record {
+  leads = seen.leads;
+  follows = newer seen.follows story.follows;
+  members = seen.members;
+  snapshot = seen.snapshot;
+}
 
 -- what is told once it is told that nobody leads, if it is: it is news again whom the node follows
 abbrev pub forgetting : Option Event → Story → Story
@@ -91,7 +101,8 @@ topics story seen = lead_topics ++ (member_topics story seen ++ work_topics)
 
 -- the event is about that, and is news
 abbrev pub IsNewsOf : Topic → Story → Observation → Event → Type 0
-IsNewsOf ending story seen event = (ballot : BallotValue) × (why : Why) × (event ≡ Ended ballot why) × IsNews story seen (Ended ballot why)
+IsNewsOf ending story seen event =
+    (ballot : BallotValue) × (why : Why) × (event ≡ Ended ballot why) × IsNews story seen (Ended ballot why)
 IsNewsOf leading story seen event = (ballot : BallotValue) × (event ≡ Leads ballot) × IsNews story seen (Leads ballot)
 IsNewsOf following story seen event = (node : ℕ) × (event ≡ Follows node) × IsNews story seen (Follows node)
 IsNewsOf (joining node) story seen event =
@@ -99,7 +110,8 @@ IsNewsOf (joining node) story seen event =
 IsNewsOf (leaving node) story seen event =
     (members : List Member) × (event ≡ Left node members) × IsNews story seen (Left node members)
 IsNewsOf writing story seen event = (position : ℕ) × (event ≡ Wrote position) × IsNews story seen (Wrote position)
-IsNewsOf installing story seen event = (position : ℕ) × (node : ℕ) × (event ≡ Installed position node) × IsNews story seen (Installed position node)
+IsNewsOf installing story seen event =
+    (position : ℕ) × (node : ℕ) × (event ≡ Installed position node) × IsNews story seen (Installed position node)
 IsNewsOf failing story seen event = (node : ℕ) × (event ≡ Unsent node) × IsNews story seen (Unsent node)
 IsNewsOf meeting story seen event = (node : ℕ) × (event ≡ OtherGenesis node) × IsNews story seen (OtherGenesis node)
 IsNewsOf straying story seen event = (count : ℕ) × (event ≡ OtherCluster count) × IsNews story seen (OtherCluster count)

@@ -1,5 +1,6 @@
 -- What is told as time passes: that there is no leader, and that a node is behind.
-use Rattle.std.specs.Prelude.{◌≡◌, ◌≤◌, ◌<◌, ◌+◌, ◌*◌, ◌⊎◌, ℕ, Bool, true, false, Option, Some, None, IfSome, IsSome, IsNone}
+use Rattle.std.specs.Prelude.{◌≡◌, ◌≤◌, ◌<◌, ◌+◌, ◌*◌, ◌⊎◌, ℕ, Bool, true, false, Option, Some, None, IfSome, IsSome}
+use Rattle.std.specs.Prelude.{IsNone}
 use Rattle.lk_events.specs.declared.event.Event.{Event}
 use Rattle.lk_events.specs.declared.event.Event.TheVariants.{Leaderless, Behind, CaughtUp}
 use Rattle.lk_events.specs.declared.quiet.Quiet.{Quiet}
@@ -82,7 +83,8 @@ BecomesLag old now (Some node) news new = HasAsked old now news new
 BecomesLag old now None news new = HasPaused old now new
 
 -- what such a turn brings, and what is known of it then
-pub record TurnsLag (old : Lag) (now : ℕ) (wanted : Option ℕ) (executed : ℕ) (news : Option Event) (new : Lag) : Type 0 where
+pub record TurnsLag (old : Lag) (now : ℕ) (wanted : Option ℕ) (executed : ℕ) (news : Option Event)
+    (new : Lag) : Type 0 where
   pub some : IfSome news (IsLagNews old now wanted executed)
   pub none : IsNone news → (e : Event) → IsLagNews old now wanted executed e → ⊥
   pub becomes : BecomesLag old now wanted news new

@@ -24,7 +24,8 @@ empty = record { newest = None; others = 0; told = None }
 
 -- after one event more, which is the newest then
 abbrev pub having_put : ℕ → Event → Slot → Slot
-having_put now event slot = record { newest = Some (now, event); others = others_with slot.newest slot.others; told = slot.told }
+having_put now event slot =
+    record { newest = Some (now, event); others = others_with slot.newest slot.others; told = slot.told }
 
 -- after a line was told: nothing waits
 abbrev pub having_told : ℕ → Slot

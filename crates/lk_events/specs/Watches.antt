@@ -26,7 +26,8 @@ PutsSome now (Some event) old new = Puts now event old new
 -- about one thing after another, what is news waits then
 pub data PutsNews (now : ℕ) (story : Story) (seen : Observation) : List Topic → List Slot → List Slot → Type 0 where
   nothing : {slots : List Slot} → PutsNews now story seen [] slots slots
-  news : {topic : Topic} {rest : List Topic} (event : Option Event) {old mid new : List Slot} → Gives topic story seen event → PutsSome now event old mid
+  news : {topic : Topic} {rest : List Topic} (event : Option Event) {old mid new : List Slot}
+      → Gives topic story seen event → PutsSome now event old mid
       → PutsNews now story seen rest mid new → PutsNews now story seen (topic ∷ rest) old new
 
 -- the line is that of the slot of the kind, which then waits for nothing, and all other slots are as they were
@@ -51,9 +52,16 @@ pub record Turns (now : ℕ) (seen : Observation) (old new : Watch) : Type 0 whe
   pub timed : Watch
   pub times : TurnsTimes now seen old timed
   pub news : PutsNews now timed.story seen (topics timed.story seen) timed.slots.all new.slots.all
-  pub becomes : new ≡ record { story = told_with seen timed.story; quiet = timed.quiet; lag = timed.lag; slots = new.slots }
+  pub becomes : new ≡ record {
+    story = told_with seen timed.story;
+    quiet = timed.quiet;
+    lag = timed.lag;
+    slots = new.slots;
+  }
 
 -- whoever watches a node does so on after such a turn, and may have told some of what waits
 abbrev pub WatchesOn : Observation → Option Watch → Option Watch → Type 0
 WatchesOn seen None new = new ≡ None
-WatchesOn seen (Some old) new = (now : ℕ) × (mid : Watch) × Turns now seen old mid × IsSomeAnd new (λ watch. watch ≡ record mid { slots = watch.slots })
+WatchesOn seen (Some old) new =
+    (now : ℕ) × (mid : Watch) × Turns now seen old mid
+    × IsSomeAnd new (λ watch. watch ≡ record mid { slots = watch.slots })

@@ -1,7 +1,8 @@
 //! Events that come with time: that there is no leader, and that a node is behind. Times are milliseconds since 1970.
 
 ghost use Rattle.std.specs.Prelude.{◌≡◌, ◌⊎◌, Some, None, true, false, IfSome, IsSome, IsNone};
-ghost use Rattle.lk_events.specs.Quiets.{first_time, first_asked, no_lag, IsQuietNews, IsBehind, IsOver, HasRested, IsLagNews, BecomesLag};
+ghost use Rattle.lk_events.specs.Quiets.{first_time, first_asked, no_lag, IsQuietNews, IsBehind, IsOver, HasRested};
+ghost use Rattle.lk_events.specs.Quiets.{IsLagNews, BecomesLag};
 ghost use Rattle.lk_events.specs.declared.event.Event.{Event as EventValue};
 ghost use Rattle.lk_events.specs.declared.event.Event.TheVariants.{Leaderless, Behind, CaughtUp};
 

@@ -72,7 +72,8 @@ impl Watch {
         ensures line { IfSome result (λ line. TakesOut kind now line self.old.slots.all self.new.slots.all) }
         ensures others { self.new ≡ record self.old { slots = self.new.slots } }
         ensures none { result ≡ None → self.new ≡ self.old }
-        ensures waits { result ≡ None → (slot : SlotValue) → slice_get self.old.slots.all kind ≡ Some slot → Waits slot now }
+        ensures waits { result ≡ None → (slot : SlotValue)
+            → slice_get self.old.slots.all kind ≡ Some slot → Waits slot now }
     {
         self.slots.take(kind, now)
     }

@@ -11,5 +11,6 @@ keeps_same old new e = record { front = ap (take (length old)) e ∙ take-length
 pub keeps_behind : (old mid new added : List ℕ) → mid ≡ old ++ added → Keeps mid new → Keeps old new
 keeps_behind old mid new added e k =
     let rest = drop (length mid) new in
-    let whole : new ≡ old ++ (added ++ rest) = sym (take-append-drop (length mid) new) ∙ ap (λ (w : List ℕ). w ++ rest) (k.front ∙ e) ∙ append_assoc old added rest in
+    let whole : new ≡ old ++ (added ++ rest) = sym (take-append-drop (length mid) new)
+    ∙ ap (λ (w : List ℕ). w ++ rest) (k.front ∙ e) ∙ append_assoc old added rest in
     record { front = ap (take (length old)) whole ∙ take-append_seam old (added ++ rest) }

@@ -5,7 +5,10 @@ use Rattle.lk_types.specs.Limits.{max_count, max_node, max_client, max_port, max
 use Rattle.lk_types.specs.BallotValue.{BallotValue}
 use Rattle.lk_types.specs.Rosters.{members_rise}
 use Rattle.lk_types.specs.declared.answer.Answer.{Answer}
-use Rattle.lk_types.specs.declared.answer.Answer.TheVariants.{Granted, Busy, Released, NotHeld, Free, Held, Valid, Stale, NoRoom, Bad, Spent, Shared, HeldShared, Broken, Joined, Used, Full, Left, NotMember, Last, Raised, AlreadyRaised}
+use Rattle.lk_types.specs.declared.answer.Answer.TheVariants.{Granted, Busy, Released, NotHeld, Free, Held, Valid}
+use Rattle.lk_types.specs.declared.answer.Answer.TheVariants.{Stale, NoRoom, Bad, Spent, Shared, HeldShared, Broken}
+use Rattle.lk_types.specs.declared.answer.Answer.TheVariants.{Joined, Used, Full, Left, NotMember, Last, Raised}
+use Rattle.lk_types.specs.declared.answer.Answer.TheVariants.{AlreadyRaised}
 use Rattle.lk_types.specs.declared.command.Op.{Op}
 use Rattle.lk_types.specs.declared.command.Op.TheVariants.{Table, Join, Leave, Raise}
 use Rattle.lk_types.specs.declared.command.Request.{Request as RequestValue}
@@ -13,7 +16,8 @@ use Rattle.lk_types.specs.declared.command.Command.{Command}
 use Rattle.lk_types.specs.declared.command.Command.TheVariants.{Noop, Request}
 use Rattle.lk_types.specs.declared.member.Member.{Member}
 use Rattle.lk_types.specs.declared.vote.Vote.{Vote}
-use Rattle.lk_fields.specs.Parser.{read_byte, read_number, sized, both, made, tested, counted, tagged, kind, bare, no_kind}
+use Rattle.lk_fields.specs.Parser.{read_byte, read_number, sized, both, made, tested, counted, tagged, kind, bare}
+use Rattle.lk_fields.specs.Parser.{no_kind}
 
 abbrev pub is_from_1_to : ℕ → ℕ → Bool
 is_from_1_to most n = nat_le 1 n && nat_le n most
@@ -78,7 +82,8 @@ abbrev pub read_op : List ℕ → Option (Op × List ℕ)
 read_op = tagged op_of
 
 unfoldable pub read_request : List ℕ → Option (RequestValue × List ℕ)
-read_request = made (λ r. record { client = r.0; number = r.1.0; op = r.1.1 }) (both read_client (both read_count read_op))
+read_request =
+    made (λ r. record { client = r.0; number = r.1.0; op = r.1.1 }) (both read_client (both read_count read_op))
 
 unfoldable pub command_of : ℕ → List ℕ → Option (Command × List ℕ)
 command_of = kind 0 (bare Noop) (kind 1 (made Request read_request) no_kind)
@@ -87,7 +92,8 @@ abbrev pub read_command : List ℕ → Option (Command × List ℕ)
 read_command = tagged command_of
 
 unfoldable pub read_vote : List ℕ → Option (Vote × List ℕ)
-read_vote = made (λ v. record { position = v.0; ballot = v.1.0; command = v.1.1 }) (both read_count (both read_ballot read_command))
+read_vote = made (λ v. record { position = v.0; ballot = v.1.0; command = v.1.1 })
+    (both read_count (both read_ballot read_command))
 
 unfoldable pub read_pair : List ℕ → Option ((ℕ × Command) × List ℕ)
 read_pair = both read_count read_command

@@ -1,5 +1,6 @@
 -- Reading from the start of a list: a value and the bytes after it. Readers of larger things combine smaller ones.
-use Rattle.std.specs.Prelude.{◌≡◌, ℕ, zero, suc, Bool, List, [], ◌∷◌, length, take, drop, Option, Some, None, nat_lt, ◌==◌, if◌then◌else◌}
+use Rattle.std.specs.Prelude.{◌≡◌, ℕ, zero, suc, Bool, List, [], ◌∷◌, length, take, drop, Option, Some, None, nat_lt}
+use Rattle.std.specs.Prelude.{◌==◌, if◌then◌else◌}
 use Rattle.std.specs.Int.{Width, byte_len, from_be_bytes}
 
 infixl 10 ◌>>=◌
@@ -18,7 +19,8 @@ read_byte (b ∷ rest) = Some (b, rest)
 
 -- a number of this many bytes
 abbrev pub read_number : Width → List ℕ → Option (ℕ × List ℕ)
-read_number w bytes = if nat_lt (length bytes) (byte_len w) then None else Some (from_be_bytes w (take (byte_len w) bytes), drop (byte_len w) bytes)
+read_number w bytes = if nat_lt (length bytes) (byte_len w) then None else Some
+    (from_be_bytes w (take (byte_len w) bytes), drop (byte_len w) bytes)
 
 -- a length, and this many bytes
 abbrev pub sized : (List ℕ → Option (ℕ × List ℕ)) → List ℕ → Option (List ℕ × List ℕ)
@@ -44,7 +46,8 @@ module _ {X : Type 0} where
   many p (suc n) bytes = p bytes >>= λ a. many p n a.1 >>= λ b. Some (a.0 ∷ b.0, b.1)
 
   -- a count, and this many
-  abbrev pub counted : (List ℕ → Option (ℕ × List ℕ)) → (List ℕ → Option (X × List ℕ)) → List ℕ → Option (List X × List ℕ)
+  abbrev pub counted : (List ℕ → Option (ℕ × List ℕ)) → (List ℕ → Option (X × List ℕ)) → List ℕ
+      → Option (List X × List ℕ)
   counted c p bytes = c bytes >>= λ n. many p n.0 n.1
 
   -- a tag that says what follows it
@@ -52,7 +55,8 @@ module _ {X : Type 0} where
   tagged q bytes = read_byte bytes >>= λ t. q t.0 t.1
 
   -- this after the tag k, and what the others say after another one
-  abbrev pub kind : ℕ → (List ℕ → Option (X × List ℕ)) → (ℕ → List ℕ → Option (X × List ℕ)) → ℕ → List ℕ → Option (X × List ℕ)
+  abbrev pub kind : ℕ → (List ℕ → Option (X × List ℕ)) → (ℕ → List ℕ → Option (X × List ℕ)) → ℕ
+      → List ℕ → Option (X × List ℕ)
   kind k p others tag bytes = if tag == k then p bytes else others tag bytes
 
   -- nothing follows the tag

@@ -3,8 +3,10 @@
 
 ghost use Rattle.std.specs.Prelude.{◌≡◌, ◌≤◌, ◌+◌, ◌*◌, ◌++◌, length, OnOk, OnErr};
 ghost use Rattle.lk_types.specs.Limits.{max_members};
-ghost use Rattle.lk_fields.specs.Fields.{one, two, four, eight, ballot, member, members, payload, op, request, command, vote, answer, answer_fields, answer_tag};
-ghost use Rattle.lk_fields.specs.Rooms.{UsesRoom, mark_room, member_room, members_room, payload_room, op_room, request_room, command_room, vote_room, held_room, answer_room};
+ghost use Rattle.lk_fields.specs.Fields.{one, two, four, eight, ballot, member, members, payload, op, request, command};
+ghost use Rattle.lk_fields.specs.Fields.{vote, answer, answer_fields, answer_tag};
+ghost use Rattle.lk_fields.specs.Rooms.{UsesRoom, mark_room, member_room, members_room, payload_room, op_room};
+ghost use Rattle.lk_fields.specs.Rooms.{request_room, command_room, vote_room, held_room, answer_room};
 
 use crate::room::{ANSWER, COMMAND, MARK, MEMBER, MEMBERS, VOTE};
 use bytes::{BufMut, BytesMut};

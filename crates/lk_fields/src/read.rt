@@ -10,10 +10,15 @@ ghost use Rattle.lk_types.specs.Rosters.{IsMember, AreMembers};
 ghost use Rattle.lk_types.specs.Commands.{IsOp, IsRequest, IsCommand};
 ghost use Rattle.lk_types.specs.Votes.{IsVote};
 ghost use Rattle.lk_types.specs.Answers.{IsAnswer};
-ghost use Rattle.lk_fields.specs.Fields.{one, two, four, eight, ballot, member, members, op, request, command, vote, answer};
+ghost use Rattle.lk_fields.specs.Fields.{one, two, four, eight, ballot, member, members, op, request, command, vote};
+ghost use Rattle.lk_fields.specs.Fields.{answer};
 ghost use Rattle.lk_fields.specs.Fronts.{ReadsFront};
 ghost use Rattle.lk_fields.specs.Parser.{Finds, read_byte, many};
-ghost use Rattle.lk_fields.specs.FieldReading.{read_two, read_four, read_eight, read_node, read_client, read_port, read_count, read_total, read_sharer_count, read_ballot, read_mark, read_member, read_members, read_payload, read_op, read_request, read_command, read_vote, bare_answer, read_held, read_sharing, read_answer};
+ghost use Rattle.lk_fields.specs.FieldReading.{read_two, read_four, read_eight, read_node, read_client, read_port};
+ghost use Rattle.lk_fields.specs.FieldReading.{read_count, read_total, read_sharer_count, read_ballot, read_mark};
+ghost use Rattle.lk_fields.specs.FieldReading.{read_member, read_members, read_payload, read_op, read_request};
+ghost use Rattle.lk_fields.specs.FieldReading.{read_command, read_vote, bare_answer, read_held, read_sharing};
+ghost use Rattle.lk_fields.specs.FieldReading.{read_answer};
 
 use arrayvec::ArrayVec;
 use bytes::Buf;
@@ -189,7 +194,8 @@ fn many_members(count: u8, bytes: &[u8]) -> Option<(ArrayVec<Member, MAX_MEMBERS
 /// A set of members: how many, and then each.
 #[tactic(auto, using(crate::proofs::FrontLaws::members_front), unfolding(crate::specs::FieldReading::read_members))]
 pub fn read_members(bytes: &[u8]) -> Option<(Members, &[u8])>
-    ensures front { ReadsFront (λ x. (x.0, x.1.now)) members (λ ms. AreMembers ms × AllByRecursion IsMember ms) bytes.now result }
+    ensures front { ReadsFront (λ x. (x.0, x.1.now)) members
+        (λ ms. AreMembers ms × AllByRecursion IsMember ms) bytes.now result }
     ensures parsed { Finds (λ x. (x.0, x.1.now)) result (read_members bytes.now) }
 {
     let (count, rest) = read_u8(bytes)?;

@@ -4,4 +4,5 @@ use Rattle.std.specs.Fmt.{decimal}
 
 -- how many bytes of a disk are synced
 abbrev pub disk_line : List ℕ → ℕ → ℕ → List ℕ
-disk_line name synced written = codes "disk " ++ (name ++ (32 ∷ (decimal synced ++ (codes " of " ++ (decimal written ++ codes " bytes synced\n")))))
+disk_line name synced written =
+    codes "disk " ++ (name ++ (32 ∷ (decimal synced ++ (codes " of " ++ (decimal written ++ codes " bytes synced\n")))))

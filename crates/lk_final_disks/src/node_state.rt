@@ -156,7 +156,9 @@ fn run_and_write<M: MemoryReplica, R: BufRead, W: Write>(
     reader: &mut R,
     out: &mut W,
 ) -> Result<(), ScriptFault>
-    ensures { OnOk result (IfSome (R.remaining reader.old) (λ script. (text : List ℕ) × (more : List ℕ) × PrintsAll M.behaves script text × Appends (W.contents out.old) (W.contents out.new) (text ++ more))) }
+    ensures { OnOk result (IfSome (R.remaining reader.old)
+        (λ script. (text : List ℕ) × (more : List ℕ) × PrintsAll M.behaves script text
+        × Appends (W.contents out.old) (W.contents out.new) (text ++ more))) }
 {
     let mode = run_script::<M, R, W>(alloc, reader, out)?;
     write_left(alloc, mode, out)
@@ -172,7 +174,9 @@ pub fn run_to_state<M: MemoryReplica, R: BufRead, W: Write, E: Write>(
     out: &mut W,
     err: &mut E,
 ) -> u8
-    ensures ok { result ≡ 0 → IfSome (R.remaining reader.old) (λ script. (text : List ℕ) × (more : List ℕ) × PrintsAll M.behaves script text × Appends (W.contents out.old) (W.contents out.new) (text ++ more)) }
+    ensures ok { result ≡ 0 → IfSome (R.remaining reader.old)
+        (λ script. (text : List ℕ) × (more : List ℕ) × PrintsAll M.behaves script text
+        × Appends (W.contents out.old) (W.contents out.new) (text ++ more)) }
     ensures quiet { result ≡ 0 → err.new ≡ err.old }
     ensures status { (result ≡ 0) ⊎ (result ≡ 1) }
 {

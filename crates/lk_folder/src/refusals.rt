@@ -62,7 +62,9 @@ fn write_bad_entry<D: LogDisk, E: Write>(
     err: &mut E,
 ) -> bool
     ensures unchanged { D.is_honest → (s : SideValue) → D.disk device.new s ≡ D.disk device.old s }
-    ensures whole { D.is_honest → IsTrue result → (end : _) × EndsAt (contents (D.disk device.old side)) end × (length (contents (D.disk device.old side)) ≤ end) }
+    ensures whole { D.is_honest → IsTrue result
+        → (end : _) × EndsAt (contents (D.disk device.old side)) end
+        × (length (contents (D.disk device.old side)) ≤ end) }
     ensures quiet { IsTrue result → err.new ≡ err.old }
 {
     let Some((end, size)) = extent_of(alloc, device, side) else {
@@ -143,7 +145,8 @@ pub fn write_refusal<D: LogDisk + FailureCause, E: Write>(
 ) -> ServiceFault
     ensures fault { result ≡ fault }
     ensures unchanged { D.is_honest → (s : SideValue) → D.disk device.new s ≡ D.disk device.old s }
-    ensures quiet { fault ≢ ServiceFault.Damaged → fault ≢ ServiceFault.WrongStore → fault ≢ ServiceFault.Device → err.new ≡ err.old }
+    ensures quiet { fault ≢ ServiceFault.Damaged → fault ≢ ServiceFault.WrongStore
+        → fault ≢ ServiceFault.Device → err.new ≡ err.old }
 {
     match fault {
         ServiceFault::Damaged => write_damage(alloc, device, folder, err),

@@ -1,5 +1,6 @@
 -- A round: what is asked, which reports answer its probes, and how they are gathered from what comes.
-use Rattle.std.specs.Prelude.{◌≡◌, ◌⊎◌, ℕ, ◌+◌, ◌%◌, ◌^◌, ◌<◌, ◌≤◌, Bool, true, false, ◌==◌, ◌||◌, Option, Some, None, List, [], ◌∷◌, ◌++◌, length, if◌then◌else◌}
+use Rattle.std.specs.Prelude.{◌≡◌, ◌⊎◌, ℕ, ◌+◌, ◌%◌, ◌^◌, ◌<◌, ◌≤◌, Bool, true, false, ◌==◌, ◌||◌, Option, Some, None}
+use Rattle.std.specs.Prelude.{List, [], ◌∷◌, ◌++◌, length, if◌then◌else◌}
 use Rattle.std.specs.List.{AllByRecursion}
 use Rattle.std.specs.declared.net.socket_addr.SocketAddr.{SocketAddr}
 use Rattle.lk_seal.specs.Seals.{key_list, asking, framed_by, replied}
@@ -38,7 +39,8 @@ report_of token (r ∷ rs) = if r.token == token then Some r else report_of toke
 
 -- the datagram, out of its frame if there is a key, is that report
 abbrev pub IsReport : Inquiry → List ℕ → Report → Type 0
-IsReport i bytes r = SpellsReport r (replied (key_list i.destination.seals.keys) i.destination.seals.cluster (or_zero i.client) bytes)
+IsReport i bytes r =
+    SpellsReport r (replied (key_list i.destination.seals.keys) i.destination.seals.cluster (or_zero i.client) bytes)
 
 -- it answers a probe of the round that none of these has answered
 pub record IsAwaited (i : Inquiry) (first : ℕ) (rs : List Report) (r : Report) : Type 0 where
@@ -68,7 +70,8 @@ probe_frame i token =
 module _ {S : Type 0} (sent coming : S → List (SocketAddr × List ℕ)) (failures : S → ℕ) (i : Inquiry) where
   -- the probe goes to a target, or its send fails, which is counted; nothing comes meanwhile
   pub record Probes (token : ℕ) (t : Target) (old new : S) : Type 0 where
-    pub sends : SendsOnce (target_address i t, t.port) (probe_frame i token) (sent old) (failures old) (sent new) (failures new)
+    pub sends : SendsOnce (target_address i t, t.port) (probe_frame i token) (sent old) (failures old)
+        (sent new) (failures new)
     pub still : coming new ≡ coming old
 
   -- nothing is sent to one that has answered
@@ -109,7 +112,8 @@ module _ {S : Type 0} (sent coming : S → List (SocketAddr × List ℕ)) (failu
     -- where nothing came, that is counted, and each target is asked again that has not answered
     abbrev pub Reacts : Option (SocketAddr × List ℕ) → S → Asker S → Asker S → Type 0
     Reacts None heard old new =
-        (new.silences ≡ old.silences + 1) × ProbesEach sent coming failures i first i.targets.items new.reports heard new.socket
+        (new.silences ≡ old.silences + 1)
+        × ProbesEach sent coming failures i first i.targets.items new.reports heard new.socket
     Reacts (Some d) heard old new = (new.silences ≡ old.silences) × (new.socket ≡ heard)
 
     -- a receive: what came is added if it is a report that is awaited
@@ -134,7 +138,8 @@ module _ {S : Type 0} (sent coming : S → List (SocketAddr × List ℕ)) (failu
       pub asked : S
       pub silences : ℕ
       pub asks : ProbesEach sent coming failures i first i.targets.items [] old asked
-      pub hears : HearsOut (record { socket = asked; reports = []; silences = 0 }) (record { socket = new; reports = reports; silences = silences })
+      pub hears : HearsOut (record { socket = asked; reports = []; silences = 0 })
+          (record { socket = new; reports = reports; silences = silences })
 
     -- they are the reports of a round up to this socket, if it tells what it sends and what comes
     pub record AreHeard (tells : Type 0) (reports : List Report) (ended : S) : Type 0 where

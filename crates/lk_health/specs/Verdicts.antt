@@ -1,5 +1,6 @@
 -- When the reports of nodes show a cluster that is served.
-use Rattle.std.specs.Prelude.{◌≡◌, ◌⊎◌, ℕ, suc, ◌*◌, ◌<◌, Bool, true, false, nat_eq, nat_lt, nat_le, ◌==◌, not, ◌&&◌, ◌||◌, if◌then◌else◌, Option, Some, None, List, [], ◌∷◌, length}
+use Rattle.std.specs.Prelude.{◌≡◌, ◌⊎◌, ℕ, suc, ◌*◌, ◌<◌, Bool, true, false, nat_eq, nat_lt, nat_le, ◌==◌, not, ◌&&◌}
+use Rattle.std.specs.Prelude.{◌||◌, if◌then◌else◌, Option, Some, None, List, [], ◌∷◌, length}
 use Rattle.std.specs.Cmp.Lexicographic.{pointwise}
 use Rattle.std.specs.List.{AllByRecursion}
 use Rattle.lk_types.specs.declared.member.Member.{Member}
@@ -12,7 +13,8 @@ IsAmong r (other ∷ rs) = (r ≡ other) ⊎ IsAmong r rs
 
 -- it does not lead, the ballot that it has promised is its own, and it counts no tick without a leader: it has a term
 abbrev pub seeks_votes : Report → Bool
-seeks_votes r = not r.status.leadership.leads && r.status.leadership.promised.node == r.node && r.status.leadership.silence == 0
+seeks_votes r =
+    not r.status.leadership.leads && r.status.leadership.promised.node == r.node && r.status.leadership.silence == 0
 
 -- that node is among those that report
 abbrev pub has_answered : ℕ → List Report → Bool

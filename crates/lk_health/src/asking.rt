@@ -3,7 +3,9 @@
 ghost use Rattle.std.specs.Prelude.{◌≡◌, ◌↔◌, ◌<◌, false, is_some, IfOk, OnOk, IfSome, IsNone, IsSomeAnd, IsTrue};
 ghost use Rattle.lk_probe.specs.declared.probe.Report.{Report as ReportValue};
 ghost use Rattle.lk_transport.specs.Hearing.{next_of};
-ghost use Rattle.lk_health.specs.Rounds.{IsOfRound, AreOfRound, IsReport, IsAwaited, Adds, Hears, has_token, Probes, ProbesUnless, ProbesEach, GoesOn, IsOver, Receives, HearsOne, HearsOut, IsRound};
+ghost use Rattle.lk_health.specs.Rounds.{IsOfRound, AreOfRound, IsReport, IsAwaited, Adds, Hears, has_token, Probes};
+ghost use Rattle.lk_health.specs.Rounds.{ProbesUnless, ProbesEach, GoesOn, IsOver, Receives, HearsOne, HearsOut};
+ghost use Rattle.lk_health.specs.Rounds.{IsRound};
 
 use crate::target::{Inquiry, Target, is_answered};
 use lk_probe::Report;
@@ -23,7 +25,8 @@ fn send_probe<S: DatagramSocket>(
     token: u64,
     frame: &mut Vec<u8>,
 ) -> Result<(), ServiceFault>
-    ensures { OnOk result (S.is_telling → Probes S.sent S.coming S.failures inquiry.now token target.now socket.old socket.new) }
+    ensures { OnOk result (S.is_telling
+        → Probes S.sent S.coming S.failures inquiry.now token target.now socket.old socket.new) }
 {
     let probe = inquiry.probe(token).datagram();
     let seals = &inquiry.destination.seals;
@@ -41,7 +44,9 @@ fn probe_target<S: DatagramSocket>(
     reports: &[Report],
     frame: &mut Vec<u8>,
 ) -> Result<(), ServiceFault>
-    ensures { OnOk result (S.is_telling → ProbesUnless S.sent S.coming S.failures inquiry.now (has_token token reports.now) token target.now socket.old socket.new) }
+    ensures { OnOk result (S.is_telling
+        → ProbesUnless S.sent S.coming S.failures inquiry.now
+        (has_token token reports.now) token target.now socket.old socket.new) }
 {
     if is_answered(reports, token) {
         return Ok(());
@@ -58,7 +63,9 @@ fn send_probes<S: DatagramSocket>(
     first: u64,
     reports: &[Report],
 ) -> Result<(), ServiceFault>
-    ensures { OnOk result (S.is_telling → ProbesEach S.sent S.coming S.failures inquiry.now first inquiry.now.targets.items reports.now socket.old socket.new) }
+    ensures { OnOk result (S.is_telling
+        → ProbesEach S.sent S.coming S.failures inquiry.now first inquiry.now.targets.items
+        reports.now socket.old socket.new) }
 {
     let mut frame = Vec::new(alloc);
     let mut token = first;
@@ -98,7 +105,8 @@ fn report_in(inquiry: &Inquiry, bytes: &[u8]) -> Option<Report>
 // The report that a datagram is, if it is awaited.
 fn awaited_in(inquiry: &Inquiry, first: u64, reports: &[Report], bytes: &[u8]) -> Option<Report>
     ensures some { IfSome result (λ r. IsReport inquiry.now bytes.now r × IsAwaited inquiry.now first reports.now r) }
-    ensures none { IsNone result → (r : ReportValue) → IsReport inquiry.now bytes.now r → IsAwaited inquiry.now first reports.now r → ⊥ }
+    ensures none { IsNone result → (r : ReportValue) → IsReport inquiry.now bytes.now r
+        → IsAwaited inquiry.now first reports.now r → ⊥ }
 {
     let Some(report) = report_in(inquiry, bytes) else {
         return None;
@@ -118,7 +126,8 @@ fn add(
     bytes: &[u8],
 ) -> Result<(), ServiceFault>
     ensures adds { OnOk result (Adds inquiry.now first bytes.now reports.old.items reports.new.items) }
-    ensures of_round { OnOk result (AreOfRound inquiry.now first reports.old.items → AreOfRound inquiry.now first reports.new.items) }
+    ensures of_round { OnOk result
+        (AreOfRound inquiry.now first reports.old.items → AreOfRound inquiry.now first reports.new.items) }
 {
     let Some(report) = awaited_in(inquiry, first, reports, bytes) else {
         return Ok(());
@@ -147,8 +156,10 @@ fn receive_report<S: DatagramSocket>(
 ) -> Result<bool, ServiceFault>
     ensures receives { S.is_telling → Receives S.sent S.coming S.failures socket.old socket.new }
     ensures came { IfOk result (λ is. S.is_telling → is_some (next_of S.coming socket.old) ≡ is) }
-    ensures hears { OnOk result (S.is_telling → Hears inquiry.now first (next_of S.coming socket.old) reports.old.items reports.new.items) }
-    ensures of_round { OnOk result (AreOfRound inquiry.now first reports.old.items → AreOfRound inquiry.now first reports.new.items) }
+    ensures hears { OnOk result
+        (S.is_telling → Hears inquiry.now first (next_of S.coming socket.old) reports.old.items reports.new.items) }
+    ensures of_round { OnOk result
+        (AreOfRound inquiry.now first reports.old.items → AreOfRound inquiry.now first reports.new.items) }
 {
     receive(socket, buffer);
     let Some((bytes, _)) = buffer.latest() else {
@@ -173,7 +184,8 @@ fn receive_or_probe<S: DatagramSocket>(
     ensures hears { OnOk result (S.is_telling → HearsOne S.sent S.coming S.failures inquiry.now first
         (record { socket = socket.old; reports = reports.old.items; silences = silences.old })
         (record { socket = socket.new; reports = reports.new.items; silences = silences.new })) }
-    ensures of_round { OnOk result (AreOfRound inquiry.now first reports.old.items → AreOfRound inquiry.now first reports.new.items) }
+    ensures of_round { OnOk result
+        (AreOfRound inquiry.now first reports.old.items → AreOfRound inquiry.now first reports.new.items) }
 {
     if !receive_report(socket, buffer, inquiry, first, reports)? {
         *silences += 1;
@@ -204,7 +216,8 @@ fn collect_reports<S: DatagramSocket>(
     ensures hears { OnOk result (S.is_telling → HearsOut S.sent S.coming S.failures inquiry.now first
         (record { socket = socket.old; reports = reports.old.items; silences = silences.old })
         (record { socket = socket.new; reports = reports.new.items; silences = silences.new })) }
-    ensures of_round { OnOk result (AreOfRound inquiry.now first reports.old.items → AreOfRound inquiry.now first reports.new.items) }
+    ensures of_round { OnOk result
+        (AreOfRound inquiry.now first reports.old.items → AreOfRound inquiry.now first reports.new.items) }
 {
     let mut buffer = ReceiveBuffer::new();
     'receives: for _ in 0..RECEIVES {
@@ -233,7 +246,8 @@ pub fn probe_all<S: DatagramSocket>(
     first: u64,
     idle: &mut u32,
 ) -> Result<Vec<Report>, ServiceFault>
-    ensures round { IfOk result (λ rs. S.is_telling → IsRound S.sent S.coming S.failures inquiry.now first rs.items socket.old socket.new) }
+    ensures round { IfOk result
+        (λ rs. S.is_telling → IsRound S.sent S.coming S.failures inquiry.now first rs.items socket.old socket.new) }
     ensures of_round { IfOk result (λ rs. AreOfRound inquiry.now first rs.items) }
 {
     let (mut reports, mut silences) = (Vec::new(alloc), 0u32);

@@ -2,7 +2,9 @@
 
 ghost use Rattle.std.specs.Prelude.{◌≡◌, ◌≤◌, length};
 ghost use Rattle.std.specs.Option.{option_copied};
-ghost use Rattle.lk_health.specs.Measures.{has_genesis, is_told_by, is_last_to_tell, tellers, wins_tie, outweighs, is_more_told, more_told, IsMostToldOf, further, those_of, IsFurthestOf, IsMeasureOf, executed_of};
+ghost use Rattle.lk_health.specs.Measures.{has_genesis, is_told_by, is_last_to_tell, tellers, wins_tie, outweighs};
+ghost use Rattle.lk_health.specs.Measures.{is_more_told, more_told, IsMostToldOf, further, those_of, IsFurthestOf};
+ghost use Rattle.lk_health.specs.Measures.{IsMeasureOf, executed_of};
 
 use lk_probe::{DIGEST, Report};
 use lk_types::NodeNo;

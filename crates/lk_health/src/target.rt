@@ -108,7 +108,12 @@ impl Inquiry {
 
     /// The probe that carries that token.
     pub fn probe(&self, token: u64) -> Probe
-        ensures { result ≡ record { cluster = self.now.cluster; origin = None; client = self.now.client; token = token } }
+        ensures { result ≡ record {
+          cluster = self.now.cluster;
+          origin = None;
+          client = self.now.client;
+          token = token;
+        } }
     {
         Probe {
             cluster: self.cluster,

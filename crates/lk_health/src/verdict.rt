@@ -1,7 +1,8 @@
 //! What the reports of nodes come to.
 
 ghost use Rattle.std.specs.Prelude.{◌≡◌, ◌↔◌, ◌≤◌, IsTrue, length};
-ghost use Rattle.lk_health.specs.Verdicts.{IsServed, seeks_votes, has_answered, count_reporting, has_majority, some_leads, tells, one_genesis, is_served, all_have, is_ready};
+ghost use Rattle.lk_health.specs.Verdicts.{IsServed, seeks_votes, has_answered, count_reporting, has_majority};
+ghost use Rattle.lk_health.specs.Verdicts.{some_leads, tells, one_genesis, is_served, all_have, is_ready};
 
 use lk_probe::{DIGEST, Report};
 use lk_types::{Member, NodeNo};

@@ -16,8 +16,10 @@ appends_kept (Some xs) None c x f g = absurd f
 appends_kept (Some xs) (Some ys) None x f g = absurd g
 appends_kept (Some xs) (Some ys) (Some zs) x f g = g ∙ f
 
-pub dumped : (image : Image) (found : Option LiveFile) (is_store : Bool) (a b c : Option (List ℕ)) → IfSome found (λ x. Shows image x.generation x.format x.standing) → (found ≡ None → IsEmpty image)
-    → is_store ≡ is_some found → Appends a b (found_text found) → Keeps b c → (text : List ℕ) × Dumps image is_store text × Appends a c text
+pub dumped : (image : Image) (found : Option LiveFile) (is_store : Bool) (a b c : Option (List ℕ))
+    → IfSome found (λ x. Shows image x.generation x.format x.standing) → (found ≡ None → IsEmpty image)
+    → is_store ≡ is_some found → Appends a b (found_text found) → Keeps b c
+    → (text : List ℕ) × Dumps image is_store text × Appends a c text
 dumped image None is_store a b c shows empty is wrote kept = (
   found_text None,
   subst (λ (s : Bool). Dumps image s (found_text None)) (sym is) (empty refl, refl),
@@ -25,19 +27,26 @@ dumped image None is_store a b c shows empty is wrote kept = (
 )
 dumped image (Some live) is_store a b c shows empty is wrote kept = (
   found_text (Some live),
-  subst (λ (s : Bool). Dumps image s (found_text (Some live))) (sym is) (live.generation, live.format, live.standing, shows, refl),
+  subst (λ (s : Bool). Dumps image s (found_text (Some live))) (sym is)
+      (live.generation, live.format, live.standing, shows, refl),
   appends_kept a b c (found_text (Some live)) wrote kept,
 )
 
 -- one line after another
-pub six_lines : (a b c d e f g : Option (List ℕ)) (r s t u v w : List ℕ) → Appends a b r → Appends b c s → Appends c d t → Appends d e u → Appends e f v → Appends f g w
+pub six_lines : (a b c d e f g : Option (List ℕ)) (r s t u v w : List ℕ) → Appends a b r → Appends b c s
+    → Appends c d t → Appends d e u → Appends e f v → Appends f g w
     → Appends a g (r ++ (s ++ (t ++ (u ++ (v ++ w)))))
 six_lines a b c d e f g r s t u v w h i j k l m =
     appends_more a b g r (s ++ (t ++ (u ++ (v ++ w)))) h
     (appends_more b c g s (t ++ (u ++ (v ++ w))) i
     (appends_more c d g t (u ++ (v ++ w)) j (appends_more d e g u (v ++ w) k (appends_more e f g v w l m))))
 
-pub prints_live : (generation format : ℕ) (s : StandingValue) (a z : Option (List ℕ)) (g f : ℕ) (b : BallotValue) (p v d : ℕ)
-    → Appends a z (number_line (codes "generation") g ++ (promised_line b ++ (number_line (codes "snapshot") p ++ (number_line (codes "votes") v ++ (number_line (codes "decided") d ++ number_line (codes "format") f)))))
-    → g ≡ generation → b ≡ s.promised → p ≡ s.position → v ≡ length s.votes → d ≡ length s.pairs → f ≡ format → Appends a z (live_text generation format s)
-prints_live generation format s a z g f b p v d printed gs bs ps vs ds fs = rw (sym gs, sym bs, sym ps, sym vs, sym ds, sym fs) printed
+pub prints_live : (generation format : ℕ) (s : StandingValue) (a z : Option (List ℕ)) (g f : ℕ)
+    (b : BallotValue) (p v d : ℕ)
+    → Appends a z (number_line (codes "generation") g
+    ++ (promised_line b ++ (number_line (codes "snapshot") p
+    ++ (number_line (codes "votes") v ++ (number_line (codes "decided") d ++ number_line (codes "format") f)))))
+    → g ≡ generation → b ≡ s.promised → p ≡ s.position → v ≡ length s.votes → d ≡ length s.pairs → f ≡ format
+    → Appends a z (live_text generation format s)
+prints_live generation format s a z g f b p v d printed gs bs ps vs ds fs =
+    rw (sym gs, sym bs, sym ps, sym vs, sym ds, sym fs) printed

@@ -21,7 +21,8 @@ live_text generation format s =
     number_line (codes "generation") generation
     ++ (promised_line s.promised
     ++ (number_line (codes "snapshot") s.position
-    ++ (number_line (codes "votes") (length s.votes) ++ (number_line (codes "decided") (length s.pairs) ++ number_line (codes "format") format))))
+    ++ (number_line (codes "votes") (length s.votes)
+    ++ (number_line (codes "decided") (length s.pairs) ++ number_line (codes "format") format))))
 
 -- the lines of what was found
 abbrev pub found_text : Option LiveFile → List ℕ
@@ -31,4 +32,5 @@ found_text (Some live) = live_text live.generation live.format live.standing
 -- the text shows the live file of these files, or that they have none
 abbrev pub Dumps : Image → Bool → List ℕ → Type 0
 Dumps image false text = IsEmpty image × (text ≡ codes "no store\n")
-Dumps image true text = (generation : ℕ) × (format : ℕ) × (standing : StandingValue) × Shows image generation format standing × (text ≡ live_text generation format standing)
+Dumps image true text = (generation : ℕ) × (format : ℕ) × (standing : StandingValue)
+    × Shows image generation format standing × (text ≡ live_text generation format standing)

@@ -35,7 +35,8 @@ CannotStand s = (w : WholeValue) → Packs IsTableText w s.snapshot → w.roster
 
 -- the list whose state its snapshot packs, and the decided commands behind it, are told
 abbrev pub ComesTo : StandingValue → Inspection → Type 0
-ComesTo s i = (genesis : Genesis) (L : List Command) → Packs IsTableText (whole_after table_meaning genesis L) s.snapshot
+ComesTo s i =
+    (genesis : Genesis) (L : List Command) → Packs IsTableText (whole_after table_meaning genesis L) s.snapshot
     → AllByRecursion IsCommand (L ++ run_from (length L) s.pairs) → Tells genesis (L ++ run_from (length L) s.pairs) i
 
 -- what the live file of these files stands for is told

@@ -34,7 +34,8 @@ fn write_promised<W: Write>(promised: Ballot, out: &mut W) -> io::Result<()>
 // Writes one line each for the generation of the live file, the promised ballot (`0 0` if there is none), the
 // snapshot's position, the counts of votes and decided commands above it, and the format of the file.
 fn write_live<W: Write>(live: &LiveFile, out: &mut W) -> io::Result<()>
-    ensures { OnOk result (Appends (W.contents out.old) (W.contents out.new) (live_text live.now.generation live.now.format live.now.standing)) }
+    ensures { OnOk result (Appends (W.contents out.old) (W.contents out.new)
+        (live_text live.now.generation live.now.format live.now.standing)) }
 {
     write_number("generation", live.generation, out)?;
     write_promised(live.standing.promised, out)?;
@@ -71,7 +72,9 @@ pub fn dump_device<D: LogDisk, W: Write>(
     out: &mut W,
 ) -> Result<bool, ServiceFault>
     ensures unchanged { D.is_honest → (s : Side) → D.disk device.new s ≡ D.disk device.old s }
-    ensures printed { D.is_honest → IfOk result (λ is_store. (text : List ℕ) × Dumps (seen (D.disk device.old)) is_store text × Appends (W.contents out.old) (W.contents out.new) text) }
+    ensures printed { D.is_honest
+        → IfOk result (λ is_store. (text : List ℕ) × Dumps (seen (D.disk device.old)) is_store text
+        × Appends (W.contents out.old) (W.contents out.new) text) }
     ensures damaged { D.is_honest → IsErrOf result ServiceFault.Damaged → IsDamaged (seen (D.disk device.old)) }
 {
     let found = look(alloc, device)?;

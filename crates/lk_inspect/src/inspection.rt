@@ -38,7 +38,8 @@ pub struct Inspection {
 /// What a standing's snapshot and the decided commands above it amount to, up to the first gap. It fails with
 /// `Damaged` if the snapshot packs no state at its position, and with `NoMemory`.
 pub fn inspected(alloc: Global, standing: &Standing) -> Result<Inspection, ServiceFault>
-    ensures tells { (genesis : GenesisValue) (L : List CommandValue) → Packs IsTableText (whole_after table_meaning genesis L) standing.now.snapshot
+    ensures tells { (genesis : GenesisValue) (L : List CommandValue)
+        → Packs IsTableText (whole_after table_meaning genesis L) standing.now.snapshot
         → AllByRecursion IsCommand (L ++ run_from (length L) standing.now.pairs)
         → IfOk result (Tells genesis (L ++ run_from (length L) standing.now.pairs)) }
     ensures damaged { IsErrOf result ServiceFault.Damaged → CannotStand standing.now }

@@ -44,7 +44,8 @@ fn write_window<W: Write>(executed: Executed, window: &Window, out: &mut W) -> i
 
 // Writes a line `held NAME CLIENT FENCE`.
 fn write_holder<W: Write>(name: &Name, client: ClientNo, slot: &Slot, out: &mut W) -> io::Result<()>
-    ensures { OnOk result (Appends (W.contents out.old) (W.contents out.new) (holder_line name.now client slot.now.fence)) }
+    ensures { OnOk result (Appends (W.contents out.old) (W.contents out.new)
+        (holder_line name.now client slot.now.fence)) }
 {
     out.write_all(b"held ")?;
     out.write_all(name.as_slice())?;

@@ -58,7 +58,8 @@ fn run_on(whole: &mut Whole<LockTable>, pairs: &[(Position, Command)]) -> Result
 /// The state after the snapshot and the decided commands above it, up to the first gap. It fails with `Damaged` if the
 /// snapshot packs no state at its position, and with `NoMemory`.
 pub fn state_of(alloc: Global, standing: &Standing) -> Result<Whole<LockTable>, ServiceFault>
-    ensures sums { (genesis : GenesisValue) (L : List CommandValue) → Packs IsTableText (whole_after table_meaning genesis L) standing.now.snapshot
+    ensures sums { (genesis : GenesisValue) (L : List CommandValue)
+        → Packs IsTableText (whole_after table_meaning genesis L) standing.now.snapshot
         → IfOk result (SumsUp table_meaning genesis (L ++ run_from (length L) standing.now.pairs)) }
     ensures damaged { IsErrOf result ServiceFault.Damaged → CannotStand standing.now }
     ensures only { IfErr result (λ e. (e ≡ ServiceFault.Damaged) ⊎ (e ≡ ServiceFault.NoMemory)) }

@@ -1,5 +1,6 @@
 -- The highest of the votes that promises tell of a position.
-use Rattle.std.proofs.Common.{◌≡◌, ◌∙◌, ℕ, ◌+◌, ◌<◌, true, false, eqb, Some, None, List, [], ◌∷◌, ◌++◌, length, get_or, take, map, filter, refl, ap, sym, subst, inl, inr, arith, append-nil}
+use Rattle.std.proofs.Common.{◌≡◌, ◌∙◌, ℕ, ◌+◌, ◌<◌, true, false, eqb, Some, None, List, [], ◌∷◌, ◌++◌, length, get_or}
+use Rattle.std.proofs.Common.{take, map, filter, refl, ap, sym, subst, inl, inr, arith, append-nil}
 use Rattle.std.proofs.lemmas.List.Elements.{Contains-append_left, Contains-push, Contains-push_cases}
 use Rattle.std.proofs.lemmas.List.Concat.{flat_map-append}
 use Rattle.lk_types.specs.BallotValue.{BallotValue}
@@ -56,13 +57,16 @@ telling r votes = record { node = r.node; first = r.first; votes = votes }
 
 module _ (i : ℕ) (r : Report) (k : ℕ) (x : Vote) (in' : k < length r.votes) (is : x ≡ get_or r.votes k x) where
   -- one vote more, where it is for the position
-  pub told-more : eqb x.position i ≡ true → told_by i (telling r (take (k + 1) r.votes)) ≡ told_by i (telling r (take k r.votes)) ++ record { node = r.node; vote = x } ∷ []
+  pub told-more : eqb x.position i ≡ true
+      → told_by i (telling r (take (k + 1) r.votes)) ≡ told_by i (telling r (take k r.votes))
+      ++ record { node = r.node; vote = x } ∷ []
   told-more t =
       let make : Vote → ReportedVote = λ (y : Vote). record { node = r.node; vote = y } in
       ap (map make) (filter-more (λ (y : Vote). eqb y.position i) r.votes k x in' is t)
       ∙ map-push make (filter (λ (y : Vote). eqb y.position i) (take k r.votes)) (x ∷ [])
 
-  pub told-same : eqb x.position i ≡ false → told_by i (telling r (take (k + 1) r.votes)) ≡ told_by i (telling r (take k r.votes))
+  pub told-same : eqb x.position i ≡ false
+      → told_by i (telling r (take (k + 1) r.votes)) ≡ told_by i (telling r (take k r.votes))
   told-same f =
       let make : Vote → ReportedVote = λ (y : Vote). record { node = r.node; vote = y } in
       ap (map make) (filter-same (λ (y : Vote). eqb y.position i) r.votes k x in' is f)
@@ -70,13 +74,16 @@ module _ (i : ℕ) (r : Report) (k : ℕ) (x : Vote) (in' : k < length r.votes) 
 told-single : (i : ℕ) (r : Report) → told_at i (r ∷ []) ≡ told_by i r
 told-single i r = simp append-nil
 
-module _ (set : List Member) (i : ℕ) (rs : List Report) (k : ℕ) (r : Report) (in' : k < length rs) (is : r ≡ get_or rs k r) where
+module _ (set : List Member) (i : ℕ) (rs : List Report) (k : ℕ) (r : Report) (in' : k < length rs)
+    (is : r ≡ get_or rs k r) where
   -- one promise more, where it counts
-  pub told_at-more : speaks_at set i r ≡ true → told_at i (reports_at set i (take (k + 1) rs)) ≡ told_at i (reports_at set i (take k rs)) ++ told_by i r
+  pub told_at-more : speaks_at set i r ≡ true
+      → told_at i (reports_at set i (take (k + 1) rs)) ≡ told_at i (reports_at set i (take k rs)) ++ told_by i r
   told_at-more t =
       ap (told_at i) (filter-more (speaks_at set i) rs k r in' is t)
       ∙ flat_map-append (told_by i) (reports_at set i (take k rs)) (r ∷ [])
       ∙ ap (λ l. told_at i (reports_at set i (take k rs)) ++ l) (told-single i r)
 
-  pub told_at-same : speaks_at set i r ≡ false → told_at i (reports_at set i (take (k + 1) rs)) ≡ told_at i (reports_at set i (take k rs))
+  pub told_at-same : speaks_at set i r ≡ false
+      → told_at i (reports_at set i (take (k + 1) rs)) ≡ told_at i (reports_at set i (take k rs))
   told_at-same f = ap (told_at i) (filter-same (speaks_at set i) rs k r in' is f)

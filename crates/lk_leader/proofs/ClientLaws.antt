@@ -1,5 +1,6 @@
 -- At most one request of a client waits.
-use Rattle.std.proofs.Common.{◌≡◌, ℕ, Bool, true, false, cond, eqb, nat_le, nat_lt, List, [], ◌∷◌, refl, sym, subst, inl, inr, arith, eqb-true}
+use Rattle.std.proofs.Common.{◌≡◌, ℕ, Bool, true, false, cond, eqb, nat_le, nat_lt, List, [], ◌∷◌, refl, sym, subst}
+use Rattle.std.proofs.Common.{inl, inr, arith, eqb-true}
 use Rattle.std.specs.List.{AllByRecursion}
 use Rattle.std.proofs.lemmas.Bool.{cases_Bool}
 use Rattle.std.proofs.lemmas.Bool.Decides.{nat_tests}
@@ -18,11 +19,13 @@ client-newer r q same = by (nat_lt q.number r.number)
     by true = same
     by false = refl
 
-apart-asked : (k : ℕ) (r : RequestValue) (qs : List RequestValue) → eqb k r.client ≡ false → Apart k qs → Apart k (asked r qs)
+apart-asked : (k : ℕ) (r : RequestValue) (qs : List RequestValue) → eqb k r.client ≡ false
+    → Apart k qs → Apart k (asked r qs)
 apart-asked k r [] new all = (new, tt)
 apart-asked k r (q ∷ qs) new all =
     elim (cases_Bool (eqb r.client q.client)) [
-      | inl t ↦ rw t (subst (λ (c : ℕ). eqb k c ≡ false) (sym (client-newer r q (eqb-true r.client q.client t))) all.0, all.1)
+      | inl t ↦
+          rw t (subst (λ (c : ℕ). eqb k c ≡ false) (sym (client-newer r q (eqb-true r.client q.client t))) all.0, all.1)
       | inr f ↦ rw f (all.0, apart-asked k r qs new all.1)
     ]
 

@@ -1,5 +1,6 @@
 -- Elements of lists.
-use Rattle.std.proofs.Common.{◌≡◌, ◌∙◌, ◌⊎◌, ℕ, zero, suc, ◌<◌, Bool, true, false, cond, Some, None, List, [], ◌∷◌, length, Contains, map, filter, find, refl, ap, sym, inl, inr, arith, get_or}
+use Rattle.std.proofs.Common.{◌≡◌, ◌∙◌, ◌⊎◌, ℕ, zero, suc, ◌<◌, Bool, true, false, cond, Some, None, List, [], ◌∷◌}
+use Rattle.std.proofs.Common.{length, Contains, map, filter, find, refl, ap, sym, inl, inr, arith, get_or}
 use Rattle.std.specs.List.{list_any}
 use Rattle.std.proofs.lemmas.Bool.{false≢true}
 use Rattle.std.proofs.lemmas.List.Elements.{All-contains, filter_passes}
@@ -18,11 +19,13 @@ only x y h = elim (cons_cases x [] y h) [ inl e ↦ e | inr n ↦ absurd (omega 
 pub contains_more : {X : Type 0} (y : X) (ys : List X) (x : X) → Contains ys x → Contains (y ∷ ys) x
 contains_more y ys x h = (suc h.0, omega (arith, h.1), h.2)
 
-pub filter_has : {X : Type 0} (p : X → Bool) (xs : List X) (x : X) → Contains xs x → p x ≡ true → Contains (filter p xs) x
+pub filter_has : {X : Type 0} (p : X → Bool) (xs : List X) (x : X) → Contains xs x → p x ≡ true
+    → Contains (filter p xs) x
 filter_has p [] x h pass = absurd (omega (arith, h.1))
 filter_has {X} p (y ∷ ys) x h pass = here (p y) refl (cons_cases y ys x h) (λ c. filter_has p ys x c pass)
   where
-    here : (t : Bool) → p y ≡ t → (y ≡ x) ⊎ Contains ys x → (Contains ys x → Contains (filter p ys) x) → Contains (cond t (y ∷ filter p ys) (filter p ys)) x
+    here : (t : Bool) → p y ≡ t → (y ≡ x) ⊎ Contains ys x → (Contains ys x → Contains (filter p ys) x)
+        → Contains (cond t (y ∷ filter p ys) (filter p ys)) x
     here true e (inl same) rest = (0, omega arith, same)
     here true e (inr c) rest = contains_more y (filter p ys) x (rest c)
     here false e (inl same) rest = absurd (false≢true (sym e ∙ ap p same ∙ pass))
@@ -32,8 +35,10 @@ pub filter_from : {X : Type 0} (p : X → Bool) (xs : List X) (x : X) → Contai
 filter_from p [] x h = h
 filter_from {X} p (y ∷ ys) x h = here (p y) h (filter_from p ys x)
   where
-    here : (t : Bool) → Contains (cond t (y ∷ filter p ys) (filter p ys)) x → (Contains (filter p ys) x → Contains ys x) → Contains (y ∷ ys) x
-    here true c rest = elim (cons_cases y (filter p ys) x c) [ inl same ↦ (0, omega arith, same) | inr d ↦ contains_more y ys x (rest d) ]
+    here : (t : Bool) → Contains (cond t (y ∷ filter p ys) (filter p ys)) x
+        → (Contains (filter p ys) x → Contains ys x) → Contains (y ∷ ys) x
+    here true c rest = elim (cons_cases y (filter p ys) x c)
+        [ inl same ↦ (0, omega arith, same) | inr d ↦ contains_more y ys x (rest d) ]
     here false c rest = contains_more y ys x (rest c)
 
 pub filter_passes_at : {X : Type 0} (p : X → Bool) (xs : List X) (x : X) → Contains (filter p xs) x → p x ≡ true
@@ -47,7 +52,8 @@ map_has f (y ∷ ys) x h =
       | inr in' ↦ contains_more (f y) (map f ys) (f x) (map_has f ys x in')
     ]
 
-pub map_from : {X Y : Type 0} (f : X → Y) (xs : List X) (y : Y) → Contains (map f xs) y → (x : X) × Contains xs x × (f x ≡ y)
+pub map_from : {X Y : Type 0} (f : X → Y) (xs : List X) (y : Y) → Contains (map f xs) y
+    → (x : X) × Contains xs x × (f x ≡ y)
 map_from f [] y h = absurd (omega (arith, h.1))
 map_from f (x ∷ xs) y h =
     elim (cons_cases (f x) (map f xs) y h) [

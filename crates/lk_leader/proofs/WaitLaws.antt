@@ -1,5 +1,6 @@
 -- What waits, seen as the entries of a map from clients to what they ask for.
-use Rattle.std.proofs.Common.{◌≡◌, ◌∙◌, ℕ, ◌≤◌, ◌<◌, Bool, true, false, cond, eqb, nat_le, nat_lt, Some, None, List, [], ◌∷◌, map, refl, ap, sym, arith, eqb-true, inl, inr}
+use Rattle.std.proofs.Common.{◌≡◌, ◌∙◌, ℕ, ◌≤◌, ◌<◌, Bool, true, false, cond, eqb, nat_le, nat_lt, Some, None, List, []}
+use Rattle.std.proofs.Common.{◌∷◌, map, refl, ap, sym, arith, eqb-true, inl, inr}
 use Rattle.std.proofs.lemmas.Bool.{cases_Bool, ltb-true, lt-ltb, leb-true, le-leb}
 use Rattle.std.specs.Map.{lookup, remove_entry}
 use Rattle.indexmap.specs.IndexMap.{insert_entry}
@@ -24,14 +25,17 @@ newer-same r q le = by (nat_lt q.number r.number) refl
     by false e = refl
 
 -- an entry that is newer than its client's takes its place, or goes last
-pub asked-inserted : (es : List (ℕ × Asked)) (k : ℕ) (v : Asked) → ((w : Asked) → lookup (eqb k) es ≡ Some w → w.number < v.number)
+pub asked-inserted : (es : List (ℕ × Asked)) (k : ℕ) (v : Asked)
+    → ((w : Asked) → lookup (eqb k) es ≡ Some w → w.number < v.number)
     → requests_of (insert_entry eqb es k v) ≡ asked (request_of (k, v)) (requests_of es)
 asked-inserted [] k v older = refl
 asked-inserted (e ∷ es) k v older =
     elim (cases_Bool (eqb k e.0)) [
       | inl t ↦ (let same : k ≡ e.0 = eqb-true k e.0 t in
           let found : lookup (eqb k) (e ∷ es) ≡ Some e.1 = rw t in
-          rw t (ap (λ r. r ∷ requests_of es) (ap (λ (c : ℕ). request_of (c, v)) (sym same) ∙ sym (newer-later (request_of (k, v)) (request_of e) (older e.1 found)))))
+          rw t (ap (λ r. r ∷ requests_of es)
+          (ap (λ (c : ℕ). request_of (c, v)) (sym same)
+          ∙ sym (newer-later (request_of (k, v)) (request_of e) (older e.1 found)))))
       | inr f ↦ rw f (ap (λ rs. request_of e ∷ rs) (asked-inserted es k v (λ w at. older w (rw f at))))
     ]
 
@@ -47,7 +51,8 @@ asked-dropped (e ∷ es) k v w at le =
     ]
 
 -- the client's request, by its entry
-waiting-some : (es : List (ℕ × Asked)) (k : ℕ) (w : Asked) → lookup (eqb k) es ≡ Some w → (c : ℕ) × (waiting_of k (requests_of es) ≡ Some (request_of (c, w)))
+waiting-some : (es : List (ℕ × Asked)) (k : ℕ) (w : Asked) → lookup (eqb k) es ≡ Some w
+    → (c : ℕ) × (waiting_of k (requests_of es) ≡ Some (request_of (c, w)))
 waiting-some [] k w at = absurd (cc at)
 waiting-some (e ∷ es) k w at =
     elim (cases_Bool (eqb k e.0)) [
@@ -67,10 +72,12 @@ number-above n m above = by (nat_le m n) refl
     by false e = refl
 
 -- so is its number told, where it is at most this one, and else none
-pub told-up_to : (es : List (ℕ × Asked)) (k n : ℕ) (w : Asked) → lookup (eqb k) es ≡ Some w → w.number ≤ n → number_up_to n (waiting_of k (requests_of es)) ≡ Some w.number
+pub told-up_to : (es : List (ℕ × Asked)) (k n : ℕ) (w : Asked) → lookup (eqb k) es ≡ Some w → w.number ≤ n
+    → number_up_to n (waiting_of k (requests_of es)) ≡ Some w.number
 told-up_to es k n w at le = ap (number_up_to n) (waiting-some es k w at).1 ∙ number-up_to n w.number le
 
-pub told-above : (es : List (ℕ × Asked)) (k n : ℕ) (w : Asked) → lookup (eqb k) es ≡ Some w → n < w.number → number_up_to n (waiting_of k (requests_of es)) ≡ None
+pub told-above : (es : List (ℕ × Asked)) (k n : ℕ) (w : Asked) → lookup (eqb k) es ≡ Some w → n < w.number
+    → number_up_to n (waiting_of k (requests_of es)) ≡ None
 told-above es k n w at above = ap (number_up_to n) (waiting-some es k w at).1 ∙ number-above n w.number above
 
 pub waiting-none : (es : List (ℕ × Asked)) (k : ℕ) → lookup (eqb k) es ≡ None → waiting_of k (requests_of es) ≡ None
@@ -82,7 +89,8 @@ waiting-none (e ∷ es) k at =
     ]
 
 -- where the client has no request up to the number, all are left
-pub left-all : (es : List (ℕ × Asked)) (k n : ℕ) → ((w : Asked) → lookup (eqb k) es ≡ Some w → n < w.number) → requests_of es ≡ left_by k n (requests_of es)
+pub left-all : (es : List (ℕ × Asked)) (k n : ℕ) → ((w : Asked) → lookup (eqb k) es ≡ Some w → n < w.number)
+    → requests_of es ≡ left_by k n (requests_of es)
 left-all [] k n later = refl
 left-all (e ∷ es) k n later =
     elim (cases_Bool (eqb k e.0)) [
@@ -90,12 +98,14 @@ left-all (e ∷ es) k n later =
       | inr f ↦ rw f (ap (λ rs. request_of e ∷ rs) (left-all es k n (λ w at. later w (rw f at))))
     ]
   where
-    stays : (b : Bool) → nat_le e.1.number n ≡ b → n < e.1.number → request_of e ∷ requests_of es ≡ cond b (requests_of es) (request_of e ∷ requests_of es)
+    stays : (b : Bool) → nat_le e.1.number n ≡ b → n < e.1.number
+        → request_of e ∷ requests_of es ≡ cond b (requests_of es) (request_of e ∷ requests_of es)
     stays true is above = absurd (omega (arith, leb-true e.1.number n is))
     stays false is above = refl
 
 -- else its entry goes
-pub left-others : (es : List (ℕ × Asked)) (k n : ℕ) (w : Asked) → lookup (eqb k) es ≡ Some w → w.number ≤ n → requests_of (remove_entry (eqb k) es) ≡ left_by k n (requests_of es)
+pub left-others : (es : List (ℕ × Asked)) (k n : ℕ) (w : Asked) → lookup (eqb k) es ≡ Some w → w.number ≤ n
+    → requests_of (remove_entry (eqb k) es) ≡ left_by k n (requests_of es)
 left-others [] k n w at le = refl
 left-others (e ∷ es) k n w at le =
     elim (cases_Bool (eqb k e.0)) [

@@ -23,10 +23,12 @@ HasMajority set p = IsMajority (members_among set p.accepted) set
 
 -- the proposal after the node was heard to accept it
 abbrev pub heard : List Member → ℕ → ProposalValue → ProposalValue
-heard set node p = record { position = p.position; command = p.command; accepted = members_among set (p.accepted ++ node ∷ []) }
+heard set node p =
+    record { position = p.position; command = p.command; accepted = members_among set (p.accepted ++ node ∷ []) }
 
 -- the term proposed this command at the position, in this ballot, and the set is that of the position
-pub record IsVoteFor (t : TermValue) (roster : RosterValue) (b : BallotValue) (i : ℕ) (v : Command) (set : List Member) (p : ProposalValue) : Type 0 where
+pub record IsVoteFor (t : TermValue) (roster : RosterValue) (b : BallotValue) (i : ℕ) (v : Command) (set : List Member)
+    (p : ProposalValue) : Type 0 where
   pub ballot : t.ballot ≡ b
   pub members : AreMembersAt roster i set
   pub proposal : proposal_at i t.proposals ≡ Some p

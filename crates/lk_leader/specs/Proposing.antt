@@ -1,5 +1,6 @@
 -- What is proposed next.
-use Rattle.std.specs.Prelude.{◌≡◌, ℕ, ◌==◌, ◌+◌, ◌-◌, ◌<◌, ◌≤◌, ◌&&◌, nat_le, Some, None, IsSome, List, [], ◌∷◌, ◌++◌, length, map, filter, slice_get}
+use Rattle.std.specs.Prelude.{◌≡◌, ℕ, ◌==◌, ◌+◌, ◌-◌, ◌<◌, ◌≤◌, ◌&&◌, nat_le, Some, None, IsSome, List, [], ◌∷◌, ◌++◌}
+use Rattle.std.specs.Prelude.{length, map, filter, slice_get}
 use Rattle.std.specs.List.{list_any}
 use Rattle.lk_types.specs.declared.member.Member.{Member}
 use Rattle.lk_members.specs.Effects.{Command, RequestValue}
@@ -10,7 +11,8 @@ use Rattle.lk_leader.specs.Values.{IsLeadersValue}
 
 -- the members of the set that promised from the position or one before it on
 abbrev pub promisers : List Member → ℕ → List Report → List ℕ
-promisers set i reports = map (λ m. m.node) (filter (λ m. list_any (λ r. r.node == m.node && nat_le r.first i) reports) set)
+promisers set i reports =
+    map (λ m. m.node) (filter (λ m. list_any (λ r. r.node == m.node && nat_le r.first i) reports) set)
 
 -- the first position of the window, and of all, at which nothing is proposed
 pub record IsNext (roster : RosterValue) (ps : List ProposalValue) (i : ℕ) : Type 0 where
@@ -39,7 +41,8 @@ abbrev pub Leads : LeaderValue → RosterValue → Type 0
 Leads l roster = (t : TermValue) × (l.term ≡ Some t) × IsElected t roster
 
 -- the term proposes the command at the position
-pub record Proposes (t : TermValue) (waiting : List RequestValue) (roster : RosterValue) (i : ℕ) (v : Command) : Type 0 where
+pub record Proposes (t : TermValue) (waiting : List RequestValue) (roster : RosterValue) (i : ℕ)
+    (v : Command) : Type 0 where
   pub next : IsNext roster t.proposals i
   pub set : List Member
   pub members : AreMembersAt roster i set
@@ -53,4 +56,5 @@ LeaderProposes l roster i v = (t : TermValue) × (l.term ≡ Some t) × Proposes
 -- the term after that. What is proposed outside the window is not kept
 abbrev pub proposed : RosterValue → ℕ → Command → TermValue → TermValue
 proposed roster i v t =
-    with_proposals (in_window roster.executed (length roster.sets) t.proposals ++ record { position = i; command = v; accepted = [] } ∷ []) t
+    with_proposals (in_window roster.executed (length roster.sets) t.proposals
+    ++ record { position = i; command = v; accepted = [] } ∷ []) t

@@ -5,7 +5,8 @@ pub use Rattle.lk_agreement.specs.Soundness.{Report}
 use Rattle.std.specs.List.{list_any}
 use Rattle.lk_members.specs.Ports.{is_named}
 use Rattle.lk_members.specs.Windows.{RosterValue}
-use Rattle.std.specs.Prelude.{◌≡◌, ℕ, Bool, true, false, not, ◌==◌, ◌+◌, ◌&&◌, nat_lt, nat_le, Option, Some, None, List, [], ◌∷◌, ◌++◌, filter, find}
+use Rattle.std.specs.Prelude.{◌≡◌, ℕ, Bool, true, false, not, ◌==◌, ◌+◌, ◌&&◌, nat_lt, nat_le, Option, Some, None, List}
+use Rattle.std.specs.Prelude.{[], ◌∷◌, ◌++◌, filter, find}
 
 -- a command that was proposed at a position, and the members of the position that have been heard to accept it
 pub record ProposalValue : Type 0 where
@@ -68,7 +69,8 @@ abbrev pub silent_among : Option TermValue → List ℕ → List ℕ
 silent_among term nodes = filter (λ k. not (keeps_promise term k)) nodes
 
 -- a promise of the node is kept in the term: it is of the term's ballot, of a node of the window, and its first
-pub record IsFirstOf (l : LeaderValue) (roster : RosterValue) (node : ℕ) (b : BallotValue) (t : TermValue) : Type 0 where
+pub record IsFirstOf (l : LeaderValue) (roster : RosterValue) (node : ℕ) (b : BallotValue)
+    (t : TermValue) : Type 0 where
   pub current : l.term ≡ Some t
   pub ballot : t.ballot ≡ b
   pub named : is_named node roster.sets ≡ true

@@ -1,5 +1,6 @@
 -- The leader's value: which command a term proposes at a position.
-use Rattle.std.specs.Prelude.{◌≡◌, ◌⊎◌, ℕ, ◌==◌, ◌+◌, ◌<◌, ◌≤◌, ◌&&◌, ◌||◌, nat_le, nat_lt, Bool, IsTrue, Option, Some, None, List, [], ◌∷◌, ◌++◌, length, map, filter, Contains}
+use Rattle.std.specs.Prelude.{◌≡◌, ◌⊎◌, ℕ, ◌==◌, ◌+◌, ◌<◌, ◌≤◌, ◌&&◌, ◌||◌, nat_le, nat_lt, Bool, IsTrue, Option, Some}
+use Rattle.std.specs.Prelude.{None, List, [], ◌∷◌, ◌++◌, length, map, filter, Contains}
 use Rattle.std.specs.List.{flat_map, list_any}
 use Rattle.lk_types.specs.Ballots.{IsBelow}
 use Rattle.lk_types.specs.declared.member.Member.{Member}
@@ -44,7 +45,8 @@ abbrev pub IsUnderWay : ℕ → List ProposalValue → Command → Type 0
 IsUnderWay executed ps v = (p : ProposalValue) × Contains ps p × (executed < p.position) × (p.command ≡ v)
 
 -- the first of the waiting requests that is not proposed at such a position
-pub record IsFirstNew (executed : ℕ) (ps : List ProposalValue) (waiting : List RequestValue) (q : RequestValue) : Type 0 where
+pub record IsFirstNew (executed : ℕ) (ps : List ProposalValue) (waiting : List RequestValue)
+    (q : RequestValue) : Type 0 where
   pub before : List RequestValue
   pub behind : List RequestValue
   pub parts : waiting ≡ before ++ (q ∷ behind)
@@ -64,13 +66,17 @@ abbrev pub is_changing_at : RosterValue → ℕ → Bool
 is_changing_at roster i = nat_lt 0 roster.changed && nat_le i (roster.changed + length roster.sets)
 
 -- the command that a term proposes at a position of this set, in three cases
-pub data IsLeadersValue (t : TermValue) (waiting : List RequestValue) (roster : RosterValue) (set : List Member) (i : ℕ) : Command → Type 0 where
+pub data IsLeadersValue (t : TermValue) (waiting : List RequestValue) (roster : RosterValue) (set : List Member)
+    (i : ℕ) : Command → Type 0 where
   -- the highest vote that a member's promise reports for the position
-  highest : (h : ReportedVote) → IsHighest (told_at i (reports_at set i t.reports)) h → IsLeadersValue t waiting roster set i h.vote.command
+  highest : (h : ReportedVote) → IsHighest (told_at i (reports_at set i t.reports)) h
+      → IsLeadersValue t waiting roster set i h.vote.command
   -- if none is reported, the first waiting request that is not under way
-  first_new : (q : RequestValue) → told_at i (reports_at set i t.reports) ≡ [] → IsFirstNew roster.executed t.proposals waiting q
+  first_new : (q : RequestValue) → told_at i (reports_at set i t.reports) ≡ []
+      → IsFirstNew roster.executed t.proposals waiting q
       → IsLeadersValue t waiting roster set i (Request q)
   -- otherwise a no-op, if a promise reports a vote at it or after it, or the last change of members is not in effect
   -- before it
-  fills : told_at i (reports_at set i t.reports) ≡ [] → NoneIsNew roster.executed t.proposals waiting → IsTrue (is_reached t.reports i || is_changing_at roster i)
+  fills : told_at i (reports_at set i t.reports) ≡ [] → NoneIsNew roster.executed t.proposals waiting
+      → IsTrue (is_reached t.reports i || is_changing_at roster i)
       → IsLeadersValue t waiting roster set i Noop

@@ -1,7 +1,8 @@
 -- Requests that wait to be proposed: in order of arrival, one a client.
 pub use Rattle.lk_types.specs.declared.command.Request.{Request as RequestValue}
 use Rattle.std.specs.List.{AllByRecursion}
-use Rattle.std.specs.Prelude.{◌≡◌, ℕ, false, nat_lt, nat_le, ◌==◌, if◌then◌else◌, Option, Some, None, List, [], ◌∷◌, find}
+use Rattle.std.specs.Prelude.{◌≡◌, ℕ, false, nat_lt, nat_le, ◌==◌, if◌then◌else◌, Option, Some, None, List, [], ◌∷◌}
+use Rattle.std.specs.Prelude.{find}
 
 -- which of two requests of a client waits: the later one, if its number is greater
 abbrev pub newer : RequestValue → RequestValue → RequestValue
@@ -24,7 +25,8 @@ number_up_to number (Some q) = if nat_le q.number number then Some q.number else
 -- what waits after the client's requests up to the number are complete
 abbrev pub left_by : ℕ → ℕ → List RequestValue → List RequestValue
 left_by client number [] = []
-left_by client number (q ∷ qs) = if client == q.client then (if nat_le q.number number then qs else q ∷ qs) else q ∷ left_by client number qs
+left_by client number (q ∷ qs) =
+    if client == q.client then (if nat_le q.number number then qs else q ∷ qs) else q ∷ left_by client number qs
 
 -- no two of the requests are of one client
 abbrev pub AreOneEach : List RequestValue → Type 0

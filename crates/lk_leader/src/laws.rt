@@ -22,37 +22,52 @@ ghost use Rattle.lk_leader.specs.LedTerms.{LeadsTerm};
 /// What a leader proposes is what a sound history permits its term to propose, if its roster stands for the executed
 /// list. A proposed command was reported, or waits, or is a no-op: nothing is ever proposed that was not asked.
 pub fn what_is_proposed_is_allowed()
-    ensures allowed { (genesis : Genesis) (done : List Command) (t : Term) (k : TermValue) (waiting : List RequestValue) (roster : RosterValue) (i : ℕ) (v : Command)
-        → RosterSumsUp genesis done roster → LeadsTerm roster.executed (length roster.sets) t k → Proposes k waiting roster i v → MayPropose genesis done t i v }
-    ensures asked { (executed alpha : ℕ) (t : Term) (k : TermValue) (waiting : List RequestValue) (roster : RosterValue) (set : List Member) (i : ℕ) (v : Command)
+    ensures allowed { (genesis : Genesis) (done : List Command) (t : Term) (k : TermValue)
+        (waiting : List RequestValue) (roster : RosterValue) (i : ℕ) (v : Command)
+        → RosterSumsUp genesis done roster → LeadsTerm roster.executed (length roster.sets) t k
+        → Proposes k waiting roster i v → MayPropose genesis done t i v }
+    ensures asked { (executed alpha : ℕ) (t : Term) (k : TermValue) (waiting : List RequestValue)
+        (roster : RosterValue) (set : List Member) (i : ℕ) (v : Command)
         → LeadsTerm executed alpha t k → IsLeadersValue k waiting roster set i v
-        → ((x : Vote) × IsReported t.reports x × (x.command ≡ v)) ⊎ (((q : RequestValue) × Contains waiting q × (v ≡ Request q)) ⊎ (v ≡ Noop)) }
+        → ((x : Vote) × IsReported t.reports x × (x.command ≡ v))
+        ⊎ (((q : RequestValue) × Contains waiting q × (v ≡ Request q)) ⊎ (v ≡ Noop)) }
 {}
 
 /// What a leader calls chosen was accepted by a majority of the members that the executed list names for the position,
 /// and the term has their acceptances.
 pub fn what_gains_a_majority_was_accepted()
-    ensures { (genesis : Genesis) (done : List Command) (t : Term) (k : TermValue) (roster : RosterValue) (b : BallotValue) (node i : ℕ) (v : Command) (set : List Member) (p : ProposalValue)
-        → RosterSumsUp genesis done roster → i ≤ roster.executed + length roster.sets → LeadsTerm roster.executed (length roster.sets) t k → IsVoteFor k roster b i v set p → GainsMajority set node p
-        → (i ≤ length done + genesis.alpha) × IsMajority (members_among set (heard set node p).accepted) (members genesis done i)
+    ensures { (genesis : Genesis) (done : List Command) (t : Term) (k : TermValue) (roster : RosterValue)
+        (b : BallotValue) (node i : ℕ) (v : Command) (set : List Member) (p : ProposalValue)
+        → RosterSumsUp genesis done roster → i ≤ roster.executed + length roster.sets
+        → LeadsTerm roster.executed (length roster.sets) t k → IsVoteFor k roster b i v set p → GainsMajority set node p
+        → (i ≤ length done + genesis.alpha)
+        × IsMajority (members_among set (heard set node p).accepted) (members genesis done i)
         × ((n : ℕ) → Contains (members_among set (heard set node p).accepted) n
-        → Contains (with_acceptance t (record { node = node; position = i; command = v })).accepted (record { node = n; position = i; command = v })) }
+        → Contains (with_acceptance t (record { node = node; position = i; command = v })).accepted
+        (record { node = n; position = i; command = v })) }
 {}
 
 /// A leader continues to lead its term, whatever it hears, proposes or decides, and as more is executed.
 pub fn a_leader_keeps_its_term()
     ensures begins { (executed alpha : ℕ) (b : BallotValue) → LeadsTerm executed alpha (new_term b) (begun b) }
-    ensures later { (executed later alpha : ℕ) (t : Term) (k : TermValue) → executed ≤ later → LeadsTerm executed alpha t k → LeadsTerm later alpha t k }
-    ensures hears { (executed alpha : ℕ) (t : Term) (k : TermValue) (r : Report) → LeadsTerm executed alpha t k → LeadsTerm executed alpha (with_report t r) (terms.with_report r k) }
-    ensures proposes { (t : Term) (k : TermValue) (roster : RosterValue) (i : ℕ) (v : Command) → IsNext roster k.proposals i → LeadsTerm roster.executed (length roster.sets) t k
+    ensures later { (executed later alpha : ℕ) (t : Term) (k : TermValue) → executed ≤ later
+        → LeadsTerm executed alpha t k → LeadsTerm later alpha t k }
+    ensures hears { (executed alpha : ℕ) (t : Term) (k : TermValue) (r : Report) → LeadsTerm executed alpha t k
+        → LeadsTerm executed alpha (with_report t r) (terms.with_report r k) }
+    ensures proposes { (t : Term) (k : TermValue) (roster : RosterValue) (i : ℕ) (v : Command)
+        → IsNext roster k.proposals i → LeadsTerm roster.executed (length roster.sets) t k
         → LeadsTerm roster.executed (length roster.sets) (with_proposal t (i, v)) (proposed roster i v k) }
-    ensures gains { (executed alpha : ℕ) (t : Term) (k : TermValue) (roster : RosterValue) (b : BallotValue) (node i : ℕ) (v : Command) (set : List Member) (p : ProposalValue)
+    ensures gains { (executed alpha : ℕ) (t : Term) (k : TermValue) (roster : RosterValue) (b : BallotValue)
+        (node i : ℕ) (v : Command) (set : List Member) (p : ProposalValue)
         → IsVoteFor k roster b i v set p → LeadsTerm executed alpha t k
-        → LeadsTerm executed alpha (with_acceptance t (record { node = node; position = i; command = v })) (with_proposals (heard_at set node i k.proposals) k) }
+        → LeadsTerm executed alpha (with_acceptance t (record { node = node; position = i; command = v }))
+        (with_proposals (heard_at set node i k.proposals) k) }
 {}
 
 /// At most one request of a client waits, whatever is asked or completed.
 pub fn one_request_waits_a_client()
-    ensures asked { (r : RequestValue) (waiting : List RequestValue) → AreOneEach waiting → AreOneEach (asked r waiting) }
-    ensures left { (client number : ℕ) (waiting : List RequestValue) → AreOneEach waiting → AreOneEach (left_by client number waiting) }
+    ensures asked { (r : RequestValue) (waiting : List RequestValue) → AreOneEach waiting
+        → AreOneEach (asked r waiting) }
+    ensures left { (client number : ℕ) (waiting : List RequestValue) → AreOneEach waiting
+        → AreOneEach (left_by client number waiting) }
 {}

@@ -1,9 +1,12 @@
-ghost use Rattle.std.specs.Prelude.{◌≡◌, ◌↔◌, ℕ, not, Option, Some, None, List, [], IsTrue, true, false, OnOk, OnErr, Ok, length, IfSome, MatchOption};
+ghost use Rattle.std.specs.Prelude.{◌≡◌, ◌↔◌, ℕ, not, Option, Some, None, List, [], IsTrue, true, false, OnOk, OnErr};
+ghost use Rattle.std.specs.Prelude.{Ok, length, IfSome, MatchOption};
 ghost use Rattle.std.specs.Option.{option_copied, option_map};
 ghost use Rattle.lk_types.specs.Ballots.{IsBelow};
 ghost use Rattle.lk_types.specs.declared.member.Member.{Member as MemberValue};
 ghost use Rattle.lk_leader.specs.Waits.{asked, waiting_of, number_up_to, left_by};
-ghost use Rattle.lk_leader.specs.Terms.{LeaderValue, TermValue, ProposalValue, Command as CommandValue, idle, begun, with_term, with_report, with_proposals, is_promiser, IsFirstOf, has_term, keeps_promise, silent_among};
+ghost use Rattle.lk_leader.specs.Terms.{LeaderValue, TermValue, ProposalValue, Command as CommandValue, idle, begun};
+ghost use Rattle.lk_leader.specs.Terms.{with_term, with_report, with_proposals, is_promiser, IsFirstOf, has_term};
+ghost use Rattle.lk_leader.specs.Terms.{keeps_promise, silent_among};
 ghost use Rattle.lk_leader.specs.Proposing.{Leads, LeaderProposes, proposed};
 ghost use Rattle.lk_leader.specs.Acceptances.{IsVoteFor, heard_at, GainsMajority, IsOpen};
 
@@ -56,7 +59,11 @@ impl Leader {
     /// A request waits: a greater number replaces its client's waiting one, any other is dropped. Takes memory if none
     /// of its client waits.
     pub fn ask(&mut self, client: ClientNo, number: RequestNumber, op: &Op) -> Result<(), NoMemory>
-        ensures ok { OnOk result (self.new ≡ record { term = self.old.term; waiting = asked (record { client = client; number = number; op = op.now }) self.old.waiting }) }
+        ensures ok { OnOk result
+            (self.new ≡ record {
+              term = self.old.term;
+              waiting = asked (record { client = client; number = number; op = op.now }) self.old.waiting;
+            }) }
         ensures err { OnErr result (self.new ≡ self.old) }
         ensures memory { OnErr result (waiting_of client self.old.waiting ≡ None) }
     {
@@ -81,8 +88,10 @@ impl Leader {
         roster: &Roster,
     ) -> Result<(), NoMemory>
         ensures kept { (t : TermValue) → IsFirstOf self.old roster.now node ballot t
-            → OnOk result (self.new ≡ with_term (with_report (record { node = node; first = first; votes = votes.now }) t) self.old) }
-        ensures other { ((t : TermValue) → IsFirstOf self.old roster.now node ballot t → ⊥) → (self.new ≡ self.old) × (result ≡ Ok tt) }
+            → OnOk result (self.new ≡ with_term
+            (with_report (record { node = node; first = first; votes = votes.now }) t) self.old) }
+        ensures other { ((t : TermValue) → IsFirstOf self.old roster.now node ballot t → ⊥)
+            → (self.new ≡ self.old) × (result ≡ Ok tt) }
         ensures err { OnErr result (self.new ≡ self.old) }
     {
         if !self.is_first(node, ballot, roster) {
@@ -110,8 +119,11 @@ impl Leader {
     /// What the term proposes next: the command and its position. Call it until it returns `None`.
     pub fn propose(&mut self, roster: &Roster) -> Option<(Position, Command)>
         ensures some { IfSome result (λ p. LeaderProposes self.old roster.now p.0 p.1) }
-        ensures term { IfSome result (λ p. (t : TermValue) → self.old.term ≡ Some t → self.new ≡ with_term (proposed roster.now p.0 p.1 t) self.old) }
-        ensures none { result ≡ None → (self.new ≡ self.old) × ((i : ℕ) (v : CommandValue) → LeaderProposes self.old roster.now i v → ⊥) }
+        ensures term { IfSome result
+            (λ p. (t : TermValue) → self.old.term ≡ Some t
+            → self.new ≡ with_term (proposed roster.now p.0 p.1 t) self.old) }
+        ensures none { result ≡ None
+            → (self.new ≡ self.old) × ((i : ℕ) (v : CommandValue) → LeaderProposes self.old roster.now i v → ⊥) }
     {
         let Some(term) = &mut self.term else {
             return None;
@@ -134,9 +146,12 @@ impl Leader {
         command: &Command,
         roster: &Roster,
     ) -> bool
-        ensures heard { (t : TermValue) (set : List MemberValue) (p : ProposalValue) → self.old.term ≡ Some t → IsVoteFor t roster.now ballot position command.now set p
-            → (self.new ≡ with_term (with_proposals (heard_at set node position t.proposals) t) self.old) × (IsTrue result ↔ GainsMajority set node p) }
-        ensures other { ((t : TermValue) (set : List MemberValue) (p : ProposalValue) → self.old.term ≡ Some t → IsVoteFor t roster.now ballot position command.now set p → ⊥)
+        ensures heard { (t : TermValue) (set : List MemberValue) (p : ProposalValue) → self.old.term ≡ Some t
+            → IsVoteFor t roster.now ballot position command.now set p
+            → (self.new ≡ with_term (with_proposals (heard_at set node position t.proposals) t) self.old)
+            × (IsTrue result ↔ GainsMajority set node p) }
+        ensures other { ((t : TermValue) (set : List MemberValue) (p : ProposalValue) → self.old.term ≡ Some t
+            → IsVoteFor t roster.now ballot position command.now set p → ⊥)
             → (self.new ≡ self.old) × (result ≡ false) }
     {
         let Some(set) = roster.members_at(position) else {
@@ -249,7 +264,8 @@ impl Leader {
     /// What is proposed at the position and not decided, if the position is in the window.
     pub fn open_at(&self, position: Position, roster: &Roster) -> Option<Open<'_>>
         ensures { MatchOption result ((p : ProposalValue) → IsOpen self.now roster.now position p → ⊥)
-            (λ o. (p : ProposalValue) × IsOpen self.now roster.now position p × (p.command ≡ o.command.now) × (p.accepted ≡ o.accepted.now)) }
+            (λ o. (p : ProposalValue) × IsOpen self.now roster.now position p × (p.command ≡ o.command.now)
+            × (p.accepted ≡ o.accepted.now)) }
     {
         let set = roster.members_at(position)?;
         let term = self.term.as_ref()?;

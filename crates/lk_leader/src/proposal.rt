@@ -1,4 +1,5 @@
-ghost use Rattle.std.specs.Prelude.{◌≡◌, false, ◌≤◌, ◌==◌, ◌+◌, ◌<◌, ◌&&◌, nat_lt, nat_le, length, ◌↔◌, [], IsTrue, IfOk};
+ghost use Rattle.std.specs.Prelude.{◌≡◌, false, ◌≤◌, ◌==◌, ◌+◌, ◌<◌, ◌&&◌, nat_lt, nat_le, length, ◌↔◌, [], IsTrue};
+ghost use Rattle.std.specs.Prelude.{IfOk};
 ghost use Rattle.lk_members.specs.Effects.{Request as RequestValue};
 ghost use Rattle.lk_leader.specs.Values.{IsUnderWay};
 ghost use Rattle.lk_leader.specs.Acceptances.{members_among, unheard, HasMajority, heard, GainsMajority};
@@ -48,7 +49,8 @@ impl Proposal {
 
     // Whether it is at a position of the roster's window.
     pub(crate) fn is_within(&self, roster: &Roster) -> bool
-        ensures { result ≡ (nat_lt roster.now.executed self.now.position && nat_le self.now.position (roster.now.executed + length roster.now.sets)) }
+        ensures { result ≡ (nat_lt roster.now.executed self.now.position
+            && nat_le self.now.position (roster.now.executed + length roster.now.sets)) }
     {
         let (executed, position) = (roster.executed().get(), self.position.get());
         executed < position && position <= executed + roster.alpha() as u64
@@ -86,7 +88,8 @@ impl Proposal {
     // Records that the node accepted this command; another command changes nothing. Returns whether a majority of the
     // set has accepted now, and had not before.
     pub(crate) fn record_accepted(&mut self, node: NodeNo, command: &Command, set: &Members) -> bool
-        ensures same { self.old.command ≡ command.now → (self.new ≡ heard set.now node self.old) × (IsTrue result ↔ GainsMajority set.now node self.old) }
+        ensures same { self.old.command ≡ command.now
+            → (self.new ≡ heard set.now node self.old) × (IsTrue result ↔ GainsMajority set.now node self.old) }
         ensures position { self.new.position ≡ self.old.position }
         ensures other { (self.old.command ≡ command.now → ⊥) → (self.new ≡ self.old) × (result ≡ false) }
     {

@@ -23,7 +23,8 @@ impl ReportedVote {
 
 /// The best so far, or this vote if it counts for more.
 pub fn better(best: Option<ReportedVote>, node: NodeNo, vote: &Vote) -> Option<ReportedVote>
-    ensures { (ts : List ReportedVote) → IsBest ts best → IsBest (ts ++ record { node = node; vote = vote.now } ∷ []) result }
+    ensures { (ts : List ReportedVote) → IsBest ts best
+        → IsBest (ts ++ record { node = node; vote = vote.now } ∷ []) result }
 {
     if let Some(reported) = &best {
         if !reported.is_below(node, vote) {

@@ -1,9 +1,12 @@
-ghost use Rattle.std.specs.Prelude.{◌≡◌, ℕ, ◌<◌, ◌≤◌, ◌↔◌, ◌==◌, ◌&&◌, ◌||◌, nat_le, Option, Some, None, List, length, IsTrue, IsSome, OnOk, OnErr, MatchOption, false, position as position_of};
+ghost use Rattle.std.specs.Prelude.{◌≡◌, ℕ, ◌<◌, ◌≤◌, ◌↔◌, ◌==◌, ◌&&◌, ◌||◌, nat_le, Option, Some, None, List, length};
+ghost use Rattle.std.specs.Prelude.{IsTrue, IsSome, OnOk, OnErr, MatchOption, false, position as position_of};
 ghost use Rattle.std.specs.Option.{option_copied};
 ghost use Rattle.std.specs.List.{list_any};
-ghost use Rattle.lk_leader.specs.Terms.{begun, with_report, with_proposals, proposal_at, ProposalValue, is_promiser, BallotValue, Command as CommandValue};
+ghost use Rattle.lk_leader.specs.Terms.{begun, with_report, with_proposals, proposal_at, ProposalValue, is_promiser};
+ghost use Rattle.lk_leader.specs.Terms.{BallotValue, Command as CommandValue};
 ghost use Rattle.lk_leader.specs.Values.{IsBest, told_at, reports_at, is_reached, is_changing_at, IsLeadersValue};
-ghost use Rattle.lk_leader.specs.Proposing.{promisers as those_who_promised, IsPromisedAt, IsElected, IsNext, Proposes, proposed};
+ghost use Rattle.lk_leader.specs.Proposing.{promisers as those_who_promised, IsPromisedAt, IsElected, IsNext, Proposes};
+ghost use Rattle.lk_leader.specs.Proposing.{proposed};
 ghost use Rattle.lk_leader.specs.Acceptances.{heard_at, GainsMajority};
 ghost use Rattle.lk_members.specs.Majorities.{IsMajority};
 
@@ -84,7 +87,8 @@ impl Term {
 
     // The first position of the window at which nothing is proposed.
     fn next_position(&self, roster: &Roster) -> Option<Position>
-        ensures { MatchOption result ((i : ℕ) → IsNext roster.now self.now.proposals i → ⊥) (λ i. IsNext roster.now self.now.proposals i) }
+        ensures { MatchOption result ((i : ℕ) → IsNext roster.now self.now.proposals i → ⊥)
+            (λ i. IsNext roster.now self.now.proposals i) }
     {
         let executed = roster.executed().get();
         for ahead in 0..roster.alpha() as u64 {
@@ -158,7 +162,9 @@ impl Term {
         waiting: &Waiting,
         roster: &Roster,
     ) -> Option<Command>
-        ensures { MatchOption result ((v : CommandValue) → IsLeadersValue self.now waiting.now roster.now set.now position v → ⊥) (λ v. IsLeadersValue self.now waiting.now roster.now set.now position v) }
+        ensures { MatchOption result
+            ((v : CommandValue) → IsLeadersValue self.now waiting.now roster.now set.now position v → ⊥)
+            (λ v. IsLeadersValue self.now waiting.now roster.now set.now position v) }
     {
         if let Some(reported) = self.highest(position, set) {
             return Some(reported.vote.command.copy());
@@ -171,7 +177,8 @@ impl Term {
 
     // What it proposes next, and where.
     pub(crate) fn next(&self, waiting: &Waiting, roster: &Roster) -> Option<(Position, Command)>
-        ensures { MatchOption result ((i : ℕ) (v : CommandValue) → Proposes self.now waiting.now roster.now i v → ⊥) (λ p. Proposes self.now waiting.now roster.now p.0 p.1) }
+        ensures { MatchOption result ((i : ℕ) (v : CommandValue) → Proposes self.now waiting.now roster.now i v → ⊥)
+            (λ p. Proposes self.now waiting.now roster.now p.0 p.1) }
     {
         let position = self.next_position(roster)?;
         let set = roster.members_at(position)?;
@@ -211,9 +218,12 @@ impl Term {
         command: &Command,
         set: &Members,
     ) -> bool
-        ensures proposed { (p : ProposalValue) → proposal_at position self.old.proposals ≡ Some p → p.command ≡ command.now
-            → (self.new ≡ with_proposals (heard_at set.now node position self.old.proposals) self.old) × (IsTrue result ↔ GainsMajority set.now node p) }
-        ensures other { ((p : ProposalValue) → proposal_at position self.old.proposals ≡ Some p → p.command ≡ command.now → ⊥)
+        ensures proposed { (p : ProposalValue) → proposal_at position self.old.proposals ≡ Some p
+            → p.command ≡ command.now
+            → (self.new ≡ with_proposals (heard_at set.now node position self.old.proposals) self.old)
+            × (IsTrue result ↔ GainsMajority set.now node p) }
+        ensures other { ((p : ProposalValue) → proposal_at position self.old.proposals ≡ Some p
+            → p.command ≡ command.now → ⊥)
             → (self.new ≡ self.old) × (result ≡ false) }
     {
         let Some(index) = self.place_of(position) else {

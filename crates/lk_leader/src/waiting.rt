@@ -1,4 +1,5 @@
-ghost use Rattle.std.specs.Prelude.{◌≡◌, Option, Some, None, List, [], OnOk, OnErr, MatchOption, ◌<◌, length, slice_get};
+ghost use Rattle.std.specs.Prelude.{◌≡◌, Option, Some, None, List, [], OnOk, OnErr, MatchOption, ◌<◌, length};
+ghost use Rattle.std.specs.Prelude.{slice_get};
 ghost use Rattle.lk_leader.specs.Values.{IsFirstNew, NoneIsNew};
 ghost use Rattle.lk_leader.specs.Waits.{asked, waiting_of, number_up_to, left_by};
 
@@ -60,7 +61,8 @@ impl Waiting {
         number: RequestNumber,
         op: &Op,
     ) -> Result<(), NoMemory>
-        ensures ok { OnOk result (self.new ≡ asked (record { client = client; number = number; op = op.now }) self.old) }
+        ensures ok { OnOk result
+            (self.new ≡ asked (record { client = client; number = number; op = op.now }) self.old) }
         ensures err { OnErr result (self.new ≡ self.old) }
         ensures memory { OnErr result (waiting_of client self.old ≡ None) }
     {
@@ -105,7 +107,8 @@ impl Waiting {
 
     // The first request that is not proposed at a position that is not executed.
     pub(crate) fn first_new(&self, proposals: &[Proposal], executed: Executed) -> Option<Request>
-        ensures { MatchOption result (NoneIsNew executed proposals.now self.now) (λ q. IsFirstNew executed proposals.now self.now q) }
+        ensures { MatchOption result (NoneIsNew executed proposals.now self.now)
+            (λ q. IsFirstNew executed proposals.now self.now q) }
     {
         for index in 0..self.len() {
             let request = self.request_at(index);

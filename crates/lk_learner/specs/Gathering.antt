@@ -1,5 +1,6 @@
 -- Snapshots of other nodes, gathered part by part.
-use Rattle.std.specs.Prelude.{◌≤◌, ℕ, Bool, true, false, ◌==◌, ◌&&◌, if◌then◌else◌, nat_lt, List, [], ◌++◌, length, Option, Some, None}
+use Rattle.std.specs.Prelude.{◌≤◌, ℕ, Bool, true, false, ◌==◌, ◌&&◌, if◌then◌else◌, nat_lt, List, [], ◌++◌, length}
+use Rattle.std.specs.Prelude.{Option, Some, None}
 use Rattle.lk_types.specs.Limits.{max_base}
 use Rattle.lk_messages.specs.Values.{PartValue}
 use Rattle.lk_learner.specs.Learners.{GatheredValue}
@@ -43,7 +44,8 @@ joined_any (Some g) p = Some (joined g p)
 -- what is gathered after a part, given how many positions are executed: a part at an executed position is dropped, one
 -- at a greater position than that of the gathered text starts afresh, and any other continues the text or is dropped
 abbrev pub heard : ℕ → Option GatheredValue → PartValue → Option GatheredValue
-heard executed g p = if nat_lt executed p.position then (if begins g p then Some (begun_by p) else joined_any g p) else g
+heard executed g p =
+    if nat_lt executed p.position then (if begins g p then Some (begun_by p) else joined_any g p) else g
 
 -- its bytes are taken: it is at a position that is not executed, and begins a text or continues the gathered one
 abbrev pub is_taken : ℕ → Option GatheredValue → PartValue → Bool

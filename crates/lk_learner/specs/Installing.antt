@@ -7,7 +7,14 @@ use Rattle.lk_learner.specs.Gathering.{heard}
 use Rattle.lk_learner.specs.Unpacking.{Unpacks}
 
 abbrev pub with_gathered : Option GatheredValue → LearnerValue → LearnerValue
-with_gathered g l = record { whole = l.whole; snapshot_position = l.snapshot_position; snapshot = l.snapshot; served = l.served; pairs = l.pairs; gathered = g }
+with_gathered g l = record {
+  whole = l.whole;
+  snapshot_position = l.snapshot_position;
+  snapshot = l.snapshot;
+  served = l.served;
+  pairs = l.pairs;
+  gathered = g;
+}
 
 -- the learner after it has heard the part
 abbrev pub hearing : PartValue → LearnerValue → LearnerValue
@@ -45,5 +52,6 @@ installed w l = record {
 abbrev pub Installs : (List ℕ → Type 0) → Bool → LearnerValue → LearnerValue → Type 0
 Installs IsText went old new =
     ((went ≡ true) × ((w : WholeValue) × MayInstall IsText old w × (new ≡ installed w old)))
-    ⊎ ((went ≡ false) × ((g : GatheredValue) × HasWhole old g) × ((w : WholeValue) → MayInstall IsText old w → ⊥) × (new ≡ with_gathered None old))
+    ⊎ ((went ≡ false) × ((g : GatheredValue) × HasWhole old g) × ((w : WholeValue) → MayInstall IsText old w → ⊥)
+    × (new ≡ with_gathered None old))
     ⊎ ((went ≡ false) × ((g : GatheredValue) → HasWhole old g → ⊥) × (new ≡ old))

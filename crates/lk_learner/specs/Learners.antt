@@ -1,7 +1,8 @@
 -- What a contract sees of a learner, and how it changes.
 pub use Rattle.lk_state.specs.States.{WholeValue}
 pub use Rattle.lk_learner.specs.Pairs.{Command, Pair}
-use Rattle.std.specs.Prelude.{◌≡◌, ℕ, ◌+◌, ◌-◌, ◌*◌, ◌<◌, ◌≤◌, Option, Some, None, List, [], ◌∷◌, ◌++◌, length, take, drop, Contains}
+use Rattle.std.specs.Prelude.{◌≡◌, ℕ, ◌+◌, ◌-◌, ◌*◌, ◌<◌, ◌≤◌, Option, Some, None, List, [], ◌∷◌, ◌++◌, length, take}
+use Rattle.std.specs.Prelude.{drop, Contains}
 use Rattle.lk_types.specs.Limits.{max_commands, max_base}
 use Rattle.lk_types.specs.Ranges.{IsAlpha}
 use Rattle.lk_messages.specs.Values.{DecidedValue, WantValue}
@@ -44,7 +45,14 @@ pub record IsLearner (l : LearnerValue) : Type 0 where
 
 -- it has adopted this state, and knows nothing more
 abbrev pub begun : WholeValue → LearnerValue
-begun w = record { whole = w; snapshot_position = w.roster.executed; snapshot = packed w; served = []; pairs = []; gathered = None }
+begun w = record {
+  whole = w;
+  snapshot_position = w.roster.executed;
+  snapshot = packed w;
+  served = [];
+  pairs = [];
+  gathered = None;
+}
 
 -- a pair of the position is to be kept: it is one of the next, up to twice alpha, and no other of it is kept
 pub record IsWanted (l : LearnerValue) (i : ℕ) : Type 0 where
@@ -54,7 +62,14 @@ pub record IsWanted (l : LearnerValue) (i : ℕ) : Type 0 where
 
 -- with this pair
 abbrev pub keeping : Pair → LearnerValue → LearnerValue
-keeping p l = record { whole = l.whole; snapshot_position = l.snapshot_position; snapshot = l.snapshot; served = l.served; pairs = with_pair p l.pairs; gathered = l.gathered }
+keeping p l = record {
+  whole = l.whole;
+  snapshot_position = l.snapshot_position;
+  snapshot = l.snapshot;
+  served = l.served;
+  pairs = with_pair p l.pairs;
+  gathered = l.gathered;
+}
 
 -- the command of the next position is kept
 abbrev pub IsNext : LearnerValue → Command → Type 0
@@ -73,7 +88,14 @@ advanced m v l = record {
 
 -- a snapshot of its state replaces the commands that it has executed
 abbrev pub with_snapshot : LearnerValue → LearnerValue
-with_snapshot l = record { whole = l.whole; snapshot_position = executed l; snapshot = packed l.whole; served = []; pairs = l.pairs; gathered = l.gathered }
+with_snapshot l = record {
+  whole = l.whole;
+  snapshot_position = executed l;
+  snapshot = packed l.whole;
+  served = [];
+  pairs = l.pairs;
+  gathered = l.gathered;
+}
 
 -- the position is executed, and above the snapshot
 abbrev pub IsServed : LearnerValue → ℕ → Type 0
@@ -81,7 +103,8 @@ IsServed l i = (l.snapshot_position < i) × (i ≤ executed l)
 
 -- the commands from there on, up to the last executed one, up to 16
 abbrev pub decided_from : ℕ → LearnerValue → DecidedValue
-decided_from first l = record { first = first; commands = take max_commands (drop (first - (l.snapshot_position + 1)) l.served) }
+decided_from first l =
+    record { first = first; commands = take max_commands (drop (first - (l.snapshot_position + 1)) l.served) }
 
 -- how many bytes of a snapshot are gathered
 abbrev pub gathered_bytes : Option GatheredValue → ℕ

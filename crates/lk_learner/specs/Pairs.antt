@@ -1,7 +1,8 @@
 -- Decided pairs in order of their positions.
 pub use Rattle.lk_agreement.specs.Chosen.{Command}
 pub use Rattle.lk_agreement.specs.Nodes.{Pair}
-use Rattle.std.specs.Prelude.{ℕ, ◌+◌, ◌*◌, ◌≤◌, Bool, true, not, ◌==◌, nat_lt, ◌&&◌, if◌then◌else◌, List, [], ◌∷◌, filter, Contains, IsTrue}
+use Rattle.std.specs.Prelude.{ℕ, ◌+◌, ◌*◌, ◌≤◌, Bool, true, not, ◌==◌, nat_lt, ◌&&◌, if◌then◌else◌, List, [], ◌∷◌}
+use Rattle.std.specs.Prelude.{filter, Contains, IsTrue}
 
 -- the positions rise strictly, the first above low
 abbrev pub are_pairs_above : ℕ → List Pair → Bool

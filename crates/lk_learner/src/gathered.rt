@@ -110,8 +110,10 @@ impl Gathered {
     /// The state whose packed text is gathered, if it is one at its position and with this alpha. Any other text is of
     /// no use. It needs memory for the state.
     pub fn state<M: Machine>(&self, alloc: Global, alpha: u8) -> Result<Option<Whole<M>>, NoMemory>
-        ensures some { IfOk result (λ found. IfSome found (λ w. Unpacks M.IsText alpha self.now.position self.now.bytes w)) }
-        ensures none { result ≡ Ok None → (w : WholeValue) → Unpacks M.IsText alpha self.now.position self.now.bytes w → ⊥ }
+        ensures some { IfOk result
+            (λ found. IfSome found (λ w. Unpacks M.IsText alpha self.now.position self.now.bytes w)) }
+        ensures none { result ≡ Ok None → (w : WholeValue)
+            → Unpacks M.IsText alpha self.now.position self.now.bytes w → ⊥ }
     {
         let whole: Whole<M> = match Whole::unpack(alloc, &self.bytes) {
             Ok(whole) => whole,

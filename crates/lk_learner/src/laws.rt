@@ -1,6 +1,7 @@
 //! What follows from a learner's steps: laws about the definitions alone. A function without a body ensures each of
 //! them.
-ghost use Rattle.std.specs.Prelude.{◌≡◌, ◌+◌, ◌-◌, ◌*◌, ◌<◌, ◌≤◌, ℕ, suc, List, [], ◌∷◌, ◌++◌, length, take, drop, Contains, Option, Some, slice_get};
+ghost use Rattle.std.specs.Prelude.{◌≡◌, ◌+◌, ◌-◌, ◌*◌, ◌<◌, ◌≤◌, ℕ, suc, List, [], ◌∷◌, ◌++◌, length, take, drop};
+ghost use Rattle.std.specs.Prelude.{Contains, Option, Some, slice_get};
 ghost use Rattle.lk_agreement.specs.Datagrams.{Genesis, Datagram, Decided};
 ghost use Rattle.lk_agreement.specs.Chosen.{command_at, Chosen, ChosenAt};
 ghost use Rattle.lk_agreement.specs.Soundness.{Sound};
@@ -11,7 +12,8 @@ ghost use Rattle.lk_agreement.specs.Changes.{with_done, Changes};
 ghost use Rattle.lk_state.specs.Meanings.{Meaning};
 ghost use Rattle.lk_state.specs.States.{SumsUp};
 ghost use Rattle.lk_learner.specs.Pairs.{AreKept, without};
-ghost use Rattle.lk_learner.specs.Learners.{Command, Pair, WholeValue, LearnerValue, executed, begun, keeping, IsNext, advanced, IsServed, decided_from};
+ghost use Rattle.lk_learner.specs.Learners.{Command, Pair, WholeValue, LearnerValue, executed, begun, keeping, IsNext};
+ghost use Rattle.lk_learner.specs.Learners.{advanced, IsServed, decided_from};
 ghost use Rattle.lk_learner.specs.Following.{Follows};
 ghost use Rattle.lk_learner.specs.Learners.{GatheredValue};
 ghost use Rattle.lk_learner.specs.Gathering.{heard};
@@ -21,59 +23,76 @@ ghost use Rattle.lk_learner.specs.Parts.{AreParts};
 /// Kept pairs are of the next positions, up to twice alpha, one each, so they are few. When the next one is executed
 /// there is one less.
 pub fn kept_pairs_are_near_and_few()
-    ensures near { (e alpha : ℕ) (pairs : List Pair) → AreKept e alpha pairs → (p : Pair) → Contains pairs p → (e < p.0) × (p.0 ≤ e + 2 * alpha) }
-    ensures once { (e alpha : ℕ) (pairs : List Pair) → AreKept e alpha pairs → (i : ℕ) (v w : Command) → Contains pairs (i, v) → Contains pairs (i, w) → v ≡ w }
+    ensures near { (e alpha : ℕ) (pairs : List Pair) → AreKept e alpha pairs → (p : Pair) → Contains pairs p
+        → (e < p.0) × (p.0 ≤ e + 2 * alpha) }
+    ensures once { (e alpha : ℕ) (pairs : List Pair) → AreKept e alpha pairs → (i : ℕ) (v w : Command)
+        → Contains pairs (i, v) → Contains pairs (i, w) → v ≡ w }
     ensures few { (e alpha : ℕ) (pairs : List Pair) → AreKept e alpha pairs → length pairs ≤ 2 * alpha }
-    ensures fewer { (e alpha : ℕ) (pairs : List Pair) (v : Command) → AreKept e alpha pairs → Contains pairs (e + 1, v) → suc (length (without (e + 1) pairs)) ≡ length pairs }
+    ensures fewer { (e alpha : ℕ) (pairs : List Pair) (v : Command) → AreKept e alpha pairs → Contains pairs (e + 1, v)
+        → suc (length (without (e + 1) pairs)) ≡ length pairs }
 {}
 
 /// A learner continues to follow the list: as it is made, with one more pair, and with one more command that it has
 /// executed. With the state of another list installed it follows that one.
 pub fn a_learner_follows_its_list()
-    ensures begins { (m : Meaning) (genesis : Genesis) (done : List Command) (w : WholeValue) → SumsUp m genesis done w → Follows m genesis done [] (begun w) }
-    ensures keeps { (m : Meaning) (genesis : Genesis) (done : List Command) (pairs : List Pair) (l : LearnerValue) (p : Pair)
+    ensures begins { (m : Meaning) (genesis : Genesis) (done : List Command) (w : WholeValue) → SumsUp m genesis done w
+        → Follows m genesis done [] (begun w) }
+    ensures keeps { (m : Meaning) (genesis : Genesis) (done : List Command) (pairs : List Pair)
+        (l : LearnerValue) (p : Pair)
         → Follows m genesis done pairs l → Follows m genesis done (pairs ++ p ∷ []) (keeping p l) }
-    ensures runs { (m : Meaning) (genesis : Genesis) (done : List Command) (pairs : List Pair) (l : LearnerValue) (v : Command)
+    ensures runs { (m : Meaning) (genesis : Genesis) (done : List Command) (pairs : List Pair)
+        (l : LearnerValue) (v : Command)
         → Follows m genesis done pairs l → Follows m genesis (done ++ v ∷ []) (advanced m v l).pairs (advanced m v l) }
-    ensures installs { (m : Meaning) (genesis : Genesis) (done L : List Command) (pairs : List Pair) (l : LearnerValue) (w : WholeValue)
-        → Follows m genesis done pairs l → SumsUp m genesis L w → Follows m genesis L (pairs_above w.roster.executed pairs) (installed w l) }
+    ensures installs { (m : Meaning) (genesis : Genesis) (done L : List Command) (pairs : List Pair)
+        (l : LearnerValue) (w : WholeValue)
+        → Follows m genesis done pairs l → SumsUp m genesis L w
+        → Follows m genesis L (pairs_above w.roster.executed pairs) (installed w l) }
 {}
 
 /// What a learner executes next is chosen at the position after its list, so the list with it is chosen: it never
 /// executes a pair beyond a gap.
 pub fn what_is_run_is_chosen()
-    ensures chosen { (m : Meaning) (genesis : Genesis) (sent : List Datagram) (w : View) (l : LearnerValue) (v : Command) → Sound genesis sent → Stems genesis sent w
+    ensures chosen { (m : Meaning) (genesis : Genesis) (sent : List Datagram) (w : View) (l : LearnerValue)
+        (v : Command) → Sound genesis sent → Stems genesis sent w
         → Follows m genesis w.done w.pairs l → IsNext l v → Chosen genesis sent (w.done ++ v ∷ []) }
-    ensures there { (m : Meaning) (genesis : Genesis) (done : List Command) (pairs : List Pair) (l : LearnerValue) (v : Command)
+    ensures there { (m : Meaning) (genesis : Genesis) (done : List Command) (pairs : List Pair)
+        (l : LearnerValue) (v : Command)
         → Follows m genesis done pairs l → command_at (done ++ v ∷ []) (executed l + 1) ≡ Some v }
 {}
 
 /// Keeping a pair and executing a command are changes that a node may make.
 pub fn a_learner_changes_as_it_may()
-    ensures learns { (genesis : Genesis) (sent : List Datagram) (n : ℕ) (w : View) (i : ℕ) (v : Command) → ChosenAt genesis sent i v
+    ensures learns { (genesis : Genesis) (sent : List Datagram) (n : ℕ) (w : View) (i : ℕ) (v : Command)
+        → ChosenAt genesis sent i v
         → Changes genesis sent n w (with_done w w.done (w.pairs ++ (i, v) ∷ [])) }
-    ensures executes { (m : Meaning) (genesis : Genesis) (sent : List Datagram) (n : ℕ) (w : View) (l : LearnerValue) (v : Command) → Follows m genesis w.done w.pairs l → IsNext l v
+    ensures executes { (m : Meaning) (genesis : Genesis) (sent : List Datagram) (n : ℕ) (w : View) (l : LearnerValue)
+        (v : Command) → Follows m genesis w.done w.pairs l → IsNext l v
         → Changes genesis sent n w (with_done w (w.done ++ v ∷ []) (advanced m v l).pairs) }
 {}
 
 /// A node may send what a learner serves, and it is the list's.
 pub fn what_is_served_is_chosen()
-    ensures may { (m : Meaning) (genesis : Genesis) (sent : List Datagram) (w : View) (l : LearnerValue) (first : ℕ) → Stems genesis sent w → Follows m genesis w.done w.pairs l
+    ensures may { (m : Meaning) (genesis : Genesis) (sent : List Datagram) (w : View) (l : LearnerValue) (first : ℕ)
+        → Stems genesis sent w → Follows m genesis w.done w.pairs l
         → IsServed l first → MaySend genesis sent w (Decided (decided_from first l)) }
-    ensures there { (m : Meaning) (genesis : Genesis) (done : List Command) (pairs : List Pair) (l : LearnerValue) (i : ℕ) (v : Command) → Follows m genesis done pairs l
-        → l.snapshot_position < i → slice_get l.served (i - (l.snapshot_position + 1)) ≡ Some v → command_at done i ≡ Some v }
+    ensures there { (m : Meaning) (genesis : Genesis) (done : List Command) (pairs : List Pair) (l : LearnerValue)
+        (i : ℕ) (v : Command) → Follows m genesis done pairs l
+        → l.snapshot_position < i → slice_get l.served (i - (l.snapshot_position + 1)) ≡ Some v
+        → command_at done i ≡ Some v }
 {}
 
 /// Each served part of a text is a slice of it, and states its length.
 pub fn parts_that_are_served_are_slices()
-    ensures { (position start k : ℕ) (text : List ℕ) (parts : List PartValue) (p : PartValue) → AreParts position text start parts → slice_get parts k ≡ Some p
+    ensures { (position start k : ℕ) (text : List ℕ) (parts : List PartValue) (p : PartValue)
+        → AreParts position text start parts → slice_get parts k ≡ Some p
         → (p.position ≡ position) × (p.total ≡ length text) × (p.bytes ≡ take (length p.bytes) (drop p.offset text)) }
 {}
 
 /// What is gathered from parts that are slices of the texts of chosen lists, from whichever nodes, is a prefix of such
 /// a text.
 pub fn what_is_gathered_begins_a_text()
-    ensures { (genesis : Genesis) (sent : List Datagram) (text : List Command → List ℕ) (e : ℕ) (p : PartValue) (old : Option GatheredValue) (g : GatheredValue) → Sound genesis sent
+    ensures { (genesis : Genesis) (sent : List Datagram) (text : List Command → List ℕ) (e : ℕ) (p : PartValue)
+        (old : Option GatheredValue) (g : GatheredValue) → Sound genesis sent
         → IsSlice genesis sent text p.position p.total p.offset p.bytes
         → ((k : GatheredValue) → old ≡ Some k → IsSlice genesis sent text k.position k.total 0 k.bytes)
         → heard e old p ≡ Some g → IsSlice genesis sent text g.position g.total 0 g.bytes }

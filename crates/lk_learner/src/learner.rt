@@ -31,20 +31,37 @@ impl<M: Machine> Model for Learner<M> {
 
     ghost Value = { LearnerValue };
 
-    ghost view = { λ l. record { whole = l.whole; snapshot_position = l.snapshot_position; snapshot = l.snapshot.items; served = l.served.items; pairs = l.pairs.items; gathered = l.gathered } };
+    ghost view = { λ l. record {
+      whole = l.whole;
+      snapshot_position = l.snapshot_position;
+      snapshot = l.snapshot.items;
+      served = l.served.items;
+      pairs = l.pairs.items;
+      gathered = l.gathered;
+    } };
 
-    ghost invariant = { λ l. IsLearner (record { whole = l.whole; snapshot_position = l.snapshot_position; snapshot = l.snapshot.items; served = l.served.items; pairs = l.pairs.items; gathered = l.gathered }) };
+    ghost invariant = { λ l. IsLearner
+        (record {
+          whole = l.whole;
+          snapshot_position = l.snapshot_position;
+          snapshot = l.snapshot.items;
+          served = l.served.items;
+          pairs = l.pairs.items;
+          gathered = l.gathered;
+        }) };
 }
 
 impl<M: Machine> Learner<M> {
-    ghost use Rattle.std.specs.Prelude.{◌≡◌, ◌↔◌, ◌+◌, ◌-◌, ◌*◌, ◌<◌, ◌≤◌, ◌++◌, Some, None, false, List, [], ◌∷◌, IsTrue, OnOk, OnErr, IfOk, MatchOption, Ok, slice_get, length, take, drop};
+    ghost use Rattle.std.specs.Prelude.{◌≡◌, ◌↔◌, ◌+◌, ◌-◌, ◌*◌, ◌<◌, ◌≤◌, ◌++◌, Some, None, false, List, [], ◌∷◌};
+    ghost use Rattle.std.specs.Prelude.{IsTrue, OnOk, OnErr, IfOk, MatchOption, Ok, slice_get, length, take, drop};
     ghost use Rattle.lk_state.specs.Packed.{packed};
     ghost use Rattle.std.specs.Option.{option_copied};
     ghost use Rattle.lk_members.specs.Effects.{Command, in_effect};
     ghost use Rattle.lk_members.specs.Rosters.{Genesis};
     ghost use Rattle.lk_state.specs.States.{SumsUp, reply_of};
     ghost use Rattle.lk_state.specs.Runs.{run_answer};
-    ghost use Rattle.lk_learner.specs.Learners.{IsLearner, executed, alpha, begun, IsWanted, keeping, IsNext, advanced, with_snapshot, IsServed, decided_from, gathered_bytes, wanted};
+    ghost use Rattle.lk_learner.specs.Learners.{IsLearner, executed, alpha, begun, IsWanted, keeping, IsNext, advanced};
+    ghost use Rattle.lk_learner.specs.Learners.{with_snapshot, IsServed, decided_from, gathered_bytes, wanted};
 
     /// The learner for this state, right after a snapshot with this packed text. Takes no memory.
     pub fn new(alloc: Global, whole: Whole<M>, snapshot: Vec<u8>) -> Learner<M>
@@ -89,7 +106,8 @@ impl<M: Machine> Learner<M> {
 
     // Whether the position is one of the next, up to twice alpha.
     fn is_near(&self, position: Position) -> bool
-        ensures { IsTrue result ↔ ((executed self.now < position) × (position ≤ executed self.now + 2 * alpha self.now)) }
+        ensures { IsTrue result ↔ ((executed self.now < position)
+            × (position ≤ executed self.now + 2 * alpha self.now)) }
     {
         let executed = self.whole.executed().get();
         let farthest = executed + 2 * u64::from(self.whole.roster().alpha());
@@ -138,12 +156,18 @@ impl<M: Machine> Learner<M> {
     pub fn execute_next(&mut self) -> Result<Option<Ran>, NoMemory>
         ensures next { (v : Command) → IsNext self.old v → OnOk result (self.new ≡ advanced M.meaning v self.old) }
         ensures ran { (v : Command) → IsNext self.old v
-            → IfOk result (λ r. r ≡ Some (record { position = executed self.old + 1; answer = run_answer M.meaning v self.old.whole })) }
+            → IfOk result (λ r. r ≡ Some
+            (record { position = executed self.old + 1; answer = run_answer M.meaning v self.old.whole })) }
         ensures none { ((v : Command) → IsNext self.old v → ⊥) → (self.new ≡ self.old) × (result ≡ Ok None) }
         ensures err { OnErr result (self.new ≡ self.old) }
         ensures memory { OnErr result ((v : Command) × IsNext self.old v) }
-        ensures reply { (genesis : Genesis) (L : List Command) (v : Command) → SumsUp M.meaning genesis L self.old.whole → IsNext self.old v
-            → IfOk result (λ r. r ≡ Some (record { position = executed self.old + 1; answer = reply_of M.meaning genesis (L ++ v ∷ []) (in_effect L v) })) }
+        ensures reply { (genesis : Genesis) (L : List Command) (v : Command)
+            → SumsUp M.meaning genesis L self.old.whole → IsNext self.old v
+            → IfOk result (λ r. r ≡ Some
+            (record {
+              position = executed self.old + 1;
+              answer = reply_of M.meaning genesis (L ++ v ∷ []) (in_effect L v);
+            })) }
     {
         if !self.is_next_kept() {
             return Ok(None);
@@ -200,7 +224,8 @@ impl<M: Machine> Learner<M> {
 
     // The index of the position among the commands since the snapshot, or where it would be inserted.
     fn place(&self, position: Position) -> Option<usize>
-        ensures { MatchOption result (position ≤ self.now.snapshot_position) (λ k. (self.now.snapshot_position < position) × (k ≡ position - (self.now.snapshot_position + 1))) }
+        ensures { MatchOption result (position ≤ self.now.snapshot_position)
+            (λ k. (self.now.snapshot_position < position) × (k ≡ position - (self.now.snapshot_position + 1))) }
     {
         let behind = position
             .get()
@@ -210,14 +235,17 @@ impl<M: Machine> Learner<M> {
 
     /// The command that was executed at the position. `None` if it is not executed, or the snapshot has replaced it.
     pub fn executed_at(&self, position: Position) -> Option<&Command>
-        ensures some { MatchOption result (IsServed self.now position → ⊥) (λ v. IsServed self.now position × (slice_get self.now.served (position - (self.now.snapshot_position + 1)) ≡ Some v.now)) }
+        ensures some { MatchOption result (IsServed self.now position → ⊥)
+            (λ v. IsServed self.now position
+            × (slice_get self.now.served (position - (self.now.snapshot_position + 1)) ≡ Some v.now)) }
     {
         self.served.get(self.place(position)?)
     }
 
     // The executed commands from the position on, up to 16, if the snapshot has not replaced them.
     fn commands_from(&self, first: Position) -> Option<&[Command]>
-        ensures { MatchOption result (IsServed self.now first → ⊥) (λ vs. IsServed self.now first × (vs.now ≡ (decided_from first self.now).commands)) }
+        ensures { MatchOption result (IsServed self.now first → ⊥)
+            (λ vs. IsServed self.now first × (vs.now ≡ (decided_from first self.now).commands)) }
     {
         let start = self.place(first)?;
         let count = self.served.len();

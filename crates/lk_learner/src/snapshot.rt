@@ -30,7 +30,9 @@ impl<M: Machine> Learner<M> {
     /// of 1,024 bytes each, except for the last part of the text. Nothing if the position is above the snapshot. It
     /// needs memory for the bytes.
     pub fn parts(&self, first: Position, offset: u32) -> Result<Vec<Part>, NoMemory>
-        ensures some { first ≤ self.now.snapshot_position → IfOk result (λ parts. AreParts self.now.snapshot_position self.now.snapshot (start_of offset self.now.snapshot) parts.items) }
+        ensures some { first ≤ self.now.snapshot_position
+            → IfOk result (λ parts. AreParts self.now.snapshot_position self.now.snapshot
+            (start_of offset self.now.snapshot) parts.items) }
         ensures none { self.now.snapshot_position < first → IfOk result (λ parts. parts.items ≡ []) }
         ensures memory { OnErr result (first ≤ self.now.snapshot_position) }
     {
@@ -68,9 +70,11 @@ impl<M: Machine> Learner<M> {
 
     // The state whose text is gathered, if it is above what is executed.
     fn gathered_state(&self) -> Result<Option<Whole<M>>, NoMemory>
-        ensures some { (g : GatheredValue) → HasWhole self.now g → IfOk result (λ found. IfSome found (λ w. MayInstall M.IsText self.now w)) }
+        ensures some { (g : GatheredValue) → HasWhole self.now g
+            → IfOk result (λ found. IfSome found (λ w. MayInstall M.IsText self.now w)) }
         ensures none { result ≡ Ok None → (w : WholeValue) → MayInstall M.IsText self.now w → ⊥ }
-        ensures memory { OnErr result ((g : GatheredValue) × (self.now.gathered ≡ Some g) × (executed self.now < g.position)) }
+        ensures memory { OnErr result
+            ((g : GatheredValue) × (self.now.gathered ≡ Some g) × (executed self.now < g.position)) }
     {
         let Some(gathered) = &self.gathered else {
             return Ok(None);

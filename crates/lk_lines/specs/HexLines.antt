@@ -4,7 +4,8 @@ use Rattle.std.specs.Char.{digit_value}
 
 -- two hex digits, in either case, and the byte that they spell
 abbrev pub SpellsByte : ℕ → ℕ → ℕ → Type 0
-SpellsByte high low byte = (digit_value high < 16) × (digit_value low < 16) × (byte ≡ digit_value high * 16 + digit_value low)
+SpellsByte high low byte =
+    (digit_value high < 16) × (digit_value low < 16) × (byte ≡ digit_value high * 16 + digit_value low)
 
 -- a line of one byte or more: two digits each, and any number of spaces between two of them
 pub data SpellsBytes : List ℕ → List ℕ → Type 0 where

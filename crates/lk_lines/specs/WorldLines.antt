@@ -41,7 +41,8 @@ AsksToRestart words o = (n : ℕ) × IsNodeWord n words × (o ≡ Once (event.Re
 -- `N`, or `N TIMES`
 abbrev pub AsksForTicks : List ℕ → Instruction → Type 0
 AsksForTicks words o = ((n : ℕ) × IsNodeWord n words × (o ≡ Ticks n 1))
-    ⊎ ((n : ℕ) × (times : ℕ) × (word : List ℕ) × NodeLeads n word words × IsWord 1 10000 times word × (o ≡ Ticks n times))
+    ⊎ ((n : ℕ) × (times : ℕ) × (word : List ℕ) × NodeLeads n word words
+    × IsWord 1 10000 times word × (o ≡ Ticks n times))
 
 -- `N`
 abbrev pub AsksToCompact : List ℕ → Instruction → Type 0
@@ -59,7 +60,8 @@ IsTurnWord (turn.Deliver k) word = IsWord 1 max_count k word
 -- parts of a group in words, one or more, separated by spaces
 pub data SpellsTurns : List ℕ → List Turn → Type 0 where
   one : (t : Turn) (word : List ℕ) → IsTurnWord t word → SpellsTurns word (t ∷ [])
-  more : (t : Turn) (word rest : List ℕ) (turns : List Turn) → IsTurnWord t word → SpellsTurns rest turns → SpellsTurns (word ++ 32 ∷ rest) (t ∷ turns)
+  more : (t : Turn) (word rest : List ℕ) (turns : List Turn) → IsTurnWord t word → SpellsTurns rest turns
+      → SpellsTurns (word ++ 32 ∷ rest) (t ∷ turns)
 
 -- the node takes these together
 abbrev pub Groups : ℕ → List Turn → Event → Type 0
@@ -68,15 +70,18 @@ Groups n turns e = ⊥
 
 -- `N WORD ..`
 abbrev pub AsksForGroup : List ℕ → Instruction → Type 0
-AsksForGroup words o = (n : ℕ) × (rest : List ℕ) × (turns : List Turn) × (e : Event) × NodeLeads n rest words × SpellsTurns rest turns × Groups n turns e × (o ≡ Once e)
+AsksForGroup words o = (n : ℕ) × (rest : List ℕ) × (turns : List Turn) × (e : Event) × NodeLeads n rest words
+    × SpellsTurns rest turns × Groups n turns e × (o ≡ Once e)
 
 -- `C NUMBER OP`
 abbrev pub SpellsRequest : List ℕ → RequestValue → Type 0
-SpellsRequest words r = (rest : List ℕ) × (text : List ℕ) × Leads 1 max_client r.client rest words × Leads 1 max_count r.number text rest × SpellsOp text r.op
+SpellsRequest words r = (rest : List ℕ) × (text : List ℕ) × Leads 1 max_client r.client rest words
+    × Leads 1 max_count r.number text rest × SpellsOp text r.op
 
 -- `N C NUMBER OP`
 abbrev pub AsksOfClient : List ℕ → Instruction → Type 0
-AsksOfClient words o = (n : ℕ) × (r : RequestValue) × (rest : List ℕ) × NodeLeads n rest words × SpellsRequest rest r × (o ≡ Once (event.Client n r))
+AsksOfClient words o = (n : ℕ) × (r : RequestValue) × (rest : List ℕ) × NodeLeads n rest words × SpellsRequest rest r
+    × (o ≡ Once (event.Client n r))
 
 -- the node takes these bytes
 abbrev pub Injects : ℕ → List ℕ → Event → Type 0
@@ -85,7 +90,8 @@ Injects n bytes e = ⊥
 
 -- `N HEX`
 abbrev pub AsksToInject : List ℕ → Instruction → Type 0
-AsksToInject words o = (n : ℕ) × (digits : List ℕ) × (bytes : List ℕ) × (e : Event) × NodeLeads n digits words × (decode_of digits ≡ Ok bytes) × (bytes ≢ [])
+AsksToInject words o = (n : ℕ) × (digits : List ℕ) × (bytes : List ℕ) × (e : Event) × NodeLeads n digits words
+    × (decode_of digits ≡ Ok bytes) × (bytes ≢ [])
     × Injects n bytes e × (o ≡ Once e)
 
 -- `N X Y`
@@ -95,12 +101,14 @@ AsksToStop words o = (n : ℕ) × (x : ℕ) × (y : ℕ) × (more : List ℕ) ×
 
 -- `N COUNT`
 abbrev pub AsksToFail : List ℕ → Instruction → Type 0
-AsksToFail words o = (n : ℕ) × (count : ℕ) × (word : List ℕ) × NodeLeads n word words × IsWord 1 max_count count word × (o ≡ Once (event.FailAt n count))
+AsksToFail words o = (n : ℕ) × (count : ℕ) × (word : List ℕ) × NodeLeads n word words × IsWord 1 max_count count word
+    × (o ≡ Once (event.FailAt n count))
 
 -- `N COUNT BYTES`
 abbrev pub AsksToArm : List ℕ → Instruction → Type 0
 AsksToArm words o = (n : ℕ) × (count : ℕ) × (bytes : ℕ) × (more : List ℕ) × (word : List ℕ)
-    × NodeLeads n more words × Leads 1 max_count count word more × IsWord 0 max_count bytes word × (o ≡ Once (event.Arm n count bytes))
+    × NodeLeads n more words × Leads 1 max_count count word more × IsWord 0 max_count bytes word
+    × (o ≡ Once (event.Arm n count bytes))
 
 -- ---- a line
 

@@ -16,8 +16,10 @@ const LAST_ALPHA: u64 = MAX_ALPHA as u64;
 
 // The cluster's number and its alpha, and the words of its members.
 fn numbers_of(words: &[u8]) -> Option<(u64, u64, &[u8])>
-    ensures some { IfSome result (λ p. (more : List ℕ) × Leads 0 18446744073709551615 p.0 more words.now × Leads 1 16 p.1 p.2.now more) }
-    ensures none { IsNone result → (cluster alpha : ℕ) (ms : List MemberValue) → SpellsGenesis words.now cluster alpha ms → ⊥ }
+    ensures some { IfSome result
+        (λ p. (more : List ℕ) × Leads 0 18446744073709551615 p.0 more words.now × Leads 1 16 p.1 p.2.now more) }
+    ensures none { IsNone result → (cluster alpha : ℕ) (ms : List MemberValue)
+        → SpellsGenesis words.now cluster alpha ms → ⊥ }
 {
     let (cluster, words) = first_number(words, 0, u64::MAX)?;
     let (alpha, words) = first_number(words, 1, LAST_ALPHA)?;
@@ -26,8 +28,10 @@ fn numbers_of(words: &[u8]) -> Option<(u64, u64, &[u8])>
 
 // The genesis that words spell, or `None` if they spell none or one that is refused.
 fn genesis_of(words: &[u8]) -> Option<Genesis>
-    ensures some { IfSome result (λ g. SpellsGenesis words.now g.cluster g.alpha g.members × (genesis_fault g.alpha g.members ≡ None)) }
-    ensures none { IsNone result → (cluster alpha : ℕ) (ms : List MemberValue) → SpellsGenesis words.now cluster alpha ms → genesis_fault alpha ms ≡ None → ⊥ }
+    ensures some { IfSome result
+        (λ g. SpellsGenesis words.now g.cluster g.alpha g.members × (genesis_fault g.alpha g.members ≡ None)) }
+    ensures none { IsNone result → (cluster alpha : ℕ) (ms : List MemberValue)
+        → SpellsGenesis words.now cluster alpha ms → genesis_fault alpha ms ≡ None → ⊥ }
 {
     let (cluster, alpha, words) = numbers_of(words)?;
     let members = read_members(words, b' ')?;
@@ -51,7 +55,8 @@ fn is_genesis(word: &[u8]) -> bool
 /// The genesis that a line spells, whose first word is `genesis`. One that is refused is not understood.
 pub fn read_genesis(line: &[u8]) -> Result<Genesis, LineFault>
     ensures ok { IfOk result (λ g. IsGenesisLine line.now g.cluster g.alpha g.members) }
-    ensures not_understood { IsErrOf result LineFault.NotUnderstood → (cluster alpha : ℕ) (ms : List MemberValue) → IsGenesisLine line.now cluster alpha ms → ⊥ }
+    ensures not_understood { IsErrOf result LineFault.NotUnderstood → (cluster alpha : ℕ) (ms : List MemberValue)
+        → IsGenesisLine line.now cluster alpha ms → ⊥ }
 {
     let Some((word, words)) = split_word(line) else {
         return Err(LineFault::NotUnderstood);

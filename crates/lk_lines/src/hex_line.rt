@@ -1,6 +1,7 @@
 //! Lines of hex digits.
 
-ghost use Rattle.std.specs.Prelude.{◌≡◌, ◌≢◌, ℕ, List, ◌∷◌, ◌++◌, replicate, slice_index, IfSome, IsNone, OnOk, IsErrOf};
+ghost use Rattle.std.specs.Prelude.{◌≡◌, ◌≢◌, ℕ, List, ◌∷◌, ◌++◌, replicate, slice_index, IfSome, IsNone, OnOk};
+ghost use Rattle.std.specs.Prelude.{IsErrOf};
 ghost use Rattle.lk_lines.specs.HexLines.{SpellsByte, SpellsBytes};
 
 use crate::fault::LineFault;
@@ -17,7 +18,8 @@ fn pair(high: u8, low: u8) -> Option<u8>
 
 // The byte that the first two digits spell, and what stands after them.
 fn first_byte(text: &[u8]) -> Option<(u8, &[u8])>
-    ensures some { IfSome result (λ x. (high : ℕ) × (low : ℕ) × (text.now ≡ high ∷ low ∷ x.1.now) × SpellsByte high low x.0) }
+    ensures some { IfSome result
+        (λ x. (high : ℕ) × (low : ℕ) × (text.now ≡ high ∷ low ∷ x.1.now) × SpellsByte high low x.0) }
     ensures none { IsNone result → (bytes : List ℕ) → SpellsBytes text.now bytes → ⊥ }
 {
     let (high, rest) = text.split_first()?;

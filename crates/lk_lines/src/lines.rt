@@ -34,7 +34,8 @@ fn read_fault(error: &Error) -> ScriptFault
 
 /// Reads the next line into `line`, without its line feed. It answers false at the end of the input.
 pub fn next_line<R: BufRead>(reader: &mut R, line: &mut Vec<u8>) -> Result<bool, ScriptFault>
-    ensures line { result ≡ Ok true → IfSome (R.remaining reader.old) (λ text. TakesLine text line.new.items (R.remaining reader.new)) }
+    ensures line { result ≡ Ok true
+        → IfSome (R.remaining reader.old) (λ text. TakesLine text line.new.items (R.remaining reader.new)) }
     ensures end { result ≡ Ok false → IfSome (R.remaining reader.old) (λ text. text ≡ []) }
     ensures within { IfSome (R.remaining reader.old) (λ text. TakesWithinLine text (R.remaining reader.new)) }
     ensures err { IfErr result (λ e. (e ≡ ScriptFault.Read) ⊎ (e ≡ ScriptFault.ScriptMemory)) }

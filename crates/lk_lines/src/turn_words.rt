@@ -25,7 +25,8 @@ fn turn_of(word: &[u8]) -> Option<Turn>
 /// The parts that words name, one or more.
 pub fn read_turns(alloc: Global, words: &[u8]) -> Result<Vec<Turn>, LineFault>
     ensures ok { IfOk result (λ v. SpellsTurns words.now v.items) }
-    ensures not_understood { IsErrOf result LineFault.NotUnderstood → (turns : List TurnValue) → SpellsTurns words.now turns → ⊥ }
+    ensures not_understood { IsErrOf result LineFault.NotUnderstood → (turns : List TurnValue)
+        → SpellsTurns words.now turns → ⊥ }
 {
     let mut turns = Vec::new(alloc);
     let mut rest = words;

@@ -6,7 +6,9 @@ ghost use Rattle.lk_types.specs.Limits.{max_node};
 ghost use Rattle.lk_members.specs.Effects.{RequestValue};
 ghost use Rattle.lk_lines.specs.declared.instruction.Instruction.TheVariants as instruction;
 ghost use Rattle.lk_lines.specs.declared.instruction.Instruction.{Instruction as InstructionValue};
-ghost use Rattle.lk_lines.specs.WorldLines.{IsNodeWord, AsksToStart, AsksToRestart, AsksForTicks, AsksToCompact, AsksToDeliver, AsksForGroup, SpellsRequest, AsksOfClient, AsksToInject, AsksToStop, AsksToFail, AsksToArm, Asks, SpellsInstruction};
+ghost use Rattle.lk_lines.specs.WorldLines.{IsNodeWord, AsksToStart, AsksToRestart, AsksForTicks, AsksToCompact};
+ghost use Rattle.lk_lines.specs.WorldLines.{AsksToDeliver, AsksForGroup, SpellsRequest, AsksOfClient, AsksToInject};
+ghost use Rattle.lk_lines.specs.WorldLines.{AsksToStop, AsksToFail, AsksToArm, Asks, SpellsInstruction};
 
 use crate::event_verb::EventVerb;
 use crate::fault::LineFault;
@@ -60,7 +62,8 @@ fn read_restart(words: &[u8]) -> Option<Instruction>
 
 // The number of the node, and how many times it ticks.
 fn ticks(words: &[u8]) -> Option<(u64, u64)>
-    ensures some { IfSome result (λ p. (1 ≤ p.0) × (p.0 ≤ max_node) × (p.1 ≤ 10000) × AsksForTicks words.now (instruction.Ticks p.0 p.1)) }
+    ensures some { IfSome result
+        (λ p. (1 ≤ p.0) × (p.0 ≤ max_node) × (p.1 ≤ 10000) × AsksForTicks words.now (instruction.Ticks p.0 p.1)) }
     ensures none { IsNone result → (o : InstructionValue) → AsksForTicks words.now o → ⊥ }
 {
     if let Some((number, word)) = first_number(words, 1, LAST_NODE) {
@@ -167,7 +170,8 @@ fn read_arm(words: &[u8]) -> Option<Instruction>
 // The bytes that an even number of hex digits, two or more, spell.
 fn read_hex(alloc: Global, digits: &[u8]) -> Result<Vec<u8>, LineFault>
     ensures ok { IfOk result (λ b. (decode_of digits.now ≡ Ok b.items) × (b.items ≢ [])) }
-    ensures not_understood { IsErrOf result LineFault.NotUnderstood → (bytes : List ℕ) → decode_of digits.now ≡ Ok bytes → bytes ≢ [] → ⊥ }
+    ensures not_understood { IsErrOf result LineFault.NotUnderstood → (bytes : List ℕ)
+        → decode_of digits.now ≡ Ok bytes → bytes ≢ [] → ⊥ }
 {
     let mut bytes = Vec::new(alloc);
     bytes.resize(digits.len() / 2, 0)?;
@@ -180,7 +184,8 @@ fn read_hex(alloc: Global, digits: &[u8]) -> Result<Vec<u8>, LineFault>
 // The instruction `inject N HEX`.
 fn read_inject(alloc: Global, words: &[u8]) -> Result<Instruction, LineFault>
     ensures ok { IfOk result (AsksToInject words.now) }
-    ensures not_understood { IsErrOf result LineFault.NotUnderstood → (o : InstructionValue) → AsksToInject words.now o → ⊥ }
+    ensures not_understood { IsErrOf result LineFault.NotUnderstood → (o : InstructionValue)
+        → AsksToInject words.now o → ⊥ }
 {
     let Some((number, digits)) = first_number(words, 1, LAST_NODE) else {
         return Err(LineFault::NotUnderstood);
@@ -193,7 +198,8 @@ fn read_inject(alloc: Global, words: &[u8]) -> Result<Instruction, LineFault>
 // The instruction `group N WORD ..`.
 fn read_group(alloc: Global, words: &[u8]) -> Result<Instruction, LineFault>
     ensures ok { IfOk result (AsksForGroup words.now) }
-    ensures not_understood { IsErrOf result LineFault.NotUnderstood → (o : InstructionValue) → AsksForGroup words.now o → ⊥ }
+    ensures not_understood { IsErrOf result LineFault.NotUnderstood → (o : InstructionValue)
+        → AsksForGroup words.now o → ⊥ }
 {
     let Some((number, words)) = first_number(words, 1, LAST_NODE) else {
         return Err(LineFault::NotUnderstood);
@@ -214,7 +220,8 @@ fn understood(instruction: Option<Instruction>) -> Result<Instruction, LineFault
 // What the words after a verb ask for.
 fn instruction_of(alloc: Global, verb: EventVerb, words: &[u8]) -> Result<Instruction, LineFault>
     ensures ok { IfOk result (Asks verb words.now) }
-    ensures not_understood { IsErrOf result LineFault.NotUnderstood → (o : InstructionValue) → Asks verb words.now o → ⊥ }
+    ensures not_understood { IsErrOf result LineFault.NotUnderstood → (o : InstructionValue)
+        → Asks verb words.now o → ⊥ }
 {
     match verb {
         EventVerb::Start => understood(read_start(words)),
@@ -234,7 +241,8 @@ fn instruction_of(alloc: Global, verb: EventVerb, words: &[u8]) -> Result<Instru
 /// What a line asks for.
 pub fn read_instruction(alloc: Global, line: &[u8]) -> Result<Instruction, LineFault>
     ensures ok { IfOk result (SpellsInstruction line.now) }
-    ensures not_understood { IsErrOf result LineFault.NotUnderstood → (o : InstructionValue) → SpellsInstruction line.now o → ⊥ }
+    ensures not_understood { IsErrOf result LineFault.NotUnderstood → (o : InstructionValue)
+        → SpellsInstruction line.now o → ⊥ }
 {
     let Some((word, words)) = split_word(line) else {
         return Err(LineFault::NotUnderstood);

@@ -8,7 +8,8 @@ use Rattle.std.specs.List.{AllByRecursion}
 use Rattle.std.specs.List.Sorted.{IsStrictlySortedBy}
 use Rattle.std.specs.Map.{lookup, keys_of}
 use Rattle.std.specs.BTreeMap.{is_at}
-use Rattle.std.specs.FinMap.{IsAntisymmetric, get, insert, len, entries, find, put, from_entries, get-from_entries, get-insert, entries-insert, len-entries, len-empty, empty, same_map}
+use Rattle.std.specs.FinMap.{IsAntisymmetric, get, insert, len, entries, find, put, from_entries, get-from_entries}
+use Rattle.std.specs.FinMap.{get-insert, entries-insert, len-entries, len-empty, empty, same_map}
 use Rattle.std.proofs.lemmas.List.{nil_from_length}
 
 module _ {K X : Type 0} {R : K → K → Ordering} (o : IsTotalOrder R) where
@@ -28,7 +29,8 @@ module _ {K X : Type 0} {R : K → K → Ordering} (o : IsTotalOrder R) where
       get_is fs q ∙ h q ∙ ap (λ b. cond b (Some v) (lookup (is_at (R q)) es)) ((eq_by_cmp_equiv o).symm k q)
       ∙ sym (get-insert o (from_entries es) k v q ∙ ap (cond (eq_by_cmp R q k) (Some v)) (get_is es q)))
 
-  put_first : (k : K) (v : X) (es : List (K × X)) → AllByRecursion (λ y. R k y ≡ Less) (keys_of es) → put R k v es ≡ (k, v) ∷ es
+  put_first : (k : K) (v : X) (es : List (K × X)) → AllByRecursion (λ y. R k y ≡ Less) (keys_of es)
+      → put R k v es ≡ (k, v) ∷ es
   put_first k v [] h = refl
   put_first k v (e ∷ es) h = rw h.0 refl
 
@@ -36,7 +38,8 @@ module _ {K X : Type 0} {R : K → K → Ordering} (o : IsTotalOrder R) where
   pub entries_are : (es : List (K × X)) → IsStrictlySortedBy R (keys_of es) → entries (from_entries {R = R} es) ≡ es
   unfolding IsStrictlySortedBy
   entries_are [] h = nil_from_length _ (sym (len-entries empty) ∙ len-empty R X)
-  entries_are (e ∷ es) h = entries-insert o (from_entries es) e.0 e.1 ∙ ap (put R e.0 e.1) (entries_are es h.1) ∙ put_first e.0 e.1 es h.0
+  entries_are (e ∷ es) h =
+      entries-insert o (from_entries es) e.0 e.1 ∙ ap (put R e.0 e.1) (entries_are es h.1) ∙ put_first e.0 e.1 es h.0
 
   -- how many keys the map has
   pub len_is : (es : List (K × X)) → IsStrictlySortedBy R (keys_of es) → len (from_entries {R = R} es) ≡ length es

@@ -1,5 +1,7 @@
--- A name that nobody holds is given at the fence after all that were given before, and it is granted to one only where nobody holds it.
-use Rattle.std.proofs.Common.{◌≡◌, ℕ, ◌+◌, ◌⊎◌, Bool, true, false, cond, ltb, eqb, List, [], ◌∷◌, ◌++◌, length, Option, Some, None, refl, sym, ap, subst, ◌∙◌, inl, inr, arith}
+-- A name that nobody holds is given at the fence after all that were given before, and it is granted to one only where
+-- nobody holds it.
+use Rattle.std.proofs.Common.{◌≡◌, ℕ, ◌+◌, ◌⊎◌, Bool, true, false, cond, ltb, eqb, List, [], ◌∷◌, ◌++◌, length, Option}
+use Rattle.std.proofs.Common.{Some, None, refl, sym, ap, subst, ◌∙◌, inl, inr, arith}
 use Rattle.std.proofs.lemmas.Bool.{eq-eqb, ne_eqb}
 use Rattle.std.specs.FinMap as map
 use Rattle.std.specs.Ordering.{nat_cmp}
@@ -16,7 +18,9 @@ use Rattle.lk_locks.specs.Bodies.{body_of, name_of, is_known, known}
 use Rattle.lk_locks.specs.Held.{IsFree}
 use Rattle.lk_locks.specs.Holders.{is_held, left_by}
 use Rattle.lk_locks.specs.Sharers.{is_among}
-use Rattle.lk_locks.specs.Plain.{Names, Table, empty, row, answer_to, answer, given, fence_after, first_fence, acquired_at, acquired, joined, shared_at, shared, left_at, released, is_held_at, broken, asked, checked}
+use Rattle.lk_locks.specs.Plain.{Names, Table, empty, row, answer_to, answer, given, fence_after, first_fence}
+use Rattle.lk_locks.specs.Plain.{acquired_at, acquired, joined, shared_at, shared, left_at, released, is_held_at}
+use Rattle.lk_locks.specs.Plain.{broken, asked, checked}
 use Rattle.lk_locks.specs.Meaning.{next_by_task, task_answer}
 use Rattle.lk_locks.specs.PackedLaws.{decided}
 use Rattle.lk_locks.specs.NextLaws.{tested}
@@ -26,15 +30,21 @@ use Rattle.lk_locks.proofs.GrantLaws.{last_fence, Goes, task_goes, behind, behin
 
 -- ---- the last fence of a name counts those that were given
 
-count : (q : List ℕ) (t : Table) (calls : List Call) → last_fence (map.get (behind t calls).names q) ≡ last_fence (map.get t.names q) + length (once_behind (last_fence (map.get t.names q)) (fences_from q t calls))
+count : (q : List ℕ) (t : Table) (calls : List Call)
+    → last_fence (map.get (behind t calls).names q)
+    ≡ last_fence (map.get t.names q) + length (once_behind (last_fence (map.get t.names q)) (fences_from q t calls))
 count q t [] = omega arith
-count q t (call ∷ calls) = joined_up _ _ _ _ _ (task_goes call.0 call.1 t q) (count q (next_by_task call.0 call.1 t) calls)
+count q t (call ∷ calls) =
+    joined_up _ _ _ _ _ (task_goes call.0 call.1 t q) (count q (next_by_task call.0 call.1 t) calls)
   where
-    joined_up : (last old new : ℕ) (told rest : List ℕ) → Goes old new told → last ≡ new + length (once_behind new rest) → last ≡ old + length (once_behind old (told ++ rest))
-    joined_up last old new told rest (inl g) e = rw g.0 (subst (λ (n : ℕ). last ≡ n + length (once_behind n rest)) g.1 e)
+    joined_up : (last old new : ℕ) (told rest : List ℕ) → Goes old new told
+        → last ≡ new + length (once_behind new rest) → last ≡ old + length (once_behind old (told ++ rest))
+    joined_up last old new told rest (inl g) e =
+        rw g.0 (subst (λ (n : ℕ). last ≡ n + length (once_behind n rest)) g.1 e)
     joined_up last old new told rest (inr (inl g)) e =
         let other : eqb (old + 1) old ≡ false = ne_eqb (old + 1) old (λ is. omega (arith, is)) in
-        let behind : last ≡ old + 1 + length (once_behind (old + 1) rest) = subst (λ (n : ℕ). last ≡ n + length (once_behind n rest)) g.1 e in
+        let behind : last ≡ old + 1 + length (once_behind (old + 1) rest) =
+        subst (λ (n : ℕ). last ≡ n + length (once_behind n rest)) g.1 e in
         rw (g.0, other) (omega (arith, behind))
     joined_up last old new told rest (inr (inr g)) e =
         let same : eqb old old ≡ true = eq-eqb old old refl in
@@ -46,15 +56,20 @@ count q t (call ∷ calls) = joined_up _ _ _ _ _ (task_goes call.0 call.1 t q) (
 abbrev GivesNext : ℕ → List ℕ → Type 0
 GivesNext old told = (told ≡ []) ⊎ (told ≡ (old + 1) ∷ [])
 
-after_gives : (told : ℕ → Answer) (h : Holders) (fence : ℕ) → ((n : ℕ) → fences (told n) ≡ n ∷ []) → GivesNext fence (fences (given told h (fence_after fence)).answer)
-after_gives told h fence tells = elim (decided (ltb fence 281474976710656)) [ inl e ↦ rw e (inr (tells (fence + 1))) | inr e ↦ rw e (inl refl) ]
+after_gives : (told : ℕ → Answer) (h : Holders) (fence : ℕ) → ((n : ℕ) → fences (told n) ≡ n ∷ [])
+    → GivesNext fence (fences (given told h (fence_after fence)).answer)
+after_gives told h fence tells =
+    elim (decided (ltb fence 281474976710656)) [ inl e ↦ rw e (inr (tells (fence + 1))) | inr e ↦ rw e (inl refl) ]
 
-first_gives : (told : ℕ → Answer) (h : Holders) (names : ℕ) → ((n : ℕ) → fences (told n) ≡ n ∷ []) → GivesNext 0 (fences (given told h (first_fence names)).answer)
-first_gives told h names tells = elim (decided (ltb names 512)) [ inl e ↦ rw e (inr (tells 1)) | inr e ↦ rw e (inl refl) ]
+first_gives : (told : ℕ → Answer) (h : Holders) (names : ℕ) → ((n : ℕ) → fences (told n) ≡ n ∷ [])
+    → GivesNext 0 (fences (given told h (first_fence names)).answer)
+first_gives told h names tells =
+    elim (decided (ltb names 512)) [ inl e ↦ rw e (inr (tells 1)) | inr e ↦ rw e (inl refl) ]
 
 release_gives : (client fence : ℕ) (s : Option Slot) → fences (released client fence s).answer ≡ []
 release_gives client fence None = refl
-release_gives client fence (Some s) = elim (decided (eqb s.fence fence)) [ inl e ↦ rw e (by (left_by client s.holders)) | inr e ↦ rw e refl ]
+release_gives client fence (Some s) =
+    elim (decided (eqb s.fence fence)) [ inl e ↦ rw e (by (left_by client s.holders)) | inr e ↦ rw e refl ]
   where
     by : (o : Option Holders) → fences (left_at fence o).answer ≡ []
     by None = refl
@@ -63,11 +78,13 @@ release_gives client fence (Some s) = elim (decided (eqb s.fence fence)) [ inl e
 break_gives : (fence : ℕ) (s : Option Slot) → fences (broken fence s).answer ≡ []
 break_gives fence s = elim (decided (is_held_at fence s)) [ inl e ↦ rw e refl | inr e ↦ rw e refl ]
 
-free_gives : (client : ℕ) (body : Body) (s : Option Slot) (names : ℕ) → IsFree s → GivesNext (last_fence s) (fences (row client body s names).answer)
+free_gives : (client : ℕ) (body : Body) (s : Option Slot) (names : ℕ) → IsFree s
+    → GivesNext (last_fence s) (fences (row client body s names).answer)
 free_gives client (Acquire name) None names free = first_gives Granted (Alone client) names (λ n. refl)
 free_gives client (Acquire name) (Some s) names free = rw free (after_gives Granted (Alone client) s.fence (λ n. refl))
 free_gives client (Share name) None names free = first_gives Shared (Together (client ∷ [])) names (λ n. refl)
-free_gives client (Share name) (Some s) names free = rw free (after_gives Shared (Together (client ∷ [])) s.fence (λ n. refl))
+free_gives client (Share name) (Some s) names free =
+    rw free (after_gives Shared (Together (client ∷ [])) s.fence (λ n. refl))
 free_gives client (Release name fence) s names free = inl (release_gives client fence s)
 free_gives client (Ask name) s names free = inl (ask_goes s)
 free_gives client (Check name fence) s names free = inl (check_goes fence s)
@@ -79,23 +96,29 @@ not_given none e = let given = sym none ∙ ap fences e in cc
 
 -- what a client's bytes are answered is what their row says, or nothing is given
 answer_is : (client : ℕ) (bytes : List ℕ) (t : Table) (body : Body) → body_of bytes ≡ Some body
-    → (answer client bytes t ≡ (row client body (map.get t.names (name_of body)) (map.len t.names)).answer) ⊎ (fences (answer client bytes t) ≡ [])
+    → (answer client bytes t ≡ (row client body (map.get t.names (name_of body)) (map.len t.names)).answer)
+    ⊎ (fences (answer client bytes t) ≡ [])
 answer_is client bytes t body asks = elim (decided (is_known t.raised body)) [
   | inl e ↦ inl (ap (λ (b : Option Body). answer_to client (known t.raised b) t.names) asks ∙ rw e refl)
   | inr e ↦ inr (ap (λ (b : Option Body). fences (answer_to client (known t.raised b) t.names)) asks ∙ rw e refl)
 ]
 
-pub next_of_free : (client : ℕ) (bytes : List ℕ) (body : Body) (fence : ℕ) (L : List Command) → body_of bytes ≡ Some body → IsFree (map.get (table_of L).names (name_of body))
+pub next_of_free : (client : ℕ) (bytes : List ℕ) (body : Body) (fence : ℕ) (L : List Command)
+    → body_of bytes ≡ Some body → IsFree (map.get (table_of L).names (name_of body))
     → fences (answer client bytes (table_of L)) ≡ fence ∷ [] → fence ≡ length (grants_in (name_of body) L) + 1
 unfolding table_of
 next_of_free client bytes body fence L asks free told =
     let q : List ℕ = name_of body in
     let table : table_of L ≡ behind empty (calls_of L) = behind_calls (effects L) empty in
     let none : last_fence (map.get empty.names q) ≡ 0 = ap last_fence (map.get-empty (slice_cmp nat_cmp) q) in
-    let counted : last_fence (map.get (table_of L).names q) ≡ 0 + length (once_behind 0 (fences_from q empty (calls_of L))) =
-    ap (λ (t : Table). last_fence (map.get t.names q)) table ∙ subst (λ (n : ℕ). last_fence (map.get (behind empty (calls_of L)).names q) ≡ n + length (once_behind n (fences_from q empty (calls_of L)))) none (count q empty (calls_of L)) in
+    let counted : last_fence (map.get (table_of L).names q)
+    ≡ 0 + length (once_behind 0 (fences_from q empty (calls_of L))) =
+    ap (λ (t : Table). last_fence (map.get t.names q)) table
+    ∙ subst (λ (n : ℕ). last_fence (map.get (behind empty (calls_of L)).names q)
+    ≡ n + length (once_behind n (fences_from q empty (calls_of L)))) none (count q empty (calls_of L)) in
     elim (answer_is client bytes (table_of L) body asks) [
-      | inl is ↦ next _ _ _ (free_gives client body (map.get (table_of L).names q) (map.len (table_of L).names) free) (sym (ap fences is) ∙ told) counted
+      | inl is ↦ next _ _ _ (free_gives client body (map.get (table_of L).names q) (map.len (table_of L).names) free)
+          (sym (ap fences is) ∙ told) counted
       | inr is ↦ absurd (never (sym is ∙ told))
     ]
   where
@@ -107,12 +130,14 @@ next_of_free client bytes body fence L asks free told =
 
     next : (told : List ℕ) (last n : ℕ) → GivesNext last told → told ≡ fence ∷ [] → last ≡ 0 + n → fence ≡ n + 1
     next told last n (inl g) e counted = absurd (never (sym g ∙ e))
-    next told last n (inr g) e counted = let is : last + 1 ≡ fence = one (last + 1) fence (sym g ∙ e) in omega (arith, is, counted)
+    next told last n (inr g) e counted = let is : last + 1 ≡ fence = one (last + 1) fence (sym g ∙ e) in
+        omega (arith, is, counted)
 
 -- ---- granted to one
 
 -- the row grants the name to one client alone only where nobody holds it
-granted_free : (client : ℕ) (body : Body) (s : Option Slot) (names : ℕ) (fence : ℕ) → (row client body s names).answer ≡ Granted fence → IsFree s
+granted_free : (client : ℕ) (body : Body) (s : Option Slot) (names : ℕ) (fence : ℕ)
+    → (row client body s names).answer ≡ Granted fence → IsFree s
 granted_free client body None names fence e = tt
 granted_free client (Acquire name) (Some s) names fence e = by s.holders e
   where
@@ -125,11 +150,13 @@ granted_free client (Share name) (Some s) names fence e = absurd (by s.holders e
     joined_not : (clients : List ℕ) → (joined client s.fence clients).answer ≡ Granted fence → ⊥
     joined_not clients e = elim (decided (is_among client clients)) [
       | inl a ↦ let no = rw a at e in cc
-      | inr a ↦ elim (decided (ltb (length clients) 8)) [ inl b ↦ let no = rw (a, b) at e in cc | inr b ↦ let no = rw (a, b) at e in cc ]
+      | inr a ↦ elim (decided (ltb (length clients) 8))
+          [ inl b ↦ let no = rw (a, b) at e in cc | inr b ↦ let no = rw (a, b) at e in cc ]
     ]
 
     by : (h : Holders) → (shared_at client s.fence h).answer ≡ Granted fence → ⊥
-    by Nobody e = elim (decided (ltb s.fence 281474976710656)) [ inl a ↦ let no = rw a at e in cc | inr a ↦ let no = rw a at e in cc ]
+    by Nobody e = elim (decided (ltb s.fence 281474976710656))
+        [ inl a ↦ let no = rw a at e in cc | inr a ↦ let no = rw a at e in cc ]
     by (Alone holder) e = cc
     by (Together clients) e = joined_not clients e
 granted_free client (Release name f) (Some s) names fence e = absurd (not_given (release_gives client f (Some s)) e)
@@ -137,7 +164,8 @@ granted_free client (Ask name) (Some s) names fence e = absurd (not_given (ask_g
 granted_free client (Check name f) (Some s) names fence e = absurd (not_given (check_goes f (Some s)) e)
 granted_free client (Break name f) (Some s) names fence e = absurd (not_given (break_gives f (Some s)) e)
 
-pub granted_where_free : (client : ℕ) (bytes : List ℕ) (body : Body) (fence : ℕ) (t : Table) → body_of bytes ≡ Some body → answer client bytes t ≡ Granted fence → IsFree (map.get t.names (name_of body))
+pub granted_where_free : (client : ℕ) (bytes : List ℕ) (body : Body) (fence : ℕ) (t : Table)
+    → body_of bytes ≡ Some body → answer client bytes t ≡ Granted fence → IsFree (map.get t.names (name_of body))
 granted_where_free client bytes body fence t asks e = elim (answer_is client bytes t body asks) [
   | inl is ↦ granted_free client body (map.get t.names (name_of body)) (map.len t.names) fence (sym is ∙ e)
   | inr is ↦ absurd (not_given is e)

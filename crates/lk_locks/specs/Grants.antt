@@ -1,5 +1,6 @@
 -- The fences at which a list of calls gives a name.
-use Rattle.std.specs.Prelude.{ℕ, zero, suc, ◌+◌, Bool, false, ◌==◌, List, [], ◌∷◌, ◌++◌, Option, Some, None, if◌then◌else◌}
+use Rattle.std.specs.Prelude.{ℕ, zero, suc, ◌+◌, Bool, false, ◌==◌, List, [], ◌∷◌, ◌++◌, Option, Some, None}
+use Rattle.std.specs.Prelude.{if◌then◌else◌}
 use Rattle.std.specs.Ordering.{nat_cmp, eq_by_cmp}
 use Rattle.std.specs.Cmp.Lexicographic.{slice_cmp}
 use Rattle.std.specs.List.{flat_map}
@@ -36,7 +37,9 @@ fences _ = []
 -- the fences in the calls' answers for the name, in order, from this table on
 abbrev pub fences_from : List ℕ → TableValue → List Call → List ℕ
 fences_from name t [] = []
-fences_from name t (call ∷ calls) = (if asks_for name call.1 then fences (task_answer call.0 call.1 t) else []) ++ fences_from name (next_by_task call.0 call.1 t) calls
+fences_from name t (call ∷ calls) =
+    (if asks_for name call.1 then fences (task_answer call.0 call.1 t) else [])
+    ++ fences_from name (next_by_task call.0 call.1 t) calls
 
 -- those that differ from the one before, the first from this one
 abbrev pub once_behind : ℕ → List ℕ → List ℕ

@@ -16,4 +16,8 @@ task_answer client (Running bytes) t = answer client bytes t
 task_answer client Raising t = raise_answer t
 
 abbrev pub table_meaning : Meaning
-table_meaning = record { first = table_text empty; next = λ client task before. table_text (next_by_task client task (table_in before)); answer = λ client task before. task_answer client task (table_in before) }
+table_meaning = record {
+  first = table_text empty;
+  next = λ client task before. table_text (next_by_task client task (table_in before));
+  answer = λ client task before. task_answer client task (table_in before);
+}

@@ -1,12 +1,15 @@
 -- The plain table: a finite map from names to their last fence and holders, and the answer to each body.
-use Rattle.std.specs.Prelude.{◌≡◌, ℕ, ◌+◌, ◌<◌, Bool, true, false, nat_lt, ◌&&◌, ◌==◌, List, [], ◌∷◌, length, Option, Some, None, Result, Ok, Err, if◌then◌else◌, refl}
+use Rattle.std.specs.Prelude.{◌≡◌, ℕ, ◌+◌, ◌<◌, Bool, true, false, nat_lt, ◌&&◌, ◌==◌, List, [], ◌∷◌, length, Option}
+use Rattle.std.specs.Prelude.{Some, None, Result, Ok, Err, if◌then◌else◌, refl}
 use Rattle.std.specs.Coded.{Coded, code_by, coded×, coded_bool, coded_ℕ, coded_list}
 use Rattle.std.specs.Ordering.{nat_cmp}
 use Rattle.std.specs.Cmp.Lexicographic.{slice_cmp}
 use Rattle.std.specs.FinMap as map
 use Rattle.lk_types.specs.Limits.{max_count, max_names, max_sharers}
 use Rattle.lk_types.specs.declared.answer.Answer.{Answer}
-use Rattle.lk_types.specs.declared.answer.Answer.TheVariants.{Granted, Busy, Released, NotHeld, Free, Held, Valid, Stale, NoRoom, Bad, Spent, Shared, HeldShared, Broken, Raised, AlreadyRaised}
+use Rattle.lk_types.specs.declared.answer.Answer.TheVariants.{Granted, Busy, Released, NotHeld, Free, Held, Valid}
+use Rattle.lk_types.specs.declared.answer.Answer.TheVariants.{Stale, NoRoom, Bad, Spent, Shared, HeldShared, Broken}
+use Rattle.lk_types.specs.declared.answer.Answer.TheVariants.{Raised, AlreadyRaised}
 use Rattle.lk_locks.specs.Bodies.{body_of, name_of, known}
 use Rattle.lk_locks.specs.Holders.{is_held, left_by}
 use Rattle.lk_locks.specs.Sharers.{is_among, with_client, least}
@@ -28,7 +31,8 @@ pub record Table : Type 0 where
 
 -- a table is stored as the pair of both
 abbrev pub table_code : Coded Table
-table_code = code_by (Bool × Names) (coded× coded_bool (map.code (coded_list coded_ℕ) slot_code)) (λ t. (t.raised, t.names)) (λ p. record { raised = p.0; names = p.1 }) (λ _. refl)
+table_code = code_by (Bool × Names) (coded× coded_bool (map.code (coded_list coded_ℕ) slot_code))
+    (λ t. (t.raised, t.names)) (λ p. record { raised = p.0; names = p.1 }) (λ _. refl)
 
 abbrev pub empty : Table
 empty = record { raised = false; names = map.empty }
@@ -48,7 +52,8 @@ first_fence names = if nat_lt names max_names then Ok 1 else Err NoRoom
 
 -- the fence that is given is in the answer, and the name is held at it from then on
 abbrev pub given : (ℕ → Answer) → Holders → Result ℕ Answer → Row
-given told holders (Ok fence) = record { answer = told fence; change = Some (record { fence = fence; holders = holders }) }
+given told holders (Ok fence) =
+    record { answer = told fence; change = Some (record { fence = fence; holders = holders }) }
 given told holders (Err refusal) = unchanged refusal
 
 abbrev pub acquired_at : ℕ → ℕ → Holders → Row
@@ -64,7 +69,11 @@ acquired client (Some s) names = acquired_at client s.fence s.holders
 abbrev pub joined : ℕ → ℕ → List ℕ → Row
 joined client fence clients =
     if is_among client clients then unchanged (Shared fence)
-    else if nat_lt (length clients) max_sharers then record { answer = Shared fence; change = Some (record { fence = fence; holders = Together (with_client client clients) }) }
+    else if nat_lt (length clients) max_sharers then
+    record {
+      answer = Shared fence;
+      change = Some (record { fence = fence; holders = Together (with_client client clients) });
+    }
     else unchanged (Busy (least clients) fence)
 
 abbrev pub shared_at : ℕ → ℕ → Holders → Row
@@ -84,7 +93,8 @@ left_at fence (Some holders) = record { answer = Released; change = Some (record
 
 abbrev pub released : ℕ → ℕ → Option Slot → Row
 released client fence None = unchanged NotHeld
-released client fence (Some s) = if s.fence == fence then left_at fence (left_by client s.holders) else unchanged NotHeld
+released client fence (Some s) =
+    if s.fence == fence then left_at fence (left_by client s.holders) else unchanged NotHeld
 
 abbrev pub is_held_at : ℕ → Option Slot → Bool
 is_held_at fence None = false

@@ -1,5 +1,6 @@
 -- Sets of clients that share a name, as lists that rise.
-use Rattle.std.specs.Prelude.{ℕ, ◌≤◌, Bool, true, not, nat_lt, ◌==◌, ◌&&◌, List, [], ◌∷◌, length, filter, IsTrue, if◌then◌else◌}
+use Rattle.std.specs.Prelude.{ℕ, ◌≤◌, Bool, true, not, nat_lt, ◌==◌, ◌&&◌, List, [], ◌∷◌, length, filter, IsTrue}
+use Rattle.std.specs.Prelude.{if◌then◌else◌}
 use Rattle.std.specs.List.{list_any, AllByRecursion}
 use Rattle.lk_types.specs.Limits.{max_sharers}
 use Rattle.lk_types.specs.Ranges.{IsClient}
@@ -11,7 +12,8 @@ are_clients_above low (c ∷ cs) = nat_lt low c && are_clients_above c cs
 
 -- 1 to 8 clients, strictly rising
 abbrev pub AreSharers : List ℕ → Type 0
-AreSharers cs = (1 ≤ length cs) × (length cs ≤ max_sharers) × AllByRecursion IsClient cs × IsTrue (are_clients_above 0 cs)
+AreSharers cs =
+    (1 ≤ length cs) × (length cs ≤ max_sharers) × AllByRecursion IsClient cs × IsTrue (are_clients_above 0 cs)
 
 abbrev pub is_among : ℕ → List ℕ → Bool
 is_among client cs = list_any (λ c. c == client) cs

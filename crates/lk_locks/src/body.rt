@@ -1,7 +1,8 @@
 ghost use Rattle.std.specs.Prelude.{◌≡◌, ◌≤◌, ◌∷◌, ◌++◌, List, ℕ, length, Some, IfSome};
 ghost use Rattle.lk_fields.specs.Parser.{Finds};
 ghost use Rattle.lk_locks.specs.declared.body.Body.{Body};
-ghost use Rattle.lk_locks.specs.Bodies.{SpellsBody, lock_name, spelling, read_name, read_name_and_fence, fields_of, body_of, name_of, is_known};
+ghost use Rattle.lk_locks.specs.Bodies.{SpellsBody, lock_name, spelling, read_name, read_name_and_fence, fields_of};
+ghost use Rattle.lk_locks.specs.Bodies.{body_of, name_of, is_known};
 
 use crate::name::Name;
 use arrayvec::ArrayVec;

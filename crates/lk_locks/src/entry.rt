@@ -7,7 +7,8 @@ ghost use Rattle.lk_fields.specs.Parser.{Finds, many, tagged};
 ghost use Rattle.lk_fields.specs.Fronts.{Keeps};
 ghost use Rattle.lk_locks.specs.Bodies.{lock_name};
 ghost use Rattle.lk_locks.specs.Holders.{is_kept};
-ghost use Rattle.lk_locks.specs.Packed.{holder_number, sharers, holders, slot, entry, read_holder, read_sharers, holders_of, read_holders, read_slot, read_entry};
+ghost use Rattle.lk_locks.specs.Packed.{holder_number, sharers, holders, slot, entry, read_holder, read_sharers};
+ghost use Rattle.lk_locks.specs.Packed.{holders_of, read_holders, read_slot, read_entry};
 
 use crate::body::read_name;
 use crate::name::Name;

@@ -30,12 +30,15 @@ pub fn fences_count_up()
 /// After any list of commands, a name that nobody holds is given at the fence after all at which it was given before,
 /// alone or to share: no fence is given twice.
 pub fn a_free_name_is_given_at_the_next_fence()
-    ensures { (client : ℕ) (bytes : List ℕ) (body : Body) (fence : ℕ) (L : List Command) → body_of bytes ≡ Some body → IsFree (map.get (table_of L).names (name_of body)) → fences (answer client bytes (table_of L)) ≡ fence ∷ [] → fence ≡ length (grants_in (name_of body) L) + 1 }
+    ensures { (client : ℕ) (bytes : List ℕ) (body : Body) (fence : ℕ) (L : List Command) → body_of bytes ≡ Some body
+        → IsFree (map.get (table_of L).names (name_of body)) → fences (answer client bytes (table_of L)) ≡ fence ∷ []
+        → fence ≡ length (grants_in (name_of body) L) + 1 }
 {}
 
 /// A name is granted to one client alone only if nobody holds it.
 pub fn a_name_is_granted_where_nobody_holds_it()
-    ensures { (client : ℕ) (bytes : List ℕ) (body : Body) (fence : ℕ) (t : Table) → body_of bytes ≡ Some body → answer client bytes t ≡ Granted fence → IsFree (map.get t.names (name_of body)) }
+    ensures { (client : ℕ) (bytes : List ℕ) (body : Body) (fence : ℕ) (t : Table) → body_of bytes ≡ Some body
+        → answer client bytes t ≡ Granted fence → IsFree (map.get t.names (name_of body)) }
 {}
 
 /// Over any calls of clients, the fences at which a name is given are 1, 2, 3 and so on.
@@ -65,7 +68,8 @@ pub fn texts_are_of_tables()
 
 /// The machine answers after a list as the plain table after the list does.
 pub fn answers_are_plain()
-    ensures { (L : List Command) → AllByRecursion IsCommand L → (client : ℕ) (task : Task) → table_meaning.answer client task (text_of table_meaning L) ≡ task_answer client task (table_of L) }
+    ensures { (L : List Command) → AllByRecursion IsCommand L → (client : ℕ) (task : Task)
+        → table_meaning.answer client task (text_of table_meaning L) ≡ task_answer client task (table_of L) }
 {}
 
 /// A body is for a name exactly if that is the name in it.
@@ -75,15 +79,25 @@ pub fn bodies_are_for_their_names()
 
 /// An entry that takes effect and is given a name, alone or to share, adds its fence to those of the name.
 pub fn each_fence_is_listed()
-    ensures { (name : List ℕ) (L : List Command) (r : RequestValue) (bytes : List ℕ) (body : Body) (fence : ℕ) → in_effect L (Request r) ≡ Some r → r.op ≡ TableOp bytes → body_of bytes ≡ Some body → name_of body ≡ name → fences (answer r.client bytes (table_of L)) ≡ fence ∷ [] → fences_in name (L ++ Request r ∷ []) ≡ fences_in name L ++ fence ∷ [] }
+    ensures { (name : List ℕ) (L : List Command) (r : RequestValue) (bytes : List ℕ) (body : Body) (fence : ℕ)
+        → in_effect L (Request r) ≡ Some r → r.op ≡ TableOp bytes → body_of bytes ≡ Some body → name_of body ≡ name
+        → fences (answer r.client bytes (table_of L)) ≡ fence ∷ []
+        → fences_in name (L ++ Request r ∷ []) ≡ fences_in name L ++ fence ∷ [] }
 {}
 
 /// A Check is valid exactly if the name is held at its fence, alone or together, and stale otherwise.
 pub fn checks_tell_who_holds()
-    ensures { (client : ℕ) (bytes name : List ℕ) (fence : ℕ) (t : Table) → body_of bytes ≡ Some (Check name fence) → ((answer client bytes t ≡ Valid) ↔ ((holders : Holders) × (is_held holders ≡ true) × (map.get t.names name ≡ Some (record { fence = fence; holders = holders })))) × ((answer client bytes t ≡ Valid) ⊎ (answer client bytes t ≡ Stale)) }
+    ensures { (client : ℕ) (bytes name : List ℕ) (fence : ℕ) (t : Table) → body_of bytes ≡ Some (Check name fence)
+        → ((answer client bytes t ≡ Valid)
+        ↔ ((holders : Holders) × (is_held holders ≡ true)
+        × (map.get t.names name ≡ Some (record { fence = fence; holders = holders }))))
+        × ((answer client bytes t ≡ Valid) ⊎ (answer client bytes t ≡ Stale)) }
 {}
 
 /// A Break at the fence at which a name is held frees it from all its holders, and the fence stays.
 pub fn breaks_free_all()
-    ensures { (client : ℕ) (bytes name : List ℕ) (fence : ℕ) (t : Table) (holders : Holders) → t.raised ≡ true → body_of bytes ≡ Some (Break name fence) → is_held holders ≡ true → map.get t.names name ≡ Some (record { fence = fence; holders = holders }) → map.get (next client bytes t).names name ≡ Some (record { fence = fence; holders = Nobody }) }
+    ensures { (client : ℕ) (bytes name : List ℕ) (fence : ℕ) (t : Table) (holders : Holders) → t.raised ≡ true
+        → body_of bytes ≡ Some (Break name fence) → is_held holders ≡ true
+        → map.get t.names name ≡ Some (record { fence = fence; holders = holders })
+        → map.get (next client bytes t).names name ≡ Some (record { fence = fence; holders = Nobody }) }
 {}

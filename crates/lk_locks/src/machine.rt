@@ -97,7 +97,8 @@ impl Machine for LockTable {
 
     /// Executes a client's operation and returns the answer: `run`, in terms of the packed texts.
     fn apply(&mut self, client: ClientNo, body: &[u8]) -> Result<Answer, NoMemory>
-        ensures ok { OnOk result (table_text self.new ≡ table_meaning.next client (Running body.now) (table_text self.old)) }
+        ensures ok { OnOk result
+            (table_text self.new ≡ table_meaning.next client (Running body.now) (table_text self.old)) }
         ensures answer { IfOk result (λ a. a ≡ table_meaning.answer client (Running body.now) (table_text self.old)) }
         ensures err { OnErr result (table_text self.new ≡ table_text self.old) }
         ensures memory { OnErr result (IsNewName (known self.old.raised (body_of body.now)) self.old.names) }

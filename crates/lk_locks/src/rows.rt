@@ -2,7 +2,8 @@
 ghost use Rattle.std.specs.Prelude.{◌≡◌, Some, [], ◌∷◌};
 ghost use Rattle.lk_types.specs.declared.answer.Answer.TheVariants.{Shared};
 ghost use Rattle.lk_locks.specs.declared.slot.Holders.TheVariants.{Together};
-ghost use Rattle.lk_locks.specs.Plain.{unchanged, fence_after, first_fence, given, acquired, joined, shared, released, is_held_at, broken, asked, checked, row};
+ghost use Rattle.lk_locks.specs.Plain.{unchanged, fence_after, first_fence, given, acquired, joined, shared, released};
+ghost use Rattle.lk_locks.specs.Plain.{is_held_at, broken, asked, checked, row};
 
 use crate::body::Body;
 use crate::row::Row;

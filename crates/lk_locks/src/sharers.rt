@@ -1,4 +1,5 @@
-ghost use Rattle.std.specs.Prelude.{◌≡◌, ◌<◌, ◌≤◌, ◌↔◌, ◌==◌, nat_lt, [], ◌∷◌, length, true, false, IsTrue, IsSome, IfSome};
+ghost use Rattle.std.specs.Prelude.{◌≡◌, ◌<◌, ◌≤◌, ◌↔◌, ◌==◌, nat_lt, [], ◌∷◌, length, true, false, IsTrue, IsSome};
+ghost use Rattle.std.specs.Prelude.{IfSome};
 ghost use Rattle.std.specs.List.{prefix_len, AllByRecursion};
 ghost use Rattle.lk_types.specs.Limits.{max_sharers};
 ghost use Rattle.lk_types.specs.Ranges.{IsClient};

@@ -1,4 +1,5 @@
-ghost use Rattle.std.specs.Prelude.{◌≡◌, ◌<◌, ◌≤◌, OnOk, OnErr, IfOk, IsErrOf, List, [], ◌∷◌, ◌++◌, ℕ, Some, None, true, false};
+ghost use Rattle.std.specs.Prelude.{◌≡◌, ◌<◌, ◌≤◌, OnOk, OnErr, IfOk, IsErrOf, List, [], ◌∷◌, ◌++◌, ℕ, Some, None};
+ghost use Rattle.std.specs.Prelude.{true, false};
 ghost use Rattle.std.specs.Ordering.{nat_cmp};
 ghost use Rattle.std.specs.Cmp.Lexicographic.{slice_cmp};
 ghost use Rattle.std.specs.FinMap as map;
@@ -51,7 +52,8 @@ impl Model for LockTable {
 
     ghost view = { λ t. record { raised = t.raised; names = map.from_entries t.slots.entries } };
 
-    ghost invariant = { λ t. IsOrdered (slice_cmp nat_cmp) t.slots × IsTable (record { raised = t.raised; names = map.from_entries t.slots.entries }) };
+    ghost invariant = { λ t. IsOrdered (slice_cmp nat_cmp) t.slots
+        × IsTable (record { raised = t.raised; names = map.from_entries t.slots.entries }) };
 }
 
 impl LockTable {
@@ -94,7 +96,8 @@ impl LockTable {
     fn set(&mut self, name: Name, slot: Slot) -> Result<(), NoMemory>
         requires kept { is_kept self.old.raised slot.holders ≡ true }
         requires room { map.get self.old.names name ≡ None → map.len self.old.names < max_names }
-        ensures ok { OnOk result (self.new ≡ record { raised = self.old.raised; names = map.insert self.old.names name slot }) }
+        ensures ok { OnOk result
+            (self.new ≡ record { raised = self.old.raised; names = map.insert self.old.names name slot }) }
         ensures err { OnErr result (self.new ≡ self.old) }
         ensures absent { OnErr result (map.get self.old.names name ≡ None) }
     {
@@ -120,7 +123,8 @@ impl LockTable {
         requires kept { is_kept self.old.raised slot.holders ≡ true }
         ensures ok { OnOk result (map.entries self.new.names ≡ map.entries self.old.names ++ (name, slot) ∷ []) }
         ensures version { OnOk result (self.new.raised ≡ self.old.raised) }
-        ensures not_packed { IsErrOf result UnpackFault.NotPacked → rise (map.entries self.old.names ++ (name, slot) ∷ []) ≡ false }
+        ensures not_packed { IsErrOf result UnpackFault.NotPacked
+            → rise (map.entries self.old.names ++ (name, slot) ∷ []) ≡ false }
     {
         if !self.is_below(&name) {
             return Err(UnpackFault::NotPacked);
@@ -132,7 +136,8 @@ impl LockTable {
     // Appends how many names there are, and then each with its slot. Out of memory it may leave a prefix of that.
     #[tactic(auto, using(lk_fields::proofs::Spellings::keeps_same, lk_fields::proofs::Spellings::keeps_behind))]
     fn put_names(&self, out: &mut BytesMut) -> Result<(), AllocError>
-        ensures ok { OnOk result (out.new.items ≡ out.old.items ++ entries self.now.raised (map.entries self.now.names)) }
+        ensures ok { OnOk result
+            (out.new.items ≡ out.old.items ++ entries self.now.raised (map.entries self.now.names)) }
         ensures err { OnErr result (Keeps out.old.items out.new.items) }
     {
         put_u16(out, self.len() as u16)?;
@@ -173,7 +178,8 @@ impl LockTable {
     fn serve(&mut self, client: ClientNo, body: Body) -> Result<Answer, NoMemory>
         requires { is_known self.old.raised body ≡ true }
         ensures answer { IfOk result (λ a. a ≡ (row_in client body self.old.names).answer) }
-        ensures ok { OnOk result (self.new ≡ record { raised = self.old.raised; names = next_by client (Some body) self.old.names }) }
+        ensures ok { OnOk result
+            (self.new ≡ record { raised = self.old.raised; names = next_by client (Some body) self.old.names }) }
         ensures err { OnErr result (self.new ≡ self.old) }
         ensures memory { OnErr result (IsNewName (Some body) self.old.names) }
     {

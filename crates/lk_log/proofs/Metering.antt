@@ -1,5 +1,6 @@
 -- Which calls of a device are made.
-use Rattle.std.proofs.Common.{◌≡◌, ℕ, ◌+◌, ◌<◌, ◌≤◌, Bool, true, false, Result, Ok, Err, IsErrAnd, List, [], ◌∷◌, ◌++◌, length, refl, sym, ap, ◌∙◌, subst, inr, arith}
+use Rattle.std.proofs.Common.{◌≡◌, ℕ, ◌+◌, ◌<◌, ◌≤◌, Bool, true, false, Result, Ok, Err, IsErrAnd, List, [], ◌∷◌, ◌++◌}
+use Rattle.std.proofs.Common.{length, refl, sym, ap, ◌∙◌, subst, inr, arith}
 use Rattle.std.proofs.lemmas.Bool.Decides.{nat_tests}
 use Rattle.lk_disk.specs.Disk.{Disk}
 use Rattle.lk_disk.specs.Meters.{Passes, start, Breaks, Calls, is_failing, called}
@@ -31,12 +32,14 @@ one_comes m n k (Ok x) e passed = one_made m n k e passed
 one_comes m n k (Err x) e broke = call_breaks m n broke
 
 -- a call of the device has failed
-pub broken : {T E : Type 0} (m n : Meter) (k : ℕ) (r : Result T E) (Why : E → Type 0) → IsErrAnd r Why → Breaks m n → ComesBy m n k r
+pub broken : {T E : Type 0} (m n : Meter) (k : ℕ) (r : Result T E) (Why : E → Type 0) → IsErrAnd r Why
+    → Breaks m n → ComesBy m n k r
 broken m n k (Ok x) Why is b = absurd is
 broken m n k (Err e) Why is b = b
 
 -- it was refused so
-pub refused : {T : Type 0} (m n : Meter) (k : ℕ) (r : Result T StoreFault) (f : StoreFault) → IsErrAnd r (λ e. e ≡ f) → IsRefusedBy m n f → IsMetered m n k r
+pub refused : {T : Type 0} (m n : Meter) (k : ℕ) (r : Result T StoreFault) (f : StoreFault) → IsErrAnd r (λ e. e ≡ f)
+    → IsRefusedBy m n f → IsMetered m n k r
 refused m n k (Ok x) f is by = absurd is
 refused m n k (Err e) f is by = subst (IsRefusedBy m n) (sym is) by
 
@@ -68,17 +71,29 @@ one_cut end size lt = grind (arith, nat_tests)
 -- ---- rows of calls
 
 -- entries were put, without a sync
-pub put_unsynced : (m n : Meter) (es : List Entry) (bytes : List ℕ) (sync : Bool) → bytes ≡ spelling_of_all (plain es) → sync ≡ false → Passes m n (calls_for bytes) → Passes m n (put_calls es sync)
+pub put_unsynced : (m n : Meter) (es : List Entry) (bytes : List ℕ) (sync : Bool) → bytes ≡ spelling_of_all (plain es)
+    → sync ≡ false → Passes m n (calls_for bytes) → Passes m n (put_calls es sync)
 put_unsynced m n es bytes sync spelled unasked p =
-    let k : calls_for bytes ≡ put_calls es sync = ap (λ (l : List ℕ). calls_for l) spelled ∙ calls_for_entries es ∙ rw unasked (omega arith) in
+    let k : calls_for bytes ≡ put_calls es sync = ap (λ (l : List ℕ). calls_for l) spelled ∙ calls_for_entries es
+    ∙ rw unasked (omega arith) in
     subst (λ (j : ℕ). Passes m n j) k p
 
 -- and with one
-pub put_synced : (l m n : Meter) (es : List Entry) (bytes : List ℕ) (sync : Bool) → bytes ≡ spelling_of_all (plain es) → sync ≡ true → Passes l m (calls_for bytes) → Passes m n 1 → Passes l n (put_calls es sync)
+pub put_synced : (l m n : Meter) (es : List Entry) (bytes : List ℕ) (sync : Bool) → bytes ≡ spelling_of_all (plain es)
+    → sync ≡ true → Passes l m (calls_for bytes) → Passes m n 1 → Passes l n (put_calls es sync)
 put_synced l m n es bytes sync spelled asked p q =
-    let k : calls_for bytes + 1 ≡ put_calls es sync = ap (λ (l : List ℕ). calls_for l + 1) spelled ∙ ap (λ (j : ℕ). j + 1) (calls_for_entries es) ∙ rw asked refl in
+    let k : calls_for bytes + 1 ≡ put_calls es sync = ap (λ (l : List ℕ). calls_for l + 1) spelled
+    ∙ ap (λ (j : ℕ). j + 1) (calls_for_entries es) ∙ rw asked refl in
     subst (λ (j : ℕ). Passes l n j) k (passes_on (calls_for bytes) p 1 q)
 
-pub found_opens : (disks : Side → Disk) (live : Side) (es : List Stored) (end size : ℕ) → FoundLive disks live es end size → OpensBy (seen disks) (cut_calls end size + 1)
+pub found_opens : (disks : Side → Disk) (live : Side) (es : List Stored) (end size : ℕ)
+    → FoundLive disks live es end size → OpensBy (seen disks) (cut_calls end size + 1)
 found_opens disks live es end size f =
-    inr (live, es, found_is_live disks live es end size f, f.file, ap (λ (k : ℕ). cut_calls k size + 1) f.ends ∙ ap (λ (k : ℕ). cut_calls (length (spelling_of_all es)) k + 1) f.sized)
+    inr (
+      live,
+      es,
+      found_is_live disks live es end size f,
+      f.file,
+      ap (λ (k : ℕ). cut_calls k size + 1) f.ends
+          ∙ ap (λ (k : ℕ). cut_calls (length (spelling_of_all es)) k + 1) f.sized,
+    )

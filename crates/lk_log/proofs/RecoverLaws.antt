@@ -1,5 +1,6 @@
 -- What holds of disks that were read before, and of what a call answered.
-use Rattle.std.proofs.Common.{◌≡◌, ◌↔◌, IsTrue, inl, inr, ℕ, Bool, true, false, List, length, Result, Ok, Err, IfOk, sym, ap, subst, ◌∙◌}
+use Rattle.std.proofs.Common.{◌≡◌, ◌↔◌, IsTrue, inl, inr, ℕ, Bool, true, false, List, length, Result, Ok, Err, IfOk}
+use Rattle.std.proofs.Common.{sym, ap, subst, ◌∙◌}
 use Rattle.lk_disk.specs.Disk.{Disk, other, contents}
 use Rattle.lk_disk.specs.declared.device.Side.{Side}
 use Rattle.lk_entries.specs.Files.{IsFile}
@@ -24,7 +25,8 @@ neither not is = (λ t. absurd (cc (t, is)), λ q. absurd (not q))
 
 -- the disks are as they were
 module _ (old mid : Side → Disk) (same : (s : Side) → mid s ≡ old s) where
-  pub found_after : (live : Side) (es : List Stored) (end size : ℕ) → FoundLive old live es end size → FoundLive mid live es end size
+  pub found_after : (live : Side) (es : List Stored) (end size : ℕ) → FoundLive old live es end size
+      → FoundLive mid live es end size
   found_after live es end size f = record {
     file = subst (λ (d : Disk). IsFile (contents d) es false) (sym (same live)) f.file;
     placed = f.placed;
@@ -37,16 +39,23 @@ module _ (old mid : Side → Disk) (same : (s : Side) → mid s ≡ old s) where
   empty_after e = (e.0, means_same (seen old) (seen mid) Empty e.0 (λ s. ap contents (sym (same s))) e.1)
 
   live_before : (es : List Stored) → IsLive (seen mid) es → IsLive (seen old) es
-  live_before es l = record { side = l.side; entries = l.entries; means = means_same (seen mid) (seen old) (Live l.side) l.entries (λ s. ap contents (same s)) l.means; are = l.are }
+  live_before es l = record {
+    side = l.side;
+    entries = l.entries;
+    means = means_same (seen mid) (seen old) (Live l.side) l.entries (λ s. ap contents (same s)) l.means;
+    are = l.are;
+  }
 
   empty_before : IsEmpty (seen mid) → IsEmpty (seen old)
   empty_before e = (e.0, means_same (seen mid) (seen old) Empty e.0 (λ s. ap contents (same s)) e.1)
 
-  found_before : (h : HeaderValue) (zero : List ℕ) (es : List Stored) → Found (seen mid) h zero es → Found (seen old) h zero es
+  found_before : (h : HeaderValue) (zero : List ℕ) (es : List Stored) → Found (seen mid) h zero es
+      → Found (seen old) h zero es
   found_before h zero es (inl l) = inl (live_before es l)
   found_before h zero es (inr e) = inr (empty_before e.0, e.1)
 
-  pub opens_before : (h : HeaderValue) (zero : List ℕ) (d o : Disk) (n f : ℕ) (s : StandingValue) → OpensOn (seen mid) h zero d o n f s → OpensOn (seen old) h zero d o n f s
+  pub opens_before : (h : HeaderValue) (zero : List ℕ) (d o : Disk) (n f : ℕ) (s : StandingValue)
+      → OpensOn (seen mid) h zero d o n f s → OpensOn (seen old) h zero d o n f s
   opens_before h zero d o n told s f = record {
     entries = f.entries;
     found = found_before h zero f.entries f.found;

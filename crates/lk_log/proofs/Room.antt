@@ -1,5 +1,6 @@
 -- How much longer a file is after a call.
-use Rattle.std.proofs.Common.{◌≡◌, ℕ, ◌+◌, ◌*◌, ◌≤◌, ◌<◌, max, List, [], ◌∷◌, ◌++◌, length, take, ap, sym, ◌∙◌, subst, inl, inr, arith, length-append, append-nil}
+use Rattle.std.proofs.Common.{◌≡◌, ℕ, ◌+◌, ◌*◌, ◌≤◌, ◌<◌, max, List, [], ◌∷◌, ◌++◌, length, take, ap, sym, ◌∙◌, subst}
+use Rattle.std.proofs.Common.{inl, inr, arith, length-append, append-nil}
 use Rattle.std.specs.List.{AllByRecursion}
 use Rattle.std.proofs.Math.Seq.{take-length}
 use Rattle.std.proofs.lemmas.List.{length-take}
@@ -26,22 +27,42 @@ entry_room (Promise b) f = omega (arith, len_ballot b)
 entry_room (Vote v) f = omega (arith, len_command v.command f.2)
 entry_room (Decided position c) f = omega (arith, len_command c f.1)
 
-entries_room : (es : List Entry) → AllByRecursion IsStored (plain es) → length (spelling_of_all (plain es)) ≤ 102 * length es
+entries_room : (es : List Entry) → AllByRecursion IsStored (plain es)
+    → length (spelling_of_all (plain es)) ≤ 102 * length es
 entries_room [] f = omega arith
-entries_room (e ∷ es) f = omega (arith, length-append (spelling (Plain e)) (spelling_of_all (plain es)), entry_room e f.0, entries_room es f.1)
+entries_room (e ∷ es) f =
+    omega (
+      arith,
+      length-append (spelling (Plain e)) (spelling_of_all (plain es)),
+      entry_room e f.0,
+      entries_room es f.1,
+    )
 
 longer : (old : Disk) (piece : List ℕ) → length (contents (appended old piece)) ≡ length (contents old) + length piece
 longer old piece =
-    length-append old.synced (old.unsynced ++ piece) ∙ omega (arith, length-append old.synced old.unsynced, length-append old.unsynced piece)
+    length-append old.synced (old.unsynced ++ piece)
+    ∙ omega (arith, length-append old.synced old.unsynced, length-append old.unsynced piece)
 
 -- some of the entries' bytes were added
-pub some_room : (old new : Disk) (bytes : List ℕ) (es : List Entry) → bytes ≡ spelling_of_all (plain es) → AllByRecursion IsStored (plain es) → AppendsSome bytes old new → length (contents new) ≤ length (contents old) + 102 * length es
+pub some_room : (old new : Disk) (bytes : List ℕ) (es : List Entry) → bytes ≡ spelling_of_all (plain es)
+    → AllByRecursion IsStored (plain es) → AppendsSome bytes old new
+    → length (contents new) ≤ length (contents old) + 102 * length es
 some_room old new bytes es is fits k =
-    omega (arith, ap (λ d. length (contents d)) k.1, longer old (take k.0 bytes), length-take k.0 bytes, ap length is, entries_room es fits)
+    omega (
+      arith,
+      ap (λ d. length (contents d)) k.1,
+      longer old (take k.0 bytes),
+      length-take k.0 bytes,
+      ap length is,
+      entries_room es fits,
+    )
 
 -- all of them
-pub all_room : (old new : Disk) (bytes : List ℕ) (es : List Entry) → bytes ≡ spelling_of_all (plain es) → AllByRecursion IsStored (plain es) → new ≡ appended old bytes → length (contents new) ≤ length (contents old) + 102 * length es
-all_room old new bytes es is fits e = some_room old new bytes es is fits (length bytes, e ∙ ap (appended old) (sym (take-length bytes)))
+pub all_room : (old new : Disk) (bytes : List ℕ) (es : List Entry) → bytes ≡ spelling_of_all (plain es)
+    → AllByRecursion IsStored (plain es) → new ≡ appended old bytes
+    → length (contents new) ≤ length (contents old) + 102 * length es
+all_room old new bytes es is fits e =
+    some_room old new bytes es is fits (length bytes, e ∙ ap (appended old) (sym (take-length bytes)))
 
 -- a sync adds none
 pub synced_room : (old new : Disk) → new ≡ flushed old → length (contents new) ≡ length (contents old)
@@ -52,14 +73,17 @@ synced_room old new e = ap (λ d. length (contents d)) e ∙ ap length (append-n
 pub within_same : (most : ℕ) (old new : Side → Disk) → ((s : Side) → new s ≡ old s) → StaysWithin most old new
 within_same most old new same s = omega (arith, ap (λ d. length (contents d)) (same s))
 
-pub within_then : (most : ℕ) (old mid new : Side → Disk) → StaysWithin 0 old mid → StaysWithin most mid new → StaysWithin most old new
+pub within_then : (most : ℕ) (old mid new : Side → Disk) → StaysWithin 0 old mid → StaysWithin most mid new
+    → StaysWithin most old new
 within_then most old mid new a b s = omega (arith, a s, b s)
 
 pub within_more : (most : ℕ) (old new : Side → Disk) → StaysWithin 0 old new → StaysWithin most old new
 within_more most old new a s = omega (arith, a s)
 
 -- one side is as long as this at most, and the other one as it was
-pub within_side : (most : ℕ) (side : Side) (old new : Side → Disk) → length (contents (new side)) ≤ max (length (contents (old side))) most → new (other side) ≡ old (other side) → StaysWithin most old new
+pub within_side : (most : ℕ) (side : Side) (old new : Side → Disk)
+    → length (contents (new side)) ≤ max (length (contents (old side))) most → new (other side) ≡ old (other side)
+    → StaysWithin most old new
 within_side most A old new here there A = here
 within_side most A old new here there B = omega (arith, ap (λ d. length (contents d)) there)
 within_side most B old new here there A = omega (arith, ap (λ d. length (contents d)) there)
@@ -69,10 +93,16 @@ pub cut_short_room : (n : ℕ) (old new : Disk) → CutShort n old new → lengt
 cut_short_room n old new k = omega (arith, ap length k.front, length-take (length (contents new)) (contents old))
 
 pub cut_room : (n : ℕ) (old new : Disk) → new ≡ cut_to n old → length (contents new) ≤ length (contents old)
-cut_room n old new e = omega (arith, ap (λ d. length (contents d)) e, ap length (append-nil (take n (contents old))), length-take n (contents old))
+cut_room n old new e = omega (
+  arith,
+  ap (λ d. length (contents d)) e,
+  ap length (append-nil (take n (contents old))),
+  length-take n (contents old),
+)
 
 -- what was written over is no longer than what stood there, or than what was written
-pub over_room : (old : Disk) (bytes : List ℕ) (new : Disk) → IsWrittenOver old bytes new → length (contents new) ≤ max (length (contents old)) (length bytes)
+pub over_room : (old : Disk) (bytes : List ℕ) (new : Disk) → IsWrittenOver old bytes new
+    → length (contents new) ≤ max (length (contents old)) (length bytes)
 over_room old bytes new over = elim (over (contents new) (contents_may_be_left new)) [
   | inl front ↦ omega (arith, ap length front.1, length-take front.0 (contents old))
   | inr front ↦ omega (arith, ap length front.1, length-take front.0 bytes)
@@ -84,18 +114,21 @@ unfolding spelling four
 spelling_room e f = omega (arith, body_short e f)
 
 -- a Base that was written over
-pub begun_room : (b : BaseValue) (old new : Disk) → IsStored (Base b) → IsWrittenOver old (spelling (Base b)) new → length (contents new) ≤ max (length (contents old)) 49152
+pub begun_room : (b : BaseValue) (old new : Disk) → IsStored (Base b) → IsWrittenOver old (spelling (Base b)) new
+    → length (contents new) ≤ max (length (contents old)) 49152
 begun_room b old new fits over = omega (arith, over_room old (spelling (Base b)) new over, spelling_room (Base b) fits)
 
 -- so of the disks of a store that was made of the device
-pub within_pick : (most : ℕ) (live : Side) (old new : Side → Disk) → StaysWithin most old new → StaysWithin most old (pick live (new live) (new (other live)))
+pub within_pick : (most : ℕ) (live : Side) (old new : Side → Disk) → StaysWithin most old new
+    → StaysWithin most old (pick live (new live) (new (other live)))
 within_pick most A old new w A = w A
 within_pick most A old new w B = w B
 within_pick most B old new w A = w A
 within_pick most B old new w B = w B
 
 -- or was, before it was made
-pub within_from : (most : ℕ) (live : Side) (old new : Side → Disk) → StaysWithin most old new → StaysWithin most (pick live (old live) (old (other live))) new
+pub within_from : (most : ℕ) (live : Side) (old new : Side → Disk) → StaysWithin most old new
+    → StaysWithin most (pick live (old live) (old (other live))) new
 within_from most A old new w A = w A
 within_from most A old new w B = w B
 within_from most B old new w A = w A
@@ -103,16 +136,21 @@ within_from most B old new w B = w B
 
 -- ---- what a rebase leaves
 
-pub within_still : (most : ℕ) (old mid new : Side → Disk) → StaysWithin most old mid → StaysWithin 0 mid new → StaysWithin most old new
+pub within_still : (most : ℕ) (old mid new : Side → Disk) → StaysWithin most old mid → StaysWithin 0 mid new
+    → StaysWithin most old new
 within_still most old mid new a b s = omega (arith, a s, b s)
 
-pub written_room : (side : Side) (old new : Side → Disk) (bytes : List ℕ) → length bytes ≤ 49152 → IsWrittenOver (old side) bytes (new side) → new (other side) ≡ old (other side) → StaysWithin 49152 old new
-written_room side old new bytes few over beside = within_side 49152 side old new (omega (arith, over_room (old side) bytes (new side) over, few)) beside
+pub written_room : (side : Side) (old new : Side → Disk) (bytes : List ℕ) → length bytes ≤ 49152
+    → IsWrittenOver (old side) bytes (new side) → new (other side) ≡ old (other side) → StaysWithin 49152 old new
+written_room side old new bytes few over beside =
+    within_side 49152 side old new (omega (arith, over_room (old side) bytes (new side) over, few)) beside
 
-pub short_room : (d : Disk) (bytes : List ℕ) → d ≡ record { synced = bytes; unsynced = [] } → length bytes ≤ 49152 → length (contents d) ≤ 49152
+pub short_room : (d : Disk) (bytes : List ℕ) → d ≡ record { synced = bytes; unsynced = [] } → length bytes ≤ 49152
+    → length (contents d) ≤ 49152
 short_room d bytes e few = omega (arith, ap (λ x. length (contents x)) e, ap length (append-nil bytes), few)
 
-pub within_first : (most : ℕ) (old mid new : Side → Disk) → StaysWithin most old mid → StaysWithin most mid new → StaysWithin most old new
+pub within_first : (most : ℕ) (old mid new : Side → Disk) → StaysWithin most old mid → StaysWithin most mid new
+    → StaysWithin most old new
 within_first most old mid new a b s = omega (arith, a s, b s)
 
 -- ---- a step, after a rebase that is due
@@ -121,22 +159,32 @@ within_first most old mid new a b s = omega (arith, a s, b s)
 pub refused_room : (old new : Side → Disk) → StaysWithin 49152 old new → StaysWithin 132704 old new
 refused_room old new stays s = omega (arith, stays s)
 
--- where a rebase was due it was done, and so the live file has less than 131,072 bytes: a step of at most 1,632 stands after it
-behind : (live : Side) (old mid new : Side → Disk) → StaysWithin 49152 old mid → length (contents (mid live)) < 131072 → length (contents (new live)) ≤ length (contents (mid live)) + 1632 → new (other live) ≡ mid (other live) → StaysWithin 132704 old new
+-- where a rebase was due it was done, and so the live file has less than 131,072 bytes: a step of at most 1,632 stands
+-- after it
+behind : (live : Side) (old mid new : Side → Disk) → StaysWithin 49152 old mid → length (contents (mid live)) < 131072
+    → length (contents (new live)) ≤ length (contents (mid live)) + 1632 → new (other live) ≡ mid (other live)
+    → StaysWithin 132704 old new
 behind A old mid new stays small grows beside A = omega (arith, small, grows)
 behind A old mid new stays small grows beside B = omega (arith, stays B, ap (λ d. length (contents d)) beside)
 behind B old mid new stays small grows beside A = omega (arith, stays A, ap (λ d. length (contents d)) beside)
 behind B old mid new stays small grows beside B = omega (arith, small, grows)
 
-pub behind_room : (old : Side → Disk) (mid new : StoreValue) → StaysWithin 49152 old (disks mid) → length (contents mid.live_disk) < 131072 → new.live ≡ mid.live → length (contents new.live_disk) ≤ length (contents mid.live_disk) + 1632 → new.other_disk ≡ mid.other_disk
+pub behind_room : (old : Side → Disk) (mid new : StoreValue) → StaysWithin 49152 old (disks mid)
+    → length (contents mid.live_disk) < 131072 → new.live ≡ mid.live
+    → length (contents new.live_disk) ≤ length (contents mid.live_disk) + 1632 → new.other_disk ≡ mid.other_disk
     → StaysWithin 132704 old (disks new)
 behind_room old mid new stays small is grows beside =
-    subst (λ (side : Side). StaysWithin 132704 old (pick side new.live_disk new.other_disk)) (sym is) (on mid.live stays)
+    subst (λ (side : Side). StaysWithin 132704 old (pick side new.live_disk new.other_disk))
+    (sym is) (on mid.live stays)
   where
-    on : (side : Side) → StaysWithin 49152 old (pick side mid.live_disk mid.other_disk) → StaysWithin 132704 old (pick side new.live_disk new.other_disk)
-    on A stays = behind A old (pick A mid.live_disk mid.other_disk) (pick A new.live_disk new.other_disk) stays small grows beside
-    on B stays = behind B old (pick B mid.live_disk mid.other_disk) (pick B new.live_disk new.other_disk) stays small grows beside
+    on : (side : Side) → StaysWithin 49152 old (pick side mid.live_disk mid.other_disk)
+        → StaysWithin 132704 old (pick side new.live_disk new.other_disk)
+    on A stays = behind A old (pick A mid.live_disk mid.other_disk)
+        (pick A new.live_disk new.other_disk) stays small grows beside
+    on B stays = behind B old (pick B mid.live_disk mid.other_disk)
+        (pick B new.live_disk new.other_disk) stays small grows beside
 
 -- so the promise: where neither file held more in front, neither holds more after
-pub never_longer : (old new : Side → Disk) → StaysWithin 132704 old new → ((s : Side) → length (contents (old s)) ≤ 262144) → (s : Side) → length (contents (new s)) ≤ 262144
+pub never_longer : (old new : Side → Disk) → StaysWithin 132704 old new
+    → ((s : Side) → length (contents (old s)) ≤ 262144) → (s : Side) → length (contents (new s)) ≤ 262144
 never_longer old new stays before s = omega (arith, stays s, before s)

@@ -1,5 +1,6 @@
 -- What the device's calls make of an open store.
-use Rattle.std.proofs.Common.{◌≡◌, inl, inr, ℕ, zero, suc, min, ◌+◌, ◌<◌, Bool, false, List, [], ◌++◌, length, take, refl, sym, ◌∙◌, ap, subst, arith, append_assoc, length-append}
+use Rattle.std.proofs.Common.{◌≡◌, inl, inr, ℕ, zero, suc, min, ◌+◌, ◌<◌, Bool, false, List, [], ◌++◌, length, take}
+use Rattle.std.proofs.Common.{refl, sym, ◌∙◌, ap, subst, arith, append_assoc, length-append}
 use Rattle.std.specs.List.{AllByRecursion}
 use Rattle.std.proofs.Math.Seq.{take-append-add}
 use Rattle.std.proofs.lemmas.Bool.{cases_lt}
@@ -57,7 +58,9 @@ pub record Grows (live_disk other_disk : Disk) (ks more : List Stored) : Type 0 
   pub sound : is_mixed (ks ++ more) ≡ false
   pub older : IsOlder other_disk (generation ks)
 
-pub stands : (disks : Side → Disk) (live : Side) (ks more : List Stored) → Grows (disks live) (disks (other live)) ks more → (image : Image) → MayLeaveBoth disks image → (k : ℕ) × IsLive image (ks ++ take k more)
+pub stands : (disks : Side → Disk) (live : Side) (ks more : List Stored)
+    → Grows (disks live) (disks (other live)) ks more → (image : Image) → MayLeaveBoth disks image
+    → (k : ℕ) × IsLive image (ks ++ take k more)
 stands disks live ks more h image left =
     let at = h.front (image live) (left live) in
     let fits = all-right IsStored ks more h.fit in
@@ -66,28 +69,48 @@ stands disks live ks more h image left =
     let some : 0 < generation ks = omega (arith, older.less) in (
       n,
       is_live image live (ks ++ take n more) older.entries older.is_damaged
-          (subst (λ (c : List ℕ). IsFile c (ks ++ take n more) false) (sym at.1) (file_behind ks more at.0 fits (all-left IsStored ks more h.fit) h.sound))
+          (subst (λ (c : List ℕ). IsFile c (ks ++ take n more) false) (sym at.1)
+          (file_behind ks more at.0 fits (all-left IsStored ks more h.fit) h.sound))
           older.file
-          (subst (λ (l : List Stored). is_misplaced l ≡ false) (take-append-add ks more n) (misplaced-take (length ks + n) (ks ++ more) h.placed))
+          (subst (λ (l : List Stored). is_misplaced l ≡ false) (take-append-add ks more n)
+          (misplaced-take (length ks + n) (ks ++ more) h.placed))
           older.placed
           (omega (arith, older.less, generation-append ks (take n more) some)),
     )
 
-pub stands_at : (live : Side) (d o : Disk) (ks more : List Stored) → Grows d o ks more → (image : Image) → MayLeaveBoth (pick live d o) image → (k : ℕ) × IsLive image (ks ++ take k more)
+pub stands_at : (live : Side) (d o : Disk) (ks more : List Stored) → Grows d o ks more → (image : Image)
+    → MayLeaveBoth (pick live d o) image → (k : ℕ) × IsLive image (ks ++ take k more)
 stands_at A d o ks more h = stands (pick A d o) A ks more h
 stands_at B d o ks more h = stands (pick B d o) B ks more h
 
 -- nothing was added: a beginning of what stood is a beginning of more
-pub keeps_at : (live : Side) (d o : Disk) (ks ls more : List Stored) → HoldsOn d o ks ls → (image : Image) → MayLeaveBoth (pick live d o) image → (k : ℕ) × IsLive image (ks ++ take k (ls ++ more))
+pub keeps_at : (live : Side) (d o : Disk) (ks ls more : List Stored) → HoldsOn d o ks ls → (image : Image)
+    → MayLeaveBoth (pick live d o) image → (k : ℕ) × IsLive image (ks ++ take k (ls ++ more))
 keeps_at live d o ks ls more h image left =
-    let at = stands_at live d o ks ls (record { front = λ c left. (left.0, left.1 ∙ (λ i. h.synced i ++ take left.0 (h.unsynced i))); fit = h.fit; placed = h.placed; sound = h.sound; older = h.older }) image left in
-    let same : take (min at.0 (length ls)) (ls ++ more) ≡ take at.0 ls = take-append-le (min at.0 (length ls)) ls more (omega arith) ∙ take_min at.0 ls in
+    let at = stands_at live d o ks ls
+    (record {
+      front = λ c left. (left.0, left.1 ∙ (λ i. h.synced i ++ take left.0 (h.unsynced i)));
+      fit = h.fit;
+      placed = h.placed;
+      sound = h.sound;
+      older = h.older;
+    }) image left in
+    let same : take (min at.0 (length ls)) (ls ++ more) ≡ take at.0 ls =
+    take-append-le (min at.0 (length ls)) ls more (omega arith) ∙ take_min at.0 ls in
     (min at.0 (length ls), subst (λ (l : List Stored). IsLive image (ks ++ l)) (sym same) at.1)
 
 pub take_within : (m n : ℕ) (x y : List ℕ) → (p : ℕ) × (take m (x ++ take n y) ≡ take p (x ++ y))
 take_within m n x y = elim (cases_lt m (length x + n)) [
-  | inl less ↦ (m, ap (λ (l : List ℕ). take m l) (sym (take-append-add x y n)) ∙ take-take m (length x + n) (x ++ y) (omega arith))
-  | inr long ↦ (length x + n, take_all m (x ++ take n y) (omega (arith, length-append x (take n y), length-take n y)) ∙ sym (take-append-add x y n))
+  | inl less ↦ (
+    m,
+    ap (λ (l : List ℕ). take m l) (sym (take-append-add x y n))
+        ∙ take-take m (length x + n) (x ++ y) (omega arith),
+  )
+  | inr long ↦ (
+    length x + n,
+    take_all m (x ++ take n y) (omega (arith, length-append x (take n y), length-take n y))
+        ∙ sym (take-append-add x y n),
+  )
 ]
 
 -- what is given fits after what stands there
@@ -95,7 +118,8 @@ module _ (ks ls : List Stored) (given : List Entry) where
   regrouped : (ks ++ ls) ++ plain given ≡ ks ++ (ls ++ plain given)
   regrouped = append_assoc ks ls (plain given)
 
-  more_fit : AllByRecursion IsStored (ks ++ ls) → AllByRecursion IsStored (plain given) → AllByRecursion IsStored (ks ++ (ls ++ plain given))
+  more_fit : AllByRecursion IsStored (ks ++ ls) → AllByRecursion IsStored (plain given)
+      → AllByRecursion IsStored (ks ++ (ls ++ plain given))
   more_fit fit fits = subst (AllByRecursion IsStored) regrouped (all-append IsStored (ks ++ ls) (plain given) fit fits)
 
   more_placed : 0 < generation ks → is_misplaced (ks ++ ls) ≡ false → is_misplaced (ks ++ (ls ++ plain given)) ≡ false
@@ -110,30 +134,40 @@ older_positive : (o : Disk) (g : ℕ) → IsOlder o g → 0 < g
 older_positive o g older = omega (arith, older.less)
 
 module _ (d o d' o' : Disk) (ks ls : List Stored) (given : List Entry) where
-  pub grows_torn : format ks ≡ 2 → HoldsOn d o ks ls → AllByRecursion IsStored (plain given) → (n : ℕ) → d' ≡ appended d (take n (spelling_of_all (plain given))) → o' ≡ o → Grows d' o' ks (ls ++ plain given)
+  pub grows_torn : format ks ≡ 2 → HoldsOn d o ks ls → AllByRecursion IsStored (plain given) → (n : ℕ)
+      → d' ≡ appended d (take n (spelling_of_all (plain given))) → o' ≡ o → Grows d' o' ks (ls ++ plain given)
   grows_torn two h fits n is same = record {
     front = λ c left.
         let within = take_within left.0 n (spelling_of_all ls) (spelling_of_all (plain given)) in
-        let new : c ≡ d.synced ++ take left.0 (d.unsynced ++ take n (spelling_of_all (plain given))) = left.1 ∙ ap (λ (e : Disk). e.synced ++ take left.0 e.unsynced) is in
-        let old : c ≡ spelling_of_all ks ++ take left.0 (spelling_of_all ls ++ take n (spelling_of_all (plain given))) = new ∙ (λ i. h.synced i ++ take left.0 (h.unsynced i ++ take n (spelling_of_all (plain given)))) in
-        (within.0, old ∙ ap (λ (l : List ℕ). spelling_of_all ks ++ l) (within.1 ∙ ap (λ (l : List ℕ). take within.0 l) (sym (spelled-append ls (plain given)))));
+        let new : c ≡ d.synced ++ take left.0 (d.unsynced ++ take n (spelling_of_all (plain given))) = left.1
+        ∙ ap (λ (e : Disk). e.synced ++ take left.0 e.unsynced) is in
+        let old : c ≡ spelling_of_all ks
+        ++ take left.0 (spelling_of_all ls ++ take n (spelling_of_all (plain given))) =
+        new ∙ (λ i. h.synced i ++ take left.0 (h.unsynced i ++ take n (spelling_of_all (plain given)))) in (
+          within.0,
+          old ∙ ap (λ (l : List ℕ). spelling_of_all ks ++ l)
+              (within.1 ∙ ap (λ (l : List ℕ). take within.0 l) (sym (spelled-append ls (plain given)))),
+        );
     fit = more_fit ks ls given h.fit fits;
     placed = more_placed ks ls given (older_positive o (generation ks) h.older) h.placed;
     sound = mixed-two ks (ls ++ plain given) two;
     older = older_same o o' (generation ks) same h.older;
   }
 
-  pub holds_append : format ks ≡ 2 → HoldsOn d o ks ls → AllByRecursion IsStored (plain given) → d' ≡ appended d (spelling_of_all (plain given)) → o' ≡ o → HoldsOn d' o' ks (ls ++ plain given)
+  pub holds_append : format ks ≡ 2 → HoldsOn d o ks ls → AllByRecursion IsStored (plain given)
+      → d' ≡ appended d (spelling_of_all (plain given)) → o' ≡ o → HoldsOn d' o' ks (ls ++ plain given)
   holds_append two h fits is same = record {
     synced = ap (λ (e : Disk). e.synced) is ∙ h.synced;
-    unsynced = ap (λ (e : Disk). e.unsynced) is ∙ ap (λ (l : List ℕ). l ++ spelling_of_all (plain given)) h.unsynced ∙ sym (spelled-append ls (plain given));
+    unsynced = ap (λ (e : Disk). e.unsynced) is ∙ ap (λ (l : List ℕ). l ++ spelling_of_all (plain given)) h.unsynced
+        ∙ sym (spelled-append ls (plain given));
     fit = more_fit ks ls given h.fit fits;
     placed = more_placed ks ls given (older_positive o (generation ks) h.older) h.placed;
     sound = mixed-two ks (ls ++ plain given) two;
     older = older_same o o' (generation ks) same h.older;
   }
 
-pub holds_sync : (d o d' o' : Disk) (ks ls : List Stored) → HoldsOn d o ks ls → d' ≡ flushed d → o' ≡ o → HoldsOn d' o' (ks ++ ls) []
+pub holds_sync : (d o d' o' : Disk) (ks ls : List Stored) → HoldsOn d o ks ls → d' ≡ flushed d → o' ≡ o
+    → HoldsOn d' o' (ks ++ ls) []
 holds_sync d o d' o' ks ls h is same =
     let all = append-nil (ks ++ ls) in
     record {
@@ -142,19 +176,33 @@ holds_sync d o d' o' ks ls h is same =
       fit = subst (AllByRecursion IsStored) (sym all) h.fit;
       placed = subst (λ (l : List Stored). is_misplaced l ≡ false) (sym all) h.placed;
       sound = subst (λ (l : List Stored). is_mixed l ≡ false) (sym all) h.sound;
-      older = older_same o o' (generation (ks ++ ls)) same (subst (IsOlder o) (sym (generation-append ks ls (older_positive o (generation ks) h.older))) h.older);
+      older = older_same o o' (generation (ks ++ ls)) same
+          (subst (IsOlder o) (sym (generation-append ks ls (older_positive o (generation ks) h.older))) h.older);
     }
 
 pub grows_holds : (d o : Disk) (ks ls : List Stored) → HoldsOn d o ks ls → Grows d o ks ls
-grows_holds d o ks ls h = record { front = λ c left. (left.0, left.1 ∙ (λ i. h.synced i ++ take left.0 (h.unsynced i))); fit = h.fit; placed = h.placed; sound = h.sound; older = h.older }
+grows_holds d o ks ls h =
+    record {
+      front = λ c left. (left.0, left.1 ∙ (λ i. h.synced i ++ take left.0 (h.unsynced i)));
+      fit = h.fit;
+      placed = h.placed;
+      sound = h.sound;
+      older = h.older;
+    }
 
 -- all of it is synced
-pub grows_synced : (d o d' o' : Disk) (ks ls : List Stored) → HoldsOn d o ks ls → d' ≡ flushed d → o' ≡ o → Grows d' o' ks ls
+pub grows_synced : (d o d' o' : Disk) (ks ls : List Stored) → HoldsOn d o ks ls → d' ≡ flushed d
+    → o' ≡ o → Grows d' o' ks ls
 grows_synced d o d' o' ks ls h is same = record {
   front = λ c left.
       let none : take left.0 d'.unsynced ≡ [] = ap (λ (e : Disk). take left.0 e.unsynced) is ∙ take_nil left.0 in
-      let all : c ≡ d.synced ++ d.unsynced = left.1 ∙ (λ i. (is i).synced ++ none i) ∙ append-nil (d.synced ++ d.unsynced) in
-      (length (spelling_of_all ls), all ∙ (λ i. h.synced i ++ h.unsynced i) ∙ ap (λ (l : List ℕ). spelling_of_all ks ++ l) (sym (take_all (length (spelling_of_all ls)) (spelling_of_all ls) (omega arith))));
+      let all : c ≡ d.synced ++ d.unsynced = left.1 ∙ (λ i. (is i).synced ++ none i)
+      ∙ append-nil (d.synced ++ d.unsynced) in (
+        length (spelling_of_all ls),
+        all ∙ (λ i. h.synced i ++ h.unsynced i)
+            ∙ ap (λ (l : List ℕ). spelling_of_all ks ++ l)
+            (sym (take_all (length (spelling_of_all ls)) (spelling_of_all ls) (omega arith))),
+      );
   fit = h.fit;
   placed = h.placed;
   sound = h.sound;
@@ -162,13 +210,19 @@ grows_synced d o d' o' ks ls h is same = record {
 }
 
 -- the same, where the piece that was given is these bytes
-module _ (d o d' o' : Disk) (ks ls : List Stored) (given : List Entry) (bytes : List ℕ) (piece : bytes ≡ spelling_of_all (plain given)) where
-  pub torn_piece : format ks ≡ 2 → HoldsOn d o ks ls → AllByRecursion IsStored (plain given) → AppendsSome bytes d d' → o' ≡ o → Grows d' o' ks (ls ++ plain given)
-  torn_piece two h fits torn same = grows_torn d o d' o' ks ls given two h fits torn.0 (torn.1 ∙ ap (λ (l : List ℕ). appended d (take torn.0 l)) piece) same
+module _ (d o d' o' : Disk) (ks ls : List Stored) (given : List Entry) (bytes : List ℕ)
+    (piece : bytes ≡ spelling_of_all (plain given)) where
+  pub torn_piece : format ks ≡ 2 → HoldsOn d o ks ls → AllByRecursion IsStored (plain given) → AppendsSome bytes d d'
+      → o' ≡ o → Grows d' o' ks (ls ++ plain given)
+  torn_piece two h fits torn same =
+      grows_torn d o d' o' ks ls given two h fits torn.0
+      (torn.1 ∙ ap (λ (l : List ℕ). appended d (take torn.0 l)) piece) same
 
-  pub holds_piece : format ks ≡ 2 → HoldsOn d o ks ls → AllByRecursion IsStored (plain given) → d' ≡ appended d bytes → o' ≡ o → HoldsOn d' o' ks (ls ++ plain given)
+  pub holds_piece : format ks ≡ 2 → HoldsOn d o ks ls → AllByRecursion IsStored (plain given) → d' ≡ appended d bytes
+      → o' ≡ o → HoldsOn d' o' ks (ls ++ plain given)
   holds_piece two h fits is same = holds_append d o d' o' ks ls given two h fits (is ∙ ap (appended d) piece) same
 
 -- nothing has changed
 pub holds_same : (d o d' o' : Disk) (ks ls : List Stored) → HoldsOn d o ks ls → d' ≡ d → o' ≡ o → HoldsOn d' o' ks ls
-holds_same d o d' o' ks ls h same_d same_o = subst (λ (e : Disk). HoldsOn e o' ks ls) (sym same_d) (subst (λ (e : Disk). HoldsOn d e ks ls) (sym same_o) h)
+holds_same d o d' o' ks ls h same_d same_o =
+    subst (λ (e : Disk). HoldsOn e o' ks ls) (sym same_d) (subst (λ (e : Disk). HoldsOn d e ks ls) (sym same_o) h)

@@ -1,5 +1,6 @@
 -- Why a call of an open store failed, and what the device's counts say of it.
-use Rattle.std.specs.Prelude.{◌≡◌, ℕ, ◌+◌, ◌<◌, ◌≤◌, ◌⊎◌, Bool, true, false, List, [], ◌∷◌, Result, Ok, Err, IfErr, IsErrOf, if◌then◌else◌}
+use Rattle.std.specs.Prelude.{◌≡◌, ℕ, ◌+◌, ◌<◌, ◌≤◌, ◌⊎◌, Bool, true, false, List, [], ◌∷◌, Result, Ok, Err, IfErr}
+use Rattle.std.specs.Prelude.{IsErrOf, if◌then◌else◌}
 use Rattle.lk_types.specs.Limits.{max_count}
 use Rattle.lk_disk.specs.Disk.{one_more}
 use Rattle.lk_disk.specs.Meters.{Passes, Breaks}
@@ -46,11 +47,13 @@ DoesNothing old new result = (new ≡ old) × IsErrOf result Failed
 
 -- a store that has failed does nothing, and any other fails only for such a reason
 abbrev pub RefusesFor : {T : Type 0} → (StoreFault → Type 0) → StoreValue → StoreValue → Result T StoreFault → Type 0
-RefusesFor Reason old new result = (old.failed ≡ true → DoesNothing old new result) × (old.failed ≡ false → IfErr result Reason)
+RefusesFor Reason old new result =
+    (old.failed ≡ true → DoesNothing old new result) × (old.failed ≡ false → IfErr result Reason)
 
 -- a store that has failed does nothing, nor does one at the last generation, and any other fails only for such a
 -- reason
-abbrev pub RefusesOrIsLast : {T : Type 0} → (StoreFault → Type 0) → StoreValue → StoreValue → Result T StoreFault → Type 0
+abbrev pub RefusesOrIsLast : {T : Type 0} → (StoreFault → Type 0) → StoreValue → StoreValue
+    → Result T StoreFault → Type 0
 RefusesOrIsLast Reason old new result =
     (old.failed ≡ true → DoesNothing old new result)
     × (max_count ≤ old.generation → DoesNothing old new result)

@@ -11,11 +11,13 @@ use Rattle.lk_log.specs.declared.verdict.Verdict.{Verdict}
 
 -- each image amounts to something
 abbrev pub AllMean : (Side → Disk) → Type 0
-AllMean disks = (image : Image) → MayLeaveBoth disks image → (v : Verdict) × (entries : Side → List Stored) × Means image v entries
+AllMean disks =
+    (image : Image) → MayLeaveBoth disks image → (v : Verdict) × (entries : Side → List Stored) × Means image v entries
 
 -- each image has entries with this property: those of its live file, or those of a new store if it is empty
 abbrev pub EveryFound : (Side → Disk) → HeaderValue → List ℕ → (List Stored → Type 0) → Type 0
-EveryFound disks whose zero P = (image : Image) → MayLeaveBoth disks image → (es : List Stored) × Found image whose zero es × P es
+EveryFound disks whose zero P =
+    (image : Image) → MayLeaveBoth disks image → (es : List Stored) × Found image whose zero es × P es
 
 -- Each image of the new disks amounts to what an image of the old ones did, or to a new store if some image of the old
 -- ones was empty. What one opening promises speaks of the image that it read; this carries over from opening to

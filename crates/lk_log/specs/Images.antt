@@ -59,4 +59,5 @@ SameMeaning before image = (v : Verdict) (entries : Side → List Stored) → Me
 
 -- each image after it amounts to what an image before it did
 abbrev pub Narrows : (Side → Disk) → (Side → Disk) → Type 0
-Narrows old new = (image : Image) → MayLeaveBoth new image → (before : Image) × MayLeaveBoth old before × SameMeaning before image
+Narrows old new =
+    (image : Image) → MayLeaveBoth new image → (before : Image) × MayLeaveBoth old before × SameMeaning before image

@@ -1,5 +1,6 @@
 -- An open store, and what a stop may leave of it.
-use Rattle.std.specs.Prelude.{◌≡◌, ℕ, ◌+◌, ◌<◌, ◌≤◌, ◌⊎◌, nat_le, Bool, false, IsTrue, List, [], ◌∷◌, ◌++◌, length, take, Result, Ok, Err, IsErrOf, if◌then◌else◌}
+use Rattle.std.specs.Prelude.{◌≡◌, ℕ, ◌+◌, ◌<◌, ◌≤◌, ◌⊎◌, nat_le, Bool, false, IsTrue, List, [], ◌∷◌, ◌++◌, length}
+use Rattle.std.specs.Prelude.{take, Result, Ok, Err, IsErrOf, if◌then◌else◌}
 use Rattle.std.specs.List.{AllByRecursion}
 use Rattle.lk_types.specs.Ballots.{zero_ballot}
 use Rattle.lk_types.specs.Limits.{max_base, max_votes}
@@ -46,7 +47,8 @@ pub record Holds (s : StoreValue) (synced_entries unsynced_entries : List Stored
 
 -- each image that a stop may leave of these disks has all of the first entries and a prefix of the others
 abbrev pub KeepsAtLeastOn : Side → Disk → Disk → List Stored → List Stored → Type 0
-KeepsAtLeastOn live live_disk other_disk first more = (image : Image) → MayLeaveBoth (pick live live_disk other_disk) image
+KeepsAtLeastOn live live_disk other_disk first more =
+    (image : Image) → MayLeaveBoth (pick live live_disk other_disk) image
     → (k : ℕ) × IsLive image (first ++ take k more)
 
 -- the same of a store
@@ -57,7 +59,8 @@ KeepsAtLeast s = KeepsAtLeastOn s.live s.live_disk s.other_disk
 
 -- after the call the same file is live, with the same generation, format and header
 abbrev pub KeepsItsFile : StoreValue → StoreValue → Type 0
-KeepsItsFile old new = (new.live ≡ old.live) × (new.generation ≡ old.generation) × (new.format ≡ old.format) × (new.header ≡ old.header)
+KeepsItsFile old new =
+    (new.live ≡ old.live) × (new.generation ≡ old.generation) × (new.format ≡ old.format) × (new.header ≡ old.header)
 
 -- neither file has changed
 abbrev pub KeepsBothDisks : StoreValue → StoreValue → Type 0
@@ -65,7 +68,8 @@ KeepsBothDisks old new = (new.live_disk ≡ old.live_disk) × (new.other_disk �
 
 -- the other file is unchanged, and out of memory the live one is too
 abbrev pub KeepsOtherDisk : {T : Type 0} → StoreValue → StoreValue → Result T StoreFault → Type 0
-KeepsOtherDisk old new result = (new.other_disk ≡ old.other_disk) × (IsErrOf result NoMemory → new.live_disk ≡ old.live_disk)
+KeepsOtherDisk old new result =
+    (new.other_disk ≡ old.other_disk) × (IsErrOf result NoMemory → new.live_disk ≡ old.live_disk)
 
 -- ---- a rebase
 
@@ -127,7 +131,8 @@ abbrev pub StandsForSome : StandingValue → Type 0
 StandsForSome s = (es : List Stored) × StandsFor es s
 
 -- these disks hold what an opening finds, all of it synced, under this header, with its format and with this standing
-pub record OpensOn (before : Image) (h : HeaderValue) (zero : List ℕ) (live_disk other_disk : Disk) (number told : ℕ) (standing : StandingValue) : Type 0 where
+pub record OpensOn (before : Image) (h : HeaderValue) (zero : List ℕ) (live_disk other_disk : Disk) (number told : ℕ)
+    (standing : StandingValue) : Type 0 where
   pub entries : List Stored
   pub found : Found before h zero entries
   pub holds : HoldsOn live_disk other_disk entries []
@@ -150,7 +155,8 @@ IsOpened h s standing = (s.failed ≡ false) × (s.header ≡ h) × StandsForSom
 abbrev pub OpensBy : Image → ℕ → Type 0
 OpensBy before k =
     (IsEmpty before × (k ≡ 3))
-    ⊎ ((live : Side) × (es : List Stored) × IsLive before es × IsFile (before live) es false × (k ≡ cut_calls (length (spelling_of_all es)) (length (before live)) + 1))
+    ⊎ ((live : Side) × (es : List Stored) × IsLive before es × IsFile (before live) es false
+    × (k ≡ cut_calls (length (spelling_of_all es)) (length (before live)) + 1))
 
 -- whole entries with one Base, at the start: those that stand for something
 pub record MayStand (es : List Stored) : Type 0 where
@@ -181,7 +187,8 @@ pub record Shows (before : Image) (number told : ℕ) (standing : StandingValue)
 -- each image of the new disks amounts to what an image of the old ones did, or to a new store if there was none
 abbrev pub NarrowsOrBegins : (Side → Disk) → (Side → Disk) → HeaderValue → List ℕ → Type 0
 NarrowsOrBegins old new h zero = (image : Image) → MayLeaveBoth new image
-    → ((before : Image) × MayLeaveBoth old before × SameMeaning before image) ⊎ (IsEmpty (seen old) × IsLive image (Base (first_base h zero) ∷ []))
+    → ((before : Image) × MayLeaveBoth old before × SameMeaning before image)
+    ⊎ (IsEmpty (seen old) × IsLive image (Base (first_base h zero) ∷ []))
 
 -- each image of a file after it has what an image of it before had
 abbrev pub FileNarrows : Disk → Disk → Type 0
@@ -198,4 +205,5 @@ pub record FoundLive (disks : Side → Disk) (live : Side) (es : List Stored) (e
 
 -- each image of a file is a prefix of what was there, or of these bytes
 abbrev pub IsWrittenOver : Disk → List ℕ → Disk → Type 0
-IsWrittenOver old bytes new = (c : List ℕ) → MayLeave new c → ((p : ℕ) × (c ≡ take p (contents old))) ⊎ ((p : ℕ) × (c ≡ take p bytes))
+IsWrittenOver old bytes new =
+    (c : List ℕ) → MayLeave new c → ((p : ℕ) × (c ≡ take p (contents old))) ⊎ ((p : ℕ) × (c ≡ take p bytes))

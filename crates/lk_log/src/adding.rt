@@ -1,5 +1,6 @@
 // Adding entries to the live file of a device.
-ghost use Rattle.std.specs.Prelude.{◌≡◌, ◌≤◌, ◌+◌, ◌*◌, ◌++◌, List, [], length, take, true, false, OnOk, OnErr, IsErrOf};
+ghost use Rattle.std.specs.Prelude.{◌≡◌, ◌≤◌, ◌+◌, ◌*◌, ◌++◌, List, [], length, take, true, false, OnOk, OnErr};
+ghost use Rattle.std.specs.Prelude.{IsErrOf};
 ghost use Rattle.lk_disk.specs.Disk.{other, contents, appended, AppendsSome, HasCause};
 ghost use Rattle.lk_entries.specs.Formats.{format};
 ghost use Rattle.lk_entries.specs.Entries.{plain};
@@ -37,18 +38,26 @@ pub fn add<D: LogDisk>(
     entries: &[Entry],
     sync: bool,
 ) -> Result<(), StoreFault>
-    ensures added { D.is_honest → sync ≡ false → (ks ls : List Stored) → format ks ≡ 2 → HoldsOn (D.disk device.old live) (D.disk device.old (other live)) ks ls
+    ensures added { D.is_honest → sync ≡ false → (ks ls : List Stored) → format ks ≡ 2
+        → HoldsOn (D.disk device.old live) (D.disk device.old (other live)) ks ls
         → OnOk result (HoldsOn (D.disk device.new live) (D.disk device.new (other live)) ks (ls ++ plain entries.now)) }
-    ensures synced { D.is_honest → sync ≡ true → (ks ls : List Stored) → format ks ≡ 2 → HoldsOn (D.disk device.old live) (D.disk device.old (other live)) ks ls
-        → OnOk result (HoldsOn (D.disk device.new live) (D.disk device.new (other live)) (ks ++ (ls ++ plain entries.now)) []) }
-    ensures any { D.is_honest → (ks ls : List Stored) → format ks ≡ 2 → HoldsOn (D.disk device.old live) (D.disk device.old (other live)) ks ls
+    ensures synced { D.is_honest → sync ≡ true → (ks ls : List Stored) → format ks ≡ 2
+        → HoldsOn (D.disk device.old live) (D.disk device.old (other live)) ks ls
+        → OnOk result (HoldsOn (D.disk device.new live) (D.disk device.new (other live))
+        (ks ++ (ls ++ plain entries.now)) []) }
+    ensures any { D.is_honest → (ks ls : List Stored) → format ks ≡ 2
+        → HoldsOn (D.disk device.old live) (D.disk device.old (other live)) ks ls
         → KeepsAtLeastOn live (D.disk device.new live) (D.disk device.new (other live)) ks (ls ++ plain entries.now) }
     ensures beside { D.is_honest → D.disk device.new (other live) ≡ D.disk device.old (other live) }
-    ensures no_memory { D.is_honest → IsErrOf result StoreFault.NoMemory → D.disk device.new live ≡ D.disk device.old live }
+    ensures no_memory { D.is_honest → IsErrOf result StoreFault.NoMemory
+        → D.disk device.new live ≡ D.disk device.old live }
     // Whatever its result, it adds no more bytes than this many entries have, each at most 102.
-    ensures grows { D.is_honest → length (contents (D.disk device.new live)) ≤ length (contents (D.disk device.old live)) + 102 * length entries.now }
+    ensures grows { D.is_honest
+        → length (contents (D.disk device.new live))
+        ≤ length (contents (D.disk device.old live)) + 102 * length entries.now }
     ensures cause { IsCaused (D.failures device.old) (D.failures device.new) result }
-    ensures metered { D.is_metered → IsMetered (D.meter device.old) (D.meter device.new) (put_calls entries.now sync) result }
+    ensures metered { D.is_metered
+        → IsMetered (D.meter device.old) (D.meter device.new) (put_calls entries.now sync) result }
 {
     entries_facts(entries);
     let bytes = spelled(alloc, entries)?;

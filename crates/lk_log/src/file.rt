@@ -91,7 +91,8 @@ fn read_bytes<D: LogDisk>(alloc: Global, device: &mut D, side: Side) -> Result<V
 /// A file of the device.
 pub fn read_file<D: LogDisk>(alloc: Global, device: &mut D, side: Side) -> Result<File, OpenFault>
     ensures unchanged { D.is_honest → (s : _) → D.disk device.new s ≡ D.disk device.old s }
-    ensures file { D.is_honest → IfOk result (λ f. IsFile (contents (D.disk device.old side)) f.entries.items f.is_damaged) }
+    ensures file { D.is_honest
+        → IfOk result (λ f. IsFile (contents (D.disk device.old side)) f.entries.items f.is_damaged) }
     ensures fit { IfOk result (λ f. AllByRecursion IsStored f.entries.items) }
     ensures end { IfOk result (λ f. f.end ≡ length (spelling_of_all f.entries.items)) }
     ensures size { D.is_honest → IfOk result (λ f. f.size ≡ length (contents (D.disk device.old side))) }

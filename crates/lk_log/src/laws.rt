@@ -17,15 +17,18 @@ ghost use Rattle.lk_log.specs.declared.verdict.Verdict.{Verdict};
 
 /// Two files amount to one thing: they are damaged, empty, or one of them is live.
 pub fn one_meaning()
-    ensures verdict { (image : Image) (v w : Verdict) (es fs : Side → List Stored) → Means image v es → Means image w fs → v ≡ w }
-    ensures entries { (image : Image) (v w : Verdict) (es fs : Side → List Stored) → Means image v es → Means image w fs → (s : Side) → es s ≡ fs s }
+    ensures verdict { (image : Image) (v w : Verdict) (es fs : Side → List Stored) → Means image v es
+        → Means image w fs → v ≡ w }
+    ensures entries { (image : Image) (v w : Verdict) (es fs : Side → List Stored) → Means image v es
+        → Means image w fs → (s : Side) → es s ≡ fs s }
 {}
 
 /// The entries of a live file stand for one thing, and with one more entry for that with this entry.
 pub fn one_standing()
     ensures some { (image : Image) (es : List Stored) → IsLive image es → (s : StandingValue) × StandsFor es s }
     ensures one { (es : List Stored) (s t : StandingValue) → StandsFor es s → StandsFor es t → s ≡ t }
-    ensures more { (es : List Stored) (s : StandingValue) (e : Entry) → StandsFor es s → StandsFor (es ++ Plain e ∷ []) (with_plain e s) }
+    ensures more { (es : List Stored) (s : StandingValue) (e : Entry) → StandsFor es s
+        → StandsFor (es ++ Plain e ∷ []) (with_plain e s) }
 {}
 
 /// Each image of an open store has everything that it holds synced and a prefix of the rest, which are plain entries,
@@ -33,8 +36,10 @@ pub fn one_standing()
 pub fn what_a_stop_leaves()
     ensures keeps { (s : StoreValue) (ks ls : List Stored) → Holds s ks ls → KeepsAtLeast s ks ls }
     ensures plain { (s : StoreValue) (ks ls : List Stored) → Holds s ks ls → (more : List Entry) × (ls ≡ plain more) }
-    ensures least { (s : StoreValue) (ks ls : List Stored) → Holds s ks ls → (image : Image) × MayLeaveBoth (disks s) image × IsLive image ks }
-    ensures synced { (s : StoreValue) (ks : List Stored) → Holds s ks [] → (image : Image) → MayLeaveBoth (disks s) image → IsLive image ks }
+    ensures least { (s : StoreValue) (ks ls : List Stored) → Holds s ks ls
+        → (image : Image) × MayLeaveBoth (disks s) image × IsLive image ks }
+    ensures synced { (s : StoreValue) (ks : List Stored) → Holds s ks [] → (image : Image)
+        → MayLeaveBoth (disks s) image → IsLive image ks }
 {}
 
 /// What is read is an image, and files without a byte are empty.
@@ -46,9 +51,12 @@ pub fn what_is_read()
 /// Openings in a row, successful or not, leave what one opening may leave, and any decidable property of every image
 /// is preserved.
 pub fn openings()
-    ensures one { (old new : Side → Disk) (whose : HeaderValue) (text : List ℕ) → NarrowsOrBegins old new whose text → NarrowsOrBeganSome old new whose text }
+    ensures one { (old new : Side → Disk) (whose : HeaderValue) (text : List ℕ) → NarrowsOrBegins old new whose text
+        → NarrowsOrBeganSome old new whose text }
     ensures more { (old mid new : Side → Disk) (whose : HeaderValue) (text : List ℕ) → AllMean old
-        → NarrowsOrBeganSome old mid whose text → NarrowsOrBeganSome mid new whose text → NarrowsOrBeganSome old new whose text }
-    ensures keep { (old new : Side → Disk) (whose : HeaderValue) (text : List ℕ) (test : List Stored → Bool) → NarrowsOrBeganSome old new whose text
+        → NarrowsOrBeganSome old mid whose text → NarrowsOrBeganSome mid new whose text
+        → NarrowsOrBeganSome old new whose text }
+    ensures keep { (old new : Side → Disk) (whose : HeaderValue) (text : List ℕ) (test : List Stored → Bool)
+        → NarrowsOrBeganSome old new whose text
         → EveryFound old whose text (λ es. test es ≡ true) → EveryFound new whose text (λ es. test es ≡ true) }
 {}

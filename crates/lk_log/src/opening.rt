@@ -53,7 +53,9 @@ pub fn find<D: LogDisk>(alloc: Global, device: &mut D) -> Result<Option<(Side, F
     ensures unchanged { D.is_honest → (s : Side) → D.disk device.new s ≡ D.disk device.old s }
     ensures damaged { D.is_honest → IsErrOf result OpenFault.Damaged → IsDamaged (seen (D.disk device.old)) }
     ensures empty { D.is_honest → result ≡ Ok None → IsEmpty (seen (D.disk device.old)) }
-    ensures live { D.is_honest → IfOk result (λ found. IfSome found (λ f. FoundLive (D.disk device.old) f.0 f.1.entries.items f.1.end f.1.size)) }
+    ensures live { D.is_honest
+        → IfOk result (λ found. IfSome found
+        (λ f. FoundLive (D.disk device.old) f.0 f.1.entries.items f.1.end f.1.size)) }
     ensures stands { IfOk result (λ found. IfSome found (λ f. MayStand f.1.entries.items)) }
     ensures wrong { IsErrOf result OpenFault.WrongStore → ⊥ }
     ensures cause { FailuresRise (D.failures device.old) (D.failures device.new) result }

@@ -26,15 +26,21 @@ pub fn other(side: Side) -> Side
 
 /// Replaces the other file with these bytes of a Base, syncs it, and truncates the live file to nothing.
 pub fn switch_files<D: LogDisk>(device: &mut D, live: Side, bytes: &[u8]) -> Result<(), DeviceFault>
-    ensures holds { D.is_honest → (b : BaseValue) → b.format ≡ 2 → IsStored (base_entry b) → bytes.now ≡ spelling (base_entry b)
+    ensures holds { D.is_honest → (b : BaseValue) → b.format ≡ 2 → IsStored (base_entry b)
+        → bytes.now ≡ spelling (base_entry b)
         → OnOk result (HoldsOn (D.disk device.new (other live)) (D.disk device.new live) (base_entry b ∷ []) []) }
     ensures left { D.is_honest → OnOk result (D.disk device.new live ≡ record { synced = []; unsynced = [] }) }
-    ensures any { D.is_honest → (b : BaseValue) (ks ls : List Stored) → HoldsOn (D.disk device.old live) (D.disk device.old (other live)) ks ls
-        → generation ks < b.generation → b.format ≡ 2 → IsStored (base_entry b) → bytes.now ≡ spelling (base_entry b) → KeepsOrIs (D.disk device.new) ks ls b }
-    ensures room { D.is_honest → length bytes.now ≤ max_base → StaysWithin max_base (D.disk device.old) (D.disk device.new) }
-    ensures short { D.is_honest → length bytes.now ≤ max_base → OnOk result (length (contents (D.disk device.new (other live))) ≤ max_base) }
+    ensures any { D.is_honest → (b : BaseValue) (ks ls : List Stored)
+        → HoldsOn (D.disk device.old live) (D.disk device.old (other live)) ks ls
+        → generation ks < b.generation → b.format ≡ 2 → IsStored (base_entry b) → bytes.now ≡ spelling (base_entry b)
+        → KeepsOrIs (D.disk device.new) ks ls b }
+    ensures room { D.is_honest → length bytes.now ≤ max_base
+        → StaysWithin max_base (D.disk device.old) (D.disk device.new) }
+    ensures short { D.is_honest → length bytes.now ≤ max_base
+        → OnOk result (length (contents (D.disk device.new (other live))) ≤ max_base) }
     ensures cause { HasCause (D.failures device.old) (D.failures device.new) result }
-    ensures metered { D.is_metered → D.is_honest → ComesBy (D.meter device.old) (D.meter device.new) rebase_calls result }
+    ensures metered { D.is_metered → D.is_honest
+        → ComesBy (D.meter device.old) (D.meter device.new) rebase_calls result }
 {
     let side = other(live);
     write_over(device, side, bytes)?;

@@ -1,5 +1,6 @@
 // Opening a store, and looking at one.
-ghost use Rattle.std.specs.Prelude.{◌≡◌, ◌≤◌, ◌<◌, ◌+◌, ◌-◌, ◌^◌, ◌↔◌, List, ℕ, [], true, false, length, IsTrue, IfOk, IfErr, IfSome, OnOk, IsErrOf, MatchResult, Ok};
+ghost use Rattle.std.specs.Prelude.{◌≡◌, ◌≤◌, ◌<◌, ◌+◌, ◌-◌, ◌^◌, ◌↔◌, List, ℕ, [], true, false, length, IsTrue, IfOk};
+ghost use Rattle.std.specs.Prelude.{IfErr, IfSome, OnOk, IsErrOf, MatchResult, Ok};
 ghost use Rattle.lk_disk.specs.Disk.{other, HasCause};
 ghost use Rattle.lk_disk.specs.Meters.{Passes};
 ghost use Rattle.lk_disk.specs.declared.device.Side.{Side};
@@ -15,7 +16,9 @@ ghost use Rattle.lk_log.specs.OpenCauses.{IsCaused, FailuresRise, failures_after
 ghost use Rattle.lk_log.specs.Images.{IsEmpty, IsDamaged, seen};
 ghost use Rattle.lk_log.specs.Rooms.{StaysWithin};
 ghost use Rattle.lk_log.specs.StoreValue.{disks};
-ghost use Rattle.lk_log.specs.Stores.{first_base, cut_calls, OpensBy, FoundLive, IsWrittenOver, OpensOn, Opens, IsOpened, StaysDamaged, StaysWrong, Shows, NarrowsOrBegins, MayStand, StandsForSome};
+ghost use Rattle.lk_log.specs.Stores.{first_base, cut_calls, OpensBy, FoundLive, IsWrittenOver, OpensOn, Opens};
+ghost use Rattle.lk_log.specs.Stores.{IsOpened, StaysDamaged, StaysWrong, Shows, NarrowsOrBegins, MayStand};
+ghost use Rattle.lk_log.specs.Stores.{StandsForSome};
 
 use crate::fault::{OpenFault, ReopenFault};
 use crate::file::{File, generation_of};
@@ -96,8 +99,10 @@ fn begin<D: LogDisk>(
     requires some { 1 ≤ length zero.now }
     requires room { length zero.now ≤ 49054 }
     ensures opens { D.is_honest → IsEmpty (seen (D.disk device.old))
-        → IfOk result (λ o. OpensOn (seen (D.disk device.old)) header.now zero.now (D.disk device.new o.live) (D.disk device.new (other o.live)) o.generation o.format o.standing) }
-    ensures stays { D.is_honest → IsEmpty (seen (D.disk device.old)) → NarrowsOrBegins (D.disk device.old) (D.disk device.new) header.now zero.now }
+        → IfOk result (λ o. OpensOn (seen (D.disk device.old)) header.now zero.now (D.disk device.new o.live)
+        (D.disk device.new (other o.live)) o.generation o.format o.standing) }
+    ensures stays { D.is_honest → IsEmpty (seen (D.disk device.old))
+        → NarrowsOrBegins (D.disk device.old) (D.disk device.new) header.now zero.now }
     ensures room { D.is_honest → StaysWithin max_base (D.disk device.old) (D.disk device.new) }
     ensures in_a { IfOk result (λ o. o.live ≡ A) }
     ensures is_new { IfOk result (λ o. o.is_new ≡ true) }
@@ -141,15 +146,19 @@ fn open<D: LogDisk>(
     file: File,
 ) -> Result<Opened, OpenFault>
     requires { MayStand file.entries.items }
-    ensures opens { D.is_honest → FoundLive (D.disk device.old) live file.entries.items file.end file.size → (whose : HeaderValue) (zero : List ℕ) → HasHeader file.entries.items whose
-        → IfOk result (λ o. OpensOn (seen (D.disk device.old)) whose zero (D.disk device.new o.live) (D.disk device.new (other o.live)) o.generation o.format o.standing) }
-    ensures stays { D.is_honest → FoundLive (D.disk device.old) live file.entries.items file.end file.size → (whose : HeaderValue) (zero : List ℕ)
+    ensures opens { D.is_honest → FoundLive (D.disk device.old) live file.entries.items file.end file.size
+        → (whose : HeaderValue) (zero : List ℕ) → HasHeader file.entries.items whose
+        → IfOk result (λ o. OpensOn (seen (D.disk device.old)) whose zero (D.disk device.new o.live)
+        (D.disk device.new (other o.live)) o.generation o.format o.standing) }
+    ensures stays { D.is_honest → FoundLive (D.disk device.old) live file.entries.items file.end file.size
+        → (whose : HeaderValue) (zero : List ℕ)
         → NarrowsOrBegins (D.disk device.old) (D.disk device.new) whose zero }
     ensures room { D.is_honest → StaysWithin 0 (D.disk device.old) (D.disk device.new) }
     ensures is_old { IfOk result (λ o. o.is_new ≡ false) }
     ensures stands { IfOk result (λ o. StandsForSome o.standing) }
     ensures cause { IsCaused (D.failures device.old) (D.failures device.new) result }
-    ensures metered { D.is_metered → D.is_honest → FoundLive (D.disk device.old) live file.entries.items file.end file.size
+    ensures metered { D.is_metered → D.is_honest
+        → FoundLive (D.disk device.old) live file.entries.items file.end file.size
         → IsMetered (D.meter device.old) (D.meter device.new) (cut_calls file.end file.size + 1) result }
 {
     let File {
@@ -181,14 +190,17 @@ fn recover<D: LogDisk>(
     requires some { 1 ≤ length zero.now }
     requires room { length zero.now ≤ 49054 }
     ensures opens { D.is_honest
-        → IfOk result (λ o. OpensOn (seen (D.disk device.old)) header.now zero.now (D.disk device.new o.live) (D.disk device.new (other o.live)) o.generation o.format o.standing) }
+        → IfOk result (λ o. OpensOn (seen (D.disk device.old)) header.now zero.now (D.disk device.new o.live)
+        (D.disk device.new (other o.live)) o.generation o.format o.standing) }
     ensures stays { D.is_honest → NarrowsOrBegins (D.disk device.old) (D.disk device.new) header.now zero.now }
     ensures room { D.is_honest → StaysWithin max_base (D.disk device.old) (D.disk device.new) }
     ensures begun { D.is_honest → IsEmpty (seen (D.disk device.old)) → IfOk result (λ o. o.live ≡ A) }
     ensures is_new { D.is_honest → IfOk result (λ o. IsTrue o.is_new ↔ IsEmpty (seen (D.disk device.old))) }
     ensures stands { IfOk result (λ o. StandsForSome o.standing) }
-    ensures damaged { D.is_honest → IsErrOf result OpenFault.Damaged → StaysDamaged (D.disk device.old) (D.disk device.new) }
-    ensures wrong { D.is_honest → IsErrOf result OpenFault.WrongStore → StaysWrong (D.disk device.old) (D.disk device.new) header.now }
+    ensures damaged { D.is_honest → IsErrOf result OpenFault.Damaged
+        → StaysDamaged (D.disk device.old) (D.disk device.new) }
+    ensures wrong { D.is_honest → IsErrOf result OpenFault.WrongStore
+        → StaysWrong (D.disk device.old) (D.disk device.new) header.now }
     ensures cause { FailuresRise (D.failures device.old) (D.failures device.new) result }
     ensures metered { D.is_metered → D.is_honest → MatchResult result
         (λ _. (k : ℕ) × OpensBy (seen (D.disk device.old)) k × Passes (D.meter device.old) (D.meter device.new) k)
@@ -226,14 +238,19 @@ pub fn reopen<D: LogDisk + Drop>(
         (λ r. NarrowsOrBegins (D.disk device) (disks r.store) header.now zero.now)
         (λ e. NarrowsOrBegins (D.disk device) (D.disk e.device) header.now zero.now) }
     // However it ends, neither file has grown, except up to the size of a Base.
-    ensures room { D.is_honest → MatchResult result (λ r. StaysWithin max_base (D.disk device) (disks r.store)) (λ e. StaysWithin max_base (D.disk device) (D.disk e.device)) }
+    ensures room { D.is_honest
+        → MatchResult result (λ r. StaysWithin max_base (D.disk device) (disks r.store))
+        (λ e. StaysWithin max_base (D.disk device) (D.disk e.device)) }
     // A store is new exactly if there was no Base, and then begins in A.
     ensures begun { D.is_honest → IsEmpty (seen (D.disk device)) → IfOk result (λ r. r.store.live ≡ A) }
     ensures is_new { D.is_honest → IfOk result (λ r. IsTrue r.is_new ↔ IsEmpty (seen (D.disk device))) }
     // A damaged store and another's are unchanged.
-    ensures damaged { D.is_honest → IfErr result (λ e. e.fault ≡ OpenFault.Damaged → StaysDamaged (D.disk device) (D.disk e.device)) }
-    ensures wrong { D.is_honest → IfErr result (λ e. e.fault ≡ OpenFault.WrongStore → StaysWrong (D.disk device) (D.disk e.device) header.now) }
-    ensures cause { MatchResult result (λ r. r.store.failures ≡ D.failures device) (λ e. D.failures e.device ≡ failures_after e.fault (D.failures device)) }
+    ensures damaged { D.is_honest
+        → IfErr result (λ e. e.fault ≡ OpenFault.Damaged → StaysDamaged (D.disk device) (D.disk e.device)) }
+    ensures wrong { D.is_honest
+        → IfErr result (λ e. e.fault ≡ OpenFault.WrongStore → StaysWrong (D.disk device) (D.disk e.device) header.now) }
+    ensures cause { MatchResult result (λ r. r.store.failures ≡ D.failures device)
+        (λ e. D.failures e.device ≡ failures_after e.fault (D.failures device)) }
     // For a metered device it says which of its calls were made.
     ensures metered { D.is_metered → D.is_honest → MatchResult result
         (λ r. (k : ℕ) × OpensBy (seen (D.disk device)) k × Passes (D.meter device) r.store.meter k)
@@ -282,7 +299,8 @@ pub struct LiveFile {
 /// It fails with `Device` (7), `NoMemory` (8) and `Damaged` (9).
 pub fn look<D: LogDisk>(alloc: Global, device: &mut D) -> Result<Option<LiveFile>, OpenFault>
     ensures unchanged { D.is_honest → (s : Side) → D.disk device.new s ≡ D.disk device.old s }
-    ensures some { D.is_honest → IfOk result (λ r. IfSome r (λ x. Shows (seen (D.disk device.old)) x.generation x.format x.standing)) }
+    ensures some { D.is_honest
+        → IfOk result (λ r. IfSome r (λ x. Shows (seen (D.disk device.old)) x.generation x.format x.standing)) }
     ensures none { D.is_honest → result ≡ Ok None → IsEmpty (seen (D.disk device.old)) }
     ensures damaged { D.is_honest → IsErrOf result OpenFault.Damaged → IsDamaged (seen (D.disk device.old)) }
     ensures wrong { IsErrOf result OpenFault.WrongStore → ⊥ }

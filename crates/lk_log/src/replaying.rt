@@ -1,6 +1,7 @@
 // Replaying the entries of a file: what they stand for.
 ghost use Rattle.std.specs.Prelude.{◌≡◌, ◌≤◌, map, length, OnOk, OnErr, IfOk};
-ghost use Rattle.lk_entries.specs.Standings.{greater, greatest_of, ballot_of, pairs_below, with_pair, with_plain, of_base, ArePairsRising, Rises, StandsFor};
+ghost use Rattle.lk_entries.specs.Standings.{greater, greatest_of, ballot_of, pairs_below, with_pair, with_plain};
+ghost use Rattle.lk_entries.specs.Standings.{of_base, ArePairsRising, Rises, StandsFor};
 ghost use Rattle.lk_log.specs.Stores.{MayStand};
 ghost use Rattle.lk_types.specs.declared.entry.Entry.TheVariants.{Vote as vote_entry, Decided as decided_entry};
 

@@ -1,5 +1,6 @@
 // The store: entries one after another in the live file.
-ghost use Rattle.std.specs.Prelude.{◌≡◌, ◌++◌, ◌∷◌, ◌<◌, ◌≤◌, ◌^◌, ◌+◌, ◌-◌, ◌*◌, List, [], length, true, false, IfOk, OnOk, IsErrOf};
+ghost use Rattle.std.specs.Prelude.{◌≡◌, ◌++◌, ◌∷◌, ◌<◌, ◌≤◌, ◌^◌, ◌+◌, ◌-◌, ◌*◌, List, [], length, true, false, IfOk};
+ghost use Rattle.std.specs.Prelude.{OnOk, IsErrOf};
 ghost use Rattle.lk_types.specs.Limits.{max_base};
 ghost use Rattle.lk_disk.specs.Disk.{contents, other};
 ghost use Rattle.lk_disk.specs.Meters.{trapped};
@@ -7,10 +8,12 @@ ghost use Rattle.lk_disk.specs.declared.device.Side.{Side};
 ghost use Rattle.lk_entries.specs.Entries.{plain};
 ghost use Rattle.lk_entries.specs.declared.stored.Stored.{Stored};
 ghost use Rattle.lk_entries.specs.declared.stored.Stored.TheVariants.{Base};
-ghost use Rattle.lk_log.specs.Causes.{FailuresRise, IsOfDevice, IsOfDeviceOrMemory, RefusesFor, RefusesOrIsLast, FailsByRefusing, FailsUnlessLast, IsMetered, put_calls, rebase_calls};
+ghost use Rattle.lk_log.specs.Causes.{FailuresRise, IsOfDevice, IsOfDeviceOrMemory, RefusesFor, RefusesOrIsLast};
+ghost use Rattle.lk_log.specs.Causes.{FailsByRefusing, FailsUnlessLast, IsMetered, put_calls, rebase_calls};
 ghost use Rattle.lk_log.specs.Rooms.{StaysWithin};
 ghost use Rattle.lk_log.specs.StoreValue.{disks};
-ghost use Rattle.lk_log.specs.Stores.{Holds, KeepsAtLeast, KeepsItsFile, KeepsBothDisks, KeepsOtherDisk, MayBegin, next_base, SwitchesFiles, LeavesEmpty, KeepsOrIs};
+ghost use Rattle.lk_log.specs.Stores.{Holds, KeepsAtLeast, KeepsItsFile, KeepsBothDisks, KeepsOtherDisk, MayBegin};
+ghost use Rattle.lk_log.specs.Stores.{next_base, SwitchesFiles, LeavesEmpty, KeepsOrIs};
 
 use crate::adding::add;
 use crate::fault::StoreFault;
@@ -70,7 +73,8 @@ impl<D: LogDisk + Drop> Store<D> {
         // The other file is unchanged, and out of memory the live one is too.
         ensures beside { D.is_honest → KeepsOtherDisk self.old self.new result }
         // However it ends, the live file has grown by no more bytes than this many entries have, each at most 102.
-        ensures grows { D.is_honest → length (contents self.new.live_disk) ≤ length (contents self.old.live_disk) + 102 * length entries.now }
+        ensures grows { D.is_honest
+            → length (contents self.new.live_disk) ≤ length (contents self.old.live_disk) + 102 * length entries.now }
         ensures file { KeepsItsFile self.old self.new }
         ensures failing { FailsByRefusing self.new result }
         ensures refuses { RefusesFor IsOfDeviceOrMemory self.old self.new result }
@@ -153,7 +157,8 @@ impl<D: LogDisk + Drop> Store<D> {
         // However it ends, each image that a stop may leave has what it had before, or that Base alone.
         ensures any { D.is_honest → (ks ls : List Stored) → Holds self.old ks ls
             → KeepsOrIs (disks self.new) ks ls (next_base self.old standing.now) }
-        ensures no_memory { D.is_honest → IsErrOf result StoreFault.NoMemory → (s : Side) → disks self.new s ≡ disks self.old s }
+        ensures no_memory { D.is_honest → IsErrOf result StoreFault.NoMemory → (s : Side)
+            → disks self.new s ≡ disks self.old s }
         // However it ends, neither file has grown, except up to the size of a Base.
         ensures room { D.is_honest → StaysWithin max_base (disks self.old) (disks self.new) }
         ensures file { SwitchesFiles self.old self.new result }

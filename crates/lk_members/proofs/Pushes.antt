@@ -1,19 +1,27 @@
 -- One entry more: which requests take effect, the roster, and its last change.
-use Rattle.std.proofs.Common.{◌≡◌, ◌+◌, cond, List, [], ◌∷◌, ◌++◌, length, Option, Some, None, fold, refl, ap, sym, ◌∙◌, append_assoc, append-nil}
+use Rattle.std.proofs.Common.{◌≡◌, ◌+◌, cond, List, [], ◌∷◌, ◌++◌, length, Option, Some, None, fold, refl, ap, sym, ◌∙◌}
+use Rattle.std.proofs.Common.{append_assoc, append-nil}
 use Rattle.std.specs.List.{filter_map}
 use Rattle.std.proofs.lemmas.List.Sums.{fold-append}
 use Rattle.std.proofs.lemmas.List.Elements.{filter_map-append}
 use Rattle.lk_members.specs.Effects.{Command, RequestValue, Placed, in_effect, placed_behind, placed, effects}
-use Rattle.lk_members.specs.Rosters.{Genesis, PlainRoster, next_roster, first_roster, roster_of, is_granted_change, is_change, last_change}
+use Rattle.lk_members.specs.Rosters.{Genesis, PlainRoster, next_roster, first_roster, roster_of, is_granted_change}
+use Rattle.lk_members.specs.Rosters.{is_change, last_change}
 
-placed_behind-push : (before rest : List Command) (c : Command) → placed_behind before (rest ++ c ∷ []) ≡ placed_behind before rest ++ record { before = before ++ rest; entry = c } ∷ []
-placed_behind-push before [] c = ap (λ (l : List Command). let p : Placed = record { before = l; entry = c } in p ∷ []) (sym (append-nil before))
+placed_behind-push : (before rest : List Command) (c : Command)
+    → placed_behind before (rest ++ c ∷ []) ≡ placed_behind before rest
+    ++ record { before = before ++ rest; entry = c } ∷ []
+placed_behind-push before [] c =
+    ap (λ (l : List Command). let p : Placed = record { before = l; entry = c } in p ∷ []) (sym (append-nil before))
 placed_behind-push before (x ∷ rest) c =
     let first : Placed = record { before = before; entry = x } in
     ap (λ (ps : List Placed). first ∷ ps)
-    (placed_behind-push (before ++ x ∷ []) rest c ∙ ap (λ (l : List Command). let p : Placed = record { before = l; entry = c } in placed_behind (before ++ x ∷ []) rest ++ p ∷ []) (append_assoc before (x ∷ []) rest))
+    (placed_behind-push (before ++ x ∷ []) rest c
+    ∙ ap (λ (l : List Command). let p : Placed = record { before = l; entry = c } in
+    placed_behind (before ++ x ∷ []) rest ++ p ∷ []) (append_assoc before (x ∷ []) rest))
 
-pub placed-push : (L : List Command) (c : Command) → placed (L ++ c ∷ []) ≡ placed L ++ record { before = L; entry = c } ∷ []
+pub placed-push : (L : List Command) (c : Command)
+    → placed (L ++ c ∷ []) ≡ placed L ++ record { before = L; entry = c } ∷ []
 unfolding placed
 placed-push L c = placed_behind-push [] L c
 
@@ -22,7 +30,8 @@ abbrev pub added : Option RequestValue → List RequestValue
 added None = []
 added (Some r) = r ∷ []
 
-added_is : (o : Option RequestValue) (p : Placed) → in_effect p.before p.entry ≡ o → filter_map (λ (p : Placed). in_effect p.before p.entry) (p ∷ []) ≡ added o
+added_is : (o : Option RequestValue) (p : Placed) → in_effect p.before p.entry ≡ o
+    → filter_map (λ (p : Placed). in_effect p.before p.entry) (p ∷ []) ≡ added o
 added_is None p e = rw e refl
 added_is (Some r) p e = rw e refl
 
@@ -39,18 +48,23 @@ abbrev pub roster_behind : PlainRoster → Option RequestValue → PlainRoster
 roster_behind r None = r
 roster_behind r (Some q) = next_roster r q.op
 
-fold_added : (r : PlainRoster) (o : Option RequestValue) → fold (λ (r : PlainRoster) (q : RequestValue). next_roster r q.op) r (added o) ≡ roster_behind r o
+fold_added : (r : PlainRoster) (o : Option RequestValue)
+    → fold (λ (r : PlainRoster) (q : RequestValue). next_roster r q.op) r (added o) ≡ roster_behind r o
 fold_added r None = refl
 fold_added r (Some q) = refl
 
-pub roster_of-push : (genesis : Genesis) (L : List Command) (c : Command) → roster_of genesis (L ++ c ∷ []) ≡ roster_behind (roster_of genesis L) (in_effect L c)
+pub roster_of-push : (genesis : Genesis) (L : List Command) (c : Command)
+    → roster_of genesis (L ++ c ∷ []) ≡ roster_behind (roster_of genesis L) (in_effect L c)
 unfolding roster_of
 roster_of-push genesis L c =
     ap (fold (λ (r : PlainRoster) (q : RequestValue). next_roster r q.op) (first_roster genesis)) (effects-push L c)
-    ∙ fold-append (λ (r : PlainRoster) (q : RequestValue). next_roster r q.op) (first_roster genesis) (effects L) (added (in_effect L c))
+    ∙ fold-append (λ (r : PlainRoster) (q : RequestValue). next_roster r q.op) (first_roster genesis)
+    (effects L) (added (in_effect L c))
     ∙ fold_added (roster_of genesis L) (in_effect L c)
 
-pub last_change-push : (genesis : Genesis) (L : List Command) (c : Command) → last_change genesis (L ++ c ∷ []) ≡ cond (is_granted_change (roster_of genesis L) (in_effect L c)) (length L + 1) (last_change genesis L)
+pub last_change-push : (genesis : Genesis) (L : List Command) (c : Command)
+    → last_change genesis (L ++ c ∷ [])
+    ≡ cond (is_granted_change (roster_of genesis L) (in_effect L c)) (length L + 1) (last_change genesis L)
 unfolding last_change
 last_change-push genesis L c =
     let p : Placed = record { before = L; entry = c } in

@@ -2,7 +2,8 @@
 pub use Rattle.lk_types.specs.declared.command.Request.{Request as RequestValue}
 pub use Rattle.lk_types.specs.declared.command.Command.{Command}
 pub use Rattle.lk_types.specs.declared.command.Command.TheVariants.{Noop, Request}
-use Rattle.std.specs.Prelude.{◌≡◌, ℕ, Bool, true, not, ◌||◌, ◌==◌, nat_lt, nat_le, if◌then◌else◌, Option, Some, None, List, [], ◌∷◌, ◌++◌, Contains}
+use Rattle.std.specs.Prelude.{◌≡◌, ℕ, Bool, true, not, ◌||◌, ◌==◌, nat_lt, nat_le, if◌then◌else◌, Option, Some, None}
+use Rattle.std.specs.Prelude.{List, [], ◌∷◌, ◌++◌, Contains}
 use Rattle.std.specs.List.{list_all, filter_map}
 
 -- the entry is no request of this client with the same number or a greater one

@@ -5,7 +5,8 @@ pub use Rattle.lk_types.specs.declared.command.Op.{Op}
 pub use Rattle.lk_types.specs.declared.command.Op.TheVariants.{Table, Join, Leave, Raise}
 pub use Rattle.lk_types.specs.declared.answer.Answer.{Answer}
 pub use Rattle.lk_types.specs.declared.answer.Answer.TheVariants.{Joined, Used, Full, Left, NotMember, Last}
-use Rattle.std.specs.Prelude.{ℕ, ◌+◌, ◌-◌, max, Bool, true, false, not, ◌==◌, nat_le, if◌then◌else◌, Option, Some, None, List, [], ◌∷◌, ◌++◌, length, take, fold, filter}
+use Rattle.std.specs.Prelude.{ℕ, ◌+◌, ◌-◌, max, Bool, true, false, not, ◌==◌, nat_le, if◌then◌else◌, Option, Some, None}
+use Rattle.std.specs.Prelude.{List, [], ◌∷◌, ◌++◌, length, take, fold, filter}
 use Rattle.std.specs.List.{list_any}
 use Rattle.lk_members.specs.Effects.{Command, RequestValue, Placed, placed, in_effect, effects}
 

@@ -3,7 +3,8 @@ use Rattle.std.specs.Prelude.{◌≡◌, ℕ, zero, suc, ◌+◌, ◌≤◌, if�
 use Rattle.lk_types.specs.Ranges.{IsTotal, IsNode}
 use Rattle.lk_members.specs.Effects.{Command}
 use Rattle.lk_members.specs.Sets.{IsWindow, newest, are_at_most}
-use Rattle.lk_members.specs.Rosters.{Member, Genesis, Op, PlainRoster, roster_answer, next_roster, is_granted, members, roster_of, last_change}
+use Rattle.lk_members.specs.Rosters.{Member, Genesis, Op, PlainRoster, roster_answer, next_roster, is_granted, members}
+use Rattle.lk_members.specs.Rosters.{roster_of, last_change}
 
 -- how many positions are executed, the sets of the next alpha ones, the greatest number that was ever a member's, and
 -- the position of the last granted change, 0 if there is none
@@ -37,7 +38,12 @@ newest_roster v = record { members = newest v.sets; greatest = v.greatest }
 
 -- one position further: the nearest set goes, and this roster's comes
 abbrev pub moved : PlainRoster → ℕ → RosterValue → RosterValue
-moved r changed v = record { executed = v.executed + 1; sets = drop 1 v.sets ++ r.members ∷ []; greatest = r.greatest; changed = changed }
+moved r changed v = record {
+  executed = v.executed + 1;
+  sets = drop 1 v.sets ++ r.members ∷ [];
+  greatest = r.greatest;
+  changed = changed;
+}
 
 -- one position further without a change
 abbrev pub moved_unchanged : RosterValue → RosterValue

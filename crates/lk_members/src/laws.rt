@@ -6,20 +6,25 @@ ghost use Rattle.lk_members.specs.Majorities.{IsMajority};
 
 /// What precedes a placed entry is a prefix of the list, and the entry comes next.
 pub fn placed_entries_stand()
-    ensures { (L : List Command) (p : Placed) → Contains (placed L) p → (rest : List Command) × (L ≡ p.before ++ (p.entry ∷ rest)) }
+    ensures { (L : List Command) (p : Placed) → Contains (placed L) p
+        → (rest : List Command) × (L ≡ p.before ++ (p.entry ∷ rest)) }
 {}
 
 /// At most one entry of a list takes effect for a client's number.
 pub fn numbers_take_effect_once()
-    ensures { (L : List Command) (p q : Placed) (r s : RequestValue) → Contains (placed L) p → Contains (placed L) q → in_effect p.before p.entry ≡ Some r → in_effect q.before q.entry ≡ Some s → r.client ≡ s.client → r.number ≡ s.number → p ≡ q }
+    ensures { (L : List Command) (p q : Placed) (r s : RequestValue) → Contains (placed L) p → Contains (placed L) q
+        → in_effect p.before p.entry ≡ Some r → in_effect q.before q.entry ≡ Some s → r.client ≡ s.client
+        → r.number ≡ s.number → p ≡ q }
 {}
 
 /// Two majorities of one set share a node.
 pub fn majorities_meet()
-    ensures { (set : List Member) (W V : List ℕ) → IsMajority W set → IsMajority V set → (n : ℕ) × Contains W n × Contains V n }
+    ensures { (set : List Member) (W V : List ℕ) → IsMajority W set → IsMajority V set
+        → (n : ℕ) × Contains W n × Contains V n }
 {}
 
 /// Each longer list names the same members for the positions up to alpha after the end of a list.
 pub fn members_stay()
-    ensures { (genesis : Genesis) (L rest : List Command) (i : ℕ) → i ≤ length L + genesis.alpha → members genesis (L ++ rest) i ≡ members genesis L i }
+    ensures { (genesis : Genesis) (L rest : List Command) (i : ℕ) → i ≤ length L + genesis.alpha
+        → members genesis (L ++ rest) i ≡ members genesis L i }
 {}

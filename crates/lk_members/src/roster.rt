@@ -1,4 +1,5 @@
-ghost use Rattle.std.specs.Prelude.{◌≡◌, ℕ, ◌+◌, ◌-◌, ◌<◌, ◌≤◌, ◌↔◌, Some, false, nat_le, List, [], ◌∷◌, ◌++◌, length, slice_get, IsTrue, IsSome, IfSome};
+ghost use Rattle.std.specs.Prelude.{◌≡◌, ℕ, ◌+◌, ◌-◌, ◌<◌, ◌≤◌, ◌↔◌, Some, false, nat_le, List, [], ◌∷◌, ◌++◌, length};
+ghost use Rattle.std.specs.Prelude.{slice_get, IsTrue, IsSome, IfSome};
 ghost use Rattle.lk_types.specs.Limits.{max_count};
 ghost use Rattle.lk_members.specs.Rosters.{greatest_node};
 ghost use Rattle.lk_members.specs.Windows.{sets_from};
@@ -27,18 +28,22 @@ impl Model for Roster {
 
     ghost view = { λ r. record { executed = r.executed; sets = r.window; greatest = r.greatest; changed = r.changed } };
 
-    ghost invariant = { λ r. IsRoster (record { executed = r.executed; sets = r.window; greatest = r.greatest; changed = r.changed }) };
+    ghost invariant = { λ r. IsRoster
+        (record { executed = r.executed; sets = r.window; greatest = r.greatest; changed = r.changed }) };
 }
 
 impl Roster {
-    ghost use Rattle.std.specs.Prelude.{◌≡◌, ℕ, ◌+◌, ◌-◌, ◌<◌, ◌≤◌, ◌↔◌, Some, false, nat_le, List, [], ◌∷◌, ◌++◌, length, slice_get, IsTrue, IsSome, IfSome};
+    ghost use Rattle.std.specs.Prelude.{◌≡◌, ℕ, ◌+◌, ◌-◌, ◌<◌, ◌≤◌, ◌↔◌, Some, false, nat_le, List, [], ◌∷◌, ◌++◌};
+    ghost use Rattle.std.specs.Prelude.{length, slice_get, IsTrue, IsSome, IfSome};
     ghost use Rattle.std.specs.List.{list_all};
     ghost use Rattle.lk_types.specs.Ranges.{IsAlpha};
     ghost use Rattle.lk_types.specs.Rosters.{AreMembers};
     ghost use Rattle.lk_members.specs.Effects.{Command, RequestValue, Request, in_effect};
-    ghost use Rattle.lk_members.specs.Rosters.{Genesis, Op as OpValue, Join, Leave, IsChange, members, roster_of, roster_answer, join_answer, leave_answer, is_granted_change};
+    ghost use Rattle.lk_members.specs.Rosters.{Genesis, Op as OpValue, Join, Leave, IsChange, members, roster_of};
+    ghost use Rattle.lk_members.specs.Rosters.{roster_answer, join_answer, leave_answer, is_granted_change};
     ghost use Rattle.lk_members.specs.Sets.{newest, are_at_most};
-    ghost use Rattle.lk_members.specs.Windows.{RosterSumsUp, IsRoster, newest_roster, moved, moved_unchanged, changed_by};
+    ghost use Rattle.lk_members.specs.Windows.{RosterSumsUp, IsRoster, newest_roster, moved, moved_unchanged};
+    ghost use Rattle.lk_members.specs.Windows.{changed_by};
     ghost use Rattle.lk_members.specs.Ports.{is_named, port_of, number_or_zero, IsNextAbove};
 
     /// The roster of these parts, or `None` if there is no set or the greatest number is below one of their nodes.
@@ -49,7 +54,8 @@ impl Roster {
         changed: Executed,
     ) -> Option<Roster>
         ensures some { IsSome result ↔ ((0 < length window) × IsTrue (are_at_most greatest window)) }
-        ensures value { IfSome result (λ r. r ≡ record { executed = executed; sets = window; greatest = greatest; changed = changed }) }
+        ensures value { IfSome result
+            (λ r. r ≡ record { executed = executed; sets = window; greatest = greatest; changed = changed }) }
     {
         let _ = (executed.get(), greatest.get(), changed.get());
         if window.len() == 0 || !window.is_at_most(greatest) {
@@ -128,9 +134,12 @@ impl Roster {
 
     /// The members that decide the position, if it is among the next alpha ones.
     pub fn members_at(&self, position: Position) -> Option<&Members>
-        ensures some { IsSome result ↔ ((self.now.executed < position) × (position ≤ self.now.executed + length self.now.sets)) }
-        ensures value { IfSome result (λ set. slice_get self.now.sets (position - (self.now.executed + 1)) ≡ Some set.now) }
-        ensures sums { (genesis : Genesis) (L : List Command) → RosterSumsUp genesis L self.now → IfSome result (λ set. set.now ≡ members genesis L position) }
+        ensures some { IsSome result
+            ↔ ((self.now.executed < position) × (position ≤ self.now.executed + length self.now.sets)) }
+        ensures value { IfSome result
+            (λ set. slice_get self.now.sets (position - (self.now.executed + 1)) ≡ Some set.now) }
+        ensures sums { (genesis : Genesis) (L : List Command) → RosterSumsUp genesis L self.now
+            → IfSome result (λ set. set.now ≡ members genesis L position) }
     {
         let nearest = self.executed.get() + 1;
         let ahead = position.get().checked_sub(nearest)?;
@@ -187,7 +196,8 @@ impl Roster {
         requires { self.old.executed < max_count }
         ensures next { self.new ≡ moved_unchanged self.old }
         ensures sums { (genesis : Genesis) (L : List Command) (entry : Command) → RosterSumsUp genesis L self.old
-            → is_granted_change (roster_of genesis L) (in_effect L entry) ≡ false → RosterSumsUp genesis (L ++ entry ∷ []) self.new }
+            → is_granted_change (roster_of genesis L) (in_effect L entry) ≡ false
+            → RosterSumsUp genesis (L ++ entry ∷ []) self.new }
     {
         let set = self.newest().copy();
         let (greatest, changed) = (self.greatest(), self.changed());
@@ -264,8 +274,10 @@ impl Roster {
         requires change { IsChange op.now }
         ensures answer { roster_answer (newest_roster self.old) op.now ≡ Some result }
         ensures next { self.new ≡ changed_by op.now self.old }
-        ensures answers { (genesis : Genesis) (L : List Command) → RosterSumsUp genesis L self.old → roster_answer (roster_of genesis L) op.now ≡ Some result }
-        ensures sums { (genesis : Genesis) (L : List Command) (request : RequestValue) → RosterSumsUp genesis L self.old → request.op ≡ op.now
+        ensures answers { (genesis : Genesis) (L : List Command) → RosterSumsUp genesis L self.old
+            → roster_answer (roster_of genesis L) op.now ≡ Some result }
+        ensures sums { (genesis : Genesis) (L : List Command) (request : RequestValue)
+            → RosterSumsUp genesis L self.old → request.op ≡ op.now
             → in_effect L (Request request) ≡ Some request → RosterSumsUp genesis (L ++ Request request ∷ []) self.new }
     {
         match op {

@@ -18,7 +18,8 @@ same_front bytes n e = elim (cases_lt 8229 (length bytes)) [
   | inr fits ↦ take_all n bytes (omega (arith, e, fits)) ∙ sym (take_all 8229 bytes (omega (arith, fits)))
 ]
 
-pub heard_so : (bytes copied rest : List ℕ) (n : ℕ) → n ≡ min (length bytes) 8229 → copied ≡ take n bytes → take n (copied ++ rest) ≡ take 8229 bytes
+pub heard_so : (bytes copied rest : List ℕ) (n : ℕ) → n ≡ min (length bytes) 8229 → copied ≡ take n bytes
+    → take n (copied ++ rest) ≡ take 8229 bytes
 heard_so bytes copied rest n e after =
     let long : length copied ≡ n = omega (arith, e, ap length after, length-take n bytes) in
     ap (λ k. take k (copied ++ rest)) (sym long) ∙ take_front copied rest ∙ after ∙ same_front bytes n e

@@ -53,7 +53,8 @@ impl MemorySocket {
 
     /// Adds a datagram to receive. Bytes beyond 8,229 are cut off.
     pub fn add_incoming(&mut self, from: SocketAddr, bytes: &[u8]) -> Result<(), NoMemory>
-        ensures ok { OnOk result (coming_in self.new.coming.items ≡ coming_in self.old.coming.items ++ (from, take 8229 bytes.now) ∷ []) }
+        ensures ok { OnOk result
+            (coming_in self.new.coming.items ≡ coming_in self.old.coming.items ++ (from, take 8229 bytes.now) ∷ []) }
         ensures err { OnErr result (coming_in self.new.coming.items ≡ coming_in self.old.coming.items) }
         ensures others { self.new ≡ record self.old { coming = self.new.coming } }
     {

@@ -24,7 +24,8 @@ use Rattle.lk_messages.specs.declared.message.Content.TheVariants as content
 use Rattle.lk_messages.specs.declared.message.Message.{Message}
 use Rattle.lk_fields.specs.Fields.{ballot, member, op, request, command, vote, pair, answer}
 use Rattle.lk_fields.proofs.Spellings.{length-two, length-four, length-eight}
-use Rattle.lk_messages.specs.Grammar.{node_fields, fields, header, spelling, kind, sender, IsNodeMessage, IsContent, IsMessage}
+use Rattle.lk_messages.specs.Grammar.{node_fields, fields, header, spelling, kind, sender, IsNodeMessage, IsContent}
+use Rattle.lk_messages.specs.Grammar.{IsMessage}
 
 pub length-ballot : (b : BallotValue) → length (ballot b) ≡ 12
 length-ballot b = simp (length-append, length-four, length-eight)
@@ -61,9 +62,12 @@ answer_is_short (answers.Held client fence) = simp (length-append, length-two, l
 answer_is_short _ = omega arith
 
 -- so many things are at most so many times as long as the longest
-pub flat_map_is_short : {X : Type 0} (s : X → List ℕ) (F : X → Type 0) (most : ℕ) → ((x : X) → F x → length (s x) ≤ most) → (xs : List X) → AllByRecursion F xs → length (flat_map s xs) ≤ most * length xs
+pub flat_map_is_short : {X : Type 0} (s : X → List ℕ) (F : X → Type 0) (most : ℕ)
+    → ((x : X) → F x → length (s x) ≤ most) → (xs : List X) → AllByRecursion F xs
+    → length (flat_map s xs) ≤ most * length xs
 flat_map_is_short s F most short [] f = omega arith
-flat_map_is_short s F most short (x ∷ xs) f = rw (flat_map-cons s x xs, length-append) (omega (arith, short x f.0, flat_map_is_short s F most short xs f.1))
+flat_map_is_short s F most short (x ∷ xs) f =
+    rw (flat_map-cons s x xs, length-append) (omega (arith, short x f.0, flat_map_is_short s F most short xs f.1))
 
 -- ---- messages
 
@@ -73,23 +77,32 @@ few_votes first vs e = grind (arith, nat_tests)
 pub few_commands : (first : ℕ) (cs : List Command) → are_commands_from first cs ≡ true → length cs ≤ 16
 few_commands first cs e = grind (arith, nat_tests)
 
-votes_are_short : (first : ℕ) (vs : List Vote) → AllByRecursion IsVote vs → are_votes_from first vs ≡ true → length (flat_map vote vs) ≤ 3104
+votes_are_short : (first : ℕ) (vs : List Vote) → AllByRecursion IsVote vs → are_votes_from first vs ≡ true
+    → length (flat_map vote vs) ≤ 3104
 votes_are_short first vs f e = omega (arith, flat_map_is_short vote IsVote 97 vote_is_short vs f, few_votes first vs e)
 
-commands_are_short : (first : ℕ) (cs : List Command) → AllByRecursion IsCommand cs → are_commands_from first cs ≡ true → length (flat_map command cs) ≤ 1232
-commands_are_short first cs f e = omega (arith, flat_map_is_short command IsCommand 77 command_is_short cs f, few_commands first cs e)
+commands_are_short : (first : ℕ) (cs : List Command) → AllByRecursion IsCommand cs → are_commands_from first cs ≡ true
+    → length (flat_map command cs) ≤ 1232
+commands_are_short first cs f e =
+    omega (arith, flat_map_is_short command IsCommand 77 command_is_short cs f, few_commands first cs e)
 
 -- thirty-two votes are the longest
 node_fields_are_short : (m : NodeMessage) → IsNodeMessage m → length (node_fields m) ≤ 3125
 node_fields_are_short (kinds.Prepare b first) f = simp (length-append, length-four, length-eight) (omega arith)
-node_fields_are_short (kinds.Promise p) f = simp (length-append, length-four, length-eight) (omega (arith, votes_are_short p.first p.votes f.2 f.3))
-node_fields_are_short (kinds.Accept v) f = simp (length-append, length-four, length-eight) (omega (arith, command_is_short v.command f.2))
-node_fields_are_short (kinds.Accepted v) f = simp (length-append, length-four, length-eight) (omega (arith, command_is_short v.command f.2))
+node_fields_are_short (kinds.Promise p) f =
+    simp (length-append, length-four, length-eight) (omega (arith, votes_are_short p.first p.votes f.2 f.3))
+node_fields_are_short (kinds.Accept v) f =
+    simp (length-append, length-four, length-eight) (omega (arith, command_is_short v.command f.2))
+node_fields_are_short (kinds.Accepted v) f =
+    simp (length-append, length-four, length-eight) (omega (arith, command_is_short v.command f.2))
 node_fields_are_short (kinds.Nack n) f = simp (length-append, length-four, length-eight) (omega arith)
-node_fields_are_short (kinds.Decided d) f = simp (length-append, length-eight) (omega (arith, commands_are_short d.first d.commands f.1 f.2))
+node_fields_are_short (kinds.Decided d) f =
+    simp (length-append, length-eight) (omega (arith, commands_are_short d.first d.commands f.1 f.2))
 node_fields_are_short (kinds.Want w) f = simp (length-append, length-four, length-eight) (omega arith)
-node_fields_are_short (kinds.Part p) f = simp (length-append, length-two, length-four, length-eight) (omega (arith, f.1))
-node_fields_are_short (kinds.Answer a) f = simp (length-append, length-two, length-eight) (omega (arith, answer_is_short a.answer))
+node_fields_are_short (kinds.Part p) f =
+    simp (length-append, length-two, length-four, length-eight) (omega (arith, f.1))
+node_fields_are_short (kinds.Answer a) f =
+    simp (length-append, length-two, length-eight) (omega (arith, answer_is_short a.answer))
 node_fields_are_short (kinds.Elsewhere e) f = simp (length-append, length-two, length-four, length-eight) (omega arith)
 node_fields_are_short (kinds.Passed p) f = simp (length-append, length-two, length-eight) (omega arith)
 node_fields_are_short (kinds.Lead b executed) f = simp (length-append, length-four, length-eight) (omega arith)
@@ -102,4 +115,9 @@ length-header : (k cluster from : ℕ) → length (header k cluster from) ≡ 16
 length-header k cluster from = simp (length-append, length-four, length-eight)
 
 pub message_is_short : (m : Message) → IsMessage m → length (spelling m) ≤ 3141
-message_is_short m f = omega (arith, length-append (header (kind m.content) m.cluster (sender m.content)) (fields m.content), length-header (kind m.content) m.cluster (sender m.content), fields_are_short m.content f.1)
+message_is_short m f = omega (
+  arith,
+  length-append (header (kind m.content) m.cluster (sender m.content)) (fields m.content),
+  length-header (kind m.content) m.cluster (sender m.content),
+  fields_are_short m.content f.1,
+)

@@ -1,9 +1,11 @@
 -- Reading each part of a message, and a message.
-use Rattle.std.specs.Prelude.{ℕ, ◌+◌, Bool, List, ◌∷◌, length, Option, Some, None, nat_lt, nat_le, ◌&&◌, ◌==◌, if◌then◌else◌}
+use Rattle.std.specs.Prelude.{ℕ, ◌+◌, Bool, List, ◌∷◌, length, Option, Some, None, nat_lt, nat_le, ◌&&◌, ◌==◌}
+use Rattle.std.specs.Prelude.{if◌then◌else◌}
 use Rattle.lk_types.specs.Limits.{max_node, max_part, max_base}
 use Rattle.lk_types.specs.declared.command.Command.{Command}
 use Rattle.lk_types.specs.declared.vote.Vote.{Vote}
-use Rattle.lk_messages.specs.Values.{PromiseValue, are_votes_from, DecidedValue, are_commands_from, WantValue, PartValue, PassedValue}
+use Rattle.lk_messages.specs.Values.{PromiseValue, are_votes_from, DecidedValue, are_commands_from, WantValue}
+use Rattle.lk_messages.specs.Values.{PartValue, PassedValue}
 use Rattle.lk_messages.specs.declared.message.Nack.{Nack}
 use Rattle.lk_messages.specs.declared.message.Answered.{Answered}
 use Rattle.lk_messages.specs.declared.message.Elsewhere.{Elsewhere}
@@ -13,7 +15,9 @@ use Rattle.lk_messages.specs.declared.message.Content.{Content}
 use Rattle.lk_messages.specs.declared.message.Content.TheVariants as content
 use Rattle.lk_messages.specs.declared.message.Message.{Message}
 use Rattle.lk_fields.specs.Parser.{◌>>=◌, read_byte, both, made, tested, counted, sized, kind, no_kind, whole}
-use Rattle.lk_fields.specs.FieldReading.{is_from_1_to, read_two, read_four, read_eight, read_client, read_count, read_total, read_ballot, read_mark, read_member, read_request, read_command, read_vote, read_answer}
+use Rattle.lk_fields.specs.FieldReading.{is_from_1_to, read_two, read_four, read_eight, read_client, read_count}
+use Rattle.lk_fields.specs.FieldReading.{read_total, read_ballot, read_mark, read_member, read_request, read_command}
+use Rattle.lk_fields.specs.FieldReading.{read_vote, read_answer}
 
 -- ---- the fields of each kind
 
@@ -24,38 +28,49 @@ unfoldable pub read_votes : List ℕ → Option (List Vote × List ℕ)
 read_votes = counted read_byte read_vote
 
 unfoldable pub read_promise : List ℕ → Option (PromiseValue × List ℕ)
-read_promise = tested (λ p. are_votes_from p.first p.votes) (made (λ p. record { ballot = p.0; first = p.1.0; votes = p.1.1 }) (both read_ballot (both read_count read_votes)))
+read_promise = tested (λ p. are_votes_from p.first p.votes)
+    (made (λ p. record { ballot = p.0; first = p.1.0; votes = p.1.1 }) (both read_ballot (both read_count read_votes)))
 
 unfoldable pub read_proposal : List ℕ → Option (Vote × List ℕ)
-read_proposal = made (λ v. record { position = v.1.0; ballot = v.0; command = v.1.1 }) (both read_ballot (both read_count read_command))
+read_proposal = made (λ v. record { position = v.1.0; ballot = v.0; command = v.1.1 })
+    (both read_ballot (both read_count read_command))
 
 unfoldable pub read_nack : List ℕ → Option (Nack × List ℕ)
-read_nack = made (λ n. record { ballot = n.0; promised = n.1.0; executed = n.1.1 }) (both read_ballot (both read_mark read_total))
+read_nack = made (λ n. record { ballot = n.0; promised = n.1.0; executed = n.1.1 })
+    (both read_ballot (both read_mark read_total))
 
 unfoldable pub read_commands : List ℕ → Option (List Command × List ℕ)
 read_commands = counted read_byte read_command
 
 unfoldable pub read_decided : List ℕ → Option (DecidedValue × List ℕ)
-read_decided = tested (λ d. are_commands_from d.first d.commands) (made (λ d. record { first = d.0; commands = d.1 }) (both read_count read_commands))
+read_decided = tested (λ d. are_commands_from d.first d.commands)
+    (made (λ d. record { first = d.0; commands = d.1 }) (both read_count read_commands))
 
 unfoldable pub read_want : List ℕ → Option (WantValue × List ℕ)
-read_want = tested (λ w. nat_le w.offset max_base) (made (λ w. record { first = w.0; offset = w.1 }) (both read_count read_four))
+read_want = tested (λ w. nat_le w.offset max_base)
+    (made (λ w. record { first = w.0; offset = w.1 }) (both read_count read_four))
 
 -- a total of 1 to 49,152, 1 to 1,024 bytes, and these within the total
 abbrev pub is_within : PartValue → Bool
-is_within p = nat_le 1 p.total && nat_le p.total max_base && nat_le 1 (length p.bytes) && nat_le (length p.bytes) max_part && nat_le (p.offset + length p.bytes) p.total
+is_within p = nat_le 1 p.total && nat_le p.total max_base && nat_le 1 (length p.bytes)
+    && nat_le (length p.bytes) max_part && nat_le (p.offset + length p.bytes) p.total
 
 unfoldable pub read_part : List ℕ → Option (PartValue × List ℕ)
-read_part = tested is_within (made (λ p. record { position = p.0; total = p.1.0; offset = p.1.1.0; bytes = p.1.1.1 }) (both read_count (both read_four (both read_four (sized read_two)))))
+read_part = tested is_within
+    (made (λ p. record { position = p.0; total = p.1.0; offset = p.1.1.0; bytes = p.1.1.1 })
+    (both read_count (both read_four (both read_four (sized read_two)))))
 
 unfoldable pub read_answered : List ℕ → Option (Answered × List ℕ)
-read_answered = made (λ a. record { client = a.0; number = a.1.0; answer = a.1.1 }) (both read_client (both read_count read_answer))
+read_answered =
+    made (λ a. record { client = a.0; number = a.1.0; answer = a.1.1 }) (both read_client (both read_count read_answer))
 
 unfoldable pub read_elsewhere : List ℕ → Option (Elsewhere × List ℕ)
-read_elsewhere = made (λ e. record { client = e.0; number = e.1.0; member = e.1.1 }) (both read_client (both read_count read_member))
+read_elsewhere =
+    made (λ e. record { client = e.0; number = e.1.0; member = e.1.1 }) (both read_client (both read_count read_member))
 
 unfoldable pub read_passed : List ℕ → Option (PassedValue × List ℕ)
-read_passed = tested (λ p. nat_lt p.number p.last) (made (λ p. record { client = p.0; number = p.1.0; last = p.1.1 }) (both read_client (both read_count read_count)))
+read_passed = tested (λ p. nat_lt p.number p.last)
+    (made (λ p. record { client = p.0; number = p.1.0; last = p.1.1 }) (both read_client (both read_count read_count)))
 
 unfoldable pub read_lead : List ℕ → Option (NodeMessage × List ℕ)
 read_lead = made (λ l. kinds.Lead l.0 l.1) (both read_ballot read_total)
@@ -96,11 +111,13 @@ content_of k from bytes =
 
 -- the two letters and the version, and then the kind, the cluster and the sender
 unfoldable pub read_header : List ℕ → Option ((ℕ × (ℕ × ℕ)) × List ℕ)
-read_header (a ∷ b ∷ c ∷ rest) = if a == 76 && b == 75 && c == 1 then both read_byte (both read_eight read_four) rest else None
+read_header (a ∷ b ∷ c ∷ rest) =
+    if a == 76 && b == 75 && c == 1 then both read_byte (both read_eight read_four) rest else None
 read_header _ = None
 
 unfoldable pub read_message : List ℕ → Option (Message × List ℕ)
-read_message bytes = read_header bytes >>= λ h. content_of h.0.0 h.0.1.1 h.1 >>= λ c. Some (record { cluster = h.0.1.0; content = c.0 }, c.1)
+read_message bytes = read_header bytes >>= λ h. content_of h.0.0 h.0.1.1 h.1 >>= λ c. Some
+    (record { cluster = h.0.1.0; content = c.0 }, c.1)
 
 abbrev pub all_of : List ℕ → Option Message
 all_of = whole read_message

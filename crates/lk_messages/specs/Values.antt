@@ -21,7 +21,8 @@ abbrev pub are_votes_from : ℕ → List Vote → Bool
 are_votes_from first vs = nat_le (length vs) max_votes && are_votes_above (first - 1) vs
 
 abbrev pub IsPromise : PromiseValue → Type 0
-IsPromise p = IsReal p.ballot × IsCount p.first × AllByRecursion IsVote p.votes × IsTrue (are_votes_from p.first p.votes)
+IsPromise p =
+    IsReal p.ballot × IsCount p.first × AllByRecursion IsVote p.votes × IsTrue (are_votes_from p.first p.votes)
 
 -- decided commands, for first and the positions after it
 pub record DecidedValue : Type 0 where

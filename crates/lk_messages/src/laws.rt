@@ -24,7 +24,8 @@ pub fn one_message()
 
 /// No datagram is a prefix of another one.
 pub fn prefix_free()
-    ensures { (m n : Message) (rest : List ℕ) → IsMessage m → IsMessage n → spelling m ++ rest ≡ spelling n → (m ≡ n) × (rest ≡ []) }
+    ensures { (m n : Message) (rest : List ℕ) → IsMessage m → IsMessage n → spelling m ++ rest ≡ spelling n
+        → (m ≡ n) × (rest ≡ []) }
 {}
 
 /// The most bytes of a spelling. A datagram of that length is a Promise with thirty-two votes.

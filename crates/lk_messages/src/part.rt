@@ -26,7 +26,8 @@ impl Model for Part {
 
     ghost view = { λ p. record { position = p.position; total = p.total; offset = p.offset; bytes = p.bytes.items } };
 
-    ghost invariant = { λ p. IsPart (record { position = p.position; total = p.total; offset = p.offset; bytes = p.bytes.items }) };
+    ghost invariant = { λ p. IsPart
+        (record { position = p.position; total = p.total; offset = p.offset; bytes = p.bytes.items }) };
 }
 
 // Whether the total is 1 to 49,152 bytes, the piece has 1 to 1,024, and it ends within the total.
@@ -44,8 +45,10 @@ impl Part {
     /// The piece, or `None` if the total is not 1 to 49,152, there are not 1 to 1,024 bytes, or they end past the
     /// total.
     pub fn of(position: Position, total: u32, offset: u32, bytes: Vec<u8>) -> Option<Part>
-        ensures some { IsSome result ↔ IsWithin (record { position = position; total = total; offset = offset; bytes = bytes.items }) }
-        ensures value { IfSome result (λ p. p ≡ record { position = position; total = total; offset = offset; bytes = bytes.items }) }
+        ensures some { IsSome result
+            ↔ IsWithin (record { position = position; total = total; offset = offset; bytes = bytes.items }) }
+        ensures value { IfSome result
+            (λ p. p ≡ record { position = position; total = total; offset = offset; bytes = bytes.items }) }
     {
         let _ = position.get();
         if !is_within(total, offset, bytes.len()) {
@@ -105,7 +108,8 @@ impl<'a> Model for PartRef<'a> {
 
     ghost view = { λ p. record { position = p.position; total = p.total; offset = p.offset; bytes = p.bytes.now } };
 
-    ghost invariant = { λ p. IsWithin (record { position = p.position; total = p.total; offset = p.offset; bytes = p.bytes.now }) };
+    ghost invariant = { λ p. IsWithin
+        (record { position = p.position; total = p.total; offset = p.offset; bytes = p.bytes.now }) };
 }
 
 impl<'a> PartRef<'a> {

@@ -1,5 +1,7 @@
--- What a node answers as an acceptor it may send, and its acceptor then covers it; what it writes rests on what was sent.
-use Rattle.std.proofs.Common.{◌≡◌, ℕ, inl, inr, Bool, true, false, cond, List, [], ◌∷◌, Option, Some, None, Contains, refl, sym, ◌∙◌, ap, subst, subst₂, arith, Result, Ok, Err}
+-- What a node answers as an acceptor it may send, and its acceptor then covers it; what it writes rests on what was
+-- sent.
+use Rattle.std.proofs.Common.{◌≡◌, ℕ, inl, inr, Bool, true, false, cond, List, [], ◌∷◌, Option, Some, None, Contains}
+use Rattle.std.proofs.Common.{refl, sym, ◌∙◌, ap, subst, subst₂, arith, Result, Ok, Err}
 use Rattle.std.specs.Prelude.{IfOk, OnOk}
 use Rattle.std.specs.List.{AllByRecursion}
 use Rattle.lk_types.specs.BallotValue.{BallotValue}
@@ -21,7 +23,8 @@ use Rattle.lk_acceptor.specs.AcceptorValue.{AcceptorValue}
 use Rattle.lk_acceptor.specs.Answers.{Promises, Votes, Agrees, AnswersPrepare, AnswersAccept}
 use Rattle.lk_acceptor.specs.States.{IsOrdered, with_vote, with_state, with_written}
 use Rattle.lk_acceptor.specs.declared.response.Response.{Response}
-use Rattle.lk_acceptor.proofs.Acceptors.{prepare_may, accept_may, prepare_covered, accept_covered, prepare_written, accept_written, takes_vote}
+use Rattle.lk_acceptor.proofs.Acceptors.{prepare_may, accept_may, prepare_covered, accept_covered, prepare_written}
+use Rattle.lk_acceptor.proofs.Acceptors.{accept_written, takes_vote}
 use Rattle.lk_node_io.specs.Grants.{is_granted}
 use Rattle.lk_node_io.specs.Letters.{LetterValue, batch_of}
 use Rattle.lk_node_io.specs.Outboxes.{OutboxValue, nothing, with_optional}
@@ -43,7 +46,8 @@ use Rattle.lk_node.proofs.Serving.{then_goes_on, says}
 
 -- why an acceptor may come from one state to another by this entry, in a history
 pub record Moves (h : History) (n : ℕ) (old new : AcceptorState) (o : Option Entry) : Type 0 where
-  pub changes : (w : View) → w.acceptor ≡ old → ViewFits h.genesis h.sent n w → ViewFits h.genesis h.sent n (view_with w new)
+  pub changes : (w : View) → w.acceptor ≡ old → ViewFits h.genesis h.sent n w
+      → ViewFits h.genesis h.sent n (view_with w new)
   pub rests : (e : Entry) → o ≡ Some e → Rests h e
 
 optional_entries : (o : Option Entry) → (with_optional o nothing).letters ≡ []
@@ -58,8 +62,10 @@ no_rebase : (o : Option Entry) → (with_optional o nothing).rebase ≡ true →
 no_rebase None e = cc e
 no_rebase (Some x) e = cc e
 
-pub moves_goes_on : (m : Meaning) (Heard : History → Type 0) (node : NodeValue) (a : AcceptorValue) (o : Option Entry) → a.state ≡ with_written o node.acceptor.state
-    → ((e : Entry) → o ≡ Some e → TellsDecided e → ⊥) → ((h : History) (n : ℕ) → IsLawful m h → Heard h → Moves h n node.acceptor.state a.state o)
+pub moves_goes_on : (m : Meaning) (Heard : History → Type 0) (node : NodeValue) (a : AcceptorValue) (o : Option Entry)
+    → a.state ≡ with_written o node.acceptor.state
+    → ((e : Entry) → o ≡ Some e → TellsDecided e → ⊥)
+    → ((h : History) (n : ℕ) → IsLawful m h → Heard h → Moves h n node.acceptor.state a.state o)
     → GoesOn m Heard node (with_acceptor node a) nothing (with_optional o nothing)
 moves_goes_on m Heard node a o written binding moves = record {
   binds = λ first b. record {
@@ -74,9 +80,24 @@ moves_goes_on m Heard node a o written binding moves = record {
       record {
         lawful = s.lawful;
         whose = s.whose;
-        holding = record { view = view_with s.holding.view a.state; waiting = s.holding.waiting; gathered = s.holding.gathered };
-        held = record { acceptor = refl; follows = s.held.follows; leads = s.held.leads; waiting = s.held.waiting; gathered = s.held.gathered };
-        fits = record { view = v.changes s.holding.view s.held.acceptor s.fits.view; waiting = s.fits.waiting; proposals = s.fits.proposals; gathered = s.fits.gathered };
+        holding = record {
+          view = view_with s.holding.view a.state;
+          waiting = s.holding.waiting;
+          gathered = s.holding.gathered;
+        };
+        held = record {
+          acceptor = refl;
+          follows = s.held.follows;
+          leads = s.held.leads;
+          waiting = s.held.waiting;
+          gathered = s.held.gathered;
+        };
+        fits = record {
+          view = v.changes s.holding.view s.held.acceptor s.fits.view;
+          waiting = s.fits.waiting;
+          proposals = s.fits.proposals;
+          gathered = s.fits.gathered;
+        };
         rests = all_rest h o v.rests;
         known = s.known;
         news = all_known o binding s.holding.view;
@@ -98,25 +119,30 @@ moves_goes_on m Heard node a o written binding moves = record {
     one None s = refl
     one (Some e) s = refl
 
-    all_decided : (o : Option Entry) → ((e : Entry) → o ≡ Some e → TellsDecided e → ⊥) → (with_optional o nothing).sync ≡ false → AllByRecursion TellsDecided (with_optional o nothing).entries
+    all_decided : (o : Option Entry) → ((e : Entry) → o ≡ Some e → TellsDecided e → ⊥)
+        → (with_optional o nothing).sync ≡ false → AllByRecursion TellsDecided (with_optional o nothing).entries
     all_decided None b e = tt
     all_decided (Some k) b e = by_kind k b e
       where
-        by_kind : (k : Entry) → ((e : Entry) → Some k ≡ Some e → TellsDecided e → ⊥) → (with_optional (Some k) nothing).sync ≡ false → AllByRecursion TellsDecided (k ∷ [])
+        by_kind : (k : Entry) → ((e : Entry) → Some k ≡ Some e → TellsDecided e → ⊥)
+            → (with_optional (Some k) nothing).sync ≡ false → AllByRecursion TellsDecided (k ∷ [])
         by_kind (entry.Promise x) b e = absurd (cc e)
         by_kind (entry.Vote x) b e = absurd (cc e)
         by_kind (entry.Decided i c) b e = (tt, tt)
 
-    all_known : (o : Option Entry) → ((e : Entry) → o ≡ Some e → TellsDecided e → ⊥) → (w : View) → (with_optional o nothing).sync ≡ false → AllByRecursion (IsKnown w) (with_optional o nothing).entries
+    all_known : (o : Option Entry) → ((e : Entry) → o ≡ Some e → TellsDecided e → ⊥) → (w : View)
+        → (with_optional o nothing).sync ≡ false → AllByRecursion (IsKnown w) (with_optional o nothing).entries
     all_known None b w e = tt
     all_known (Some k) b w e = by_kind k b e
       where
-        by_kind : (k : Entry) → ((e : Entry) → Some k ≡ Some e → TellsDecided e → ⊥) → (with_optional (Some k) nothing).sync ≡ false → AllByRecursion (IsKnown w) (k ∷ [])
+        by_kind : (k : Entry) → ((e : Entry) → Some k ≡ Some e → TellsDecided e → ⊥)
+            → (with_optional (Some k) nothing).sync ≡ false → AllByRecursion (IsKnown w) (k ∷ [])
         by_kind (entry.Promise x) b e = absurd (cc e)
         by_kind (entry.Vote x) b e = absurd (cc e)
         by_kind (entry.Decided i c) b e = absurd (b (entry.Decided i c) refl tt)
 
-    all_rest : (h : History) (o : Option Entry) → ((e : Entry) → o ≡ Some e → Rests h e) → AllByRecursion (Rests h) (with_optional o nothing).entries
+    all_rest : (h : History) (o : Option Entry) → ((e : Entry) → o ≡ Some e → Rests h e)
+        → AllByRecursion (Rests h) (with_optional o nothing).entries
     all_rest h None r = tt
     all_rest h (Some e) r = (r e refl, tt)
 
@@ -132,18 +158,23 @@ state_of : (a : AcceptorValue) (s : AcceptorState) (new : AcceptorValue) → new
 state_of a s new e = ap (λ (v : AcceptorValue). v.state) e
 
 -- a refusal moves nothing
-unmoved : (h : History) (n : ℕ) (a new : AcceptorValue) (o : Option Entry) → new ≡ a → o ≡ None → Moves h n a.state new.state o
+unmoved : (h : History) (n : ℕ) (a new : AcceptorValue) (o : Option Entry) → new ≡ a → o ≡ None
+    → Moves h n a.state new.state o
 unmoved h n a new o same none = record {
-  changes = λ w is f. subst (λ (s : AcceptorState). ViewFits h.genesis h.sent n (view_with w s)) (is ∙ ap (λ (v : AcceptorValue). v.state) (sym same)) f;
+  changes = λ w is f. subst (λ (s : AcceptorState). ViewFits h.genesis h.sent n (view_with w s))
+      (is ∙ ap (λ (v : AcceptorValue). v.state) (sym same)) f;
   rests = λ e is. absurd (none_is e (sym none ∙ is));
 }
 
 -- a promise
-promised_moves : (m : Meaning) (h : History) (n : ℕ) (a : AcceptorValue) (b : BallotValue) (first : ℕ) (r : Response) (new : AcceptorValue) → IsLawful m h → IsAtMost a.state.promised b → Promises a b first r new
+promised_moves : (m : Meaning) (h : History) (n : ℕ) (a : AcceptorValue) (b : BallotValue) (first : ℕ) (r : Response)
+    (new : AcceptorValue) → IsLawful m h → IsAtMost a.state.promised b → Promises a b first r new
     → Moves h n a.state new.state r.entry
 promised_moves m h n a b first r new lawful most p = record {
-  changes = λ w is f. subst (λ (s : AcceptorState). ViewFits h.genesis h.sent n (view_with w s)) (ap (λ (s : AcceptorState). with_promise s b) is ∙ sym (state_of a (with_promise a.state b) new p.state))
-      (change_fits h.genesis h.sent lawful.sound n w (view_with w (with_promise w.acceptor b)) f (promises b (subst (λ (s : AcceptorState). IsAtMost s.promised b) (sym is) most)));
+  changes = λ w is f. subst (λ (s : AcceptorState). ViewFits h.genesis h.sent n (view_with w s))
+      (ap (λ (s : AcceptorState). with_promise s b) is ∙ sym (state_of a (with_promise a.state b) new p.state))
+      (change_fits h.genesis h.sent lawful.sound n w (view_with w (with_promise w.acceptor b)) f
+      (promises b (subst (λ (s : AcceptorState). IsAtMost s.promised b) (sym is) most)));
   rests = λ x is. elim p.entry [
     | inl above ↦ subst (Rests h) (some_is (entry.Promise b) x (sym above.1 ∙ is)) tt
     | inr same ↦ absurd (none_is x (sym same.1 ∙ is))
@@ -151,45 +182,58 @@ promised_moves m h n a b first r new lawful most p = record {
 }
 
 -- a vote for what was proposed
-voted_moves : (m : Meaning) (h : History) (n : ℕ) (a : AcceptorValue) (x : Vote) (r : Response) (new : AcceptorValue) → IsLawful m h → WasSent h.genesis h.sent (kinds.Accept x) → IsOrdered a.state
-    → IsAtMost a.state.promised x.ballot → ((v : Vote) → Contains a.state.votes v → Agrees v x) → Votes a x r new → Moves h n a.state new.state r.entry
+voted_moves : (m : Meaning) (h : History) (n : ℕ) (a : AcceptorValue) (x : Vote) (r : Response) (new : AcceptorValue)
+    → IsLawful m h → WasSent h.genesis h.sent (kinds.Accept x) → IsOrdered a.state
+    → IsAtMost a.state.promised x.ballot → ((v : Vote) → Contains a.state.votes v → Agrees v x) → Votes a x r new
+    → Moves h n a.state new.state r.entry
 voted_moves m h n a x r new lawful was ordered most agree p = record {
-  changes = λ w is f. subst (λ (s : AcceptorState). ViewFits h.genesis h.sent n (view_with w s)) (sym (state_of a (with_vote a.state x) new p.state))
+  changes = λ w is f. subst (λ (s : AcceptorState). ViewFits h.genesis h.sent n (view_with w s))
+      (sym (state_of a (with_vote a.state x) new p.state))
       (change_fits h.genesis h.sent lawful.sound n w (view_with w (with_vote a.state x)) f
       (accepts x (with_vote a.state x) (subst (λ (s : AcceptorState). IsAtMost s.promised x.ballot) (sym is) most) was
-      (subst (λ (s : AcceptorState). TakesVote s x (with_vote a.state x)) (sym is) (takes_vote a.state x ordered most agree))));
+      (subst (λ (s : AcceptorState). TakesVote s x (with_vote a.state x)) (sym is)
+      (takes_vote a.state x ordered most agree))));
   rests = λ e is. elim p.entry [
     | inl listed ↦ absurd (none_is e (sym listed.1 ∙ is))
     | inr fresh ↦ subst (Rests h) (some_is (entry.Vote x) e (sym fresh.1 ∙ is)) was
   ];
 }
 
-prepare_moves : (m : Meaning) (h : History) (n : ℕ) (a : AcceptorValue) (e : ℕ) (b : BallotValue) (first : ℕ) (r : Response) (new : AcceptorValue) → IsLawful m h → AnswersPrepare a e b first r new
+prepare_moves : (m : Meaning) (h : History) (n : ℕ) (a : AcceptorValue) (e : ℕ) (b : BallotValue) (first : ℕ)
+    (r : Response) (new : AcceptorValue) → IsLawful m h → AnswersPrepare a e b first r new
     → Moves h n a.state new.state r.entry
-prepare_moves m h n a e b first r new lawful (inl granted) = promised_moves m h n a b first r new lawful granted.0.ballot granted.1
+prepare_moves m h n a e b first r new lawful (inl granted) =
+    promised_moves m h n a b first r new lawful granted.0.ballot granted.1
 prepare_moves m h n a e b first r new lawful (inr refused) = unmoved h n a new r.entry refused.1.state refused.1.entry
 
-accept_moves : (m : Meaning) (h : History) (n : ℕ) (a : AcceptorValue) (e : ℕ) (x : Vote) (r : Response) (new : AcceptorValue) → IsLawful m h → WasSent h.genesis h.sent (kinds.Accept x) → IsOrdered a.state → AnswersAccept a e x r new
+accept_moves : (m : Meaning) (h : History) (n : ℕ) (a : AcceptorValue) (e : ℕ) (x : Vote) (r : Response)
+    (new : AcceptorValue) → IsLawful m h → WasSent h.genesis h.sent (kinds.Accept x) → IsOrdered a.state
+    → AnswersAccept a e x r new
     → Moves h n a.state new.state r.entry
-accept_moves m h n a e x r new lawful was ordered (inl granted) = voted_moves m h n a x r new lawful was ordered granted.0.ballot granted.0.agree granted.1
-accept_moves m h n a e x r new lawful was ordered (inr refused) = unmoved h n a new r.entry refused.1.state refused.1.entry
+accept_moves m h n a e x r new lawful was ordered (inl granted) =
+    voted_moves m h n a x r new lawful was ordered granted.0.ballot granted.0.agree granted.1
+accept_moves m h n a e x r new lawful was ordered (inr refused) =
+    unmoved h n a new r.entry refused.1.state refused.1.entry
 
 -- their entries are promises and votes
-prepare_binding : (a : AcceptorValue) (e : ℕ) (b : BallotValue) (first : ℕ) (r : Response) (new : AcceptorValue) → AnswersPrepare a e b first r new → (x : Entry) → r.entry ≡ Some x → TellsDecided x → ⊥
+prepare_binding : (a : AcceptorValue) (e : ℕ) (b : BallotValue) (first : ℕ) (r : Response) (new : AcceptorValue)
+    → AnswersPrepare a e b first r new → (x : Entry) → r.entry ≡ Some x → TellsDecided x → ⊥
 prepare_binding a e b first r new (inl granted) x is decided = elim granted.1.entry [
   | inl above ↦ subst TellsDecided (some_is x (entry.Promise b) (sym is ∙ above.1)) decided
   | inr same ↦ none_is x (sym same.1 ∙ is)
 ]
 prepare_binding a e b first r new (inr refused) x is decided = none_is x (sym refused.1.entry ∙ is)
 
-accept_binding : (a : AcceptorValue) (e : ℕ) (v : Vote) (r : Response) (new : AcceptorValue) → AnswersAccept a e v r new → (x : Entry) → r.entry ≡ Some x → TellsDecided x → ⊥
+accept_binding : (a : AcceptorValue) (e : ℕ) (v : Vote) (r : Response) (new : AcceptorValue)
+    → AnswersAccept a e v r new → (x : Entry) → r.entry ≡ Some x → TellsDecided x → ⊥
 accept_binding a e v r new (inl granted) x is decided = elim granted.1.entry [
   | inl listed ↦ none_is x (sym listed.1 ∙ is)
   | inr fresh ↦ subst TellsDecided (some_is x (entry.Vote v) (sym is ∙ fresh.1)) decided
 ]
 accept_binding a e v r new (inr refused) x is decided = none_is x (sym refused.1.entry ∙ is)
 
-prepare_bears : (a : AcceptorValue) (e : ℕ) (b : BallotValue) (first : ℕ) (r : Response) (new : AcceptorValue) → AnswersPrepare a e b first r new
+prepare_bears : (a : AcceptorValue) (e : ℕ) (b : BallotValue) (first : ℕ) (r : Response) (new : AcceptorValue)
+    → AnswersPrepare a e b first r new
     → (m : Meaning) (h : History) (L : List Command) → BearsOutMessage m h L r.reply
 prepare_bears a e b first r new (inl granted) m h L = subst (BearsOutMessage m h L) (sym granted.1.reply) tt
 prepare_bears a e b first r new (inr refused) m h L = subst (BearsOutMessage m h L) (sym refused.1.reply) tt
@@ -201,38 +245,57 @@ accept_bears a e x r new (inr refused) m h L = subst (BearsOutMessage m h L) (sy
 
 -- ---- a response
 
-pub responded : {E : Type 0} (old new : NodeValue) (from : ℕ) (Answer : Response → AcceptorValue → Type 0) (r : Response) (a : AcceptorValue) (result : Result OutboxValue E)
-    → Answer r a → IfOk result (λ o. o ≡ reply_to (with_acceptor old a) from r) → OnOk result (IsMessage (saying old.header r.reply)) → OnOk result (new ≡ replied r.reply (with_acceptor old a)) → IfOk result (λ o. Responds old from Answer new o)
-responded old new from Answer r a (Ok o) answer is fits becomes = record { response = r; acceptor = a; answers = answer; becomes = becomes; fits = fits; comes_to = is }
+pub responded : {E : Type 0} (old new : NodeValue) (from : ℕ) (Answer : Response → AcceptorValue → Type 0)
+    (r : Response) (a : AcceptorValue) (result : Result OutboxValue E)
+    → Answer r a → IfOk result (λ o. o ≡ reply_to (with_acceptor old a) from r)
+    → OnOk result (IsMessage (saying old.header r.reply)) → OnOk result (new ≡ replied r.reply (with_acceptor old a))
+    → IfOk result (λ o. Responds old from Answer new o)
+responded old new from Answer r a (Ok o) answer is fits becomes =
+    record { response = r; acceptor = a; answers = answer; becomes = becomes; fits = fits; comes_to = is }
 responded old new from Answer r a (Err e) answer is fits becomes = tt
 
-replied_alike : (m : Meaning) (Heard : History → Type 0) (reply : NodeMessage) (node : NodeValue) (out : OutboxValue) → GoesOn m Heard node (replied reply node) out out
+replied_alike : (m : Meaning) (Heard : History → Type 0) (reply : NodeMessage) (node : NodeValue) (out : OutboxValue)
+    → GoesOn m Heard node (replied reply node) out out
 replied_alike m Heard reply node out = by_test (is_granted reply)
   where
-    by_test : (t : Bool) → GoesOn m Heard node (yielded node.acceptor.state.promised (cond t (record node { ticks = 0 }) node)) out out
-    by_test true = then_goes_on m Heard node (record node { ticks = 0 }) (yielded node.acceptor.state.promised (record node { ticks = 0 })) out out out
-        (alike_goes_on m Heard node (record node { ticks = 0 }) out (record { header = refl; acceptor = refl; learner = refl }) refl)
+    by_test : (t : Bool) → GoesOn m Heard node
+        (yielded node.acceptor.state.promised (cond t (record node { ticks = 0 }) node)) out out
+    by_test true = then_goes_on m Heard node (record node { ticks = 0 })
+        (yielded node.acceptor.state.promised (record node { ticks = 0 })) out out out
+        (alike_goes_on m Heard node (record node { ticks = 0 }) out
+        (record { header = refl; acceptor = refl; learner = refl }) refl)
         (yielded_goes_on m Heard node.acceptor.state.promised (record node { ticks = 0 }) out)
     by_test false = yielded_goes_on m Heard node.acceptor.state.promised node out
 
-responds_goes_on : (m : Meaning) (Heard : History → Type 0) (old new : NodeValue) (from : ℕ) (Answer : Response → AcceptorValue → Type 0) (out : OutboxValue) (k : Responds old from Answer new out)
+responds_goes_on : (m : Meaning) (Heard : History → Type 0) (old new : NodeValue) (from : ℕ)
+    (Answer : Response → AcceptorValue → Type 0) (out : OutboxValue) (k : Responds old from Answer new out)
     → k.acceptor.state ≡ with_written k.response.entry old.acceptor.state
     → ((e : Entry) → k.response.entry ≡ Some e → TellsDecided e → ⊥)
     → ((h : History) (n : ℕ) → IsLawful m h → Heard h → Moves h n old.acceptor.state k.acceptor.state k.response.entry)
     → Covers k.acceptor.state k.response.reply
-    → ((genesis : Genesis) (sent : List Datagram) (w : View) → w.acceptor ≡ k.acceptor.state → MaySend genesis sent w k.response.reply)
+    → ((genesis : Genesis) (sent : List Datagram) (w : View) → w.acceptor ≡ k.acceptor.state
+    → MaySend genesis sent w k.response.reply)
     → ((h : History) (L : List Command) → BearsOutMessage m h L k.response.reply)
     → GoesOn m Heard old new nothing out
 responds_goes_on m Heard old new from Answer out k written binding moves covers may bears =
     subst₂ (λ (node : NodeValue) (o : OutboxValue). GoesOn m Heard old node nothing o) (sym k.becomes) (sym k.comes_to)
-    (then_goes_on m Heard old (with_acceptor old k.acceptor) (replied k.response.reply (with_acceptor old k.acceptor)) nothing (with_optional k.response.entry nothing) (reply_to old from k.response)
+    (then_goes_on m Heard old (with_acceptor old k.acceptor)
+    (replied k.response.reply (with_acceptor old k.acceptor)) nothing (with_optional k.response.entry nothing)
+    (reply_to old from k.response)
     (moves_goes_on m Heard old k.acceptor k.response.entry written binding moves)
-    (then_goes_on m Heard (with_acceptor old k.acceptor) (with_acceptor old k.acceptor) (replied k.response.reply (with_acceptor old k.acceptor)) (with_optional k.response.entry nothing) (reply_to old from k.response) (reply_to old from k.response)
-    (says m Heard (with_acceptor old k.acceptor) (with_optional k.response.entry nothing) (to_node old from) k.response.reply k.fits covers (λ e. absurd (no_rebase k.response.entry e))
-    (λ h n loose s heard. (may h.genesis h.sent s.holding.view s.held.acceptor, record { under = s.holding.view.done; chosen = s.fits.view.stems.done; bears = bears h s.holding.view.done })))
+    (then_goes_on m Heard (with_acceptor old k.acceptor) (with_acceptor old k.acceptor)
+    (replied k.response.reply (with_acceptor old k.acceptor)) (with_optional k.response.entry nothing)
+    (reply_to old from k.response) (reply_to old from k.response)
+    (says m Heard (with_acceptor old k.acceptor) (with_optional k.response.entry nothing)
+    (to_node old from) k.response.reply k.fits covers (λ e. absurd (no_rebase k.response.entry e))
+    (λ h n loose s heard. (
+      may h.genesis h.sent s.holding.view s.held.acceptor,
+      record { under = s.holding.view.done; chosen = s.fits.view.stems.done; bears = bears h s.holding.view.done },
+    )))
     (replied_alike m Heard k.response.reply (with_acceptor old k.acceptor) (reply_to old from k.response))))
 
-pub prepare_goes_on : (m : Meaning) (old new : NodeValue) (from e : ℕ) (b : BallotValue) (first : ℕ) (out : OutboxValue) → Responds old from (AnswersPrepare old.acceptor e b first) new out
+pub prepare_goes_on : (m : Meaning) (old new : NodeValue) (from e : ℕ) (b : BallotValue) (first : ℕ)
+    (out : OutboxValue) → Responds old from (AnswersPrepare old.acceptor e b first) new out
     → GoesOn m (λ h. Unit {0}) old new nothing out
 prepare_goes_on m old new from e b first out k =
     responds_goes_on m (λ h. Unit {0}) old new from (AnswersPrepare old.acceptor e b first) out k
@@ -243,13 +306,16 @@ prepare_goes_on m old new from e b first out k =
     (λ genesis sent w is. prepare_may genesis sent w old.acceptor e b first k.response k.acceptor k.answers is)
     (prepare_bears old.acceptor e b first k.response k.acceptor k.answers m)
 
-pub accept_goes_on : (m : Meaning) (old new : NodeValue) (from e : ℕ) (x : Vote) (out : OutboxValue) → IsOrdered old.acceptor.state → Responds old from (AnswersAccept old.acceptor e x) new out
+pub accept_goes_on : (m : Meaning) (old new : NodeValue) (from e : ℕ) (x : Vote) (out : OutboxValue)
+    → IsOrdered old.acceptor.state → Responds old from (AnswersAccept old.acceptor e x) new out
     → GoesOn m (λ h. HasSent h.genesis h.sent from (kinds.Accept x)) old new nothing out
 accept_goes_on m old new from e x out ordered k =
-    responds_goes_on m (λ h. HasSent h.genesis h.sent from (kinds.Accept x)) old new from (AnswersAccept old.acceptor e x) out k
+    responds_goes_on m (λ h. HasSent h.genesis h.sent from (kinds.Accept x)) old new from
+    (AnswersAccept old.acceptor e x) out k
     (accept_written old.acceptor e x k.response k.acceptor ordered k.answers)
     (accept_binding old.acceptor e x k.response k.acceptor k.answers)
-    (λ h n lawful heard. accept_moves m h n old.acceptor e x k.response k.acceptor lawful (record { sender = from; has_sent = heard }) ordered k.answers)
+    (λ h n lawful heard. accept_moves m h n old.acceptor e x k.response k.acceptor lawful
+    (record { sender = from; has_sent = heard }) ordered k.answers)
     (accept_covered old.acceptor e x k.response k.acceptor ordered k.answers)
     (λ genesis sent w is. accept_may genesis sent w old.acceptor e x k.response k.acceptor ordered k.answers is)
     (accept_bears old.acceptor e x k.response k.acceptor k.answers m)

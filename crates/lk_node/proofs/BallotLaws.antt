@@ -39,7 +39,8 @@ no_pair : (p : Pair) → Contains [] p → ⊥
 no_pair p c = omega (arith, c.1)
 
 -- the ballot is promised and written, and a term of it begins
-pub begins_goes_on : (m : Meaning) (Heard : History → Type 0) (node : NodeValue) (b : BallotValue) → b.node ≡ node.header.node → IsBelow node.acceptor.state.promised b
+pub begins_goes_on : (m : Meaning) (Heard : History → Type 0) (node : NodeValue) (b : BallotValue)
+    → b.node ≡ node.header.node → IsBelow node.acceptor.state.promised b
     → GoesOn m Heard node (beginning b node) nothing (with_entry (entry.Promise b) nothing)
 begins_goes_on m Heard node b own below = record {
   binds = λ first k. record {
@@ -66,9 +67,11 @@ begins_goes_on m Heard node b own below = record {
     };
     fits = record {
       view = change_fits h.genesis h.sent s.lawful.sound n s.holding.view _ s.fits.view
-          (begins b (own ∙ ap (λ (w : HeaderValue). w.node) s.whose) (subst (λ (a : AcceptorState). IsBelow a.promised b) (sym s.held.acceptor) below));
+          (begins b (own ∙ ap (λ (w : HeaderValue). w.node) s.whose)
+          (subst (λ (a : AcceptorState). IsBelow a.promised b) (sym s.held.acceptor) below));
       waiting = s.fits.waiting;
-      proposals = λ t at i v c. absurd (no_pair (i, v) (subst (λ (u : Term). Contains u.proposals (i, v)) (sym (is_new b t at)) c));
+      proposals = λ t at i v c. absurd
+          (no_pair (i, v) (subst (λ (u : Term). Contains u.proposals (i, v)) (sym (is_new b t at)) c));
       gathered = s.fits.gathered;
     };
     rests = (tt, tt);
@@ -80,25 +83,37 @@ begins_goes_on m Heard node b own below = record {
 }
 
 -- and the nodes of the window are asked for their promise
-pub asks_goes_on : (m : Meaning) (Heard : History → Type 0) (node : NodeValue) (b : BallotValue) (first : ℕ) (nodes : List ℕ) → b.node ≡ node.header.node → IsBelow node.acceptor.state.promised b
+pub asks_goes_on : (m : Meaning) (Heard : History → Type 0) (node : NodeValue) (b : BallotValue) (first : ℕ)
+    (nodes : List ℕ) → b.node ≡ node.header.node → IsBelow node.acceptor.state.promised b
     → IsMessage (saying (beginning b node).header (kinds.Prepare b first))
-    → GoesOn m Heard node (beginning b node) nothing (telling (beginning b node) nodes (kinds.Prepare b first) (with_entry (entry.Promise b) nothing))
+    → GoesOn m Heard node (beginning b node) nothing
+    (telling (beginning b node) nodes (kinds.Prepare b first) (with_entry (entry.Promise b) nothing))
 asks_goes_on m Heard node b first nodes own below fits =
-    then_goes_on m Heard node (beginning b node) (beginning b node) nothing (with_entry (entry.Promise b) nothing) (telling (beginning b node) nodes (kinds.Prepare b first) (with_entry (entry.Promise b) nothing))
+    then_goes_on m Heard node (beginning b node) (beginning b node) nothing (with_entry (entry.Promise b) nothing)
+    (telling (beginning b node) nodes (kinds.Prepare b first) (with_entry (entry.Promise b) nothing))
     (begins_goes_on m Heard node b own below)
-    (says_all m Heard (beginning b node) (with_entry (entry.Promise b) nothing) nodes (kinds.Prepare b first) fits (inr refl) (λ e. tt)
-    (λ o h n loose s heard. (subst (λ (a : AcceptorState). IsAtMost b a.promised) (sym s.held.acceptor) (inr refl), record { under = s.holding.view.done; chosen = s.fits.view.stems.done; bears = tt })))
+    (says_all m Heard (beginning b node) (with_entry (entry.Promise b) nothing) nodes
+    (kinds.Prepare b first) fits (inr refl) (λ e. tt)
+    (λ o h n loose s heard. (
+      subst (λ (a : AcceptorState). IsAtMost b a.promised) (sym s.held.acceptor) (inr refl),
+      record { under = s.holding.view.done; chosen = s.fits.view.stems.done; bears = tt },
+    )))
 
-pub starts_goes_on : (m : Meaning) (Heard : History → Type 0) (old new : NodeValue) (b : BallotValue) (out : OutboxValue) → b.node ≡ old.header.node → IsBelow old.acceptor.state.promised b → Begins b old new out
+pub starts_goes_on : (m : Meaning) (Heard : History → Type 0) (old new : NodeValue) (b : BallotValue)
+    (out : OutboxValue) → b.node ≡ old.header.node → IsBelow old.acceptor.state.promised b → Begins b old new out
     → GoesOn m Heard old new nothing out
 starts_goes_on m Heard old new b out own below k =
     subst (λ (node : NodeValue). GoesOn m Heard old node nothing out) (sym k.becomes)
     (elim k.asks [
-      | inl asks ↦ subst (GoesOn m Heard old (beginning b old) nothing) (sym asks.1) (asks_goes_on m Heard old b (executed old.learner + 1) k.nodes own below asks.0)
-      | inr last ↦ subst (GoesOn m Heard old (beginning b old) nothing) (sym last.1) (begins_goes_on m Heard old b own below)
+      | inl asks ↦ subst (GoesOn m Heard old (beginning b old) nothing) (sym asks.1)
+          (asks_goes_on m Heard old b (executed old.learner + 1) k.nodes own below asks.0)
+      | inr last ↦
+          subst (GoesOn m Heard old (beginning b old) nothing) (sym last.1) (begins_goes_on m Heard old b own below)
     ])
 
 -- a tick is counted in front
-pub ticked_goes_on : (m : Meaning) (Heard : History → Type 0) (old new : NodeValue) (out : OutboxValue) → GoesOn m Heard (ticked old) new nothing out → GoesOn m Heard old new nothing out
+pub ticked_goes_on : (m : Meaning) (Heard : History → Type 0) (old new : NodeValue) (out : OutboxValue)
+    → GoesOn m Heard (ticked old) new nothing out → GoesOn m Heard old new nothing out
 ticked_goes_on m Heard old new out f =
-    then_goes_on m Heard old (ticked old) new nothing nothing out (alike_goes_on m Heard old (ticked old) nothing (record { header = refl; acceptor = refl; learner = refl }) refl) f
+    then_goes_on m Heard old (ticked old) new nothing nothing out
+    (alike_goes_on m Heard old (ticked old) nothing (record { header = refl; acceptor = refl; learner = refl }) refl) f

@@ -1,5 +1,6 @@
 -- Changes of a node that safety does not rest on.
-use Rattle.std.proofs.Common.{◌≡◌, ℕ, Bool, true, false, cond, List, [], ◌∷◌, Contains, Some, None, refl, sym, ◌∙◌, ap, subst, subst₂, arith}
+use Rattle.std.proofs.Common.{◌≡◌, ℕ, Bool, true, false, cond, List, [], ◌∷◌, Contains, Some, None, refl, sym, ◌∙◌, ap}
+use Rattle.std.proofs.Common.{subst, subst₂, arith}
 use Rattle.std.specs.List.{AllByRecursion}
 use Rattle.lk_types.specs.BallotValue.{BallotValue}
 use Rattle.lk_types.specs.Ballots.{IsAtMost}
@@ -29,7 +30,8 @@ pub record IsAlike (old new : NodeValue) : Type 0 where
   pub acceptor : new.acceptor ≡ old.acceptor
   pub learner : new.learner ≡ old.learner
 
-binds_alike : (first old new : NodeValue) (out : OutboxValue) → IsAlike old new → Binds first old out → Binds first new out
+binds_alike : (first old new : NodeValue) (out : OutboxValue) → IsAlike old new
+    → Binds first old out → Binds first new out
 binds_alike first old new out like b = record {
   header = like.header ∙ b.header;
   written = ap (λ (a : AcceptorValue). a.state) like.acceptor ∙ b.written;
@@ -40,7 +42,8 @@ binds_alike first old new out like b = record {
 }
 
 -- the leader stays too
-pub alike_goes_on : (m : Meaning) (Heard : History → Type 0) (old new : NodeValue) (out : OutboxValue) → IsAlike old new → new.leader ≡ old.leader → GoesOn m Heard old new out out
+pub alike_goes_on : (m : Meaning) (Heard : History → Type 0) (old new : NodeValue) (out : OutboxValue)
+    → IsAlike old new → new.leader ≡ old.leader → GoesOn m Heard old new out out
 alike_goes_on m Heard old new out like leads = record {
   binds = λ first b. binds_alike first old new out like b;
   serves = λ h n loose s heard. record {
@@ -49,8 +52,10 @@ alike_goes_on m Heard old new out like leads = record {
     holding = s.holding;
     held = record {
       acceptor = s.held.acceptor ∙ ap (λ (a : AcceptorValue). a.state) (sym like.acceptor);
-      follows = subst (λ (l : LearnerValue). Follows m h.genesis s.holding.view.done s.holding.view.pairs l) (sym like.learner) s.held.follows;
-      leads = subst₂ (λ (l : LearnerValue) (k : LeaderValue). LeadsOn l k s.holding.view) (sym like.learner) (sym leads) s.held.leads;
+      follows = subst (λ (l : LearnerValue). Follows m h.genesis s.holding.view.done s.holding.view.pairs l)
+          (sym like.learner) s.held.follows;
+      leads = subst₂ (λ (l : LearnerValue) (k : LeaderValue). LeadsOn l k s.holding.view) (sym like.learner)
+          (sym leads) s.held.leads;
       waiting = s.held.waiting ∙ ap (λ (k : LeaderValue). k.waiting) (sym leads);
       gathered = s.held.gathered ∙ ap (λ (l : LearnerValue). l.gathered) (sym like.learner);
     };
@@ -64,7 +69,8 @@ alike_goes_on m Heard old new out like leads = record {
 }
 
 -- the term ends, and nothing waits
-pub leaves_goes_on : (m : Meaning) (Heard : History → Type 0) (old new : NodeValue) (out : OutboxValue) → IsAlike old new → new.leader ≡ idle → GoesOn m Heard old new out out
+pub leaves_goes_on : (m : Meaning) (Heard : History → Type 0) (old new : NodeValue) (out : OutboxValue)
+    → IsAlike old new → new.leader ≡ idle → GoesOn m Heard old new out out
 leaves_goes_on m Heard old new out like leads = record {
   binds = λ first b. binds_alike first old new out like b;
   serves = λ h n loose s heard. record {
@@ -73,7 +79,8 @@ leaves_goes_on m Heard old new out like leads = record {
     holding = record { view = s.holding.view; waiting = []; gathered = s.holding.gathered };
     held = record {
       acceptor = s.held.acceptor ∙ ap (λ (a : AcceptorValue). a.state) (sym like.acceptor);
-      follows = subst (λ (l : LearnerValue). Follows m h.genesis s.holding.view.done s.holding.view.pairs l) (sym like.learner) s.held.follows;
+      follows = subst (λ (l : LearnerValue). Follows m h.genesis s.holding.view.done s.holding.view.pairs l)
+          (sym like.learner) s.held.follows;
       leads = λ k at. absurd (no_term k (sym (ap (λ (l : LeaderValue). l.term) leads) ∙ at));
       waiting = sym (ap (λ (k : LeaderValue). k.waiting) leads);
       gathered = s.held.gathered ∙ ap (λ (l : LearnerValue). l.gathered) (sym like.learner);
@@ -96,11 +103,13 @@ leaves_goes_on m Heard old new out like leads = record {
     no_term k e = cc e
 
 -- a ballot was seen
-pub yielded_goes_on : (m : Meaning) (Heard : History → Type 0) (b : BallotValue) (node : NodeValue) (out : OutboxValue) → GoesOn m Heard node (yielded b node) out out
+pub yielded_goes_on : (m : Meaning) (Heard : History → Type 0) (b : BallotValue) (node : NodeValue) (out : OutboxValue)
+    → GoesOn m Heard node (yielded b node) out out
 yielded_goes_on m Heard b node out = by_test (is_term_below b node.leader.term)
   where
     by_test : (t : Bool) → GoesOn m Heard node (cond t (without_term node) node) out out
-    by_test true = leaves_goes_on m Heard node (without_term node) out (record { header = refl; acceptor = refl; learner = refl }) refl
+    by_test true = leaves_goes_on m Heard node (without_term node) out
+        (record { header = refl; acceptor = refl; learner = refl }) refl
     by_test false = alike_goes_on m Heard node node out (record { header = refl; acceptor = refl; learner = refl }) refl
 
 -- ---- the view goes on
@@ -108,15 +117,21 @@ yielded_goes_on m Heard b node out = by_test (is_term_below b node.leader.term)
 -- the second view has what the first may have sent by: the same acceptor, and the term, if any, with all its proposals
 pub record Grows (old new : View) : Type 0 where
   pub acceptor : new.acceptor ≡ old.acceptor
-  pub term : (t : Term) → old.term ≡ Some t → (u : Term) × (new.term ≡ Some u) × (u.ballot ≡ t.ballot) × ((p : Pair) → Contains t.proposals p → Contains u.proposals p)
+  pub term : (t : Term) → old.term ≡ Some t
+      → (u : Term) × (new.term ≡ Some u) × (u.ballot ≡ t.ballot)
+      × ((p : Pair) → Contains t.proposals p → Contains u.proposals p)
 
-may_send_on : (genesis : Genesis) (sent : List Datagram) (old new : View) → Grows old new → (x : NodeMessage) → MaySend genesis sent old x → MaySend genesis sent new x
-may_send_on genesis sent old new g (kinds.Prepare b first) may = subst (λ (a : AcceptorState). IsAtMost b a.promised) (sym g.acceptor) may
-may_send_on genesis sent old new g (kinds.Promise p) may = subst (λ (a : AcceptorState). MayPromise a p) (sym g.acceptor) may
+may_send_on : (genesis : Genesis) (sent : List Datagram) (old new : View) → Grows old new → (x : NodeMessage)
+    → MaySend genesis sent old x → MaySend genesis sent new x
+may_send_on genesis sent old new g (kinds.Prepare b first) may =
+    subst (λ (a : AcceptorState). IsAtMost b a.promised) (sym g.acceptor) may
+may_send_on genesis sent old new g (kinds.Promise p) may =
+    subst (λ (a : AcceptorState). MayPromise a p) (sym g.acceptor) may
 may_send_on genesis sent old new g (kinds.Accept x) may =
     let u = g.term may.0 may.1 in
     (u.0, u.1, u.2 ∙ may.2, u.3 (x.position, x.command) may.3)
-may_send_on genesis sent old new g (kinds.Accepted x) may = subst (λ (a : AcceptorState). (a.promised ≡ x.ballot) × Contains a.votes x) (sym g.acceptor) may
+may_send_on genesis sent old new g (kinds.Accepted x) may =
+    subst (λ (a : AcceptorState). (a.promised ≡ x.ballot) × Contains a.votes x) (sym g.acceptor) may
 may_send_on genesis sent old new g (kinds.Nack k) may = may
 may_send_on genesis sent old new g (kinds.Decided d) may = may
 may_send_on genesis sent old new g (kinds.Want k) may = may
@@ -126,10 +141,19 @@ may_send_on genesis sent old new g (kinds.Elsewhere k) may = may
 may_send_on genesis sent old new g (kinds.Passed p) may = may
 may_send_on genesis sent old new g (kinds.Lead b k) may = may
 
-pub may_go_on : (m : Meaning) (h : History) (n : ℕ) (old new : View) → Grows old new → (d : Datagram) → MayGo m h n old d → MayGo m h n new d
-may_go_on m h n old new g d k = record { message = k.message; from = k.from; spelled = k.spelled; may = may_send_on h.genesis h.sent old new g k.message k.may; served = k.served }
+pub may_go_on : (m : Meaning) (h : History) (n : ℕ) (old new : View) → Grows old new → (d : Datagram)
+    → MayGo m h n old d → MayGo m h n new d
+may_go_on m h n old new g d k =
+    record {
+      message = k.message;
+      from = k.from;
+      spelled = k.spelled;
+      may = may_send_on h.genesis h.sent old new g k.message k.may;
+      served = k.served;
+    }
 
-all_on : (P Q : Entry → Type 0) (es : List Entry) → ((e : Entry) → P e → Q e) → AllByRecursion P es → AllByRecursion Q es
+all_on : (P Q : Entry → Type 0) (es : List Entry) → ((e : Entry) → P e → Q e)
+    → AllByRecursion P es → AllByRecursion Q es
 all_on P Q [] f a = tt
 all_on P Q (e ∷ es) f a = (f e a.0, all_on P Q es f a.1)
 
@@ -142,15 +166,18 @@ pub record IsFollowed (m : Meaning) (h : History) (n : ℕ) (old : View) (new : 
   pub knows : (e : Entry) → IsKnown old e → IsKnown holding.view e
 
 -- such a change goes on
-pub change_goes_on : (m : Meaning) (Heard : History → Type 0) (old new : NodeValue) (out : OutboxValue) → new.header ≡ old.header → new.acceptor.state ≡ old.acceptor.state
-    → ((h : History) (n : ℕ) (loose : List Entry) (s : Serves m h n loose old out) → Heard h → IsFollowed m h n s.holding.view new) → GoesOn m Heard old new out out
+pub change_goes_on : (m : Meaning) (Heard : History → Type 0) (old new : NodeValue) (out : OutboxValue)
+    → new.header ≡ old.header → new.acceptor.state ≡ old.acceptor.state
+    → ((h : History) (n : ℕ) (loose : List Entry) (s : Serves m h n loose old out) → Heard h
+    → IsFollowed m h n s.holding.view new) → GoesOn m Heard old new out out
 change_goes_on m Heard old new out header state f = record {
   binds = λ first b. record {
     header = header ∙ b.header;
     written = state ∙ b.written;
     unsynced = b.unsynced;
     still = λ e. state ∙ b.still e;
-    tells = λ l c. subst (λ (w : HeaderValue). Tells w new.acceptor.state out.rebase l) (sym header) (subst (λ (a : AcceptorState). Tells old.header a out.rebase l) (sym state) (b.tells l c));
+    tells = λ l c. subst (λ (w : HeaderValue). Tells w new.acceptor.state out.rebase l) (sym header)
+        (subst (λ (a : AcceptorState). Tells old.header a out.rebase l) (sym state) (b.tells l c));
   };
   serves = λ h n loose s heard.
       let u = f h n loose s heard in

@@ -1,5 +1,6 @@
 -- What a node decides goes on: what a majority has accepted is chosen, and its list names the members that it notes.
-use Rattle.std.proofs.Common.{◌≡◌, ◌↔◌, ℕ, zero, suc, ◌+◌, ◌-◌, ◌≤◌, inl, inr, Bool, true, false, cond, List, [], ◌∷◌, length, map, Option, Some, None, Contains, refl, sym, ◌∙◌, ap, subst, subst₂, arith}
+use Rattle.std.proofs.Common.{◌≡◌, ◌↔◌, ℕ, zero, suc, ◌+◌, ◌-◌, ◌≤◌, inl, inr, Bool, true, false, cond, List, [], ◌∷◌}
+use Rattle.std.proofs.Common.{length, map, Option, Some, None, Contains, refl, sym, ◌∙◌, ap, subst, subst₂, arith}
 use Rattle.std.specs.Prelude.{slice_get, IsTrue}
 use Rattle.std.proofs.lemmas.Option.{slice_get_within}
 use Rattle.std.proofs.lemmas.List.{append-nil, append_assoc}
@@ -36,7 +37,8 @@ use Rattle.lk_node_io.specs.Letters.{LetterValue}
 use Rattle.lk_node_io.specs.Outboxes.{OutboxValue, nothing, with_note, with_letter, with_letters}
 use Rattle.lk_node_io.specs.Saying.{saying}
 use Rattle.lk_node_io.specs.declared.note.Note.TheVariants as note
-use Rattle.lk_node.specs.Deciding.{IsForProposal, with_vote, BringsMajority, IsOnlyHeard, HearsVote, AreDecidedLetters, HearsAccepted, Decides}
+use Rattle.lk_node.specs.Deciding.{IsForProposal, with_vote, BringsMajority, IsOnlyHeard, HearsVote, AreDecidedLetters}
+use Rattle.lk_node.specs.Deciding.{HearsAccepted, Decides}
 use Rattle.lk_node.specs.Executing.{SettlesAny, is_outside, while_named, Executes, Runs, stays, goes_on}
 use Rattle.lk_node.specs.Histories.{History}
 use Rattle.lk_node.specs.Keeping.{IsKnown}
@@ -60,13 +62,20 @@ not_told : (told : Bool) → told ≡ false → IsTrue told → ⊥
 not_told true isnt is = cc isnt
 not_told false isnt is = cc is
 
-module _ (from : ℕ) (x : Vote) (was : NodeValue) (l : LeaderValue) (o : Bool) (set : List Member) (r : RosterValue) (same : r ≡ was.learner.whole.roster) (at : AreMembersAt r x.position set)
-    (heard : (t : TermValue) (s : List Member) (p : ProposalValue) → was.leader.term ≡ Some t → IsVoteFor t r x.ballot x.position x.command s p
-    → (l ≡ with_term (with_proposals (heard_at s from x.position t.proposals) t) was.leader) × (IsTrue o ↔ GainsMajority s from p))
-    (other : ((t : TermValue) (s : List Member) (p : ProposalValue) → was.leader.term ≡ Some t → IsVoteFor t r x.ballot x.position x.command s p → ⊥) → (l ≡ was.leader) × (o ≡ false)) where
-  told_for : (k : IsForProposal was x) → (with_leader was l ≡ with_vote from x was k) × (IsTrue o ↔ BringsMajority from x was k)
+module _ (from : ℕ) (x : Vote) (was : NodeValue) (l : LeaderValue) (o : Bool) (set : List Member) (r : RosterValue)
+    (same : r ≡ was.learner.whole.roster) (at : AreMembersAt r x.position set)
+    (heard : (t : TermValue) (s : List Member) (p : ProposalValue) → was.leader.term ≡ Some t
+    → IsVoteFor t r x.ballot x.position x.command s p
+    → (l ≡ with_term (with_proposals (heard_at s from x.position t.proposals) t) was.leader)
+    × (IsTrue o ↔ GainsMajority s from p))
+    (other : ((t : TermValue) (s : List Member) (p : ProposalValue) → was.leader.term ≡ Some t
+    → IsVoteFor t r x.ballot x.position x.command s p → ⊥) → (l ≡ was.leader) × (o ≡ false)) where
+  told_for : (k : IsForProposal was x)
+      → (with_leader was l ≡ with_vote from x was k) × (IsTrue o ↔ BringsMajority from x was k)
   told_for k =
-      let told = heard k.term k.set k.proposal k.current (subst (λ (q : RosterValue). IsVoteFor k.term q x.ballot x.position x.command k.set k.proposal) (sym same) k.vote) in
+      let told = heard k.term k.set k.proposal k.current
+      (subst (λ (q : RosterValue). IsVoteFor k.term q x.ballot x.position x.command k.set k.proposal)
+      (sym same) k.vote) in
       (ap (with_leader was) told.0, told.1)
 
   told_none : (IsForProposal was x → ⊥) → (with_leader was l ≡ was) × (o ≡ false)
@@ -101,12 +110,14 @@ module _ (from : ℕ) (x : Vote) (was : NodeValue) (l : LeaderValue) (o : Bool) 
       ]
 
   -- the leader's ballot stays promised
-  pub still_promised : (b : BallotValue) → ((t : TermValue) → was.leader.term ≡ Some t → IsAtMost t.ballot b) → (t : TermValue) → l.term ≡ Some t → IsAtMost t.ballot b
+  pub still_promised : (b : BallotValue) → ((t : TermValue) → was.leader.term ≡ Some t → IsAtMost t.ballot b)
+      → (t : TermValue) → l.term ≡ Some t → IsAtMost t.ballot b
   still_promised b promised t is =
       elim (for_proposal_or_not was x set its_members) [
         | inl k ↦
             (let told = told_for k in
-            let kept : Some (with_proposals (heard_at k.set from x.position k.term.proposals) k.term) ≡ Some t = sym (ap (λ (n : NodeValue). n.leader.term) told.0) ∙ is in
+            let kept : Some (with_proposals (heard_at k.set from x.position k.term.proposals) k.term) ≡ Some t =
+            sym (ap (λ (n : NodeValue). n.leader.term) told.0) ∙ is in
             let same : with_proposals (heard_at k.set from x.position k.term.proposals) k.term ≡ t = cc kept in
             subst (λ (u : TermValue). IsAtMost u.ballot b) same (promised k.term k.current))
         | inr isnt ↦ promised t (sym (ap (λ (n : NodeValue). n.leader.term) (told_none isnt).0) ∙ is)
@@ -128,12 +139,15 @@ knows_voted from x w t (entry.Promise b) k = k
 knows_voted from x w t (entry.Vote y) k = k
 knows_voted from x w t (entry.Decided i c) k = k
 
-voted_fits : (h : History) (n from : ℕ) (x : Vote) (w : View) (t : Term) (m : Meaning) (loose : List Entry) (node : NodeValue) (out : OutboxValue) → Serves m h n loose node out
-    → ViewFits h.genesis h.sent n w → w.term ≡ Some t → t.ballot ≡ x.ballot → Accepts from x h → ViewFits h.genesis h.sent n (voted from x w t)
+voted_fits : (h : History) (n from : ℕ) (x : Vote) (w : View) (t : Term) (m : Meaning) (loose : List Entry)
+    (node : NodeValue) (out : OutboxValue) → Serves m h n loose node out
+    → ViewFits h.genesis h.sent n w → w.term ≡ Some t → t.ballot ≡ x.ballot → Accepts from x h
+    → ViewFits h.genesis h.sent n (voted from x w t)
 voted_fits h n from x w t m loose node out s fits at ballot heard =
     change_fits h.genesis h.sent s.lawful.sound n w (voted from x w t) fits
     (counts t (acceptance from x) at
-    (subst (λ (b : BallotValue). HasSent h.genesis h.sent from (kinds.Accepted (record { position = x.position; ballot = b; command = x.command }))) (sym ballot) heard))
+    (subst (λ (b : BallotValue). HasSent h.genesis h.sent from
+    (kinds.Accepted (record { position = x.position; ballot = b; command = x.command }))) (sym ballot) heard))
 
 some_of : (a b : Term) → Some a ≡ Some b → a ≡ b
 some_of a b e = cc e
@@ -141,7 +155,8 @@ some_of a b e = cc e
 some_kept : (a b : TermValue) → Some a ≡ Some b → a ≡ b
 some_kept a b e = cc e
 
-pub vote_goes_on : (m : Meaning) (from : ℕ) (x : Vote) (node : NodeValue) (out : OutboxValue) (k : IsForProposal node x) → GoesOn m (Accepts from x) node (with_vote from x node k) out out
+pub vote_goes_on : (m : Meaning) (from : ℕ) (x : Vote) (node : NodeValue) (out : OutboxValue)
+    (k : IsForProposal node x) → GoesOn m (Accepts from x) node (with_vote from x node k) out out
 vote_goes_on m from x node out k =
     change_goes_on m (Accepts from x) node (with_vote from x node k) out refl refl (λ h n loose s heard.
     let w : View = s.holding.view in
@@ -157,8 +172,10 @@ vote_goes_on m from x node out k =
         leads = λ j e. (
           more,
           refl,
-          subst (LeadsTerm r.executed (length r.sets) more) (some_kept (with_proposals (heard_at k.set from x.position k.term.proposals) k.term) j e)
-              (majority_leads r.executed (length r.sets) t k.term r x.ballot from x.position x.command k.set k.proposal k.vote u.2),
+          subst (LeadsTerm r.executed (length r.sets) more)
+              (some_kept (with_proposals (heard_at k.set from x.position k.term.proposals) k.term) j e)
+              (majority_leads r.executed
+              (length r.sets) t k.term r x.ballot from x.position x.command k.set k.proposal k.vote u.2),
         );
         waiting = s.held.waiting;
         gathered = s.held.gathered;
@@ -166,73 +183,91 @@ vote_goes_on m from x node out k =
       fits = record {
         view = voted_fits h n from x w t m loose node out s s.fits.view u.1 (u.2.ballot ∙ k.vote.ballot) heard;
         waiting = s.fits.waiting;
-        proposals = λ q e i v c. s.fits.proposals t u.1 i v (subst (λ (z : Term). Contains z.proposals (i, v)) (sym (some_of more q e)) c);
+        proposals = λ q e i v c. s.fits.proposals t u.1 i v
+            (subst (λ (z : Term). Contains z.proposals (i, v)) (sym (some_of more q e)) c);
         gathered = s.fits.gathered;
       };
       grows = record {
         acceptor = refl;
         term = λ q e.
-            let same : t ≡ q = some_of t q (sym u.1 ∙ e) in
-            (more, refl, ap (λ (z : Term). z.ballot) same, λ p c. subst (λ (z : Term). Contains z.proposals p) (sym same) c);
+            let same : t ≡ q = some_of t q (sym u.1 ∙ e) in (
+              more,
+              refl,
+              ap (λ (z : Term). z.ballot) same,
+              λ p c. subst (λ (z : Term). Contains z.proposals p) (sym same) c,
+            );
       };
       knows = knows_voted from x w t;
     })
 
 -- ---- a majority
 
-state_roster : (m : Meaning) (genesis : Genesis) (done : List Command) → (whole_after m genesis done).roster ≡ roster_after genesis done
+state_roster : (m : Meaning) (genesis : Genesis) (done : List Command)
+    → (whole_after m genesis done).roster ≡ roster_after genesis done
 unfolding whole_after
 state_roster m genesis done = refl
 
-roster_sums : (m : Meaning) (genesis : Genesis) (done : List Command) (w : WholeValue) → SumsUp m genesis done w → RosterSumsUp genesis done w.roster
+roster_sums : (m : Meaning) (genesis : Genesis) (done : List Command) (w : WholeValue) → SumsUp m genesis done w
+    → RosterSumsUp genesis done w.roster
 roster_sums m genesis done w sums = ap (λ (x : WholeValue). x.roster) sums ∙ state_roster m genesis done
 
 within_window : (r : RosterValue) (i : ℕ) (set : List Member) → AreMembersAt r i set → i ≤ r.executed + length r.sets
-within_window r i set at = let less = slice_get_within r.sets (i - (r.executed + 1)) set at.1 in omega (arith, less, at.0)
+within_window r i set at = let less = slice_get_within r.sets (i - (r.executed + 1)) set at.1 in
+    omega (arith, less, at.0)
 
 roster_executed : (genesis : Genesis) (done : List Command) → (roster_after genesis done).executed ≡ length done
 unfolding roster_after
 roster_executed genesis done = refl
 
 -- the set is the one that the list names, and the list reaches
-list_names : (genesis : Genesis) (done : List Command) (r : RosterValue) (i : ℕ) (set : List Member) → RosterSumsUp genesis done r → AreMembersAt r i set
+list_names : (genesis : Genesis) (done : List Command) (r : RosterValue) (i : ℕ) (set : List Member)
+    → RosterSumsUp genesis done r → AreMembersAt r i set
     → (i ≤ length done + genesis.alpha) × (set ≡ members genesis done i)
 list_names genesis done r i set sums at =
     let e : r.executed ≡ length done = ap (λ (x : RosterValue). x.executed) sums ∙ roster_executed genesis done in
     let a : length r.sets ≡ genesis.alpha = length_of_window genesis done r sums in
     let near = within_window r i set at in
     let k : ℕ = i - (r.executed + 1) in
-    let there : slice_get r.sets k ≡ Some (members genesis done (length done + 1 + k)) = set_of_window genesis done r k sums (omega (arith, at.0, near, a)) in
+    let there : slice_get r.sets k ≡ Some (members genesis done (length done + 1 + k)) =
+    set_of_window genesis done r k sums (omega (arith, at.0, near, a)) in
     let place : length done + 1 + k ≡ i = omega (arith, at.0, e) in
-    let same : set ≡ members genesis done (length done + 1 + k) = (let both : Some set ≡ Some (members genesis done (length done + 1 + k)) = sym at.1 ∙ there in cc both) in
+    let same : set ≡ members genesis done (length done + 1 + k) =
+    (let both : Some set ≡ Some (members genesis done (length done + 1 + k)) = sym at.1 ∙ there in cc both) in
     (omega (arith, near, e, a), same ∙ ap (members genesis done) place)
 
 -- what a majority has accepted is chosen
-pub decided_chosen : (m : Meaning) (h : History) (n : ℕ) (loose : List Entry) (node : NodeValue) (out : OutboxValue) (from : ℕ) (x : Vote) (k : IsForProposal node x) → BringsMajority from x node k
+pub decided_chosen : (m : Meaning) (h : History) (n : ℕ) (loose : List Entry) (node : NodeValue) (out : OutboxValue)
+    (from : ℕ) (x : Vote) (k : IsForProposal node x) → BringsMajority from x node k
     → Serves m h n loose node out → Accepts from x h → ChosenAt h.genesis h.sent x.position x.command
 decided_chosen m h n loose node out from x k counted s heard =
     let w : View = s.holding.view in
     let r : RosterValue = node.learner.whole.roster in
     let u = s.held.leads k.term k.current in
     let t : Term = u.0 in
-    let rests = majority_rests h.genesis w.done t k.term r x.ballot from x.position x.command k.set k.proposal (roster_sums m h.genesis w.done node.learner.whole s.held.follows.sums)
+    let rests = majority_rests h.genesis w.done t k.term r x.ballot from x.position x.command k.set k.proposal
+    (roster_sums m h.genesis w.done node.learner.whole s.held.follows.sums)
     (within_window r x.position k.set k.vote.members) u.2 k.vote counted in
-    accepted_is_chosen h.genesis h.sent n (voted from x w t) (with_acceptance t (acceptance from x)) x.position x.command (accepted_by k.set from k.proposal)
-    (voted_fits h n from x w t m loose node out s s.fits.view u.1 (u.2.ballot ∙ k.vote.ballot) heard) refl rests.0 rests.1 rests.2
+    accepted_is_chosen h.genesis h.sent n (voted from x w t)
+    (with_acceptance t (acceptance from x)) x.position x.command (accepted_by k.set from k.proposal)
+    (voted_fits h n from x w t m loose node out s s.fits.view u.1 (u.2.ballot ∙ k.vote.ballot) heard)
+    refl rests.0 rests.1 rests.2
 
 -- ---- it is noted
 
-notes_counted : (m : Meaning) (node : NodeValue) (out : OutboxValue) (whose i : ℕ) (set : List Member) (v : Command) → AreMembersAt node.learner.whole.roster i set
+notes_counted : (m : Meaning) (node : NodeValue) (out : OutboxValue) (whose i : ℕ) (set : List Member) (v : Command)
+    → AreMembersAt node.learner.whole.roster i set
     → GoesOn m (Chooses i v) node node out (with_note (note.Counted whose i set v) out)
 notes_counted m node out whose i set v at =
     notes m (Chooses i v) node out (note.Counted whose i set v) tt (λ h n loose s heard.
     let w : View = s.holding.view in
-    let names = list_names h.genesis w.done node.learner.whole.roster i set (roster_sums m h.genesis w.done node.learner.whole s.held.follows.sums) at in
+    let names = list_names h.genesis w.done node.learner.whole.roster i set
+    (roster_sums m h.genesis w.done node.learner.whole s.held.follows.sums) at in
     record { under = w.done; chosen = s.fits.view.stems.done; bears = (names.0, names.1, heard) })
 
 -- ---- and told
 
-chosen_alone : (h : History) (i : ℕ) (v : Command) → ChosenAt h.genesis h.sent i v → (k : ℕ) (u : Command) → slice_get (v ∷ []) k ≡ Some u → ChosenAt h.genesis h.sent (i + k) u
+chosen_alone : (h : History) (i : ℕ) (v : Command) → ChosenAt h.genesis h.sent i v → (k : ℕ) (u : Command)
+    → slice_get (v ∷ []) k ≡ Some u → ChosenAt h.genesis h.sent (i + k) u
 chosen_alone h i v chosen zero u at =
     let same : v ≡ u = cc at in
     let place : i ≡ i + 0 = omega arith in
@@ -244,25 +279,39 @@ chosen_alone h i v chosen (suc k) u at = absurd (nothing k at)
     nothing (suc j) e = cc e
 
 abbrev lettered : OutboxValue → List LetterValue → OutboxValue
-lettered out ls = record { rebase = out.rebase; entries = out.entries; sync = out.sync; notes = out.notes; letters = ls }
+lettered out ls =
+    record { rebase = out.rebase; entries = out.entries; sync = out.sync; notes = out.notes; letters = ls }
 
-decided_go_on : (m : Meaning) (i : ℕ) (v : Command) (was node : NodeValue) (out : OutboxValue) (nodes : List ℕ) → node.header ≡ was.header → IsMessage (saying was.header (decided_message (i, v)))
+decided_go_on : (m : Meaning) (i : ℕ) (v : Command) (was node : NodeValue) (out : OutboxValue) (nodes : List ℕ)
+    → node.header ≡ was.header → IsMessage (saying was.header (decided_message (i, v)))
     → GoesOn m (Chooses i v) node node out (with_letters (map (letter_to was (decided_message (i, v))) nodes) out)
-decided_go_on m i v was node out [] same fits = subst (λ (ls : List LetterValue). GoesOn m (Chooses i v) node node out (lettered out ls)) (sym (append-nil out.letters)) (rests_here m (Chooses i v) node out)
+decided_go_on m i v was node out [] same fits =
+    subst (λ (ls : List LetterValue). GoesOn m (Chooses i v) node node out (lettered out ls))
+    (sym (append-nil out.letters)) (rests_here m (Chooses i v) node out)
 decided_go_on m i v was node out (k ∷ nodes) same fits =
     let one : LetterValue = letter_to was (decided_message (i, v)) k in
     let sent : OutboxValue = with_letter one out in
-    let bytes : spelling (saying node.header (decided_message (i, v))) ≡ spelling (saying was.header (decided_message (i, v))) = ap (λ (w : HeaderValue). spelling (saying w (decided_message (i, v)))) same in
-    subst (λ (ls : List LetterValue). GoesOn m (Chooses i v) node node out (lettered out ls)) (append_assoc out.letters (one ∷ []) (map (letter_to was (decided_message (i, v))) nodes))
-    (then_goes_on m (Chooses i v) node node node out sent (with_letters (map (letter_to was (decided_message (i, v))) nodes) sent)
-    (subst (λ (bs : List ℕ). GoesOn m (Chooses i v) node node out (with_letter (record { to = to_node was k; bytes = bs }) out)) bytes
-    (says m (Chooses i v) node out (to_node was k) (decided_message (i, v)) (subst (λ (w : HeaderValue). IsMessage (saying w (decided_message (i, v)))) (sym same) fits) tt (λ e. tt)
-    (λ h n loose s heard. (chosen_alone h i v heard, record { under = s.holding.view.done; chosen = s.fits.view.stems.done; bears = tt }))))
+    let bytes : spelling (saying node.header (decided_message (i, v)))
+    ≡ spelling (saying was.header (decided_message (i, v))) =
+    ap (λ (w : HeaderValue). spelling (saying w (decided_message (i, v)))) same in
+    subst (λ (ls : List LetterValue). GoesOn m (Chooses i v) node node out (lettered out ls))
+    (append_assoc out.letters (one ∷ []) (map (letter_to was (decided_message (i, v))) nodes))
+    (then_goes_on m (Chooses i v) node node node out sent
+    (with_letters (map (letter_to was (decided_message (i, v))) nodes) sent)
+    (subst (λ (bs : List ℕ). GoesOn m (Chooses i v) node node out
+    (with_letter (record { to = to_node was k; bytes = bs }) out)) bytes
+    (says m (Chooses i v) node out (to_node was k) (decided_message (i, v))
+    (subst (λ (w : HeaderValue). IsMessage (saying w (decided_message (i, v)))) (sym same) fits) tt (λ e. tt)
+    (λ h n loose s heard. (
+      chosen_alone h i v heard,
+      record { under = s.holding.view.done; chosen = s.fits.view.stems.done; bears = tt },
+    ))))
     (decided_go_on m i v was node sent nodes same fits))
 
 -- ---- the header stays
 
-learns_header : (p : Pair) (old : NodeValue) (before : OutboxValue) (new : NodeValue) (after : OutboxValue) → Learns p old before new after → new.header ≡ old.header
+learns_header : (p : Pair) (old : NodeValue) (before : OutboxValue) (new : NodeValue) (after : OutboxValue)
+    → Learns p old before new after → new.header ≡ old.header
 learns_header p old before new after (inl wanted) = ap (λ (node : NodeValue). node.header) wanted.1
 learns_header p old before new after (inr other) = ap (λ (node : NodeValue). node.header) other.1
 
@@ -273,57 +322,86 @@ named_header node = by_test (is_outside node)
     by_test true = refl
     by_test false = refl
 
-any_header : (o : Option Session) (old : NodeValue) (before : OutboxValue) (new : NodeValue) (after : OutboxValue) → SettlesAny o old before new after → new.header ≡ old.header
+any_header : (o : Option Session) (old : NodeValue) (before : OutboxValue) (new : NodeValue) (after : OutboxValue)
+    → SettlesAny o old before new after → new.header ≡ old.header
 any_header None old before new after k = ap (λ (node : NodeValue). node.header) k.0
 any_header (Some s) old before new after k = ap (λ (node : NodeValue). node.header) k.becomes
 
-executes_header : (m : Meaning) (old : NodeValue) (before : OutboxValue) (new : NodeValue) (after : OutboxValue) → Executes m old before new after → new.header ≡ old.header
+executes_header : (m : Meaning) (old : NodeValue) (before : OutboxValue) (new : NodeValue) (after : OutboxValue)
+    → Executes m old before new after → new.header ≡ old.header
 executes_header m old before new after k =
     ap (λ (node : NodeValue). node.header) k.becomes ∙ named_header k.mid
-    ∙ any_header (session_by k.command (run_answer m k.command old.learner.whole)) (with_learner old (advanced m k.command old.learner))
+    ∙ any_header (session_by k.command (run_answer m k.command old.learner.whole))
+    (with_learner old (advanced m k.command old.learner))
     (with_note (note.Ran old.header.node (executed old.learner + 1) k.command) before) k.mid after k.settles
 
-runs_header : (m : Meaning) (old : NodeValue) (before : OutboxValue) (new : NodeValue) (after : OutboxValue) → Runs m old before new after → new.header ≡ old.header
+runs_header : (m : Meaning) (old : NodeValue) (before : OutboxValue) (new : NodeValue) (after : OutboxValue)
+    → Runs m old before new after → new.header ≡ old.header
 runs_header m old before new after stays = refl
-runs_header m old before new after (goes_on {mid} {between} runs one) = executes_header m mid between new after one ∙ runs_header m old before mid between runs
+runs_header m old before new after (goes_on {mid} {between} runs one) =
+    executes_header m mid between new after one ∙ runs_header m old before mid between runs
 
 -- ---- in all
 
-pub decides_goes_on : (m : Meaning) (set : List Member) (i : ℕ) (v : Command) (whose : ℕ) (old learned new : NodeValue) (before written ran : OutboxValue) (letters : List LetterValue) → AreMembersAt old.learner.whole.roster i set
-    → AreDecidedLetters old (i, v) letters → Learns (i, v) old (with_note (note.Counted whose i set v) before) learned written → Runs m learned written new ran
-    → GoesOn m (Chooses i v) old learned (with_note (note.Counted whose i set v) before) written → GoesOn m (λ h. Unit {0}) learned new written ran
+pub decides_goes_on : (m : Meaning) (set : List Member) (i : ℕ) (v : Command) (whose : ℕ) (old learned new : NodeValue)
+    (before written ran : OutboxValue) (letters : List LetterValue) → AreMembersAt old.learner.whole.roster i set
+    → AreDecidedLetters old (i, v) letters
+    → Learns (i, v) old (with_note (note.Counted whose i set v) before) learned written → Runs m learned written new ran
+    → GoesOn m (Chooses i v) old learned (with_note (note.Counted whose i set v) before) written
+    → GoesOn m (λ h. Unit {0}) learned new written ran
     → GoesOn m (Chooses i v) old new before (with_letters letters ran)
 decides_goes_on m set i v whose old learned new before written ran letters at news learns runs f g =
     let noted : OutboxValue = with_note (note.Counted whose i set v) before in
-    let same : new.header ≡ old.header = runs_header m learned written new ran runs ∙ learns_header (i, v) old noted learned written learns in
-    then_goes_on m (Chooses i v) old old new before noted (with_letters letters ran) (notes_counted m old before whose i set v at)
+    let same : new.header ≡ old.header = runs_header m learned written new ran runs
+    ∙ learns_header (i, v) old noted learned written learns in
+    then_goes_on m (Chooses i v) old old new before noted (with_letters letters ran)
+    (notes_counted m old before whose i set v at)
     (then_goes_on m (Chooses i v) old learned new noted written (with_letters letters ran) f
-    (then_goes_on m (Chooses i v) learned new new written ran (with_letters letters ran) (unheard m (Chooses i v) learned new written ran g)
-    (subst (λ (ls : List LetterValue). GoesOn m (Chooses i v) new new ran (with_letters ls ran)) (sym news.comes_to) (decided_go_on m i v old new ran news.nodes same news.fits))))
+    (then_goes_on m (Chooses i v) learned new new written ran (with_letters letters ran)
+    (unheard m (Chooses i v) learned new written ran g)
+    (subst (λ (ls : List LetterValue). GoesOn m (Chooses i v) new new ran (with_letters ls ran)) (sym news.comes_to)
+    (decided_go_on m i v old new ran news.nodes same news.fits))))
 
-pub only_heard_goes_on : (m : Meaning) (from : ℕ) (x : Vote) (old new : NodeValue) (out : OutboxValue) → IsOnlyHeard from x old new → GoesOn m (Accepts from x) old new out out
-only_heard_goes_on m from x old new out (inl k) = subst (λ (node : NodeValue). GoesOn m (Accepts from x) old node out out) (sym k.2) (vote_goes_on m from x old out k.0)
-only_heard_goes_on m from x old new out (inr k) = subst (λ (node : NodeValue). GoesOn m (Accepts from x) old node out out) (sym k.1) (rests_here m (Accepts from x) old out)
+pub only_heard_goes_on : (m : Meaning) (from : ℕ) (x : Vote) (old new : NodeValue) (out : OutboxValue)
+    → IsOnlyHeard from x old new → GoesOn m (Accepts from x) old new out out
+only_heard_goes_on m from x old new out (inl k) =
+    subst (λ (node : NodeValue). GoesOn m (Accepts from x) old node out out) (sym k.2)
+    (vote_goes_on m from x old out k.0)
+only_heard_goes_on m from x old new out (inr k) =
+    subst (λ (node : NodeValue). GoesOn m (Accepts from x) old node out out) (sym k.1)
+    (rests_here m (Accepts from x) old out)
 
 abbrev HearsMajority : ℕ → Vote → NodeValue → NodeValue → List Member → Type 0
 HearsMajority from x old mid set = HearsVote from x old mid (Some set)
 
 -- the members that are given are those of the position
-pub are_members : (from : ℕ) (x : Vote) (old mid : NodeValue) (set : List Member) → HearsMajority from x old mid set → AreMembersAt mid.learner.whole.roster x.position set
+pub are_members : (from : ℕ) (x : Vote) (old mid : NodeValue) (set : List Member) → HearsMajority from x old mid set
+    → AreMembersAt mid.learner.whole.roster x.position set
 are_members from x old mid set k =
-    subst₂ (λ (node : NodeValue) (s : List Member). AreMembersAt node.learner.whole.roster x.position s) (sym k.3) k.2 k.0.vote.members
+    subst₂ (λ (node : NodeValue) (s : List Member). AreMembersAt node.learner.whole.roster x.position s)
+    (sym k.3) k.2 k.0.vote.members
 
-pub accepted_goes_on : (m : Meaning) (from : ℕ) (x : Vote) (old mid new : NodeValue) (set : List Member) (out after : OutboxValue) → HearsMajority from x old mid set
+pub accepted_goes_on : (m : Meaning) (from : ℕ) (x : Vote) (old mid new : NodeValue) (set : List Member)
+    (out after : OutboxValue) → HearsMajority from x old mid set
     → GoesOn m (Chooses x.position x.command) mid new out after → GoesOn m (Accepts from x) old new out after
 accepted_goes_on m from x old mid new set out after k f =
     let Both : History → Type 0 = λ (h : History). Accepts from x h × Chooses x.position x.command h in
-    let heard_so : GoesOn m (Accepts from x) old mid out out = subst (λ (node : NodeValue). GoesOn m (Accepts from x) old node out out) (sym k.3) (vote_goes_on m from x old out k.0) in
-    heard_goes_on m (Accepts from x) Both old new out after (λ h n loose s heard. (heard, decided_chosen m h n loose old out from x k.0 k.1 s heard))
+    let heard_so : GoesOn m (Accepts from x) old mid out out =
+    subst (λ (node : NodeValue). GoesOn m (Accepts from x) old node out out) (sym k.3)
+    (vote_goes_on m from x old out k.0) in
+    heard_goes_on m (Accepts from x) Both old new out after
+    (λ h n loose s heard. (heard, decided_chosen m h n loose old out from x k.0 k.1 s heard))
     (then_goes_on m Both old mid new out out after
     (heard_goes_on m Both (Accepts from x) old mid out out (λ h n loose s both. both.0) heard_so)
     (heard_goes_on m Both (Chooses x.position x.command) mid new out after (λ h n loose s both. both.1) f))
 
-pub hears_accepted : (m : Meaning) (from : ℕ) (x : Vote) (old mid new : NodeValue) (set : List Member) (out : OutboxValue) → HearsMajority from x old mid set
+pub hears_accepted : (m : Meaning) (from : ℕ) (x : Vote) (old mid new : NodeValue) (set : List Member)
+    (out : OutboxValue) → HearsMajority from x old mid set
     → Decides m set (x.position, x.command) mid nothing new out → HearsAccepted m from x old new out
 hears_accepted m from x old mid new set out k c =
-    inl (k.0, k.1, subst₂ (λ (node : NodeValue) (s : List Member). Decides m s (x.position, x.command) node nothing new out) k.3 (sym k.2) c)
+    inl (
+      k.0,
+      k.1,
+      subst₂ (λ (node : NodeValue) (s : List Member). Decides m s
+          (x.position, x.command) node nothing new out) k.3 (sym k.2) c,
+    )

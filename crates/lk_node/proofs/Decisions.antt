@@ -1,5 +1,6 @@
 -- Whether a vote is for what a leader's term has proposed.
-use Rattle.std.proofs.Common.{◌≡◌, ℕ, ◌⊎◌, inl, inr, List, [], ◌∷◌, Option, Some, None, refl, sym, ◌∙◌, ap, eqb, eqb-true}
+use Rattle.std.proofs.Common.{◌≡◌, ℕ, ◌⊎◌, inl, inr, List, [], ◌∷◌, Option, Some, None, refl, sym, ◌∙◌, ap, eqb}
+use Rattle.std.proofs.Common.{eqb-true}
 use Rattle.std.proofs.lemmas.Bool.{cases_Bool, eqb-false}
 use Rattle.lk_types.specs.BallotValue.{BallotValue}
 use Rattle.lk_types.specs.declared.member.Member.{Member}
@@ -12,7 +13,8 @@ use Rattle.lk_node.specs.Deciding.{IsForProposal}
 use Rattle.lk_node.specs.NodeValue.{NodeValue}
 
 same_number : (i j : ℕ) → (i ≡ j) ⊎ (i ≡ j → ⊥)
-same_number i j = elim (cases_Bool (eqb i j)) [ inl same ↦ inl (eqb-true i j same) | inr other ↦ inr (eqb-false i j other) ]
+same_number i j =
+    elim (cases_Bool (eqb i j)) [ inl same ↦ inl (eqb-true i j same) | inr other ↦ inr (eqb-false i j other) ]
 
 same_list : (xs ys : List ℕ) → (xs ≡ ys) ⊎ (xs ≡ ys → ⊥)
 same_list [] [] = inl refl
@@ -28,7 +30,8 @@ same_list (x ∷ xs) (y ∷ ys) =
     ]
 
 same_op : (a b : Op) → (a ≡ b) ⊎ (a ≡ b → ⊥)
-same_op (Table x) (Table y) = elim (same_list x y) [ inl same ↦ inl (ap Table same) | inr differ ↦ inr (λ e. differ (cc e)) ]
+same_op (Table x) (Table y) =
+    elim (same_list x y) [ inl same ↦ inl (ap Table same) | inr differ ↦ inr (λ e. differ (cc e)) ]
 same_op (Table x) (Join n p) = inr (λ e. cc e)
 same_op (Table x) (Leave n) = inr (λ e. cc e)
 same_op (Table x) Raise = inr (λ e. cc e)
@@ -45,7 +48,8 @@ same_op (Join n p) (Leave k) = inr (λ e. cc e)
 same_op (Join n p) Raise = inr (λ e. cc e)
 same_op (Leave n) (Table y) = inr (λ e. cc e)
 same_op (Leave n) (Join k q) = inr (λ e. cc e)
-same_op (Leave n) (Leave k) = elim (same_number n k) [ inl same ↦ inl (ap Leave same) | inr differ ↦ inr (λ e. differ (cc e)) ]
+same_op (Leave n) (Leave k) =
+    elim (same_number n k) [ inl same ↦ inl (ap Leave same) | inr differ ↦ inr (λ e. differ (cc e)) ]
 same_op (Leave n) Raise = inr (λ e. cc e)
 same_op Raise (Table y) = inr (λ e. cc e)
 same_op Raise (Join k q) = inr (λ e. cc e)
@@ -69,7 +73,8 @@ same_command : (v w : Command) → (v ≡ w) ⊎ (v ≡ w → ⊥)
 same_command Noop Noop = inl refl
 same_command Noop (Request q) = inr (λ e. cc e)
 same_command (Request r) Noop = inr (λ e. cc e)
-same_command (Request r) (Request q) = elim (same_request r q) [ inl same ↦ inl (ap Request same) | inr differ ↦ inr (λ e. differ (cc e)) ]
+same_command (Request r) (Request q) =
+    elim (same_request r q) [ inl same ↦ inl (ap Request same) | inr differ ↦ inr (λ e. differ (cc e)) ]
 
 same_ballot : (b c : BallotValue) → (b ≡ c) ⊎ (b ≡ c → ⊥)
 same_ballot b c =
@@ -85,21 +90,31 @@ some_term : (a b : TermValue) → Some a ≡ Some b → a ≡ b
 some_term a b e = cc e
 
 -- it is, or it is not
-pub for_proposal_or_not : (node : NodeValue) (x : Vote) (set : List Member) → AreMembersAt node.learner.whole.roster x.position set → IsForProposal node x ⊎ (IsForProposal node x → ⊥)
+pub for_proposal_or_not : (node : NodeValue) (x : Vote) (set : List Member)
+    → AreMembersAt node.learner.whole.roster x.position set → IsForProposal node x ⊎ (IsForProposal node x → ⊥)
 for_proposal_or_not node x set at = by_term node.leader.term refl
   where
-    by_proposal : (t : TermValue) → node.leader.term ≡ Some t → t.ballot ≡ x.ballot → (o : Option ProposalValue) → proposal_at x.position t.proposals ≡ o → IsForProposal node x ⊎ (IsForProposal node x → ⊥)
+    by_proposal : (t : TermValue) → node.leader.term ≡ Some t → t.ballot ≡ x.ballot → (o : Option ProposalValue)
+        → proposal_at x.position t.proposals ≡ o → IsForProposal node x ⊎ (IsForProposal node x → ⊥)
     by_proposal t current ballot None found =
         inr (λ k.
         let same : t ≡ k.term = some_term t k.term (sym current ∙ k.current) in
-        let there : None ≡ Some k.proposal = sym found ∙ ap (λ (u : TermValue). proposal_at x.position u.proposals) same ∙ k.vote.proposal in
+        let there : None ≡ Some k.proposal = sym found
+        ∙ ap (λ (u : TermValue). proposal_at x.position u.proposals) same ∙ k.vote.proposal in
         cc there)
     by_proposal t current ballot (Some p) found =
         elim (same_command p.command x.command) [
-          | inl command ↦ inl (record { term = t; current = current; set = set; proposal = p; vote = record { ballot = ballot; members = at; proposal = found; command = command } })
+          | inl command ↦ inl (record {
+            term = t;
+            current = current;
+            set = set;
+            proposal = p;
+            vote = record { ballot = ballot; members = at; proposal = found; command = command };
+          })
           | inr differ ↦ inr (λ k.
               let same : t ≡ k.term = some_term t k.term (sym current ∙ k.current) in
-              let there : Some p ≡ Some k.proposal = sym found ∙ ap (λ (u : TermValue). proposal_at x.position u.proposals) same ∙ k.vote.proposal in
+              let there : Some p ≡ Some k.proposal = sym found
+              ∙ ap (λ (u : TermValue). proposal_at x.position u.proposals) same ∙ k.vote.proposal in
               let is : p ≡ k.proposal = cc there in
               differ (ap (λ (q : ProposalValue). q.command) is ∙ k.vote.command))
         ]

@@ -1,5 +1,7 @@
 -- What a node executes goes on: what it runs is chosen, and its list bears out what it notes and answers.
-use Rattle.std.proofs.Common.{◌≡◌, ℕ, zero, suc, ◌+◌, ◌-◌, ◌<◌, ◌≤◌, ◌⊎◌, inl, inr, Bool, true, false, cond, eqb, nat_lt, nat_le, List, [], ◌∷◌, ◌++◌, length, Option, Some, None, Contains, refl, sym, ◌∙◌, ap, subst, subst₂, arith, eqb-true}
+use Rattle.std.proofs.Common.{◌≡◌, ℕ, zero, suc, ◌+◌, ◌-◌, ◌<◌, ◌≤◌, ◌⊎◌, inl, inr, Bool, true, false, cond, eqb}
+use Rattle.std.proofs.Common.{nat_lt, nat_le, List, [], ◌∷◌, ◌++◌, length, Option, Some, None, Contains, refl, sym, ◌∙◌}
+use Rattle.std.proofs.Common.{ap, subst, subst₂, arith, eqb-true}
 use Rattle.std.specs.Prelude.{slice_get}
 use Rattle.std.proofs.lemmas.Bool.{cases_Bool, ltb-false, leb-true, eqb-false, eq-eqb, ne_eqb}
 use Rattle.lk_types.specs.declared.entry.Entry.{Entry}
@@ -33,7 +35,8 @@ use Rattle.lk_node_io.specs.Outboxes.{OutboxValue, with_note, with_letter}
 use Rattle.lk_node_io.specs.Saying.{saying}
 use Rattle.lk_node_io.specs.declared.note.Note.TheVariants as note
 use Rattle.lk_node_io.specs.declared.to.To.TheVariants as to
-use Rattle.lk_node.specs.Executing.{waiting_number, with_told, settled, Settles, SettlesAny, RunsNext, is_outside, while_named, Executes, ExecutesOne, Runs, goes_on, RunsAll}
+use Rattle.lk_node.specs.Executing.{waiting_number, with_told, settled, Settles, SettlesAny, RunsNext, is_outside}
+use Rattle.lk_node.specs.Executing.{while_named, Executes, ExecutesOne, Runs, goes_on, RunsAll}
 use Rattle.lk_node.specs.Histories.{History}
 use Rattle.lk_node.specs.Keeping.{IsKnown}
 use Rattle.lk_node.specs.Learning.{with_learner}
@@ -45,7 +48,8 @@ use Rattle.lk_node.proofs.Serving.{rests_here, then_goes_on, says, notes}
 
 -- ---- pairs
 
-pub next_or_none : (i : ℕ) (ps : List Pair) → ((v : Command) × Contains ps (i, v)) ⊎ ((v : Command) → Contains ps (i, v) → ⊥)
+pub next_or_none : (i : ℕ) (ps : List Pair)
+    → ((v : Command) × Contains ps (i, v)) ⊎ ((v : Command) → Contains ps (i, v) → ⊥)
 next_or_none i [] = inr (λ v c. omega (arith, c.1))
 next_or_none i (p ∷ ps) =
     elim (cases_Bool (eqb p.0 i)) [
@@ -77,7 +81,8 @@ not_longer : (i : ℕ) (ps : List Pair) → length (without i ps) ≤ length ps
 not_longer i [] = omega arith
 not_longer i (p ∷ ps) =
     let rest = not_longer i ps in
-    elim (cases_Bool (eqb p.0 i)) [ inl same ↦ rw same (omega (arith, rest)) | inr other ↦ rw other (omega (arith, rest)) ]
+    elim (cases_Bool (eqb p.0 i))
+    [ inl same ↦ rw same (omega (arith, rest)) | inr other ↦ rw other (omega (arith, rest)) ]
 
 -- without one of them there are fewer
 pub fewer : (i : ℕ) (v : Command) (ps : List Pair) → Contains ps (i, v) → length (without i ps) < length ps
@@ -103,7 +108,8 @@ got_before [] ys k v e = absurd (nothing k e)
 got_before (x ∷ xs) ys zero v e = e
 got_before (x ∷ xs) ys (suc k) v e = got_before xs ys k v e
 
-at_before : (done : List Command) (w : Command) (i : ℕ) (v : Command) → command_at done i ≡ Some v → command_at (done ++ w ∷ []) i ≡ Some v
+at_before : (done : List Command) (w : Command) (i : ℕ) (v : Command) → command_at done i ≡ Some v
+    → command_at (done ++ w ∷ []) i ≡ Some v
 at_before done w zero v e = absurd (cc e)
 at_before done w (suc k) v e = got_before done (w ∷ []) k v e
 
@@ -112,7 +118,8 @@ module _ (m : Meaning) (genesis : Genesis) (sent : List Datagram) (w : View) (l 
   abbrev ran_view : View
   ran_view = with_done w (w.done ++ v ∷ []) (advanced m v l).pairs
 
-  knows_still : Sound genesis sent → Stems genesis sent w → Follows m genesis w.done w.pairs l → IsNext l v → (e : Entry) → IsKnown w e → IsKnown ran_view e
+  knows_still : Sound genesis sent → Stems genesis sent w → Follows m genesis w.done w.pairs l → IsNext l v
+      → (e : Entry) → IsKnown w e → IsKnown ran_view e
   knows_still sound stems f next (entry.Promise b) k = k
   knows_still sound stems f next (entry.Vote x) k = k
   knows_still sound stems f next (entry.Decided i c) (inr done) = inr (at_before w.done v i c done)
@@ -122,12 +129,14 @@ module _ (m : Meaning) (genesis : Genesis) (sent : List Datagram) (w : View) (l 
         | inl same ↦
             (let is : i ≡ n = eqb-true i n same in
             let here : Contains w.pairs (n, c) = subst (λ (j : ℕ). Contains w.pairs (j, c)) is pair in
-            let one : v ≡ c = one_chosen genesis sent sound n v c (stems.pairs n v (f.known (n, v) next)) (stems.pairs n c here) in
+            let one : v ≡ c = one_chosen genesis sent sound n v c (stems.pairs n v (f.known (n, v) next))
+            (stems.pairs n c here) in
             inr (ap (command_at (w.done ++ v ∷ [])) is ∙ next_stands m genesis w.done w.pairs l v f ∙ ap Some one))
         | inr other ↦ inl (others_left n l.pairs (i, c) (eqb-false i n other) (f.kept (i, c) pair))
       ]
 
-advances_goes_on : (m : Meaning) (Heard : History → Type 0) (node : NodeValue) (out : OutboxValue) (v : Command) → IsLearner node.learner → IsNext node.learner v
+advances_goes_on : (m : Meaning) (Heard : History → Type 0) (node : NodeValue) (out : OutboxValue) (v : Command)
+    → IsLearner node.learner → IsNext node.learner v
     → GoesOn m Heard node (with_learner node (advanced m v node.learner)) out out
 advances_goes_on m Heard node out v is next =
     let l : LearnerValue = node.learner in
@@ -135,7 +144,11 @@ advances_goes_on m Heard node out v is next =
     change_goes_on m Heard node (with_learner node (advanced m v l)) out refl refl (λ h n loose s heard.
     let w : View = s.holding.view in
     record {
-      holding = record { view = ran_view m h.genesis h.sent w l v; waiting = s.holding.waiting; gathered = s.holding.gathered };
+      holding = record {
+        view = ran_view m h.genesis h.sent w l v;
+        waiting = s.holding.waiting;
+        gathered = s.holding.gathered;
+      };
       held = record {
         acceptor = s.held.acceptor;
         follows = advanced_follows m h.genesis w.done w.pairs l v s.held.follows;
@@ -144,13 +157,15 @@ advances_goes_on m Heard node out v is next =
               u.0,
               u.1,
               subst₂ (λ (e a : ℕ). LeadsTerm e a u.0 k) (sym moves.0) (sym moves.1)
-                  (later_leads l.whole.roster.executed (l.whole.roster.executed + 1) (length l.whole.roster.sets) u.0 k (omega arith) u.2),
+                  (later_leads l.whole.roster.executed (l.whole.roster.executed + 1)
+                  (length l.whole.roster.sets) u.0 k (omega arith) u.2),
             );
         waiting = s.held.waiting;
         gathered = s.held.gathered;
       };
       fits = record {
-        view = change_fits h.genesis h.sent s.lawful.sound n w (ran_view m h.genesis h.sent w l v) s.fits.view (running_changes m h.genesis h.sent n w l v s.held.follows next);
+        view = change_fits h.genesis h.sent s.lawful.sound n w (ran_view m h.genesis h.sent w l v) s.fits.view
+            (running_changes m h.genesis h.sent n w l v s.held.follows next);
         waiting = s.fits.waiting;
         proposals = s.fits.proposals;
         gathered = s.fits.gathered;
@@ -166,7 +181,8 @@ got_last [] v = refl
 got_last (x ∷ xs) v = got_last xs v
 
 -- what has run last stands after what was served before
-pub last_served_at : (m : Meaning) (l : LearnerValue) (v : Command) → IsLearner l → slice_get (advanced m v l).served (executed l + 1 - (l.snapshot_position + 1)) ≡ Some v
+pub last_served_at : (m : Meaning) (l : LearnerValue) (v : Command) → IsLearner l
+    → slice_get (advanced m v l).served (executed l + 1 - (l.snapshot_position + 1)) ≡ Some v
 last_served_at m l v is =
     let place : executed l + 1 - (l.snapshot_position + 1) ≡ length l.served = omega (arith, is.reaches) in
     ap (slice_get (l.served ++ v ∷ [])) place ∙ got_last l.served v
@@ -176,7 +192,8 @@ module _ (m : Meaning) (was : NodeValue) (l : LearnerValue) where
   abbrev Ended : Command → Ran
   Ended v = record { position = executed was.learner + 1; answer = run_answer m v was.learner.whole }
 
-  pub none_next : (r : Option Ran) → ((v : Command) → IsNext was.learner v → r ≡ Some (Ended v)) → (((v : Command) → IsNext was.learner v → ⊥) → l ≡ was.learner)
+  pub none_next : (r : Option Ran) → ((v : Command) → IsNext was.learner v → r ≡ Some (Ended v))
+      → (((v : Command) → IsNext was.learner v → ⊥) → l ≡ was.learner)
       → ((x : Ran) → r ≡ Some x → ⊥) → RunsNext m was (with_learner was l) None
   none_next r ran still none =
       elim (next_or_none (executed was.learner + 1) was.learner.pairs) [
@@ -184,39 +201,53 @@ module _ (m : Meaning) (was : NodeValue) (l : LearnerValue) where
         | inr nothing ↦ (nothing, ap (with_learner was) (still nothing))
       ]
 
-  module _ (r : Ran) (is : IsLearner was.learner) (next : (v : Command) → IsNext was.learner v → l ≡ advanced m v was.learner)
-      (ran : (v : Command) → IsNext was.learner v → Some r ≡ Some (Ended v)) (some : ((v : Command) → IsNext was.learner v → ⊥) → ⊥) where
+  module _ (r : Ran) (is : IsLearner was.learner)
+      (next : (v : Command) → IsNext was.learner v → l ≡ advanced m v was.learner)
+      (ran : (v : Command) → IsNext was.learner v → Some r ≡ Some (Ended v))
+      (some : ((v : Command) → IsNext was.learner v → ⊥) → ⊥) where
     there : (v : Command) → IsNext was.learner v
         → IsServed l r.position × (slice_get l.served (r.position - (l.snapshot_position + 1)) ≡ Some v) × (r ≡ Ended v)
     there v h =
         let same : r ≡ Ended v = (let e = ran v h in cc e) in
         let is_next = next v h in
         let moves = ran_moves m v was.learner.whole is.window.0 in
-        subst₂ (λ (k : LearnerValue) (x : Ran). IsServed k x.position × (slice_get k.served (x.position - (k.snapshot_position + 1)) ≡ Some v) × (x ≡ Ended v)) (sym is_next) (sym same)
+        subst₂ (λ (k : LearnerValue) (x : Ran). IsServed k x.position
+        × (slice_get k.served (x.position - (k.snapshot_position + 1)) ≡ Some v) × (x ≡ Ended v)) (sym is_next)
+        (sym same)
         ((omega (arith, is.reaches), omega (arith, moves.0)), last_served_at m was.learner v is, refl)
 
     kept : (v : Command) × IsNext was.learner v
-    kept = elim (next_or_none (executed was.learner + 1) was.learner.pairs) [ inl n ↦ n | inr nothing ↦ absurd (some nothing) ]
+    kept = elim (next_or_none (executed was.learner + 1) was.learner.pairs)
+        [ inl n ↦ n | inr nothing ↦ absurd (some nothing) ]
 
     pub is_served : IsServed l r.position
     is_served = (there kept.0 kept.1).0
 
-    pub some_next : (v : Command) → slice_get l.served (r.position - (l.snapshot_position + 1)) ≡ Some v → RunsNext m was (with_learner was l) (Some (v, r))
+    pub some_next : (v : Command) → slice_get l.served (r.position - (l.snapshot_position + 1)) ≡ Some v
+        → RunsNext m was (with_learner was l) (Some (v, r))
     some_next v at =
         let k = there kept.0 kept.1 in
         let same : kept.0 ≡ v = (let e = sym k.1 ∙ at in cc e) in
-        subst (λ (u : Command). RunsNext m was (with_learner was l) (Some (u, r))) same (kept.1, ap (with_learner was) (next kept.0 kept.1), k.2)
+        subst (λ (u : Command). RunsNext m was (with_learner was l) (Some (u, r))) same
+        (kept.1, ap (with_learner was) (next kept.0 kept.1), k.2)
 
-notes_ran : (m : Meaning) (Heard : History → Type 0) (node : NodeValue) (out : OutboxValue) (v : Command) (whose i : ℕ) → node.learner.snapshot_position < i
-    → slice_get node.learner.served (i - (node.learner.snapshot_position + 1)) ≡ Some v → GoesOn m Heard node node out (with_note (note.Ran whose i v) out)
+notes_ran : (m : Meaning) (Heard : History → Type 0) (node : NodeValue) (out : OutboxValue) (v : Command) (whose i : ℕ)
+    → node.learner.snapshot_position < i
+    → slice_get node.learner.served (i - (node.learner.snapshot_position + 1)) ≡ Some v
+    → GoesOn m Heard node node out (with_note (note.Ran whose i v) out)
 notes_ran m Heard node out v whose i above at =
     notes m Heard node out (note.Ran whose i v) tt (λ h n loose s heard.
     let w : View = s.holding.view in
-    record { under = w.done; chosen = s.fits.view.stems.done; bears = served_stands m h.genesis w.done w.pairs node.learner i v s.held.follows above at })
+    record {
+      under = w.done;
+      chosen = s.fits.view.stems.done;
+      bears = served_stands m h.genesis w.done w.pairs node.learner i v s.held.follows above at;
+    })
 
 -- ---- clients
 
-left_from : (client number : ℕ) (qs : List RequestValue) (r : RequestValue) → Contains (left_by client number qs) r → Contains qs r
+left_from : (client number : ℕ) (qs : List RequestValue) (r : RequestValue)
+    → Contains (left_by client number qs) r → Contains qs r
 left_from client number [] r c = c
 left_from client number (q ∷ qs) r c =
     elim (cases_Bool (eqb client q.client)) [
@@ -230,10 +261,15 @@ left_from client number (q ∷ qs) r c =
       ]
     ]
 
-settled_goes_on : (m : Meaning) (Heard : History → Type 0) (node : NodeValue) (out : OutboxValue) (s : Session) → GoesOn m Heard node (settled s node) out out
+settled_goes_on : (m : Meaning) (Heard : History → Type 0) (node : NodeValue) (out : OutboxValue) (s : Session)
+    → GoesOn m Heard node (settled s node) out out
 settled_goes_on m Heard node out x =
     change_goes_on m Heard node (settled x node) out refl refl (λ h n loose s heard. record {
-      holding = record { view = s.holding.view; waiting = left_by x.client x.number s.holding.waiting; gathered = s.holding.gathered };
+      holding = record {
+        view = s.holding.view;
+        waiting = left_by x.client x.number s.holding.waiting;
+        gathered = s.holding.gathered;
+      };
       held = record {
         acceptor = s.held.acceptor;
         follows = s.held.follows;
@@ -252,32 +288,44 @@ settled_goes_on m Heard node out x =
     })
 
 -- the client's last session is the list's reply to it
-pub session_is_reply : (m : Meaning) (genesis : Genesis) (done : List Command) (pairs : List Pair) (l : LearnerValue) (client : ℕ) (s : Session) → Follows m genesis done pairs l
+pub session_is_reply : (m : Meaning) (genesis : Genesis) (done : List Command) (pairs : List Pair) (l : LearnerValue)
+    (client : ℕ) (s : Session) → Follows m genesis done pairs l
     → session_of client l.whole.sessions ≡ Some s → reply m genesis done client s.number ≡ Some s.answer
-session_is_reply m genesis done pairs l client s f at = last_is_replied m genesis done client s (sym (seen_last m genesis done l.whole client f.sums) ∙ at)
+session_is_reply m genesis done pairs l client s f at =
+    last_is_replied m genesis done client s (sym (seen_last m genesis done l.whole client f.sums) ∙ at)
 
 up_to : (number : ℕ) (o : Option RequestValue) (k : ℕ) → number_up_to number o ≡ Some k → k ≤ number
 up_to number None k e = absurd (cc e)
 up_to number (Some q) k e =
     elim (cases_Bool (nat_le q.number number)) [
-      | inl reached ↦ (let same : Some q.number ≡ Some k = rw reached at e in let is : q.number ≡ k = cc same in subst (λ (j : ℕ). j ≤ number) is (leb-true q.number number reached))
+      | inl reached ↦ (let same : Some q.number ≡ Some k = rw reached at e in let is : q.number ≡ k = cc same in
+          subst (λ (j : ℕ). j ≤ number) is (leb-true q.number number reached))
       | inr above ↦ (let none : None ≡ Some k = rw above at e in absurd (cc none))
     ]
 
 -- what is told is the reply, or a number that is passed by one that has a reply
-pub tells_client : (m : Meaning) (Heard : History → Type 0) (node : NodeValue) (out : OutboxValue) (s : Session) (number : ℕ) → number ≤ s.number
+pub tells_client : (m : Meaning) (Heard : History → Type 0) (node : NodeValue) (out : OutboxValue) (s : Session)
+    (number : ℕ) → number ≤ s.number
     → session_of s.client node.learner.whole.sessions ≡ Some s → IsMessage (saying node.header (session_reply s number))
     → GoesOn m Heard node node out (with_told node.header s (Some number) out)
 tells_client m Heard node out s number le at fits = by_test (nat_lt number s.number) refl fits
   where
     message : Bool → NodeMessage
-    message below = cond below (kinds.Passed (record { client = s.client; number = number; last = s.number })) (kinds.Answer (record { client = s.client; number = number; answer = s.answer }))
+    message below = cond below (kinds.Passed (record { client = s.client; number = number; last = s.number }))
+        (kinds.Answer (record { client = s.client; number = number; answer = s.answer }))
 
     by_test : (below : Bool) → nat_lt number s.number ≡ below → IsMessage (saying node.header (message below))
-        → GoesOn m Heard node node out (with_letter (record { to = to.Client s.client; bytes = spelling (saying node.header (message below)) }) out)
+        → GoesOn m Heard node node out
+        (with_letter (record { to = to.Client s.client; bytes = spelling (saying node.header (message below)) }) out)
     by_test true e f = says m Heard node out (to.Client s.client) (message true) f tt (λ e. tt) (λ h n loose k heard.
-        let w : View = k.holding.view in
-        (tt, record { under = w.done; chosen = k.fits.view.stems.done; bears = (s.answer, session_is_reply m h.genesis w.done w.pairs node.learner s.client s k.held.follows at) }))
+        let w : View = k.holding.view in (
+          tt,
+          record {
+            under = w.done;
+            chosen = k.fits.view.stems.done;
+            bears = (s.answer, session_is_reply m h.genesis w.done w.pairs node.learner s.client s k.held.follows at);
+          },
+        ))
     by_test false e f =
         let same : s.number ≡ number = (let ge = ltb-false number s.number e in omega (arith, le, ge)) in
         says m Heard node out (to.Client s.client) (message false) f tt (λ e. tt) (λ h n loose k heard.
@@ -286,22 +334,28 @@ tells_client m Heard node out s number le at fits = by_test (nat_lt number s.num
           record {
             under = w.done;
             chosen = k.fits.view.stems.done;
-            bears = subst (λ (j : ℕ). reply m h.genesis w.done s.client j ≡ Some s.answer) same (session_is_reply m h.genesis w.done w.pairs node.learner s.client s k.held.follows at);
+            bears = subst (λ (j : ℕ). reply m h.genesis w.done s.client j ≡ Some s.answer) same
+                (session_is_reply m h.genesis w.done w.pairs node.learner s.client s k.held.follows at);
           },
         ))
 
-pub settles_goes_on : (m : Meaning) (Heard : History → Type 0) (s : Session) (old : NodeValue) (before : OutboxValue) (new : NodeValue) (after : OutboxValue)
-    → session_of s.client old.learner.whole.sessions ≡ Some s → Settles s old before new after → GoesOn m Heard old new before after
+pub settles_goes_on : (m : Meaning) (Heard : History → Type 0) (s : Session) (old : NodeValue) (before : OutboxValue)
+    (new : NodeValue) (after : OutboxValue)
+    → session_of s.client old.learner.whole.sessions ≡ Some s → Settles s old before new after
+    → GoesOn m Heard old new before after
 settles_goes_on m Heard s old before new after at k =
     subst₂ (λ (node : NodeValue) (o : OutboxValue). GoesOn m Heard old node before o) (sym k.becomes) (sym k.comes_to)
-    (then_goes_on m Heard old (settled s old) (settled s old) before before (with_told old.header s (waiting_number s old) before)
+    (then_goes_on m Heard old (settled s old) (settled s old) before before
+    (with_told old.header s (waiting_number s old) before)
     (settled_goes_on m Heard old before s)
     (by_number (waiting_number s old) (up_to s.number (waiting_of s.client old.leader.waiting)) k.fits))
   where
-    by_number : (o : Option ℕ) → ((number : ℕ) → o ≡ Some number → number ≤ s.number) → ((number : ℕ) → o ≡ Some number → IsMessage (saying old.header (session_reply s number)))
+    by_number : (o : Option ℕ) → ((number : ℕ) → o ≡ Some number → number ≤ s.number)
+        → ((number : ℕ) → o ≡ Some number → IsMessage (saying old.header (session_reply s number)))
         → GoesOn m Heard (settled s old) (settled s old) before (with_told old.header s o before)
     by_number None le fits = rests_here m Heard (settled s old) before
-    by_number (Some number) le fits = tells_client m Heard (settled s old) before s number (le number refl) at (fits number refl)
+    by_number (Some number) le fits =
+        tells_client m Heard (settled s old) before s number (le number refl) at (fits number refl)
 
 -- ---- the session that a command leaves
 
@@ -314,39 +368,50 @@ its_session s (t ∷ l) =
       | inr not_below ↦ elim (cases_Bool (eqb s.client t.client)) [
         | inl same ↦ rw (not_below, same, mine) refl
         | inr apart ↦
-            (let other : eqb t.client s.client ≡ false = ne_eqb t.client s.client (λ e. eqb-false s.client t.client apart (sym e)) in
+            (let other : eqb t.client s.client ≡ false =
+            ne_eqb t.client s.client (λ e. eqb-false s.client t.client apart (sym e)) in
             rw (not_below, apart, other) (its_session s l))
       ]
     ]
 
-session_left : (m : Meaning) (w : WholeValue) (v : Command) (s : Session) → session_by v (run_answer m v w) ≡ Some s → session_of s.client (ran m v w).sessions ≡ Some s
+session_left : (m : Meaning) (w : WholeValue) (v : Command) (s : Session) → session_by v (run_answer m v w) ≡ Some s
+    → session_of s.client (ran m v w).sessions ≡ Some s
 session_left m w Noop s e = absurd (cc e)
 session_left m w (Request r) s e =
     elim (cases_Bool (is_new (session_of r.client w.sessions) r.number)) [
       | inl new ↦
           (let now : Some (session_for m w r) ≡ Some s = rw new at e in
           let same : session_for m w r ≡ s = cc now in
-          rw new (subst (λ (x : Session). session_of x.client (with_session (session_for m w r) w.sessions) ≡ Some x) same (its_session (session_for m w r) w.sessions)))
+          rw new (subst (λ (x : Session). session_of x.client (with_session (session_for m w r) w.sessions) ≡ Some x)
+          same (its_session (session_for m w r) w.sessions)))
       | inr old ↦ (let none : None ≡ Some s = rw old at e in absurd (cc none))
     ]
 
-any_goes_on : (m : Meaning) (Heard : History → Type 0) (o : Option Session) (old : NodeValue) (before : OutboxValue) (new : NodeValue) (after : OutboxValue)
-    → ((s : Session) → o ≡ Some s → session_of s.client old.learner.whole.sessions ≡ Some s) → SettlesAny o old before new after → GoesOn m Heard old new before after
-any_goes_on m Heard None old before new after last k = subst₂ (λ (node : NodeValue) (o : OutboxValue). GoesOn m Heard old node before o) (sym k.0) (sym k.1) (rests_here m Heard old before)
-any_goes_on m Heard (Some s) old before new after last k = settles_goes_on m Heard s old before new after (last s refl) k
+any_goes_on : (m : Meaning) (Heard : History → Type 0) (o : Option Session) (old : NodeValue) (before : OutboxValue)
+    (new : NodeValue) (after : OutboxValue)
+    → ((s : Session) → o ≡ Some s → session_of s.client old.learner.whole.sessions ≡ Some s)
+    → SettlesAny o old before new after → GoesOn m Heard old new before after
+any_goes_on m Heard None old before new after last k =
+    subst₂ (λ (node : NodeValue) (o : OutboxValue). GoesOn m Heard old node before o) (sym k.0) (sym k.1)
+    (rests_here m Heard old before)
+any_goes_on m Heard (Some s) old before new after last k =
+    settles_goes_on m Heard s old before new after (last s refl) k
 
 -- ---- the window
 
-pub named_goes_on : (m : Meaning) (Heard : History → Type 0) (node : NodeValue) (out : OutboxValue) → GoesOn m Heard node (while_named node) out out
+pub named_goes_on : (m : Meaning) (Heard : History → Type 0) (node : NodeValue) (out : OutboxValue)
+    → GoesOn m Heard node (while_named node) out out
 named_goes_on m Heard node out = by_test (is_outside node)
   where
     by_test : (t : Bool) → GoesOn m Heard node (cond t (without_term node) node) out out
-    by_test true = leaves_goes_on m Heard node (without_term node) out (record { header = refl; acceptor = refl; learner = refl }) refl
+    by_test true = leaves_goes_on m Heard node (without_term node) out
+        (record { header = refl; acceptor = refl; learner = refl }) refl
     by_test false = rests_here m Heard node out
 
 -- ---- one execution
 
-pub executes_goes_on : (m : Meaning) (Heard : History → Type 0) (old : NodeValue) (before : OutboxValue) (new : NodeValue) (after : OutboxValue) → IsLearner old.learner → Executes m old before new after
+pub executes_goes_on : (m : Meaning) (Heard : History → Type 0) (old : NodeValue) (before : OutboxValue)
+    (new : NodeValue) (after : OutboxValue) → IsLearner old.learner → Executes m old before new after
     → GoesOn m Heard old new before after
 executes_goes_on m Heard old before new after is k =
     let l : LearnerValue = old.learner in
@@ -360,13 +425,17 @@ executes_goes_on m Heard old before new after is k =
     (then_goes_on m Heard ran_node ran_node (while_named k.mid) before noted after
     (notes_ran m Heard ran_node before v old.header.node i (omega (arith, is.reaches)) (last_served_at m l v is))
     (then_goes_on m Heard ran_node k.mid (while_named k.mid) noted after after
-    (any_goes_on m Heard (session_by v (run_answer m v l.whole)) ran_node noted k.mid after (session_left m l.whole v) k.settles)
+    (any_goes_on m Heard (session_by v (run_answer m v l.whole)) ran_node noted k.mid after
+    (session_left m l.whole v) k.settles)
     (named_goes_on m Heard k.mid after))))
 
-pub one_goes_on : (m : Meaning) (Heard : History → Type 0) (went : Bool) (old : NodeValue) (before : OutboxValue) (new : NodeValue) (after : OutboxValue) → IsLearner old.learner
+pub one_goes_on : (m : Meaning) (Heard : History → Type 0) (went : Bool) (old : NodeValue) (before : OutboxValue)
+    (new : NodeValue) (after : OutboxValue) → IsLearner old.learner
     → ExecutesOne m went old before new after → GoesOn m Heard old new before after
 one_goes_on m Heard true old before new after is k = executes_goes_on m Heard old before new after is k
-one_goes_on m Heard false old before new after is k = subst₂ (λ (node : NodeValue) (o : OutboxValue). GoesOn m Heard old node before o) (sym k.1) (sym k.2) (rests_here m Heard old before)
+one_goes_on m Heard false old before new after is k =
+    subst₂ (λ (node : NodeValue) (o : OutboxValue). GoesOn m Heard old node before o) (sym k.1) (sym k.2)
+    (rests_here m Heard old before)
 
 -- ---- one after another
 
@@ -377,30 +446,38 @@ its_learner node = by_test (is_outside node)
     by_test true = refl
     by_test false = refl
 
-any_learner : (o : Option Session) (old : NodeValue) (before : OutboxValue) (new : NodeValue) (after : OutboxValue) → SettlesAny o old before new after → new.learner ≡ old.learner
+any_learner : (o : Option Session) (old : NodeValue) (before : OutboxValue) (new : NodeValue) (after : OutboxValue)
+    → SettlesAny o old before new after → new.learner ≡ old.learner
 any_learner None old before new after k = ap (λ (node : NodeValue). node.learner) k.0
 any_learner (Some s) old before new after k = ap (λ (node : NodeValue). node.learner) k.becomes
 
 -- the learner has moved one position on
-pub executes_learner : (m : Meaning) (old : NodeValue) (before : OutboxValue) (new : NodeValue) (after : OutboxValue) (k : Executes m old before new after) → new.learner ≡ advanced m k.command old.learner
+pub executes_learner : (m : Meaning) (old : NodeValue) (before : OutboxValue) (new : NodeValue) (after : OutboxValue)
+    (k : Executes m old before new after) → new.learner ≡ advanced m k.command old.learner
 executes_learner m old before new after k =
     let v : Command = k.command in
     ap (λ (node : NodeValue). node.learner) k.becomes ∙ its_learner k.mid
-    ∙ any_learner (session_by v (run_answer m v old.learner.whole)) (with_learner old (advanced m v old.learner)) (with_note (note.Ran old.header.node (executed old.learner + 1) v) before) k.mid after k.settles
+    ∙ any_learner (session_by v (run_answer m v old.learner.whole)) (with_learner old (advanced m v old.learner))
+    (with_note (note.Ran old.header.node (executed old.learner + 1) v) before) k.mid after k.settles
 
-pub went_on : (m : Meaning) (went : Bool) (first : NodeValue) (begun : OutboxValue) (old : NodeValue) (before : OutboxValue) (new : NodeValue) (after : OutboxValue) → went ≡ true
+pub went_on : (m : Meaning) (went : Bool) (first : NodeValue) (begun : OutboxValue) (old : NodeValue)
+    (before : OutboxValue) (new : NodeValue) (after : OutboxValue) → went ≡ true
     → Runs m first begun old before → ExecutesOne m went old before new after → Runs m first begun new after
 went_on m true first begun old before new after e runs k = goes_on runs k
 went_on m false first begun old before new after e runs k = absurd (cc e)
 
-pub went_all : (m : Meaning) (went : Bool) (first : NodeValue) (begun : OutboxValue) (old : NodeValue) (before : OutboxValue) (new : NodeValue) (after : OutboxValue) → went ≡ false
+pub went_all : (m : Meaning) (went : Bool) (first : NodeValue) (begun : OutboxValue) (old : NodeValue)
+    (before : OutboxValue) (new : NodeValue) (after : OutboxValue) → went ≡ false
     → Runs m first begun old before → ExecutesOne m went old before new after → RunsAll m first begun new after
 went_all m true first begun old before new after e runs k = absurd (cc e)
 went_all m false first begun old before new after e runs k =
     subst₂ (λ (node : NodeValue) (o : OutboxValue). RunsAll m first begun node o) (sym k.1) (sym k.2) (runs, k.0)
 
-pub went_fewer : (m : Meaning) (went : Bool) (old : NodeValue) (before : OutboxValue) (new : NodeValue) (after : OutboxValue) → went ≡ true → ExecutesOne m went old before new after
+pub went_fewer : (m : Meaning) (went : Bool) (old : NodeValue) (before : OutboxValue) (new : NodeValue)
+    (after : OutboxValue) → went ≡ true → ExecutesOne m went old before new after
     → length new.learner.pairs < length old.learner.pairs
 went_fewer m true old before new after e k =
-    subst (λ (l : LearnerValue). length l.pairs < length old.learner.pairs) (sym (executes_learner m old before new after k)) (fewer (executed old.learner + 1) k.command old.learner.pairs k.next)
+    subst (λ (l : LearnerValue). length l.pairs < length old.learner.pairs)
+    (sym (executes_learner m old before new after k))
+    (fewer (executed old.learner + 1) k.command old.learner.pairs k.next)
 went_fewer m false old before new after e k = absurd (cc e)

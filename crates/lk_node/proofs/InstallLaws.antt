@@ -1,5 +1,6 @@
 -- A node that gathers a part goes on, and so it does with the state of another chosen list that it installs.
-use Rattle.std.proofs.Common.{◌≡◌, ◌∙◌, ℕ, zero, suc, ◌≤◌, inl, inr, Bool, ltb, List, [], ◌∷◌, length, Option, Some, None, refl, sym, ap, subst, arith}
+use Rattle.std.proofs.Common.{◌≡◌, ◌∙◌, ℕ, zero, suc, ◌≤◌, inl, inr, Bool, ltb, List, [], ◌∷◌, length, Option, Some}
+use Rattle.std.proofs.Common.{None, refl, sym, ap, subst, arith}
 use Rattle.std.specs.List.{AllByRecursion}
 use Rattle.std.proofs.lemmas.Bool.{cases_lt, lt-ltb}
 use Rattle.lk_types.specs.Commands.{IsCommand}
@@ -15,7 +16,8 @@ use Rattle.lk_agreement.specs.Datagrams.{HasSent}
 use Rattle.lk_agreement.specs.Nodes.{Pair, View}
 use Rattle.lk_agreement.specs.Snapshots.{IsSlice}
 use Rattle.lk_agreement.specs.Soundness.{Sound}
-use Rattle.lk_agreement.proofs.Histories.{command_within, entry_chosen, one_chosen, chosen_at_fits, chosen_fits, chosen_short, change_fits, filter_from, whole_slice}
+use Rattle.lk_agreement.proofs.Histories.{command_within, entry_chosen, one_chosen, chosen_at_fits, chosen_fits}
+use Rattle.lk_agreement.proofs.Histories.{chosen_short, change_fits, filter_from, whole_slice}
 use Rattle.lk_entries.specs.Values.{HeaderValue}
 use Rattle.lk_state.specs.Meanings.{Meaning, KeepsTexts}
 use Rattle.lk_state.specs.States.{WholeValue, SumsUp, whole_after}
@@ -44,7 +46,8 @@ use Rattle.lk_node.proofs.Serving.{rests_here, then_goes_on}
 pub hearing_near : (p : PartValue) (a : AcceptorValue) (l : LearnerValue) → AreNear a l → AreNear a (hearing p l)
 hearing_near p a l n = record { alpha_is = n.alpha_is; snapshot = n.snapshot; votes = n.votes }
 
-pub gathered_near : (IsText : List ℕ → Type 0) (went : Bool) (p : PartValue) (a : AcceptorValue) (l new : LearnerValue) → AreNear a l → Installs IsText went (hearing p l) new → AreNear a new
+pub gathered_near : (IsText : List ℕ → Type 0) (went : Bool) (p : PartValue) (a : AcceptorValue) (l new : LearnerValue)
+    → AreNear a l → Installs IsText went (hearing p l) new → AreNear a new
 gathered_near IsText went p a l new n (inl went_on) =
     let w : WholeValue = went_on.1.0 in
     let may = went_on.1.1 in
@@ -53,14 +56,18 @@ gathered_near IsText went p a l new n (inl went_on) =
       snapshot = omega (arith, n.snapshot, may.above, may.unpacks.executed);
       votes = λ v c. omega (arith, n.votes v c, may.above, may.unpacks.executed, may.unpacks.sets);
     })
-gathered_near IsText went p a l new n (inr (inl thrown)) = subst (AreNear a) (sym thrown.3) (record { alpha_is = n.alpha_is; snapshot = n.snapshot; votes = n.votes })
+gathered_near IsText went p a l new n (inr (inl thrown)) =
+    subst (AreNear a) (sym thrown.3) (record { alpha_is = n.alpha_is; snapshot = n.snapshot; votes = n.votes })
 gathered_near IsText went p a l new n (inr (inr none)) = subst (AreNear a) (sym none.2) (hearing_near p a l n)
 
 -- ---- what is gathered changes
 
 -- the same, with this gathered in place of what was
-module _ (m : Meaning) (h : History) (n : ℕ) (node : NodeValue) (x : Holding) (held : IsHeld m node h.genesis x) (fits : HoldingFits m h n x)
-    (g : Option GatheredValue) (slices : (k : GatheredValue) → g ≡ Some k → IsSlice h.genesis h.sent (text m h.genesis) k.position k.total 0 k.bytes) where
+module _ (m : Meaning) (h : History) (n : ℕ) (node : NodeValue) (x : Holding) (held : IsHeld m node h.genesis x)
+    (fits : HoldingFits m h n x)
+    (g : Option GatheredValue)
+    (slices : (k : GatheredValue) → g ≡ Some k
+    → IsSlice h.genesis h.sent (text m h.genesis) k.position k.total 0 k.bytes) where
   gathering_followed : IsFollowed m h n x.view (with_learner node (with_gathered g node.learner))
   gathering_followed = record {
     holding = record { view = x.view; waiting = x.waiting; gathered = g };
@@ -87,16 +94,20 @@ module _ (m : Meaning) (h : History) (n : ℕ) (node : NodeValue) (x : Holding) 
 abbrev Told : ℕ → PartValue → History → Type 0
 Told from p h = HasSent h.genesis h.sent from (kinds.Part p)
 
-hearing_goes_on : (m : Meaning) (from : ℕ) (p : PartValue) (node : NodeValue) (out : OutboxValue) → GoesOn m (Told from p) node (with_learner node (hearing p node.learner)) out out
+hearing_goes_on : (m : Meaning) (from : ℕ) (p : PartValue) (node : NodeValue) (out : OutboxValue)
+    → GoesOn m (Told from p) node (with_learner node (hearing p node.learner)) out out
 hearing_goes_on m from p node out =
     let l : LearnerValue = node.learner in
     change_goes_on m (Told from p) node (with_learner node (hearing p l)) out refl refl (λ h n loose s heard.
     gathering_followed m h n node s.holding s.held s.fits (hearing p l).gathered
-    (heard_front h.genesis h.sent (text m h.genesis) s.lawful.sound p (s.lawful.parts from p heard) (executed l) l.gathered (λ k is. s.fits.gathered k (s.held.gathered ∙ is))))
+    (heard_front h.genesis h.sent (text m h.genesis) s.lawful.sound p (s.lawful.parts from p heard)
+    (executed l) l.gathered (λ k is. s.fits.gathered k (s.held.gathered ∙ is))))
 
-throws_goes_on : (m : Meaning) (Heard : History → Type 0) (node : NodeValue) (out : OutboxValue) → GoesOn m Heard node (with_learner node (with_gathered None node.learner)) out out
+throws_goes_on : (m : Meaning) (Heard : History → Type 0) (node : NodeValue) (out : OutboxValue)
+    → GoesOn m Heard node (with_learner node (with_gathered None node.learner)) out out
 throws_goes_on m Heard node out =
-    change_goes_on m Heard node (with_learner node (with_gathered None node.learner)) out refl refl (λ h n loose s heard.
+    change_goes_on m Heard node
+    (with_learner node (with_gathered None node.learner)) out refl refl (λ h n loose s heard.
     gathering_followed m h n node s.holding s.held s.fits None (λ k is. absurd (cc is)))
 
 -- ---- a state is installed
@@ -108,7 +119,8 @@ below_some (v ∷ L) (suc zero) some within = (v, refl)
 below_some (v ∷ L) (suc (suc k)) some within = below_some L (suc k) (omega arith) (omega (arith, within))
 
 -- what each command of a list has all have
-all_at : (P : Command → Type 0) (L : List Command) → ((i : ℕ) (v : Command) → command_at L i ≡ Some v → P v) → AllByRecursion P L
+all_at : (P : Command → Type 0) (L : List Command)
+    → ((i : ℕ) (v : Command) → command_at L i ≡ Some v → P v) → AllByRecursion P L
 all_at P [] f = tt
 all_at P (v ∷ L) f = (f (suc zero) v refl, all_at P L later')
   where
@@ -116,9 +128,12 @@ all_at P (v ∷ L) f = (f (suc zero) v refl, all_at P L later')
     later' zero u at = absurd (cc at)
     later' (suc i) u at = f (suc (suc i)) u at
 
--- a node that holds what fits, and installs the state of a chosen list that reaches as far, holds what fits, and may still send what it could
-module _ (m : Meaning) (h : History) (n : ℕ) (node : NodeValue) (x : Holding) (sound : Sound h.genesis h.sent) (held : IsHeld m node h.genesis x) (fits : HoldingFits m h n x)
-    (L : List Command) (w : WholeValue) (chosen : Chosen h.genesis h.sent L) (sums : SumsUp m h.genesis L w) (farther : executed node.learner ≤ length L)
+-- a node that holds what fits, and installs the state of a chosen list that reaches as far, holds what fits, and may
+-- still send what it could
+module _ (m : Meaning) (h : History) (n : ℕ) (node : NodeValue) (x : Holding) (sound : Sound h.genesis h.sent)
+    (held : IsHeld m node h.genesis x) (fits : HoldingFits m h n x)
+    (L : List Command) (w : WholeValue) (chosen : Chosen h.genesis h.sent L) (sums : SumsUp m h.genesis L w)
+    (farther : executed node.learner ≤ length L)
     (window : length w.roster.sets ≡ alpha node.learner) where
   far : w.roster.executed ≡ length L
   far = executed_is m h.genesis L w sums
@@ -136,17 +151,24 @@ module _ (m : Meaning) (h : History) (n : ℕ) (node : NodeValue) (x : Holding) 
   stands : (i : ℕ) (v : Command) → ChosenAt h.genesis h.sent i v → i ≤ length L → command_at L i ≡ Some v
   stands i v at within =
       let there = below_some L i (chosen_at_fits h.genesis h.sent i v at).0.0 within in
-      there.1 ∙ ap Some (one_chosen h.genesis h.sent sound i there.0 v (entry_chosen h.genesis h.sent L chosen i there.0 there.1) at)
+      there.1 ∙ ap Some (one_chosen h.genesis h.sent sound i there.0 v
+      (entry_chosen h.genesis h.sent L chosen i there.0 there.1) at)
 
   knows : (e : Entry) → IsKnown x.view e → IsKnown view e
   knows (entry.Promise b) k = absurd k
   knows (entry.Vote y) k = absurd k
   knows (entry.Decided i v) k = elim (cases_lt (length L) i) [
     | inl above ↦ elim k [
-      | inl pair ↦ inl (filter_has (λ (q : Pair). ltb w.roster.executed q.0) x.view.pairs (i, v) pair (lt-ltb w.roster.executed i (omega (arith, above, far))))
+      | inl pair ↦ inl (filter_has (λ (q : Pair). ltb w.roster.executed q.0) x.view.pairs (i, v) pair
+          (lt-ltb w.roster.executed i (omega (arith, above, far))))
       | inr at ↦ absurd (omega (arith, above, farther, ran, command_within x.view.done i v at))
     ]
-    | inr within ↦ inr (stands i v (elim k [ inl pair ↦ fits.view.stems.pairs i v pair | inr at ↦ entry_chosen h.genesis h.sent x.view.done fits.view.stems.done i v at ]) within)
+    | inr within ↦ inr (stands i v
+        (elim k [
+          | inl pair ↦ fits.view.stems.pairs i v pair
+          | inr at ↦
+              entry_chosen h.genesis h.sent x.view.done fits.view.stems.done i v at
+        ]) within)
   ]
 
   install_followed : IsFollowed m h n x.view (with_learner node (installed w node.learner))
@@ -160,14 +182,16 @@ module _ (m : Meaning) (h : History) (n : ℕ) (node : NodeValue) (x : Holding) 
             t.0,
             t.1,
             subst (λ (a : ℕ). LeadsTerm w.roster.executed a t.0 k) (sym window)
-                (later_leads (executed node.learner) w.roster.executed (alpha node.learner) t.0 k (omega (arith, farther, far)) t.2),
+                (later_leads (executed node.learner) w.roster.executed (alpha node.learner) t.0 k
+                (omega (arith, farther, far)) t.2),
           );
       waiting = held.waiting;
       gathered = refl;
     };
     fits = record {
       view = change_fits h.genesis h.sent sound n x.view view fits.view
-          (installs L rest chosen (omega (arith, fits.view.stems.snapshot, farther, ran)) (λ p c. filter_from (λ (q : Pair). ltb w.roster.executed q.0) x.view.pairs p c));
+          (installs L rest chosen (omega (arith, fits.view.stems.snapshot, farther, ran))
+          (λ p c. filter_from (λ (q : Pair). ltb w.roster.executed q.0) x.view.pairs p c));
       waiting = fits.waiting;
       proposals = fits.proposals;
       gathered = λ g at. absurd (cc at);
@@ -180,41 +204,54 @@ module _ (m : Meaning) (h : History) (n : ℕ) (node : NodeValue) (x : Holding) 
 abbrev pub BeganWell : NodeValue → Type 0
 BeganWell node = (genesis : Genesis) (n : ℕ) → node.header ≡ header_of genesis n → IsGenesis genesis
 
-pub began_well : (own genesis : Genesis) (whose : HeaderValue) (n : ℕ) → own.cluster ≡ whose.cluster → own.alpha ≡ whose.alpha → own.members ≡ whose.members → IsGenesis own → whose ≡ header_of genesis n
+pub began_well : (own genesis : Genesis) (whose : HeaderValue) (n : ℕ) → own.cluster ≡ whose.cluster
+    → own.alpha ≡ whose.alpha → own.members ≡ whose.members → IsGenesis own → whose ≡ header_of genesis n
     → IsGenesis genesis
 began_well own genesis whose n cluster alpha_is members fits is =
-    subst IsGenesis (same_genesis own genesis (cluster ∙ ap (λ (w : HeaderValue). w.cluster) is) (alpha_is ∙ ap (λ (w : HeaderValue). w.alpha) is) (members ∙ ap (λ (w : HeaderValue). w.members) is)) fits
+    subst IsGenesis (same_genesis own genesis (cluster ∙ ap (λ (w : HeaderValue). w.cluster) is)
+    (alpha_is ∙ ap (λ (w : HeaderValue). w.alpha) is) (members ∙ ap (λ (w : HeaderValue). w.members) is)) fits
 
 -- the state of a text that is gathered is that of a chosen list
-module _ (m : Meaning) (IsText : List ℕ → Type 0) (keeps : KeepsTexts IsText m) (genesis : Genesis) (sent : List Datagram) (began : IsGenesis genesis) (l : LearnerValue) (w : WholeValue) (may : MayInstall IsText l w)
+module _ (m : Meaning) (IsText : List ℕ → Type 0) (keeps : KeepsTexts IsText m) (genesis : Genesis)
+    (sent : List Datagram) (began : IsGenesis genesis) (l : LearnerValue) (w : WholeValue) (may : MayInstall IsText l w)
     (slice : IsSlice genesis sent (text m genesis) may.gathered.position may.gathered.total 0 may.gathered.bytes) where
-  pub installed_sums : (L : List Command) × Chosen genesis sent L × (length L ≡ may.gathered.position) × SumsUp m genesis L w
+  pub installed_sums : (L : List Command) × Chosen genesis sent L
+      × (length L ≡ may.gathered.position) × SumsUp m genesis L w
   installed_sums =
       let g : GatheredValue = may.gathered in
       let found = whole_slice genesis sent (text m genesis) g.position g.total g.bytes slice may.has.whole in
       let L : List Command = found.0 in
-      let whole = states_fit IsText m keeps genesis L began (all_at IsCommand L (λ i v at. (chosen_fits genesis sent L found.1 i v at).1)) (chosen_short genesis sent L found.1) in
+      let whole = states_fit IsText m keeps genesis L began
+      (all_at IsCommand L (λ i v at. (chosen_fits genesis sent L found.1 i v at).1))
+      (chosen_short genesis sent L found.1) in
       (L, found.1, found.2, one_packed IsText g.bytes w (whole_after m genesis L) may.unpacks.packs (whole, found.3))
 
-installs_goes_on : (m : Meaning) (Heard : History → Type 0) (IsText : List ℕ → Type 0) → KeepsTexts IsText m → (w : WholeValue) (node : NodeValue) (out : OutboxValue) → BeganWell node → MayInstall IsText node.learner w
+installs_goes_on : (m : Meaning) (Heard : History → Type 0) (IsText : List ℕ → Type 0) → KeepsTexts IsText m
+    → (w : WholeValue) (node : NodeValue) (out : OutboxValue) → BeganWell node → MayInstall IsText node.learner w
     → GoesOn m Heard node (with_learner node (installed w node.learner)) out out
 installs_goes_on m Heard IsText keeps w node out began may =
     let g : GatheredValue = may.gathered in
     change_goes_on m Heard node (with_learner node (installed w node.learner)) out refl refl (λ h n loose s heard.
     let slice = s.fits.gathered g (s.held.gathered ∙ may.has.gathered) in
     let found = installed_sums m IsText keeps h.genesis h.sent (began h.genesis n s.whose) node.learner w may slice in
-    install_followed m h n node s.holding s.lawful.sound s.held s.fits found.0 w found.1 found.3 (omega (arith, may.above, found.2)) may.unpacks.sets)
+    install_followed m h n node s.holding s.lawful.sound s.held s.fits found.0 w found.1 found.3
+    (omega (arith, may.above, found.2)) may.unpacks.sets)
 
 -- ---- a part is heard
 
-pub gathers_goes_on : (m : Meaning) (from : ℕ) (IsText : List ℕ → Type 0) → KeepsTexts IsText m → (went : Bool) (p : PartValue) (old new : NodeValue) (out : OutboxValue) → BeganWell old → Gathers IsText went p old new
+pub gathers_goes_on : (m : Meaning) (from : ℕ) (IsText : List ℕ → Type 0) → KeepsTexts IsText m
+    → (went : Bool) (p : PartValue) (old new : NodeValue) (out : OutboxValue) → BeganWell old
+    → Gathers IsText went p old new
     → GoesOn m (Told from p) old new out out
 gathers_goes_on m from IsText keeps went p old new out began k =
     let heard : NodeValue = with_learner old (hearing p old.learner) in
     subst (λ (node : NodeValue). GoesOn m (Told from p) old node out out) (sym k.2)
     (then_goes_on m (Told from p) old heard (with_learner old k.0) out out out (hearing_goes_on m from p old out)
     (elim k.1 [
-      | inl went_on ↦ subst (λ (l : LearnerValue). GoesOn m (Told from p) heard (with_learner old l) out out) (sym went_on.1.2) (installs_goes_on m (Told from p) IsText keeps went_on.1.0 heard out began went_on.1.1)
-      | inr (inl thrown) ↦ subst (λ (l : LearnerValue). GoesOn m (Told from p) heard (with_learner old l) out out) (sym thrown.3) (throws_goes_on m (Told from p) heard out)
-      | inr (inr none) ↦ subst (λ (l : LearnerValue). GoesOn m (Told from p) heard (with_learner old l) out out) (sym none.2) (rests_here m (Told from p) heard out)
+      | inl went_on ↦ subst (λ (l : LearnerValue). GoesOn m (Told from p) heard (with_learner old l) out out)
+          (sym went_on.1.2) (installs_goes_on m (Told from p) IsText keeps went_on.1.0 heard out began went_on.1.1)
+      | inr (inl thrown) ↦ subst (λ (l : LearnerValue). GoesOn m (Told from p) heard (with_learner old l) out out)
+          (sym thrown.3) (throws_goes_on m (Told from p) heard out)
+      | inr (inr none) ↦ subst (λ (l : LearnerValue). GoesOn m (Told from p) heard (with_learner old l) out out)
+          (sym none.2) (rests_here m (Told from p) heard out)
     ]))

@@ -1,5 +1,7 @@
 -- What a node learns and executes goes on: it rests on what was chosen, and the node knows it.
-use Rattle.std.proofs.Common.{get_or, ◌≡◌, ℕ, ◌+◌, ◌-◌, ◌<◌, ◌≤◌, inl, inr, Bool, true, false, ◌||◌, ◌&&◌, nat_le, length, List, [], ◌∷◌, ◌++◌, Some, Contains, drop, refl, sym, ◌∙◌, ap, subst, subst₂, arith}
+use Rattle.std.proofs.Common.{get_or, ◌≡◌, ℕ, ◌+◌, ◌-◌, ◌<◌, ◌≤◌, inl, inr, Bool, true, false, ◌||◌, ◌&&◌, nat_le}
+use Rattle.std.proofs.Common.{length, List, [], ◌∷◌, ◌++◌, Some, Contains, drop, refl, sym, ◌∙◌, ap, subst, subst₂}
+use Rattle.std.proofs.Common.{arith}
 use Rattle.std.specs.Prelude.{slice_get, Option, None, IfSome}
 use Rattle.std.specs.List.{AllByRecursion}
 use Rattle.std.proofs.Math.Numerals.{suc-eq-add-one}
@@ -37,11 +39,13 @@ use Rattle.lk_node.proofs.Serving.{rests_here, then_goes_on, heard_goes_on}
 
 -- ---- entries
 
-all_push : (P : Entry → Type 0) (es : List Entry) (e : Entry) → AllByRecursion P es → P e → AllByRecursion P (es ++ e ∷ [])
+all_push : (P : Entry → Type 0) (es : List Entry) (e : Entry) → AllByRecursion P es → P e
+    → AllByRecursion P (es ++ e ∷ [])
 all_push P [] e a p = (p, tt)
 all_push P (x ∷ es) e a p = (a.0, all_push P es e a.1 p)
 
-pushed : (es : List Entry) (e : Entry) (s : AcceptorState) → with_entries (es ++ e ∷ []) s ≡ acceptor_with e (with_entries es s)
+pushed : (es : List Entry) (e : Entry) (s : AcceptorState)
+    → with_entries (es ++ e ∷ []) s ≡ acceptor_with e (with_entries es s)
 pushed [] e s = refl
 pushed (x ∷ es) e s = pushed es e (acceptor_with x s)
 
@@ -50,8 +54,10 @@ unsynced_before false e = refl
 unsynced_before true e = absurd (cc e)
 
 -- an entry of a decided command that is chosen, and that the learner keeps
-pub writes_decided : (m : Meaning) (Heard : History → Type 0) (node : NodeValue) (out : OutboxValue) (i : ℕ) (v : Command) → Contains node.learner.pairs (i, v)
-    → ((h : History) (n : ℕ) (loose : List Entry) → Serves m h n loose node out → Heard h → ChosenAt h.genesis h.sent i v)
+pub writes_decided : (m : Meaning) (Heard : History → Type 0) (node : NodeValue) (out : OutboxValue) (i : ℕ)
+    (v : Command) → Contains node.learner.pairs (i, v)
+    → ((h : History) (n : ℕ) (loose : List Entry) → Serves m h n loose node out → Heard h
+    → ChosenAt h.genesis h.sent i v)
     → GoesOn m Heard node node out (with_entry (entry.Decided i v) out)
 writes_decided m Heard node out i v kept chosen = record {
   binds = λ first b. record {
@@ -69,7 +75,8 @@ writes_decided m Heard node out i v kept chosen = record {
     fits = s.fits;
     rests = all_push (Rests h) out.entries (entry.Decided i v) s.rests (chosen h n loose s heard);
     known = s.known;
-    news = λ e. all_push (IsKnown s.holding.view) out.entries (entry.Decided i v) (s.news (unsynced_before out.sync e)) (inl (s.held.follows.known (i, v) kept));
+    news = λ e. all_push (IsKnown s.holding.view) out.entries (entry.Decided i v) (s.news (unsynced_before out.sync e))
+        (inl (s.held.follows.known (i, v) kept));
     may = s.may;
     noted = s.noted;
   };
@@ -84,13 +91,18 @@ knows_more w p (entry.Decided i c) (inl pair) = inl (Contains-append_left w.pair
 knows_more w p (entry.Decided i c) (inr done) = inr done
 
 keeps_goes_on : (m : Meaning) (Heard : History → Type 0) (node : NodeValue) (out : OutboxValue) (i : ℕ) (v : Command)
-    → ((h : History) (n : ℕ) (loose : List Entry) → Serves m h n loose node out → Heard h → ChosenAt h.genesis h.sent i v)
+    → ((h : History) (n : ℕ) (loose : List Entry) → Serves m h n loose node out → Heard h
+    → ChosenAt h.genesis h.sent i v)
     → GoesOn m Heard node (with_learner node (keeping (i, v) node.learner)) out out
 keeps_goes_on m Heard node out i v chosen =
     change_goes_on m Heard node (with_learner node (keeping (i, v) node.learner)) out refl refl (λ h n loose s heard.
     let w : View = s.holding.view in
     record {
-      holding = record { view = with_done w w.done (w.pairs ++ (i, v) ∷ []); waiting = s.holding.waiting; gathered = s.holding.gathered };
+      holding = record {
+        view = with_done w w.done (w.pairs ++ (i, v) ∷ []);
+        waiting = s.holding.waiting;
+        gathered = s.holding.gathered;
+      };
       held = record {
         acceptor = s.held.acceptor;
         follows = keeping_follows m h.genesis w.done w.pairs node.learner (i, v) s.held.follows;
@@ -110,7 +122,8 @@ keeps_goes_on m Heard node out i v chosen =
     })
 
 -- a pair that is chosen, wherever the learner keeps it, is written
-pub learns_goes_on : (m : Meaning) (i : ℕ) (v : Command) (old new : NodeValue) (before after : OutboxValue) → Learns (i, v) old before new after
+pub learns_goes_on : (m : Meaning) (i : ℕ) (v : Command) (old new : NodeValue) (before after : OutboxValue)
+    → Learns (i, v) old before new after
     → GoesOn m (λ h. ChosenAt h.genesis h.sent i v) old new before after
 learns_goes_on m i v old new before after (inl wanted) =
     let kept : NodeValue = with_learner old (keeping (i, v) old.learner) in
@@ -121,7 +134,8 @@ learns_goes_on m i v old new before after (inl wanted) =
     (writes_decided m Heard kept before i v (with_has (i, v) old.learner.pairs) (λ h n loose s heard. heard)))
 learns_goes_on m i v old new before after (inr other) =
     let Heard : History → Type 0 = λ (h : History). ChosenAt h.genesis h.sent i v in
-    subst₂ (λ (node : NodeValue) (o : OutboxValue). GoesOn m Heard old node before o) (sym other.1) (sym other.2) (rests_here m Heard old before)
+    subst₂ (λ (node : NodeValue) (o : OutboxValue). GoesOn m Heard old node before o) (sym other.1) (sym other.2)
+    (rests_here m Heard old before)
 
 -- ---- and executed
 
@@ -130,17 +144,24 @@ abbrev pub Chooses : ℕ → Command → History → Type 0
 Chooses i v h = ChosenAt h.genesis h.sent i v
 
 -- it heard no more than what it needs
-pub unheard : (m : Meaning) (Heard : History → Type 0) (old new : NodeValue) (before after : OutboxValue) → GoesOn m (λ h. Unit {0}) old new before after → GoesOn m Heard old new before after
-unheard m Heard old new before after f = heard_goes_on m Heard (λ h. Unit {0}) old new before after (λ h n loose s heard. tt) f
+pub unheard : (m : Meaning) (Heard : History → Type 0) (old new : NodeValue) (before after : OutboxValue)
+    → GoesOn m (λ h. Unit {0}) old new before after → GoesOn m Heard old new before after
+unheard m Heard old new before after f =
+    heard_goes_on m Heard (λ h. Unit {0}) old new before after (λ h n loose s heard. tt) f
 
-pub pair_goes_on : (m : Meaning) (i : ℕ) (v : Command) (old mid new : NodeValue) (before between after : OutboxValue) → GoesOn m (Chooses i v) old mid before between
+pub pair_goes_on : (m : Meaning) (i : ℕ) (v : Command) (old mid new : NodeValue) (before between after : OutboxValue)
+    → GoesOn m (Chooses i v) old mid before between
     → GoesOn m (λ h. Unit {0}) mid new between after → GoesOn m (Chooses i v) old new before after
-pair_goes_on m i v old mid new before between after f g = then_goes_on m (Chooses i v) old mid new before between after f (unheard m (Chooses i v) mid new between after g)
+pair_goes_on m i v old mid new before between after f g =
+    then_goes_on m (Chooses i v) old mid new before between after f (unheard m (Chooses i v) mid new between after g)
 
 -- a command whose position is not wanted is stepped over, and what can be is executed: so it is taken
-pub stepped_over : (m : Meaning) (position : ℕ) (commands : List Command) (left : Option (List Command)) (old new : NodeValue) (before after : OutboxValue)
-    → (IsWanted old.learner position → ⊥) → RunsAll m old before new after → GoesOn m (λ h. Unit {0}) old new before after
-    → IfSome left (λ others. (v : Command) × (commands ≡ v ∷ others)) → IfSome left (λ others. TakesFirst m position commands others old before new after)
+pub stepped_over : (m : Meaning) (position : ℕ) (commands : List Command) (left : Option (List Command))
+    (old new : NodeValue) (before after : OutboxValue)
+    → (IsWanted old.learner position → ⊥) → RunsAll m old before new after
+    → GoesOn m (λ h. Unit {0}) old new before after
+    → IfSome left (λ others. (v : Command) × (commands ≡ v ∷ others))
+    → IfSome left (λ others. TakesFirst m position commands others old before new after)
 stepped_over m position commands None old new before after other runs goes_on skips = tt
 stepped_over m position commands (Some others) old new before after other runs goes_on skips =
     record {
@@ -155,15 +176,20 @@ stepped_over m position commands (Some others) old new before after other runs g
 abbrev Told : ℕ → DecidedValue → History → Type 0
 Told from d h = HasSent h.genesis h.sent from (kinds.Decided d)
 
-pub told_goes_on : (m : Meaning) (from : ℕ) (d : DecidedValue) (k i : ℕ) (v : Command) (first old new : NodeValue) (begun before after : OutboxValue) → i ≡ d.first + k → slice_get d.commands k ≡ Some v
-    → GoesOn m (Told from d) first old begun before → GoesOn m (Chooses i v) old new before after → GoesOn m (Told from d) first new begun after
+pub told_goes_on : (m : Meaning) (from : ℕ) (d : DecidedValue) (k i : ℕ) (v : Command) (first old new : NodeValue)
+    (begun before after : OutboxValue) → i ≡ d.first + k → slice_get d.commands k ≡ Some v
+    → GoesOn m (Told from d) first old begun before → GoesOn m (Chooses i v) old new before after
+    → GoesOn m (Told from d) first new begun after
 told_goes_on m from d k i v first old new begun before after is at f g =
     then_goes_on m (Told from d) first old new begun before after f
     (heard_goes_on m (Told from d) (Chooses i v) old new before after
-    (λ h n loose s heard. subst (λ (j : ℕ). ChosenAt h.genesis h.sent j v) (sym is) (s.lawful.sound.told from d heard k v at)) g)
+    (λ h n loose s heard. subst (λ (j : ℕ). ChosenAt h.genesis h.sent j v) (sym is)
+    (s.lawful.sound.told from d heard k v at)) g)
 
-pub takes_more : (m : Meaning) (d : DecidedValue) (k i : ℕ) (v : Command) (first old new : NodeValue) (begun before after : OutboxValue) → i ≡ d.first + k → slice_get d.commands k ≡ Some v
-    → TakesPairs m d.first d.commands first begun k old before → TakesPair m (i, v) old before new after → TakesPairs m d.first d.commands first begun (k + 1) new after
+pub takes_more : (m : Meaning) (d : DecidedValue) (k i : ℕ) (v : Command) (first old new : NodeValue)
+    (begun before after : OutboxValue) → i ≡ d.first + k → slice_get d.commands k ≡ Some v
+    → TakesPairs m d.first d.commands first begun k old before → TakesPair m (i, v) old before new after
+    → TakesPairs m d.first d.commands first begun (k + 1) new after
 takes_more m d k i v first old new begun before after is at so_far one =
     one_more v so_far at (subst (λ (j : ℕ). TakesPair m (j, v) old before new after) is one)
 
@@ -178,13 +204,16 @@ within_range d k fits less =
     omega (arith, last, less)
 
 -- the element that a loop reads
-pub element : {X : Type 0} (vs ws : List X) (k : ℕ) (v : X) → vs ≡ ws → k < length vs → v ≡ get_or vs k v → slice_get ws k ≡ Some v
+pub element : {X : Type 0} (vs ws : List X) (k : ℕ) (v : X) → vs ≡ ws → k < length vs → v ≡ get_or vs k v
+    → slice_get ws k ≡ Some v
 element vs ws k v same less is = ap (λ l. slice_get l k) (sym same) ∙ slice_get-get_or vs k v less ∙ ap Some (sym is)
 
 -- the element that a walk comes to, and what it leaves
-pub walked : {X : Type 0} (vs rest others : List X) (k : ℕ) (v : X) → rest ≡ drop k vs → k < length vs → rest ≡ v ∷ others → (slice_get vs k ≡ Some v) × (others ≡ drop (k + 1) vs)
+pub walked : {X : Type 0} (vs rest others : List X) (k : ℕ) (v : X) → rest ≡ drop k vs → k < length vs
+    → rest ≡ v ∷ others → (slice_get vs k ≡ Some v) × (others ≡ drop (k + 1) vs)
 walked vs rest others k v at_ less is =
-    let both_ : v ∷ others ≡ get_or vs k v ∷ drop (k + 1) vs = sym is ∙ at_ ∙ drop-cons vs k v less ∙ ap (λ (n : ℕ). get_or vs k v ∷ drop n vs) (suc-eq-add-one k) in
+    let both_ : v ∷ others ≡ get_or vs k v ∷ drop (k + 1) vs = sym is ∙ at_ ∙ drop-cons vs k v less
+    ∙ ap (λ (n : ℕ). get_or vs k v ∷ drop n vs) (suc-eq-add-one k) in
     let one : get_or vs k v ≡ v = cc in
     (slice_get-get_or vs k v less ∙ ap Some one, cc)
 

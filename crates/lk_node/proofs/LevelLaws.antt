@@ -1,5 +1,7 @@
--- What passes between nodes of which one has executed more they may send, and what they see of ballots is theirs to forget.
-use Rattle.std.proofs.Common.{◌≡◌, ◌∙◌, ℕ, ◌+◌, inl, inr, List, [], ◌∷◌, length, take, drop, map, Contains, Some, refl, ap, sym, subst, arith, append_assoc, append-nil}
+-- What passes between nodes of which one has executed more they may send, and what they see of ballots is theirs to
+-- forget.
+use Rattle.std.proofs.Common.{◌≡◌, ◌∙◌, ℕ, ◌+◌, inl, inr, List, [], ◌∷◌, length, take, drop, map, Contains, Some, refl}
+use Rattle.std.proofs.Common.{ap, sym, subst, arith, append_assoc, append-nil}
 use Rattle.std.proofs.lemmas.Option.{slice_get-get_or}
 use Rattle.lk_types.specs.BallotValue.{BallotValue}
 use Rattle.lk_types.specs.declared.entry.Entry.{Entry}
@@ -19,7 +21,8 @@ use Rattle.lk_node_io.specs.Letters.{LetterValue}
 use Rattle.lk_node_io.specs.Outboxes.{OutboxValue, nothing, with_letter}
 use Rattle.lk_node_io.specs.Saying.{saying}
 use Rattle.lk_node_io.specs.declared.to.To.{To}
-use Rattle.lk_node.specs.CatchingUp.{sending_parts, FeedsParts, Feeds, AsksOn, Levels, HearsNack, following, AsksWhereMore, refusal, HearsLead}
+use Rattle.lk_node.specs.CatchingUp.{sending_parts, FeedsParts, Feeds, AsksOn, Levels, HearsNack, following}
+use Rattle.lk_node.specs.CatchingUp.{AsksWhereMore, refusal, HearsLead}
 use Rattle.lk_node.specs.Histories.{History, Command, text}
 use Rattle.lk_node.specs.NodeValue.{NodeValue}
 use Rattle.lk_node.specs.Replying.{SaysAlone}
@@ -34,102 +37,155 @@ use Rattle.lk_node.proofs.ManyLetters.{lettered}
 use Rattle.lk_node.proofs.Serving.{rests_here, then_goes_on, says}
 
 -- nothing is done, and nothing comes of it
-pub idles : (m : Meaning) (Heard : History → Type 0) (node : NodeValue) (out : OutboxValue) → out ≡ nothing → GoesOn m Heard node node nothing out
+pub idles : (m : Meaning) (Heard : History → Type 0) (node : NodeValue) (out : OutboxValue) → out ≡ nothing
+    → GoesOn m Heard node node nothing out
 idles m Heard node out is = subst (GoesOn m Heard node node nothing) (sym is) (rests_here m Heard node nothing)
 
 -- one message, which the executed list bears out
-pub alone_goes_on : (m : Meaning) (Heard : History → Type 0) (node : NodeValue) (to : To) (message : NodeMessage) (out : OutboxValue) → SaysAlone node to message out → Covers node.acceptor.state message
-    → ((h : History) (n : ℕ) (loose : List Entry) (s : Serves m h n loose node nothing) → MaySend h.genesis h.sent s.holding.view message × BearsOutMessage m h s.holding.view.done message)
+pub alone_goes_on : (m : Meaning) (Heard : History → Type 0) (node : NodeValue) (to : To) (message : NodeMessage)
+    (out : OutboxValue) → SaysAlone node to message out → Covers node.acceptor.state message
+    → ((h : History) (n : ℕ) (loose : List Entry) (s : Serves m h n loose node nothing)
+    → MaySend h.genesis h.sent s.holding.view message × BearsOutMessage m h s.holding.view.done message)
     → GoesOn m Heard node node nothing out
 alone_goes_on m Heard node to message out k covers may =
     subst (GoesOn m Heard node node nothing) (sym k.1)
-    (says m Heard node nothing to message k.0 covers (λ e. absurd (cc e)) (λ h n loose s heard.
-    ((may h n loose s).0, record { under = s.holding.view.done; chosen = s.fits.view.stems.done; bears = (may h n loose s).1 })))
+    (says m Heard node nothing to message k.0 covers (λ e. absurd (cc e)) (λ h n loose s heard. (
+      (may h n loose s).0,
+      record {
+        under = s.holding.view.done;
+        chosen = s.fits.view.stems.done;
+        bears = (may h n loose s).1;
+      },
+    )))
 
 -- ---- what a ballot that is seen changes
 
-pub round_goes_on : (m : Meaning) (Heard : History → Type 0) (b : BallotValue) (node : NodeValue) (out : OutboxValue) → GoesOn m Heard node (with_round b node) out out
-round_goes_on m Heard b node out = alike_goes_on m Heard node (with_round b node) out (record { header = refl; acceptor = refl; learner = refl }) refl
+pub round_goes_on : (m : Meaning) (Heard : History → Type 0) (b : BallotValue) (node : NodeValue) (out : OutboxValue)
+    → GoesOn m Heard node (with_round b node) out out
+round_goes_on m Heard b node out =
+    alike_goes_on m Heard node (with_round b node) out (record { header = refl; acceptor = refl; learner = refl }) refl
 
-seeing_goes_on : (m : Meaning) (Heard : History → Type 0) (b : BallotValue) (node : NodeValue) (out : OutboxValue) → GoesOn m Heard node (seeing b node) out out
-seeing_goes_on m Heard b node out = then_goes_on m Heard node (with_round b node) (seeing b node) out out out (round_goes_on m Heard b node out) (yielded_goes_on m Heard b (with_round b node) out)
+seeing_goes_on : (m : Meaning) (Heard : History → Type 0) (b : BallotValue) (node : NodeValue) (out : OutboxValue)
+    → GoesOn m Heard node (seeing b node) out out
+seeing_goes_on m Heard b node out =
+    then_goes_on m Heard node (with_round b node) (seeing b node) out out out (round_goes_on m Heard b node out)
+    (yielded_goes_on m Heard b (with_round b node) out)
 
-following_goes_on : (m : Meaning) (Heard : History → Type 0) (b : BallotValue) (node : NodeValue) (out : OutboxValue) → GoesOn m Heard node (following b node) out out
-following_goes_on m Heard b node out = alike_goes_on m Heard node (following b node) out (record { header = refl; acceptor = refl; learner = refl }) refl
+following_goes_on : (m : Meaning) (Heard : History → Type 0) (b : BallotValue) (node : NodeValue) (out : OutboxValue)
+    → GoesOn m Heard node (following b node) out out
+following_goes_on m Heard b node out =
+    alike_goes_on m Heard node (following b node) out (record { header = refl; acceptor = refl; learner = refl }) refl
 
 -- ---- what is sent
 
 -- what is sent of the snapshot is a slice of the executed list's beginning
-part_borne : (m : Meaning) (h : History) (done : List Command) (pairs : List Pair) (l : LearnerValue) (p : PartValue) → Follows m h.genesis done pairs l
-    → (p.position ≡ l.snapshot_position) × (p.total ≡ length l.snapshot) × (p.bytes ≡ take (length p.bytes) (drop p.offset l.snapshot)) → BearsOutMessage m h done (kinds.Part p)
+part_borne : (m : Meaning) (h : History) (done : List Command) (pairs : List Pair) (l : LearnerValue) (p : PartValue)
+    → Follows m h.genesis done pairs l
+    → (p.position ≡ l.snapshot_position) × (p.total ≡ length l.snapshot)
+    × (p.bytes ≡ take (length p.bytes) (drop p.offset l.snapshot)) → BearsOutMessage m h done (kinds.Part p)
 part_borne m h done pairs l p f is =
-    let same : l.snapshot ≡ text m h.genesis (take p.position done) = f.text ∙ ap (λ (i : ℕ). text m h.genesis (take i done)) (sym is.0) in
+    let same : l.snapshot ≡ text m h.genesis (take p.position done) = f.text
+    ∙ ap (λ (i : ℕ). text m h.genesis (take i done)) (sym is.0) in
     record {
       reaches = omega (arith, f.within, is.0);
       total = ap length (sym same) ∙ sym is.1;
       slice = is.2 ∙ ap (λ (xs : List ℕ). take (length p.bytes) (drop p.offset xs)) same;
     }
 
-sends_parts : (m : Meaning) (Heard : History → Type 0) (node : NodeValue) (other : ℕ) (ps : List PartValue) (out : OutboxValue) → ((p : PartValue) → Contains ps p → IsMessage (saying node.header (kinds.Part p)))
-    → ((p : PartValue) → Contains ps p → (p.position ≡ node.learner.snapshot_position) × (p.total ≡ length node.learner.snapshot) × (p.bytes ≡ take (length p.bytes) (drop p.offset node.learner.snapshot)))
+sends_parts : (m : Meaning) (Heard : History → Type 0) (node : NodeValue) (other : ℕ) (ps : List PartValue)
+    (out : OutboxValue) → ((p : PartValue) → Contains ps p → IsMessage (saying node.header (kinds.Part p)))
+    → ((p : PartValue) → Contains ps p
+    → (p.position ≡ node.learner.snapshot_position) × (p.total ≡ length node.learner.snapshot)
+    × (p.bytes ≡ take (length p.bytes) (drop p.offset node.learner.snapshot)))
     → GoesOn m Heard node node out (sending_parts node other ps out)
-sends_parts m Heard node other [] out fits slices = subst (λ (ls : List LetterValue). GoesOn m Heard node node out (lettered out ls)) (sym (append-nil out.letters)) (rests_here m Heard node out)
+sends_parts m Heard node other [] out fits slices =
+    subst (λ (ls : List LetterValue). GoesOn m Heard node node out (lettered out ls)) (sym (append-nil out.letters))
+    (rests_here m Heard node out)
 sends_parts m Heard node other (p ∷ ps) out fits slices =
     let one : LetterValue = letter_to node (kinds.Part p) other in
-    subst (λ (ls : List LetterValue). GoesOn m Heard node node out (lettered out ls)) (append_assoc out.letters (one ∷ []) (map (λ (q : PartValue). letter_to node (kinds.Part q) other) ps))
+    subst (λ (ls : List LetterValue). GoesOn m Heard node node out (lettered out ls))
+    (append_assoc out.letters (one ∷ []) (map (λ (q : PartValue). letter_to node (kinds.Part q) other) ps))
     (then_goes_on m Heard node node node out (with_letter one out) (sending_parts node other ps (with_letter one out))
-    (says m Heard node out (to_node node other) (kinds.Part p) (fits p (0, omega arith, refl)) tt (λ e. tt) (λ h n loose s heard.
-    let w : View = s.holding.view in
-    (tt, record { under = w.done; chosen = s.fits.view.stems.done; bears = part_borne m h w.done w.pairs node.learner p s.held.follows (slices p (0, omega arith, refl)) })))
-    (sends_parts m Heard node other ps (with_letter one out) (λ q c. fits q (contains_more p ps q c)) (λ q c. slices q (contains_more p ps q c))))
+    (says m Heard node out (to_node node other) (kinds.Part p) (fits p (0, omega arith, refl)) tt
+    (λ e. tt) (λ h n loose s heard.
+    let w : View = s.holding.view in (
+      tt,
+      record {
+        under = w.done;
+        chosen = s.fits.view.stems.done;
+        bears = part_borne m h w.done w.pairs node.learner p s.held.follows (slices p (0, omega arith, refl));
+      },
+    )))
+    (sends_parts m Heard node other ps (with_letter one out) (λ q c. fits q (contains_more p ps q c))
+    (λ q c. slices q (contains_more p ps q c))))
 
-feeds_parts_goes_on : (m : Meaning) (Heard : History → Type 0) (node : NodeValue) (other offset : ℕ) (out : OutboxValue) → FeedsParts node other offset out → GoesOn m Heard node node nothing out
+feeds_parts_goes_on : (m : Meaning) (Heard : History → Type 0) (node : NodeValue) (other offset : ℕ)
+    (out : OutboxValue) → FeedsParts node other offset out → GoesOn m Heard node node nothing out
 feeds_parts_goes_on m Heard node other offset out k =
     let l : LearnerValue = node.learner in
     subst (GoesOn m Heard node node nothing) (sym k.comes_to)
     (sends_parts m Heard node other k.parts nothing k.fits
-    (λ p c. parts_slice l.snapshot_position (start_of offset l.snapshot) c.0 l.snapshot k.parts p k.are (slice_get-get_or k.parts c.0 p c.1 ∙ ap Some c.2)))
+    (λ p c. parts_slice l.snapshot_position (start_of offset l.snapshot) c.0 l.snapshot k.parts p k.are
+    (slice_get-get_or k.parts c.0 p c.1 ∙ ap Some c.2)))
 
-feeds_goes_on : (m : Meaning) (Heard : History → Type 0) (node : NodeValue) (other first offset : ℕ) (out : OutboxValue) → Feeds node other first offset out → GoesOn m Heard node node nothing out
+feeds_goes_on : (m : Meaning) (Heard : History → Type 0) (node : NodeValue) (other first offset : ℕ)
+    (out : OutboxValue) → Feeds node other first offset out → GoesOn m Heard node node nothing out
 feeds_goes_on m Heard node other first offset out (inl served) =
     alone_goes_on m Heard node (to_node node other) (kinds.Decided (decided_from first node.learner)) out served.1 tt
-    (λ h n loose s. (served_chosen m h.genesis h.sent s.holding.view.done s.holding.view.pairs node.learner first s.fits.view.stems.done s.held.follows served.0, tt))
-feeds_goes_on m Heard node other first offset out (inr (inl parts)) = feeds_parts_goes_on m Heard node other offset out parts.1
+    (λ h n loose s. (
+      served_chosen m h.genesis h.sent s.holding.view.done s.holding.view.pairs node.learner first
+          s.fits.view.stems.done s.held.follows served.0,
+      tt,
+    ))
+feeds_goes_on m Heard node other first offset out (inr (inl parts)) =
+    feeds_parts_goes_on m Heard node other offset out parts.1
 feeds_goes_on m Heard node other first offset out (inr (inr none)) = idles m Heard node out none.1
 
-asks_goes_on : (m : Meaning) (Heard : History → Type 0) (node : NodeValue) (other : ℕ) (out : OutboxValue) → AsksOn node other out → GoesOn m Heard node node nothing out
-asks_goes_on m Heard node other out (inl more) = alone_goes_on m Heard node (to_node node other) (kinds.Want (wanted node.learner)) out more.1 tt (λ h n loose s. (tt, tt))
+asks_goes_on : (m : Meaning) (Heard : History → Type 0) (node : NodeValue) (other : ℕ) (out : OutboxValue)
+    → AsksOn node other out → GoesOn m Heard node node nothing out
+asks_goes_on m Heard node other out (inl more) =
+    alone_goes_on m Heard node (to_node node other) (kinds.Want (wanted node.learner)) out more.1 tt
+    (λ h n loose s. (tt, tt))
 asks_goes_on m Heard node other out (inr none) = idles m Heard node out none.1
 
-levels_goes_on : (m : Meaning) (Heard : History → Type 0) (node : NodeValue) (other theirs : ℕ) (out : OutboxValue) → Levels node other theirs out → GoesOn m Heard node node nothing out
+levels_goes_on : (m : Meaning) (Heard : History → Type 0) (node : NodeValue) (other theirs : ℕ) (out : OutboxValue)
+    → Levels node other theirs out → GoesOn m Heard node node nothing out
 levels_goes_on m Heard node other theirs out (inl more) = asks_goes_on m Heard node other out more.1
-levels_goes_on m Heard node other theirs out (inr (inl fewer)) = feeds_goes_on m Heard node other (theirs + 1) 0 out fewer.1
+levels_goes_on m Heard node other theirs out (inr (inl fewer)) =
+    feeds_goes_on m Heard node other (theirs + 1) 0 out fewer.1
 levels_goes_on m Heard node other theirs out (inr (inr same)) = idles m Heard node out same.1
 
 -- ---- each message
 
-pub want_goes_on : (m : Meaning) (old : NodeValue) (from first offset : ℕ) (out : OutboxValue) → Feeds old from first offset out → GoesOn m (λ h. Unit {0}) old old nothing out
+pub want_goes_on : (m : Meaning) (old : NodeValue) (from first offset : ℕ) (out : OutboxValue)
+    → Feeds old from first offset out → GoesOn m (λ h. Unit {0}) old old nothing out
 want_goes_on m old from first offset out k = feeds_goes_on m (λ h. Unit {0}) old from first offset out k
 
-pub nack_goes_on : (m : Meaning) (old new : NodeValue) (from : ℕ) (nack : Nack) (out : OutboxValue) → HearsNack old from nack new out → GoesOn m (λ h. Unit {0}) old new nothing out
+pub nack_goes_on : (m : Meaning) (old new : NodeValue) (from : ℕ) (nack : Nack) (out : OutboxValue)
+    → HearsNack old from nack new out → GoesOn m (λ h. Unit {0}) old new nothing out
 nack_goes_on m old new from nack out k =
     let Heard : History → Type 0 = λ h. Unit {0} in
     let once : NodeValue = seeing nack.ballot old in
     subst (λ (node : NodeValue). GoesOn m Heard old node nothing out) (sym k.0)
-    (then_goes_on m Heard old old (seeing nack.promised once) nothing out out (levels_goes_on m Heard old from nack.executed out k.1)
-    (then_goes_on m Heard old once (seeing nack.promised once) out out out (seeing_goes_on m Heard nack.ballot old out) (seeing_goes_on m Heard nack.promised once out)))
+    (then_goes_on m Heard old old (seeing nack.promised once) nothing out out
+    (levels_goes_on m Heard old from nack.executed out k.1)
+    (then_goes_on m Heard old once (seeing nack.promised once) out out out (seeing_goes_on m Heard nack.ballot old out)
+    (seeing_goes_on m Heard nack.promised once out)))
 
-pub lead_goes_on : (m : Meaning) (old new : NodeValue) (from : ℕ) (b : BallotValue) (theirs : ℕ) (out : OutboxValue) → HearsLead old from b theirs new out → GoesOn m (λ h. Unit {0}) old new nothing out
+pub lead_goes_on : (m : Meaning) (old new : NodeValue) (from : ℕ) (b : BallotValue) (theirs : ℕ) (out : OutboxValue)
+    → HearsLead old from b theirs new out → GoesOn m (λ h. Unit {0}) old new nothing out
 lead_goes_on m old new from b theirs out (inl refused) =
     let Heard : History → Type 0 = λ h. Unit {0} in
     subst (λ (node : NodeValue). GoesOn m Heard old node nothing out) (sym refused.1)
     (then_goes_on m Heard old old (seeing b old) nothing out out
-    (alone_goes_on m Heard old (to_node old from) (kinds.Nack (refusal b old)) out refused.2 tt (λ h n loose s. (tt, tt))) (seeing_goes_on m Heard b old out))
+    (alone_goes_on m Heard old (to_node old from) (kinds.Nack (refusal b old)) out refused.2 tt
+    (λ h n loose s. (tt, tt))) (seeing_goes_on m Heard b old out))
 lead_goes_on m old new from b theirs out (inr followed) =
     let Heard : History → Type 0 = λ h. Unit {0} in
     subst (λ (node : NodeValue). GoesOn m Heard old node nothing out) (sym followed.1)
     (then_goes_on m Heard old old (following b (seeing b old)) nothing out out (by_count followed.2)
-    (then_goes_on m Heard old (seeing b old) (following b (seeing b old)) out out out (seeing_goes_on m Heard b old out) (following_goes_on m Heard b (seeing b old) out)))
+    (then_goes_on m Heard old (seeing b old) (following b (seeing b old)) out out out
+    (seeing_goes_on m Heard b old out) (following_goes_on m Heard b (seeing b old) out)))
   where
     by_count : AsksWhereMore old from theirs out → GoesOn m (λ h. Unit {0}) old old nothing out
     by_count (inl more) = asks_goes_on m (λ h. Unit {0}) old from out more.1
@@ -138,6 +194,10 @@ lead_goes_on m old new from b theirs out (inr followed) =
 -- ---- an Accept
 
 -- what goes on once its ballot's round is seen goes on with that
-pub seen_goes_on : (m : Meaning) (Heard : History → Type 0) (b : BallotValue) (old seen new : NodeValue) (out : OutboxValue) → seen ≡ with_round b old → GoesOn m Heard seen new nothing out
+pub seen_goes_on : (m : Meaning) (Heard : History → Type 0) (b : BallotValue) (old seen new : NodeValue)
+    (out : OutboxValue) → seen ≡ with_round b old → GoesOn m Heard seen new nothing out
     → GoesOn m Heard old new nothing out
-seen_goes_on m Heard b old seen new out is f = then_goes_on m Heard old seen new nothing nothing out (subst (λ (node : NodeValue). GoesOn m Heard old node nothing nothing) (sym is) (round_goes_on m Heard b old nothing)) f
+seen_goes_on m Heard b old seen new out is f =
+    then_goes_on m Heard old seen new nothing nothing out
+    (subst (λ (node : NodeValue). GoesOn m Heard old node nothing nothing) (sym is)
+    (round_goes_on m Heard b old nothing)) f

@@ -26,15 +26,23 @@ no_letters [] = refl
 no_letters (x ∷ xs) = ap (λ (ls : List LetterValue). x ∷ ls) (no_letters xs)
 
 abbrev pub lettered : OutboxValue → List LetterValue → OutboxValue
-lettered out ls = record { rebase = out.rebase; entries = out.entries; sync = out.sync; notes = out.notes; letters = ls }
+lettered out ls =
+    record { rebase = out.rebase; entries = out.entries; sync = out.sync; notes = out.notes; letters = ls }
 
 -- letters to several nodes of a message that the node may send, and that its acceptor covers
-pub says_all : (m : Meaning) (Heard : History → Type 0) (node : NodeValue) (out : OutboxValue) (nodes : List ℕ) (message : NodeMessage) → IsMessage (saying node.header message) → Covers node.acceptor.state message
-    → (out.rebase ≡ true → IsLight message) → ((o : OutboxValue) (h : History) (n : ℕ) (loose : List Entry) (s : Serves m h n loose node o) → Heard h → MaySend h.genesis h.sent s.holding.view message × IsServed m h message)
+pub says_all : (m : Meaning) (Heard : History → Type 0) (node : NodeValue) (out : OutboxValue) (nodes : List ℕ)
+    (message : NodeMessage) → IsMessage (saying node.header message) → Covers node.acceptor.state message
+    → (out.rebase ≡ true → IsLight message)
+    → ((o : OutboxValue) (h : History) (n : ℕ) (loose : List Entry) (s : Serves m h n loose node o) → Heard h
+    → MaySend h.genesis h.sent s.holding.view message × IsServed m h message)
     → GoesOn m Heard node node out (telling node nodes message out)
-says_all m Heard node out [] message fits covers light may = subst (λ (ls : List LetterValue). GoesOn m Heard node node out (lettered out ls)) (sym (no_letters out.letters)) (rests_here m Heard node out)
+says_all m Heard node out [] message fits covers light may =
+    subst (λ (ls : List LetterValue). GoesOn m Heard node node out (lettered out ls)) (sym (no_letters out.letters))
+    (rests_here m Heard node out)
 says_all m Heard node out (k ∷ nodes) message fits covers light may =
-    subst (λ (ls : List LetterValue). GoesOn m Heard node node out (lettered out ls)) (letters_behind out.letters (letter_to node message k ∷ []) (map (letter_to node message) nodes))
-    (then_goes_on m Heard node node node out (with_letter (letter_to node message k) out) (telling node nodes message (with_letter (letter_to node message k) out))
+    subst (λ (ls : List LetterValue). GoesOn m Heard node node out (lettered out ls))
+    (letters_behind out.letters (letter_to node message k ∷ []) (map (letter_to node message) nodes))
+    (then_goes_on m Heard node node node out (with_letter (letter_to node message k) out)
+    (telling node nodes message (with_letter (letter_to node message k) out))
     (says m Heard node out (to_node node k) message fits covers light (may out))
     (says_all m Heard node (with_letter (letter_to node message k) out) nodes message fits covers light may))

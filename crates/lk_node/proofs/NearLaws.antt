@@ -1,5 +1,6 @@
 -- An acceptor and a learner of one node stay near each other.
-use Rattle.std.proofs.Common.{◌≡◌, ℕ, ◌+◌, ◌*◌, ◌≤◌, inl, inr, Bool, true, false, List, [], ◌∷◌, ltb, ◌&&◌, length, Contains, Option, Some, None, refl, sym, ◌∙◌, ap, subst, arith}
+use Rattle.std.proofs.Common.{◌≡◌, ℕ, ◌+◌, ◌*◌, ◌≤◌, inl, inr, Bool, true, false, List, [], ◌∷◌, ltb, ◌&&◌, length}
+use Rattle.std.proofs.Common.{Contains, Option, Some, None, refl, sym, ◌∙◌, ap, subst, arith}
 use Rattle.lk_types.specs.BallotValue.{BallotValue}
 use Rattle.lk_types.specs.declared.vote.Vote.{Vote}
 use Rattle.lk_agreement.specs.Acceptors.{AcceptorState}
@@ -14,7 +15,8 @@ use Rattle.lk_acceptor.specs.States.{IsAcceptor, without_votes_to, with_state}
 use Rattle.lk_acceptor.specs.VoteLists.{votes_above}
 use Rattle.lk_acceptor.specs.declared.response.Response.{Response}
 use Rattle.lk_acceptor.proofs.Acceptors.{rising_count, above_rises, from_with, takes_snapshot}
-use Rattle.lk_learner.specs.Learners.{Command, Pair, LearnerValue, IsLearner, executed, alpha, keeping, advanced, with_snapshot}
+use Rattle.lk_learner.specs.Learners.{Command, Pair, LearnerValue, IsLearner, executed, alpha, keeping, advanced}
+use Rattle.lk_learner.specs.Learners.{with_snapshot}
 use Rattle.lk_learner.specs.Pairs as pairs
 use Rattle.lk_learner.proofs.Learnerships.{ran_moves, kept_few}
 use Rattle.lk_node.specs.Executing.{RunsNext}
@@ -25,41 +27,57 @@ use Rattle.lk_node.specs.Packing.{standing_of}
 use Rattle.lk_state.specs.declared.whole.Ran.{Ran}
 
 -- the same votes, or some of them
-few_near : (a : AcceptorValue) (s : AcceptorState) (l : LearnerValue) → AreNear a l → s.snapshot_position ≤ executed l → ((v : Vote) → Contains s.votes v → Contains a.state.votes v) → AreNear (with_state a s) l
+few_near : (a : AcceptorValue) (s : AcceptorState) (l : LearnerValue) → AreNear a l → s.snapshot_position ≤ executed l
+    → ((v : Vote) → Contains s.votes v → Contains a.state.votes v) → AreNear (with_state a s) l
 few_near a s l n within few = record { alpha_is = n.alpha_is; snapshot = within; votes = λ v c. n.votes v (few v c) }
 
-pub own_near : (a new : AcceptorValue) (l : LearnerValue) (b : BallotValue) → AreNear a l → new ≡ with_state a (with_promise a.state b) → AreNear new l
-own_near a new l b n is = subst (λ (x : AcceptorValue). AreNear x l) (sym is) (few_near a (with_promise a.state b) l n n.snapshot (λ v c. c))
+pub own_near : (a new : AcceptorValue) (l : LearnerValue) (b : BallotValue) → AreNear a l
+    → new ≡ with_state a (with_promise a.state b) → AreNear new l
+own_near a new l b n is =
+    subst (λ (x : AcceptorValue). AreNear x l) (sym is) (few_near a (with_promise a.state b) l n n.snapshot (λ v c. c))
 
-pub prepare_near : (a new : AcceptorValue) (l : LearnerValue) (e : ℕ) (b : BallotValue) (first : ℕ) (r : Response) → AreNear a l → AnswersPrepare a e b first r new → AreNear new l
+pub prepare_near : (a new : AcceptorValue) (l : LearnerValue) (e : ℕ) (b : BallotValue) (first : ℕ) (r : Response)
+    → AreNear a l → AnswersPrepare a e b first r new → AreNear new l
 prepare_near a new l e b first r n (inl grants) = own_near a new l b n grants.1.state
 prepare_near a new l e b first r n (inr refuses) = subst (λ (x : AcceptorValue). AreNear x l) (sym refuses.1.state) n
 
-pub accept_near : (a new : AcceptorValue) (l : LearnerValue) (e : ℕ) (x : Vote) (r : Response) → AreNear a l → e ≡ executed l → AnswersAccept a e x r new → AreNear new l
+pub accept_near : (a new : AcceptorValue) (l : LearnerValue) (e : ℕ) (x : Vote) (r : Response) → AreNear a l
+    → e ≡ executed l → AnswersAccept a e x r new → AreNear new l
 accept_near a new l e x r n at (inl grants) = subst (λ (k : AcceptorValue). AreNear k l) (sym grants.1.state) (record {
   alpha_is = n.alpha_is;
   snapshot = n.snapshot;
   votes = λ v c. elim (from_with x a.state.votes v c) [
-    | inl same ↦ subst (λ (k : Vote). k.position ≤ executed l + 2 * alpha l) same (omega (arith, grants.0.near, at, n.alpha_is))
+    | inl same ↦
+        subst (λ (k : Vote). k.position ≤ executed l + 2 * alpha l) same (omega (arith, grants.0.near, at, n.alpha_is))
     | inr old ↦ n.votes v old
   ];
 })
 accept_near a new l e x r n at (inr refuses) = subst (λ (k : AcceptorValue). AreNear k l) (sym refuses.1.state) n
 
-pub decided_near : (a : AcceptorValue) (l new : LearnerValue) (p : Pair) (kept : Bool) → AreNear a l → (kept ≡ true → new ≡ keeping p l) → (kept ≡ false → new ≡ l) → AreNear a new
-decided_near a l new p true n is same = subst (AreNear a) (sym (is refl)) (record { alpha_is = n.alpha_is; snapshot = n.snapshot; votes = n.votes })
+pub decided_near : (a : AcceptorValue) (l new : LearnerValue) (p : Pair) (kept : Bool) → AreNear a l
+    → (kept ≡ true → new ≡ keeping p l) → (kept ≡ false → new ≡ l) → AreNear a new
+decided_near a l new p true n is same =
+    subst (AreNear a) (sym (is refl)) (record { alpha_is = n.alpha_is; snapshot = n.snapshot; votes = n.votes })
 decided_near a l new p false n is same = subst (AreNear a) (sym (same refl)) n
 
-pub advanced_near : (m : Meaning) (a : AcceptorValue) (l : LearnerValue) (v : Command) → IsLearner l → AreNear a l → AreNear a (advanced m v l)
+pub advanced_near : (m : Meaning) (a : AcceptorValue) (l : LearnerValue) (v : Command) → IsLearner l → AreNear a l
+    → AreNear a (advanced m v l)
 advanced_near m a l v fits n =
     let moves = ran_moves m v l.whole fits.window.0 in
-    record { alpha_is = n.alpha_is ∙ sym moves.1; snapshot = omega (arith, n.snapshot, moves.0); votes = λ w c. omega (arith, n.votes w c, moves.0, moves.1) }
+    record {
+      alpha_is = n.alpha_is ∙ sym moves.1;
+      snapshot = omega (arith, n.snapshot, moves.0);
+      votes = λ w c. omega (arith, n.votes w c, moves.0, moves.1);
+    }
 
-pub runs_near : (m : Meaning) (a : AcceptorValue) (was : NodeValue) (new : LearnerValue) (r : Option (Command × Ran)) → IsLearner was.learner → AreNear a was.learner → RunsNext m was (with_learner was new) r → AreNear a new
+pub runs_near : (m : Meaning) (a : AcceptorValue) (was : NodeValue) (new : LearnerValue) (r : Option (Command × Ran))
+    → IsLearner was.learner → AreNear a was.learner → RunsNext m was (with_learner was new) r → AreNear a new
 runs_near m a was new None fits n k = subst (AreNear a) (sym (ap (λ (x : NodeValue). x.learner) k.1)) n
-runs_near m a was new (Some went) fits n k = subst (AreNear a) (sym (ap (λ (x : NodeValue). x.learner) k.1)) (advanced_near m a was.learner went.0 fits n)
+runs_near m a was new (Some went) fits n k =
+    subst (AreNear a) (sym (ap (λ (x : NodeValue). x.learner) k.1)) (advanced_near m a was.learner went.0 fits n)
 
-pub here_near : (a new : AcceptorValue) (l after : LearnerValue) (e : ℕ) → AreNear a l → e ≡ executed l → new ≡ with_state a (without_votes_to a.state e) → after ≡ with_snapshot l → AreNear new after
+pub here_near : (a new : AcceptorValue) (l after : LearnerValue) (e : ℕ) → AreNear a l → e ≡ executed l
+    → new ≡ with_state a (without_votes_to a.state e) → after ≡ with_snapshot l → AreNear new after
 here_near a new l after e n at is become =
     subst (λ (x : AcceptorValue). AreNear x after) (sym is)
     (subst (AreNear (with_state a (without_votes_to a.state e))) (sym become) (record {
@@ -74,7 +92,9 @@ same_above low [] = refl
 same_above low (p ∷ ps) = ap (λ (t : Bool). ltb low p.0 && t) (same_above p.0 ps)
 
 -- what a node holds above what it has executed fits into a Base
-pub may_begin : (node : NodeValue) → IsAcceptor node.acceptor → IsLearner node.learner → AreNear node.acceptor node.learner → 1 ≤ length (packed node.learner.whole) → length (packed node.learner.whole) ≤ 42087
+pub may_begin : (node : NodeValue) → IsAcceptor node.acceptor → IsLearner node.learner
+    → AreNear node.acceptor node.learner → 1 ≤ length (packed node.learner.whole)
+    → length (packed node.learner.whole) ≤ 42087
     → MayBegin (standing_of node)
 may_begin node a l n some room = record {
   some = some;
@@ -82,10 +102,14 @@ may_begin node a l n some room = record {
   few_votes =
       let subset = (takes_snapshot node.acceptor.state (executed node.learner) n.snapshot).only in
       let few : length (votes_above (executed node.learner) node.acceptor.state.votes) ≤ 2 * alpha node.learner =
-      rising_count (executed node.learner) (2 * alpha node.learner) (votes_above (executed node.learner) node.acceptor.state.votes)
-      (above_rises node.acceptor.state.snapshot_position (executed node.learner) node.acceptor.state.votes a.kept.rising) (λ v c. n.votes v (subset v c)) in
+      rising_count (executed node.learner) (2 * alpha node.learner)
+      (votes_above (executed node.learner) node.acceptor.state.votes)
+      (above_rises node.acceptor.state.snapshot_position
+      (executed node.learner) node.acceptor.state.votes a.kept.rising) (λ v c. n.votes v (subset v c)) in
       omega (arith, few, l.window.1);
-  votes_rise = above_rises node.acceptor.state.snapshot_position (executed node.learner) node.acceptor.state.votes a.kept.rising;
-  few_pairs = let few = kept_few (executed node.learner) (alpha node.learner) node.learner.pairs l.kept in omega (arith, few, l.window.1);
+  votes_rise =
+      above_rises node.acceptor.state.snapshot_position (executed node.learner) node.acceptor.state.votes a.kept.rising;
+  few_pairs = let few = kept_few (executed node.learner) (alpha node.learner) node.learner.pairs l.kept in
+      omega (arith, few, l.window.1);
   pairs_rise = sym (same_above (executed node.learner) node.learner.pairs) ∙ l.kept.rising;
 }

@@ -13,12 +13,19 @@ use Rattle.lk_node.specs.Asking.{TellsClient, TakesNew, TakesAs}
 use Rattle.lk_node.specs.NodeValue.{NodeValue}
 
 -- a request with a reply is taken by being told it
-pub told_is_taken : (x : Seen) (old new : NodeValue) (r : RequestValue) (out : OutboxValue) (reply : NodeMessage) → kept_reply r.client r.number x ≡ Some reply
+pub told_is_taken : (x : Seen) (old new : NodeValue) (r : RequestValue) (out : OutboxValue) (reply : NodeMessage)
+    → kept_reply r.client r.number x ≡ Some reply
     → TellsClient old r.client reply new out → TakesAs x old r new out
 told_is_taken seen.New old new r out reply e tells = absurd cc
-told_is_taken (seen.Same a) old new r out reply e tells = subst (λ (m : NodeMessage). TellsClient old r.client m new out) (sym (answer_same r.client r.number a reply e)) tells
-told_is_taken (seen.Passed last) old new r out reply e tells = subst (λ (m : NodeMessage). TellsClient old r.client m new out) (sym (passed_same r.client r.number last reply e)) tells
+told_is_taken (seen.Same a) old new r out reply e tells =
+    subst (λ (m : NodeMessage). TellsClient old r.client m new out)
+    (sym (answer_same r.client r.number a reply e)) tells
+told_is_taken (seen.Passed last) old new r out reply e tells =
+    subst (λ (m : NodeMessage). TellsClient old r.client m new out)
+    (sym (passed_same r.client r.number last reply e)) tells
 
-pub new_is_taken : (o : Option Session) (old new : NodeValue) (r : RequestValue) (out : OutboxValue) → kept_reply r.client r.number (seen_as o r.number) ≡ None
+pub new_is_taken : (o : Option Session) (old new : NodeValue) (r : RequestValue) (out : OutboxValue)
+    → kept_reply r.client r.number (seen_as o r.number) ≡ None
     → TakesNew old.leader.term old r new out → TakesAs (seen_as o r.number) old r new out
-new_is_taken o old new r out e taken = subst (λ (x : Seen). TakesAs x old r new out) (sym (none_is_new o r.client r.number e)) taken
+new_is_taken o old new r out e taken =
+    subst (λ (x : Seen). TakesAs x old r new out) (sym (none_is_new o r.client r.number e)) taken

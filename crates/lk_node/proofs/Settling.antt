@@ -1,5 +1,7 @@
--- A step leaves nothing to execute, where nothing was left before it: what it learns it executes, and else its learner stays.
-use Rattle.std.proofs.Common.{◌≡◌, ◌∙◌, ℕ, inl, inr, Bool, true, false, cond, List, [], ◌∷◌, Option, Some, None, refl, sym, ap, subst}
+-- A step leaves nothing to execute, where nothing was left before it: what it learns it executes, and else its learner
+-- stays.
+use Rattle.std.proofs.Common.{◌≡◌, ◌∙◌, ℕ, inl, inr, Bool, true, false, cond, List, [], ◌∷◌, Option, Some, None, refl}
+use Rattle.std.proofs.Common.{sym, ap, subst}
 use Rattle.lk_types.specs.BallotValue.{BallotValue}
 use Rattle.lk_types.specs.declared.command.Request.{Request as RequestValue}
 use Rattle.lk_types.specs.declared.member.Member.{Member}
@@ -64,37 +66,47 @@ seeing_learner b node = yielded_learner b (with_round b node)
 replied_learner : (reply : NodeMessage) (node : NodeValue) → (replied reply node).learner ≡ node.learner
 replied_learner reply node = by_test (is_granted reply)
   where
-    by_test : (t : Bool) → (yielded node.acceptor.state.promised (cond t (record node { ticks = 0 }) node)).learner ≡ node.learner
+    by_test : (t : Bool) → (yielded node.acceptor.state.promised (cond t (record node { ticks = 0 }) node)).learner
+        ≡ node.learner
     by_test true = yielded_learner node.acceptor.state.promised (record node { ticks = 0 })
     by_test false = yielded_learner node.acceptor.state.promised node
 
-responds_settles : (old new : NodeValue) (from : ℕ) (Answer : Response → AcceptorValue → Type 0) (out : OutboxValue) → Responds old from Answer new out → Settles old new
+responds_settles : (old new : NodeValue) (from : ℕ) (Answer : Response → AcceptorValue → Type 0) (out : OutboxValue)
+    → Responds old from Answer new out → Settles old new
 responds_settles old new from Answer out k =
     let answered : NodeValue = with_acceptor old k.acceptor in
     stays_as old (replied k.response.reply answered) new (replied_learner k.response.reply answered) k.becomes
 
-proposed_learner : (xs : List Vote) (old new : NodeValue) (before out : OutboxValue) → ProposesAll xs old new before out → new.learner ≡ old.learner
+proposed_learner : (xs : List Vote) (old new : NodeValue) (before out : OutboxValue)
+    → ProposesAll xs old new before out → new.learner ≡ old.learner
 proposed_learner [] old new before out p = ap (λ (node : NodeValue). node.learner) p.1
 proposed_learner (x ∷ xs) old new before out p = proposed_learner xs (having_proposed old x p.0) new _ out p.1
 
-promise_settles : (old new : NodeValue) (from : ℕ) (p : PromiseValue) (out : OutboxValue) → HearsPromise old from p new out → Settles old new
-promise_settles old new from p out k = elim k.0 [ inl kept ↦ stays_as old _ new refl kept.2 | inr dropped ↦ stays_as old old new refl dropped.1 ]
+promise_settles : (old new : NodeValue) (from : ℕ) (p : PromiseValue) (out : OutboxValue)
+    → HearsPromise old from p new out → Settles old new
+promise_settles old new from p out k =
+    elim k.0 [ inl kept ↦ stays_as old _ new refl kept.2 | inr dropped ↦ stays_as old old new refl dropped.1 ]
 
-lead_settles : (old new : NodeValue) (from : ℕ) (b : BallotValue) (theirs : ℕ) (out : OutboxValue) → HearsLead old from b theirs new out → Settles old new
+lead_settles : (old new : NodeValue) (from : ℕ) (b : BallotValue) (theirs : ℕ) (out : OutboxValue)
+    → HearsLead old from b theirs new out → Settles old new
 lead_settles old new from b theirs out (inl refused) = stays_as old (seeing b old) new (seeing_learner b old) refused.1
-lead_settles old new from b theirs out (inr followed) = stays_as old (following b (seeing b old)) new (seeing_learner b old) followed.1
+lead_settles old new from b theirs out (inr followed) =
+    stays_as old (following b (seeing b old)) new (seeing_learner b old) followed.1
 
 -- ---- a request
 
-points_settles : (o : Option Member) (old new : NodeValue) (r : RequestValue) (out : OutboxValue) → PointsTo o old r new out → Settles old new
+points_settles : (o : Option Member) (old new : NodeValue) (r : RequestValue) (out : OutboxValue)
+    → PointsTo o old r new out → Settles old new
 points_settles None old new r out k = stays_as old old new refl k.0
 points_settles (Some member) old new r out k = stays_as old old new refl k.0
 
-new_settles : (o : Option TermValue) (old new : NodeValue) (r : RequestValue) (out : OutboxValue) → TakesNew o old r new out → Settles old new
+new_settles : (o : Option TermValue) (old new : NodeValue) (r : RequestValue) (out : OutboxValue)
+    → TakesNew o old r new out → Settles old new
 new_settles None old new r out k = points_settles (leader_in old.known old.learner.whole.roster.sets) old new r out k
 new_settles (Some t) old new r out k = stays_as old _ new refl k.0
 
-taken_settles : (s : Seen) (old new : NodeValue) (r : RequestValue) (out : OutboxValue) → TakesAs s old r new out → Settles old new
+taken_settles : (s : Seen) (old new : NodeValue) (r : RequestValue) (out : OutboxValue)
+    → TakesAs s old r new out → Settles old new
 taken_settles seen.New old new r out k = new_settles old.leader.term old new r out k
 taken_settles (seen.Same answer) old new r out k = stays_as old old new refl k.0
 taken_settles (seen.Passed last) old new r out k = stays_as old old new refl k.0
@@ -105,22 +117,26 @@ only_heard_settles : (from : ℕ) (x : Vote) (old new : NodeValue) → IsOnlyHea
 only_heard_settles from x old new (inl heard) = stays_as old _ new refl heard.2
 only_heard_settles from x old new (inr other) = stays_as old old new refl other.1
 
-accepted_settles : (m : Meaning) (from : ℕ) (x : Vote) (old new : NodeValue) (out : OutboxValue) → HearsAccepted m from x old new out → Settles old new
+accepted_settles : (m : Meaning) (from : ℕ) (x : Vote) (old new : NodeValue) (out : OutboxValue)
+    → HearsAccepted m from x old new out → Settles old new
 accepted_settles m from x old new out (inl counted) none = counted.2.runs.1
 accepted_settles m from x old new out (inr heard) none = only_heard_settles from x old new heard.0 none
 
-pairs_settle : (m : Meaning) (first : ℕ) (commands : List Command) (old : NodeValue) (before : OutboxValue) (k : ℕ) (new : NodeValue) (after : OutboxValue)
+pairs_settle : (m : Meaning) (first : ℕ) (commands : List Command) (old : NodeValue) (before : OutboxValue) (k : ℕ)
+    (new : NodeValue) (after : OutboxValue)
     → TakesPairs m first commands old before k new after → Settles old new
 pairs_settle m first commands old before _ _ _ none_yet none = none
 pairs_settle m first commands old before _ _ _ (one_more v so_far at takes) none = takes.runs.1
 
 -- a part is gathered and no state installed, or all that can be is executed after that
-part_settles : (m : Meaning) (IsText : List ℕ → Type 0) (p : PartValue) (old new : NodeValue) (out : OutboxValue) → HearsPart m IsText old p new out → Settles old new
+part_settles : (m : Meaning) (IsText : List ℕ → Type 0) (p : PartValue) (old new : NodeValue) (out : OutboxValue)
+    → HearsPart m IsText old p new out → Settles old new
 part_settles m IsText p old new out (inl k) none = k.2.runs.1
 part_settles m IsText p old new out (inr k) none = by_install k.0.1
   where
     left : (l : LearnerValue) → k.0.0 ≡ l → ((v : Command) → IsNext l v → ⊥) → NothingToRun new
-    left l is nothing = subst (λ (x : LearnerValue). (v : Command) → IsNext x v → ⊥) (sym (ap (λ (node : NodeValue). node.learner) k.0.2 ∙ is)) nothing
+    left l is nothing = subst (λ (x : LearnerValue). (v : Command) → IsNext x v → ⊥)
+        (sym (ap (λ (node : NodeValue). node.learner) k.0.2 ∙ is)) nothing
 
     by_install : Installs IsText false (hearing p old.learner) k.0.0 → NothingToRun new
     by_install (inl went) = absurd (cc went.0)
@@ -129,23 +145,29 @@ part_settles m IsText p old new out (inr k) none = by_install k.0.1
 
 -- ---- a whole step
 
-node_settles : (m : Meaning) (IsText : List ℕ → Type 0) (from : ℕ) (x : NodeMessage) (old new : NodeValue) (out : OutboxValue) → HearsNode m IsText old from x new out → Settles old new
+node_settles : (m : Meaning) (IsText : List ℕ → Type 0) (from : ℕ) (x : NodeMessage) (old new : NodeValue)
+    (out : OutboxValue) → HearsNode m IsText old from x new out → Settles old new
 node_settles m IsText from (kinds.Prepare b first) old new out k = responds_settles old new from _ out k
 node_settles m IsText from (kinds.Accept x) old new out k = responds_settles (with_round x.ballot old) new from _ out k
 node_settles m IsText from (kinds.Promise p) old new out k = promise_settles old new from p out k
 node_settles m IsText from (kinds.Accepted x) old new out k = accepted_settles m from x old new out k
 node_settles m IsText from (kinds.Decided d) old new out k = pairs_settle m d.first d.commands old _ _ new out k
-node_settles m IsText from (kinds.Nack n) old new out k = stays_as old (seeing n.promised (seeing n.ballot old)) new (seeing_learner n.promised (seeing n.ballot old) ∙ seeing_learner n.ballot old) k.0
+node_settles m IsText from (kinds.Nack n) old new out k =
+    stays_as old (seeing n.promised (seeing n.ballot old)) new
+    (seeing_learner n.promised (seeing n.ballot old) ∙ seeing_learner n.ballot old) k.0
 node_settles m IsText from (kinds.Want w) old new out k = stays_as old old new refl k.0
 node_settles m IsText from (kinds.Lead b executed) old new out k = lead_settles old new from b executed out k
 node_settles m IsText from (kinds.Part p) old new out k = part_settles m IsText p old new out k
 node_settles m IsText from _ old new out k = stays_as old old new refl k.0
 
-content_settles : (m : Meaning) (IsText : List ℕ → Type 0) (x : Content) (old new : NodeValue) (out : OutboxValue) → Hears m IsText old x new out → Settles old new
-content_settles m IsText (content.Request r) old new out k = taken_settles (seen_as (session_of r.client old.learner.whole.sessions) r.number) old new r out k
+content_settles : (m : Meaning) (IsText : List ℕ → Type 0) (x : Content) (old new : NodeValue) (out : OutboxValue)
+    → Hears m IsText old x new out → Settles old new
+content_settles m IsText (content.Request r) old new out k =
+    taken_settles (seen_as (session_of r.client old.learner.whole.sessions) r.number) old new r out k
 content_settles m IsText (content.Node from x) old new out k = node_settles m IsText from x old new out k
 
-bytes_settle : (m : Meaning) (IsText : List ℕ → Type 0) (bytes : List ℕ) (old new : NodeValue) (out : OutboxValue) → TakesBytes m IsText old bytes new out → Settles old new
+bytes_settle : (m : Meaning) (IsText : List ℕ → Type 0) (bytes : List ℕ) (old new : NodeValue) (out : OutboxValue)
+    → TakesBytes m IsText old bytes new out → Settles old new
 bytes_settle m IsText bytes old new out (inl heard) = content_settles m IsText heard.0.content old new out heard.3
 bytes_settle m IsText bytes old new out (inr foreign) = stays_as old old new refl foreign.1.0
 
@@ -159,7 +181,9 @@ tick_settles old new out (inl reminds) =
     stays old new (proposed_learner proposes.0 old new reminds.2.offered reminds.2.proposed proposes.1)
 tick_settles old new out (inr waits) = due_settles (ticked old) new out waits.1
 
-pub step_settles : (m : Meaning) (IsText : List ℕ → Type 0) (old : NodeValue) (i : Input) (new : NodeValue) (out : OutboxValue) → Steps m IsText old i new out → NothingToRun old → NothingToRun new
+pub step_settles : (m : Meaning) (IsText : List ℕ → Type 0) (old : NodeValue) (i : Input) (new : NodeValue)
+    (out : OutboxValue) → Steps m IsText old i new out → NothingToRun old → NothingToRun new
 step_settles m IsText old input.Tick new out k none = tick_settles old new out k none
 step_settles m IsText old (input.Datagram bytes) new out k none =
-    stays k.mid new (proposed_learner k.proposes.0 k.mid new k.first out k.proposes.1) (bytes_settle m IsText bytes old k.mid k.first k.takes none)
+    stays k.mid new (proposed_learner k.proposes.0 k.mid new k.first out k.proposes.1)
+    (bytes_settle m IsText bytes old k.mid k.first k.takes none)

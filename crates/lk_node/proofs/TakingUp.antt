@@ -16,7 +16,8 @@ use Rattle.lk_node.proofs.ExecutionLaws.{settles_goes_on, named_goes_on}
 use Rattle.lk_node.proofs.Serving.{rests_here, then_goes_on}
 
 -- in front of all that is sent, the store may be rebased
-rebases_goes_on : (m : Meaning) (Heard : History → Type 0) (node : NodeValue) → GoesOn m Heard node node nothing (with_rebase nothing)
+rebases_goes_on : (m : Meaning) (Heard : History → Type 0) (node : NodeValue)
+    → GoesOn m Heard node node nothing (with_rebase nothing)
 rebases_goes_on m Heard node = record {
   binds = λ first b. record {
     header = b.header;
@@ -39,28 +40,37 @@ rebases_goes_on m Heard node = record {
   };
 }
 
-settled_learner : (ss : List Session) (old : NodeValue) (before : OutboxValue) (k : ℕ) (new : NodeValue) (after : OutboxValue) → SettlesFirst ss old before k new after → new.learner ≡ old.learner
+settled_learner : (ss : List Session) (old : NodeValue) (before : OutboxValue) (k : ℕ) (new : NodeValue)
+    (after : OutboxValue) → SettlesFirst ss old before k new after → new.learner ≡ old.learner
 settled_learner ss old before k new after none_settled = refl
 settled_learner ss old before k new after (one_settled {k = j} {mid = mid} {between = between} s so_far at one) =
     ap (λ (node : NodeValue). node.learner) one.becomes ∙ settled_learner ss old before j mid between so_far
 
 -- each is its client's last
-is_kept : (ss : List Session) (k : ℕ) (s : Session) → AreSessions ss → slice_get ss k ≡ Some s → session_of s.client ss ≡ Some s
+is_kept : (ss : List Session) (k : ℕ) (s : Session) → AreSessions ss → slice_get ss k ≡ Some s
+    → session_of s.client ss ≡ Some s
 is_kept ss k s are at = kept_is_its_clients ss s are (k, slice_get_within ss k s at, get_or_from_slice_get ss k s s at)
 
-sessions_go_on : (m : Meaning) (Heard : History → Type 0) (ss : List Session) (old : NodeValue) (before : OutboxValue) (k : ℕ) (new : NodeValue) (after : OutboxValue) → AreSessions ss → old.learner.whole.sessions ≡ ss
+sessions_go_on : (m : Meaning) (Heard : History → Type 0) (ss : List Session) (old : NodeValue) (before : OutboxValue)
+    (k : ℕ) (new : NodeValue) (after : OutboxValue) → AreSessions ss → old.learner.whole.sessions ≡ ss
     → SettlesFirst ss old before k new after → GoesOn m Heard old new before after
 sessions_go_on m Heard ss old before k new after are same none_settled = rests_here m Heard old before
-sessions_go_on m Heard ss old before k new after are same (one_settled {k = j} {mid = mid} {between = between} s so_far at one) =
+sessions_go_on m Heard ss old before k new after are same
+    (one_settled {k = j} {mid = mid} {between = between} s so_far at one) =
     let stays : mid.learner ≡ old.learner = settled_learner ss old before j mid between so_far in
     let here : mid.learner.whole.sessions ≡ ss = ap (λ (l : LearnerValue). l.whole.sessions) stays ∙ same in
-    then_goes_on m Heard old mid new before between after (sessions_go_on m Heard ss old before j mid between are same so_far)
-    (settles_goes_on m Heard s mid between new after (subst (λ (l : List Session). session_of s.client l ≡ Some s) (sym here) (is_kept ss j s are at)) one)
+    then_goes_on m Heard old mid new before between after
+    (sessions_go_on m Heard ss old before j mid between are same so_far)
+    (settles_goes_on m Heard s mid between new after
+    (subst (λ (l : List Session). session_of s.client l ≡ Some s) (sym here) (is_kept ss j s are at)) one)
 
-pub takes_up_goes_on : (m : Meaning) (Heard : History → Type 0) (old told new : NodeValue) (said after : OutboxValue) → AreSessions old.learner.whole.sessions
-    → SettlesAll old.learner.whole.sessions old (with_rebase nothing) told said → GoesOn m Heard (while_named told) new said after → GoesOn m Heard old new nothing after
+pub takes_up_goes_on : (m : Meaning) (Heard : History → Type 0) (old told new : NodeValue) (said after : OutboxValue)
+    → AreSessions old.learner.whole.sessions
+    → SettlesAll old.learner.whole.sessions old (with_rebase nothing) told said
+    → GoesOn m Heard (while_named told) new said after → GoesOn m Heard old new nothing after
 takes_up_goes_on m Heard old told new said after are settles runs =
     let ss : List Session = old.learner.whole.sessions in
     then_goes_on m Heard old old new nothing (with_rebase nothing) after (rebases_goes_on m Heard old)
-    (then_goes_on m Heard old told new (with_rebase nothing) said after (sessions_go_on m Heard ss old (with_rebase nothing) (length ss) told said are refl settles)
+    (then_goes_on m Heard old told new (with_rebase nothing) said after
+    (sessions_go_on m Heard ss old (with_rebase nothing) (length ss) told said are refl settles)
     (then_goes_on m Heard told (while_named told) new said said after (named_goes_on m Heard told said) runs))

@@ -20,10 +20,12 @@ replied reply node = yielded node.acceptor.state.promised (if is_granted reply t
 
 -- the response's entry is written, and its reply goes to the node that asked
 abbrev pub reply_to : NodeValue → ℕ → Response → OutboxValue
-reply_to node from r = with_letter (record { to = to_node node from; bytes = spelling (saying node.header r.reply) }) (with_optional r.entry nothing)
+reply_to node from r = with_letter (record { to = to_node node from; bytes = spelling (saying node.header r.reply) })
+    (with_optional r.entry nothing)
 
 -- the node's acceptor gives this response, and its reply fits into a datagram
-pub record Responds (old : NodeValue) (from : ℕ) (Answer : Response → AcceptorValue → Type 0) (new : NodeValue) (out : OutboxValue) : Type 0 where
+pub record Responds (old : NodeValue) (from : ℕ) (Answer : Response → AcceptorValue → Type 0) (new : NodeValue)
+    (out : OutboxValue) : Type 0 where
   pub response : Response
   pub acceptor : AcceptorValue
   pub answers : Answer response acceptor

@@ -33,7 +33,9 @@ leader_in (Some node) sets = option_map (λ port. record { node = node; port = p
 -- the client is sent to that member, if there is one
 abbrev pub PointsTo : Option Member → NodeValue → RequestValue → NodeValue → OutboxValue → Type 0
 PointsTo None old r new out = (new ≡ old) × (out ≡ nothing)
-PointsTo (Some member) old r new out = TellsClient old r.client (kinds.Elsewhere (record { client = r.client; number = r.number; member = member })) new out
+PointsTo (Some member) old r new out =
+    TellsClient old r.client
+    (kinds.Elsewhere (record { client = r.client; number = r.number; member = member })) new out
 
 -- a new request waits at a node with a term; without a term its client is sent to the known leader
 abbrev pub TakesNew : Option TermValue → NodeValue → RequestValue → NodeValue → OutboxValue → Type 0
@@ -42,8 +44,10 @@ TakesNew (Some term) old r new out = (new ≡ with_waiting r old) × (out ≡ no
 
 -- the number of the client's last request gets the stored answer, a smaller one the last number
 abbrev pub TakesAs : Seen → NodeValue → RequestValue → NodeValue → OutboxValue → Type 0
-TakesAs (seen.Same answer) old r new out = TellsClient old r.client (kinds.Answer (record { client = r.client; number = r.number; answer = answer })) new out
-TakesAs (seen.Passed last) old r new out = TellsClient old r.client (kinds.Passed (record { client = r.client; number = r.number; last = last })) new out
+TakesAs (seen.Same answer) old r new out =
+    TellsClient old r.client (kinds.Answer (record { client = r.client; number = r.number; answer = answer })) new out
+TakesAs (seen.Passed last) old r new out =
+    TellsClient old r.client (kinds.Passed (record { client = r.client; number = r.number; last = last })) new out
 TakesAs seen.New old r new out = TakesNew old.leader.term old r new out
 
 -- what the node does with a request, by its place relative to its client's last one that took effect

@@ -27,12 +27,17 @@ next_ballot node = ballot_above node.acceptor.state.promised node.rounds node.he
 
 -- the node after it has begun the ballot: its acceptor has promised it, and its leader has a term of it
 abbrev pub beginning : BallotValue → NodeValue → NodeValue
-beginning b node = record node { acceptor = with_state node.acceptor (with_promise node.acceptor.state b); leader = with_term (begun b) node.leader }
+beginning b node = record node {
+  acceptor = with_state node.acceptor (with_promise node.acceptor.state b);
+  leader = with_term (begun b) node.leader;
+}
 
 -- after the promise these nodes are asked for theirs, from the next position on, if there is one
 abbrev pub AsksPromises : BallotValue → List ℕ → NodeValue → OutboxValue → Type 0
 AsksPromises b nodes old out =
-    (IsMessage (saying old.header (kinds.Prepare b (executed old.learner + 1))) × (out ≡ telling (beginning b old) nodes (kinds.Prepare b (executed old.learner + 1)) (with_entry (Promise b) nothing)))
+    (IsMessage (saying old.header (kinds.Prepare b (executed old.learner + 1)))
+    × (out ≡ telling (beginning b old) nodes (kinds.Prepare b (executed old.learner + 1))
+    (with_entry (Promise b) nothing)))
     ⊎ ((executed old.learner ≡ max_count) × (out ≡ with_entry (Promise b) nothing))
 
 -- The node begins the ballot: its promise is written, and the nodes of the window are asked for theirs from the next

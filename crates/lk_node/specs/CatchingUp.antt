@@ -32,7 +32,8 @@ pub record FeedsParts (node : NodeValue) (other offset : ℕ) (out : OutboxValue
 -- snapshot from the offset on if the snapshot has replaced it, and nothing if it is not executed
 abbrev pub Feeds : NodeValue → ℕ → ℕ → ℕ → OutboxValue → Type 0
 Feeds node other first offset out =
-    (IsServed node.learner first × SaysAlone node (to_node node other) (kinds.Decided (decided_from first node.learner)) out)
+    (IsServed node.learner first
+    × SaysAlone node (to_node node other) (kinds.Decided (decided_from first node.learner)) out)
     ⊎ ((first ≤ node.learner.snapshot_position) × FeedsParts node other offset out)
     ⊎ ((executed node.learner < first) × (out ≡ nothing))
 
@@ -57,7 +58,8 @@ Levels node other theirs out =
 
 -- both ballots are recorded
 abbrev pub HearsNack : NodeValue → ℕ → Nack → NodeValue → OutboxValue → Type 0
-HearsNack old from nack new out = (new ≡ seeing nack.promised (seeing nack.ballot old)) × Levels old from nack.executed out
+HearsNack old from nack new out =
+    (new ≡ seeing nack.promised (seeing nack.ballot old)) × Levels old from nack.executed out
 
 -- ---- a leader's notice
 
@@ -67,7 +69,8 @@ following b node = record node { ticks = 0; known = Some b.node }
 
 -- the other node is asked if it has executed more
 abbrev pub AsksWhereMore : NodeValue → ℕ → ℕ → OutboxValue → Type 0
-AsksWhereMore node other theirs out = ((executed node.learner < theirs) × AsksOn node other out) ⊎ ((theirs ≤ executed node.learner) × (out ≡ nothing))
+AsksWhereMore node other theirs out =
+    ((executed node.learner < theirs) × AsksOn node other out) ⊎ ((theirs ≤ executed node.learner) × (out ≡ nothing))
 
 -- the reply to a smaller ballot: the promised one, and how many positions are executed
 abbrev pub refusal : BallotValue → NodeValue → Nack
@@ -77,5 +80,7 @@ refusal b node = record { ballot = b; promised = node.acceptor.state.promised; e
 -- case.
 abbrev pub HearsLead : NodeValue → ℕ → BallotValue → ℕ → NodeValue → OutboxValue → Type 0
 HearsLead old from b theirs new out =
-    ((is_below b old.acceptor.state.promised ≡ true) × (new ≡ seeing b old) × SaysAlone old (to_node old from) (kinds.Nack (refusal b old)) out)
-    ⊎ ((is_below b old.acceptor.state.promised ≡ false) × (new ≡ following b (seeing b old)) × AsksWhereMore old from theirs out)
+    ((is_below b old.acceptor.state.promised ≡ true) × (new ≡ seeing b old)
+    × SaysAlone old (to_node old from) (kinds.Nack (refusal b old)) out)
+    ⊎ ((is_below b old.acceptor.state.promised ≡ false) × (new ≡ following b (seeing b old))
+    × AsksWhereMore old from theirs out)

@@ -29,7 +29,11 @@ pub record IsForProposal (node : NodeValue) (x : Vote) : Type 0 where
 
 -- the node after it has heard that this one cast the vote
 abbrev pub with_vote : (from : ℕ) (x : Vote) (node : NodeValue) → IsForProposal node x → NodeValue
-with_vote from x node k = record node { leader = with_term (with_proposals (heard_at k.set from x.position k.term.proposals) k.term) node.leader }
+with_vote from x node k =
+    record node {
+      leader = with_term
+          (with_proposals (heard_at k.set from x.position k.term.proposals) k.term) node.leader;
+    }
 
 -- with that a majority of the position's members has accepted the proposal, and had not before
 abbrev pub BringsMajority : (from : ℕ) (x : Vote) (node : NodeValue) → IsForProposal node x → Type 0
@@ -37,12 +41,15 @@ BringsMajority from x node k = GainsMajority k.set from k.proposal
 
 -- the vote is heard and completes no majority: it is kept, or nothing changes if it is for no proposal
 abbrev pub IsOnlyHeard : ℕ → Vote → NodeValue → NodeValue → Type 0
-IsOnlyHeard from x old new = ((k : IsForProposal old x) × (BringsMajority from x old k → ⊥) × (new ≡ with_vote from x old k)) ⊎ ((IsForProposal old x → ⊥) × (new ≡ old))
+IsOnlyHeard from x old new =
+    ((k : IsForProposal old x) × (BringsMajority from x old k → ⊥) × (new ≡ with_vote from x old k))
+    ⊎ ((IsForProposal old x → ⊥) × (new ≡ old))
 
 -- the vote is heard, and the members of its position are returned if with that a majority of them has accepted
 abbrev pub HearsVote : ℕ → Vote → NodeValue → NodeValue → Option (List Member) → Type 0
 HearsVote from x old new None = IsOnlyHeard from x old new
-HearsVote from x old new (Some set) = (k : IsForProposal old x) × BringsMajority from x old k × (k.set ≡ set) × (new ≡ with_vote from x old k)
+HearsVote from x old new (Some set) =
+    (k : IsForProposal old x) × BringsMajority from x old k × (k.set ≡ set) × (new ≡ with_vote from x old k)
 
 -- ---- the pair is decided
 
@@ -55,7 +62,8 @@ pub record AreDecidedLetters (node : NodeValue) (p : Pair) (letters : List Lette
 
 -- The pair is decided, by a majority of this set: that is noted, the pair is learned, everything that can be is
 -- executed, and the other nodes of the earlier window are told.
-pub record Decides (m : Meaning) (set : List Member) (p : Pair) (old : NodeValue) (before : OutboxValue) (new : NodeValue) (after : OutboxValue) : Type 0 where
+pub record Decides (m : Meaning) (set : List Member) (p : Pair) (old : NodeValue) (before : OutboxValue)
+    (new : NodeValue) (after : OutboxValue) : Type 0 where
   pub learned : NodeValue
   pub written : OutboxValue
   pub learns : Learns p old (with_note (note.Counted old.header.node p.0 set p.1) before) learned written
@@ -68,5 +76,6 @@ pub record Decides (m : Meaning) (set : List Member) (p : Pair) (old : NodeValue
 -- a node was heard to accept: if with that a majority has, the pair is decided; otherwise nothing follows
 abbrev pub HearsAccepted : Meaning → ℕ → Vote → NodeValue → NodeValue → OutboxValue → Type 0
 HearsAccepted m from x old new out =
-    ((k : IsForProposal old x) × BringsMajority from x old k × Decides m k.set (x.position, x.command) (with_vote from x old k) nothing new out)
+    ((k : IsForProposal old x) × BringsMajority from x old k
+    × Decides m k.set (x.position, x.command) (with_vote from x old k) nothing new out)
     ⊎ (IsOnlyHeard from x old new × (out ≡ nothing))

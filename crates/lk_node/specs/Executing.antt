@@ -29,15 +29,18 @@ waiting_number s node = number_up_to s.number (waiting_of s.client node.leader.w
 -- with a letter to the client, if its request of this number waits
 abbrev pub with_told : HeaderValue → Session → Option ℕ → OutboxValue → OutboxValue
 with_told whose s None out = out
-with_told whose s (Some number) out = with_letter (record { to = to.Client s.client; bytes = spelling (saying whose (session_reply s number)) }) out
+with_told whose s (Some number) out =
+    with_letter (record { to = to.Client s.client; bytes = spelling (saying whose (session_reply s number)) }) out
 
 -- the client's requests up to the session's wait no longer
 abbrev pub settled : Session → NodeValue → NodeValue
-settled s node = record node { leader = record { term = node.leader.term; waiting = left_by s.client s.number node.leader.waiting } }
+settled s node =
+    record node { leader = record { term = node.leader.term; waiting = left_by s.client s.number node.leader.waiting } }
 
 -- a session has become the client's last: its waiting request, if the session has reached it, is answered or passed,
 -- and waits no longer
-pub record Settles (s : Session) (old : NodeValue) (before : OutboxValue) (new : NodeValue) (after : OutboxValue) : Type 0 where
+pub record Settles (s : Session) (old : NodeValue) (before : OutboxValue) (new : NodeValue)
+    (after : OutboxValue) : Type 0 where
   pub becomes : new ≡ settled s old
   pub comes_to : after ≡ with_told old.header s (waiting_number s old) before
   pub fits : (number : ℕ) → waiting_number s old ≡ Some number → IsMessage (saying old.header (session_reply s number))
@@ -57,7 +60,8 @@ NothingToRun node = (v : Command) → IsNext node.learner v → ⊥
 abbrev pub RunsNext : Meaning → NodeValue → NodeValue → Option (Command × Ran) → Type 0
 RunsNext m old new None = NothingToRun old × (new ≡ old)
 RunsNext m old new (Some (v, ran)) =
-    IsNext old.learner v × (new ≡ with_learner old (advanced m v old.learner)) × (ran ≡ record { position = executed old.learner + 1; answer = run_answer m v old.learner.whole })
+    IsNext old.learner v × (new ≡ with_learner old (advanced m v old.learner))
+    × (ran ≡ record { position = executed old.learner + 1; answer = run_answer m v old.learner.whole })
 
 -- there is a term, and no set of the window names the node
 abbrev pub is_outside : NodeValue → Bool
@@ -69,11 +73,13 @@ while_named node = if is_outside node then without_term node else node
 
 -- The command of the next position is executed and noted, a waiting request of its client is answered, and if no set
 -- of the window names the node any more, its term ends.
-pub record Executes (m : Meaning) (old : NodeValue) (before : OutboxValue) (new : NodeValue) (after : OutboxValue) : Type 0 where
+pub record Executes (m : Meaning) (old : NodeValue) (before : OutboxValue) (new : NodeValue)
+    (after : OutboxValue) : Type 0 where
   pub command : Command
   pub next : IsNext old.learner command
   pub mid : NodeValue
-  pub settles : SettlesAny (session_by command (run_answer m command old.learner.whole)) (with_learner old (advanced m command old.learner))
+  pub settles : SettlesAny (session_by command (run_answer m command old.learner.whole))
+      (with_learner old (advanced m command old.learner))
       (with_note (note.Ran old.header.node (executed old.learner + 1) command) before) mid after
   pub becomes : new ≡ while_named mid
 
@@ -87,7 +93,8 @@ ExecutesOne m false old before new after = NothingToRun old × (new ≡ old) × 
 -- one execution after another
 pub data Runs (m : Meaning) (old : NodeValue) (before : OutboxValue) : NodeValue → OutboxValue → Type 0 where
   stays : Runs m old before old before
-  goes_on : {mid new : NodeValue} {between after : OutboxValue} → Runs m old before mid between → Executes m mid between new after → Runs m old before new after
+  goes_on : {mid new : NodeValue} {between after : OutboxValue} → Runs m old before mid between
+      → Executes m mid between new after → Runs m old before new after
 
 -- as many as possible
 abbrev pub RunsAll : Meaning → NodeValue → OutboxValue → NodeValue → OutboxValue → Type 0

@@ -46,4 +46,5 @@ pub record IsLawful (m : Meaning) (h : History) : Type 0 where
 -- bytes that may arrive: what they say on behalf of a node, that node has sent, and what they ask was asked
 pub record IsHeard (h : History) (bytes : List ℕ) : Type 0 where
   pub said : (n : ℕ) (m : NodeMessage) → Spells (said_by h.genesis n m) bytes → HasSent h.genesis h.sent n m
-  pub asked : (r : RequestValue) (cluster : ℕ) → Spells (record { cluster = cluster; content = content.Request r }) bytes → Contains h.asked r
+  pub asked : (r : RequestValue) (cluster : ℕ)
+      → Spells (record { cluster = cluster; content = content.Request r }) bytes → Contains h.asked r

@@ -18,4 +18,5 @@ pub record HoldingFits (m : Meaning) (h : History) (n : ℕ) (x : Holding) : Typ
   pub view : ViewFits h.genesis h.sent n x.view
   pub waiting : (r : RequestValue) → Contains x.waiting r → Contains h.asked r
   pub proposals : (t : Term) → x.view.term ≡ Some t → (i : ℕ) (v : Command) → Contains t.proposals (i, v) → WasAsked h v
-  pub gathered : (g : GatheredValue) → x.gathered ≡ Some g → IsSlice h.genesis h.sent (text m h.genesis) g.position g.total 0 g.bytes
+  pub gathered : (g : GatheredValue) → x.gathered ≡ Some g
+      → IsSlice h.genesis h.sent (text m h.genesis) g.position g.total 0 g.bytes

@@ -12,12 +12,15 @@ use Rattle.lk_node.specs.NodeValue.{NodeValue}
 
 -- the learner gathers the part, and if that completes a text, the text is installed, or else thrown away
 abbrev pub Gathers : (List ℕ → Type 0) → Bool → PartValue → NodeValue → NodeValue → Type 0
-Gathers IsText went p old new = (l : LearnerValue) × Installs IsText went (hearing p old.learner) l × (new ≡ with_learner old l)
+Gathers IsText went p old new =
+    (l : LearnerValue) × Installs IsText went (hearing p old.learner) l × (new ≡ with_learner old l)
 
 -- this many of the sessions are settled, one after another
-pub data SettlesFirst (ss : List Session) (old : NodeValue) (before : OutboxValue) : ℕ → NodeValue → OutboxValue → Type 0 where
+pub data SettlesFirst (ss : List Session) (old : NodeValue) (before : OutboxValue) : ℕ → NodeValue
+    → OutboxValue → Type 0 where
   none_settled : SettlesFirst ss old before 0 old before
-  one_settled : {k : ℕ} {mid new : NodeValue} {between after : OutboxValue} (s : Session) → SettlesFirst ss old before k mid between → slice_get ss k ≡ Some s → Settles s mid between new after
+  one_settled : {k : ℕ} {mid new : NodeValue} {between after : OutboxValue} (s : Session)
+      → SettlesFirst ss old before k mid between → slice_get ss k ≡ Some s → Settles s mid between new after
       → SettlesFirst ss old before (k + 1) new after
 
 -- all of them, in their order

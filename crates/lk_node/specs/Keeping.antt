@@ -49,7 +49,8 @@ pub record Keeps (whose : HeaderValue) (store : StoreValue) (acceptor : Acceptor
 
 -- the leader's term, if any, stands for the view's
 abbrev pub LeadsOn : LearnerValue → LeaderValue → View → Type 0
-LeadsOn l leader w = (k : TermValue) → leader.term ≡ Some k → (t : Term) × (w.term ≡ Some t) × LeadsTerm l.whole.roster.executed (length l.whole.roster.sets) t k
+LeadsOn l leader w = (k : TermValue) → leader.term ≡ Some k
+    → (t : Term) × (w.term ≡ Some t) × LeadsTerm l.whole.roster.executed (length l.whole.roster.sets) t k
 
 -- what a node holds: what its acceptor does, the commands that its state sums up, those that are decided and wait for
 -- an earlier one, a term for which its leader stands, the requests that wait, and the snapshot being gathered
@@ -62,7 +63,8 @@ pub record IsHeld (m : Meaning) (node : NodeValue) (genesis : Genesis) (x : Hold
 
 -- the replica, by its parts, is that of the node in the cluster with this genesis, and holds this; its store tells what
 -- the node has executed, and what it holds lies near that
-pub record Stands (m : Meaning) (node : NodeValue) (store : StoreValue) (genesis : Genesis) (n : ℕ) (x : Holding) : Type 0 where
+pub record Stands (m : Meaning) (node : NodeValue) (store : StoreValue) (genesis : Genesis) (n : ℕ)
+    (x : Holding) : Type 0 where
   pub whose : node.header ≡ header_of genesis n
   pub keeps : Keeps (header_of genesis n) store node.acceptor.state
   pub known : AllByRecursion (IsKnown x.view) keeps.loose
@@ -70,7 +72,8 @@ pub record Stands (m : Meaning) (node : NodeValue) (store : StoreValue) (genesis
   pub told : IsTold genesis.alpha keeps.standing keeps.loose node
 
 -- The same in the middle of a step that has installed a snapshot: the store does not tell of that yet.
-pub record StandsBefore (m : Meaning) (node : NodeValue) (store : StoreValue) (genesis : Genesis) (n : ℕ) (x : Holding) : Type 0 where
+pub record StandsBefore (m : Meaning) (node : NodeValue) (store : StoreValue) (genesis : Genesis) (n : ℕ)
+    (x : Holding) : Type 0 where
   pub whose : node.header ≡ header_of genesis n
   pub keeps : Keeps (header_of genesis n) store node.acceptor.state
   pub known : AllByRecursion (IsKnown x.view) keeps.loose

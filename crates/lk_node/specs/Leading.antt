@@ -22,11 +22,13 @@ report_of from p = record { node = from; first = p.first; votes = p.votes }
 -- it is kept if it is of the term's ballot, of a node of the window, and that node's first
 abbrev pub KeepsPromise : NodeValue → ℕ → PromiseValue → NodeValue → Type 0
 KeepsPromise old from p new =
-    (t : TermValue) × IsFirstOf old.leader old.learner.whole.roster from p.ballot t × (new ≡ with_leader old (with_term (with_report (report_of from p) t) old.leader))
+    (t : TermValue) × IsFirstOf old.leader old.learner.whole.roster from p.ballot t
+    × (new ≡ with_leader old (with_term (with_report (report_of from p) t) old.leader))
 
 -- any other changes nothing
 abbrev pub DropsPromise : NodeValue → ℕ → PromiseValue → NodeValue → Type 0
-DropsPromise old from p new = ((t : TermValue) → IsFirstOf old.leader old.learner.whole.roster from p.ballot t → ⊥) × (new ≡ old)
+DropsPromise old from p new =
+    ((t : TermValue) → IsFirstOf old.leader old.learner.whole.roster from p.ballot t → ⊥) × (new ≡ old)
 
 -- and nothing follows from it immediately
 abbrev pub HearsPromise : NodeValue → ℕ → PromiseValue → NodeValue → OutboxValue → Type 0
@@ -43,7 +45,8 @@ pub record ProposesVote (old : NodeValue) (x : Vote) : Type 0 where
 
 -- the node after that
 abbrev pub having_proposed : (old : NodeValue) (x : Vote) → ProposesVote old x → NodeValue
-having_proposed old x p = with_leader old (with_term (proposed old.learner.whole.roster x.position x.command p.term) old.leader)
+having_proposed old x p =
+    with_leader old (with_term (proposed old.learner.whole.roster x.position x.command p.term) old.leader)
 
 -- nothing is left to propose
 abbrev pub NothingOpen : NodeValue → Type 0
@@ -53,7 +56,8 @@ NothingOpen node = (i : ℕ) (v : Command) → LeaderProposes node.leader node.l
 abbrev pub ProposesAll : List Vote → NodeValue → NodeValue → OutboxValue → OutboxValue → Type 0
 ProposesAll [] old new before out = NothingOpen old × (new ≡ old) × (out ≡ before)
 ProposesAll (x ∷ xs) old new before out =
-    (p : ProposesVote old x) × ProposesAll xs (having_proposed old x p) new (telling old (nodes_of p.proposes.set) (kinds.Accept x) before) out
+    (p : ProposesVote old x)
+    × ProposesAll xs (having_proposed old x p) new (telling old (nodes_of p.proposes.set) (kinds.Accept x) before) out
 
 -- the same of everything that is open
 abbrev pub ProposesOpen : NodeValue → NodeValue → OutboxValue → OutboxValue → Type 0
@@ -62,5 +66,6 @@ ProposesOpen old new before out = (xs : List Vote) × ProposesAll xs old new bef
 -- the next of them, or none
 abbrev pub ProposesNext : Bool → NodeValue → NodeValue → OutboxValue → OutboxValue → Type 0
 ProposesNext true old new before out =
-    (x : Vote) × (p : ProposesVote old x) × (new ≡ having_proposed old x p) × (out ≡ telling old (nodes_of p.proposes.set) (kinds.Accept x) before)
+    (x : Vote) × (p : ProposesVote old x) × (new ≡ having_proposed old x p)
+    × (out ≡ telling old (nodes_of p.proposes.set) (kinds.Accept x) before)
 ProposesNext false old new before out = NothingOpen old × (new ≡ old) × (out ≡ before)

@@ -55,8 +55,10 @@ pub record IsTold (ahead : ℕ) (s : StandingValue) (loose : List Entry) (node :
 
 -- what the node does to its store's standing, whatever that is, if it told of the node before
 abbrev pub TellsOn : NodeValue → NodeValue → List Entry → Type 0
-TellsOn old new es = (ahead : ℕ) (s : StandingValue) → TellsOf ahead s old → EntriesLieNear ahead s es × TellsOf ahead (with_all es s) new
+TellsOn old new es = (ahead : ℕ) (s : StandingValue) → TellsOf ahead s old
+    → EntriesLieNear ahead s es × TellsOf ahead (with_all es s) new
 
 -- everything that a node holds above what it has executed lies near
 abbrev pub HoldsNear : NodeValue → Type 0
-HoldsNear node = AreNear node.acceptor node.learner × AreKept (executed node.learner) (alpha node.learner) node.learner.pairs
+HoldsNear node =
+    AreNear node.acceptor node.learner × AreKept (executed node.learner) (alpha node.learner) node.learner.pairs

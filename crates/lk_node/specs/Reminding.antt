@@ -22,7 +22,8 @@ IsTermOf b leader = (k : TermValue) × (leader.term ≡ Some k) × (k.ballot ≡
 
 -- these get this message, which fits into a datagram
 abbrev pub TellsThese : NodeValue → List ℕ → NodeMessage → OutboxValue → OutboxValue → Type 0
-TellsThese node nodes message before out = IsMessage (saying node.header message) × (out ≡ telling node nodes message before)
+TellsThese node nodes message before out =
+    IsMessage (saying node.header message) × (out ≡ telling node nodes message before)
 
 -- ---- the promises
 
@@ -33,7 +34,8 @@ AreSilent node ns = (all : List ℕ) × AreWindowNodes node all × (ns ≡ silen
 -- they are asked again from the next position on, if there is one
 abbrev pub AsksAgain : NodeValue → BallotValue → OutboxValue → OutboxValue → Type 0
 AsksAgain node b before out =
-    ((nodes : List ℕ) × AreSilent node nodes × TellsThese node nodes (kinds.Prepare b (executed node.learner + 1)) before out)
+    ((nodes : List ℕ) × AreSilent node nodes
+    × TellsThese node nodes (kinds.Prepare b (executed node.learner + 1)) before out)
     ⊎ ((executed node.learner ≡ max_count) × (out ≡ before))
 
 -- ---- the proposals
@@ -44,7 +46,8 @@ vote_for b i p = record { position = i; ballot = b; command = p.command }
 -- what is open at the position is repeated to the members of the position that have not been heard to accept it
 abbrev pub OffersAgain : NodeValue → BallotValue → ℕ → OutboxValue → OutboxValue → Type 0
 OffersAgain node b i before out =
-    ((p : ProposalValue) × (o : IsOpen node.leader node.learner.whole.roster i p) × TellsThese node (unheard o.set p.accepted) (kinds.Accept (vote_for b i p)) before out)
+    ((p : ProposalValue) × (o : IsOpen node.leader node.learner.whole.roster i p)
+    × TellsThese node (unheard o.set p.accepted) (kinds.Accept (vote_for b i p)) before out)
     ⊎ (((p : ProposalValue) → IsOpen node.leader node.learner.whole.roster i p → ⊥) × (out ≡ before))
 
 -- the same at the position this far after the next one, if there is one
@@ -56,7 +59,8 @@ OffersAhead node b ahead before out =
 -- the same at this many first positions of the window, in order
 pub data OffersFirst (node : NodeValue) (b : BallotValue) (before : OutboxValue) : ℕ → OutboxValue → Type 0 where
   none_offered : OffersFirst node b before 0 before
-  one_offered : {k : ℕ} {mid out : OutboxValue} → OffersFirst node b before k mid → OffersAhead node b k mid out → OffersFirst node b before (k + 1) out
+  one_offered : {k : ℕ} {mid out : OutboxValue} → OffersFirst node b before k mid → OffersAhead node b k mid out
+      → OffersFirst node b before (k + 1) out
 
 -- the same at all positions of the window
 abbrev pub OffersAll : NodeValue → BallotValue → OutboxValue → OutboxValue → Type 0
@@ -66,7 +70,8 @@ OffersAll node b before out = OffersFirst node b before (alpha node.learner) out
 
 -- the other nodes of the window are told who leads, and how far it has executed
 abbrev pub TellsLead : NodeValue → BallotValue → OutboxValue → OutboxValue → Type 0
-TellsLead node b before out = (nodes : List ℕ) × AreOthers node nodes × TellsThese node nodes (kinds.Lead b (executed node.learner)) before out
+TellsLead node b before out =
+    (nodes : List ℕ) × AreOthers node nodes × TellsThese node nodes (kinds.Lead b (executed node.learner)) before out
 
 -- ---- a tick in a term
 

@@ -9,4 +9,6 @@ use Rattle.lk_node.specs.NodeValue.{NodeValue}
 
 -- the node sends this, which fits into a datagram, and nothing else follows
 abbrev pub SaysAlone : NodeValue → To → NodeMessage → OutboxValue → Type 0
-SaysAlone node to message out = IsMessage (saying node.header message) × (out ≡ with_letter (record { to = to; bytes = spelling (saying node.header message) }) nothing)
+SaysAlone node to message out =
+    IsMessage (saying node.header message)
+    × (out ≡ with_letter (record { to = to; bytes = spelling (saying node.header message) }) nothing)

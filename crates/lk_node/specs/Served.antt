@@ -16,10 +16,12 @@ use Rattle.lk_node.specs.Histories.{History, Genesis, Command}
 -- the list bears out the note
 abbrev pub BearsOut : Meaning → History → List Command → Note → Type 0
 BearsOut m h L (note.Asked r) = Contains h.asked r
-BearsOut m h L (note.Counted node i set v) = (i ≤ length L + h.genesis.alpha) × (set ≡ members h.genesis L i) × ChosenAt h.genesis h.sent i v
+BearsOut m h L (note.Counted node i set v) =
+    (i ≤ length L + h.genesis.alpha) × (set ≡ members h.genesis L i) × ChosenAt h.genesis h.sent i v
 BearsOut m h L (note.Ran node i v) = command_at L i ≡ Some v
 BearsOut m h L (note.Answered node client number answer) = reply m h.genesis L client number ≡ Some answer
-BearsOut m h L (note.Told node client number last) = (number < last) × ((answer : Answer) × (reply m h.genesis L client last ≡ Some answer))
+BearsOut m h L (note.Told node client number last) =
+    (number < last) × ((answer : Answer) × (reply m h.genesis L client last ≡ Some answer))
 
 -- the list bears out the part: it reaches the part's position, and the part is a slice of the text there
 pub record BearsOutPart (m : Meaning) (genesis : Genesis) (L : List Command) (p : PartValue) : Type 0 where

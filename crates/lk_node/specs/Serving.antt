@@ -54,7 +54,8 @@ pub record Binds (first now : NodeValue) (out : OutboxValue) : Type 0 where
 
 -- In this history: what the node holds fits, and permits the letters; what it writes rests on what was sent, and a
 -- chosen list bears out each note. It knows what it writes unsynced, and what was unsynced before.
-pub record Serves (m : Meaning) (h : History) (n : ℕ) (loose : List Entry) (now : NodeValue) (out : OutboxValue) : Type 0 where
+pub record Serves (m : Meaning) (h : History) (n : ℕ) (loose : List Entry) (now : NodeValue)
+    (out : OutboxValue) : Type 0 where
   pub lawful : IsLawful m h
   pub whose : now.header ≡ header_of h.genesis n
   pub holding : Holding
@@ -67,6 +68,8 @@ pub record Serves (m : Meaning) (h : History) (n : ℕ) (loose : List Entry) (no
   pub noted : (x : Note) → Contains out.notes x → IsOfNode x × IsBorneOut m h x
 
 -- A part of a step continues what the parts before it did, in each history in which it heard this.
-pub record GoesOn (m : Meaning) (Heard : History → Type 0) (old new : NodeValue) (before after : OutboxValue) : Type 0 where
+pub record GoesOn (m : Meaning) (Heard : History → Type 0) (old new : NodeValue)
+    (before after : OutboxValue) : Type 0 where
   pub binds : (first : NodeValue) → Binds first old before → Binds first new after
-  pub serves : (h : History) (n : ℕ) (loose : List Entry) → Serves m h n loose old before → Heard h → Serves m h n loose new after
+  pub serves : (h : History) (n : ℕ) (loose : List Entry) → Serves m h n loose old before → Heard h
+      → Serves m h n loose new after

@@ -35,11 +35,14 @@ StandsStill old new out = (new ≡ old) × (out ≡ nothing)
 
 -- what the node does with a message of another node, or of itself. `IsText` says which texts are those of a machine
 abbrev pub HearsNode : Meaning → (List ℕ → Type 0) → NodeValue → ℕ → NodeMessage → NodeValue → OutboxValue → Type 0
-HearsNode m IsText old from (kinds.Prepare b first) new out = Responds old from (AnswersPrepare old.acceptor old.learner.whole.roster.executed b first) new out
-HearsNode m IsText old from (kinds.Accept x) new out = Responds (with_round x.ballot old) from (AnswersAccept old.acceptor old.learner.whole.roster.executed x) new out
+HearsNode m IsText old from (kinds.Prepare b first) new out =
+    Responds old from (AnswersPrepare old.acceptor old.learner.whole.roster.executed b first) new out
+HearsNode m IsText old from (kinds.Accept x) new out =
+    Responds (with_round x.ballot old) from (AnswersAccept old.acceptor old.learner.whole.roster.executed x) new out
 HearsNode m IsText old from (kinds.Promise p) new out = HearsPromise old from p new out
 HearsNode m IsText old from (kinds.Accepted x) new out = HearsAccepted m from x old new out
-HearsNode m IsText old from (kinds.Decided d) new out = TakesPairs m d.first d.commands old nothing (length d.commands) new out
+HearsNode m IsText old from (kinds.Decided d) new out =
+    TakesPairs m d.first d.commands old nothing (length d.commands) new out
 HearsNode m IsText old from (kinds.Nack k) new out = HearsNack old from k new out
 HearsNode m IsText old from (kinds.Want w) new out = HearsWant old from w new out
 HearsNode m IsText old from (kinds.Part p) new out = HearsPart m IsText old p new out
@@ -62,7 +65,8 @@ TakesBytes m IsText old bytes new out =
     ⊎ (IsForeign old bytes × StandsStill old new out)
 
 -- and after that it proposes everything that is open
-pub record TakesDatagram (m : Meaning) (IsText : List ℕ → Type 0) (old : NodeValue) (bytes : List ℕ) (new : NodeValue) (out : OutboxValue) : Type 0 where
+pub record TakesDatagram (m : Meaning) (IsText : List ℕ → Type 0) (old : NodeValue) (bytes : List ℕ) (new : NodeValue)
+    (out : OutboxValue) : Type 0 where
   pub mid : NodeValue
   pub first : OutboxValue
   pub takes : TakesBytes m IsText old bytes mid first

@@ -19,4 +19,5 @@ ticked node = record node { ticks = min (node.ticks + 1) max_ticks }
 abbrev pub BeginsWhereDue : NodeValue → NodeValue → OutboxValue → Type 0
 BeginsWhereDue old new out =
     ((is_enough old.ticks (place_of old) ≡ true) × Begins (next_ballot old) old new out)
-    ⊎ (((is_enough old.ticks (place_of old) ≡ false) ⊎ (max_count ≤ greatest_round old)) × (new ≡ old) × (out ≡ nothing))
+    ⊎ (((is_enough old.ticks (place_of old) ≡ false) ⊎ (max_count ≤ greatest_round old))
+    × (new ≡ old) × (out ≡ nothing))

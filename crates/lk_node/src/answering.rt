@@ -45,7 +45,8 @@ impl<M: Machine> Node<M> {
         ballot: RealBallot,
         first: Position,
     ) -> Result<Outbox, NoMemory>
-        ensures { IfOk result (λ o. Responds self.old from (AnswersPrepare self.old.acceptor self.old.learner.whole.roster.executed ballot first) self.new o) }
+        ensures { IfOk result (λ o. Responds self.old from
+            (AnswersPrepare self.old.acceptor self.old.learner.whole.roster.executed ballot first) self.new o) }
     {
         let response = self
             .acceptor
@@ -55,7 +56,8 @@ impl<M: Machine> Node<M> {
 
     // Replies to an Accept.
     fn answer_accept(&mut self, from: NodeNo, vote: Vote) -> Result<Outbox, NoMemory>
-        ensures { IfOk result (λ o. Responds self.old from (AnswersAccept self.old.acceptor self.old.learner.whole.roster.executed vote) self.new o) }
+        ensures { IfOk result (λ o. Responds self.old from
+            (AnswersAccept self.old.acceptor self.old.learner.whole.roster.executed vote) self.new o) }
     {
         let response = self.acceptor.accept(vote, self.learner.whole().executed())?;
         let out = self.respond(from, response)?;
@@ -70,7 +72,9 @@ impl<M: Machine> Node<M> {
         ballot: RealBallot,
         first: Position,
     ) -> Result<Outbox, NoMemory>
-        ensures exact { IfOk result (λ o. Responds self.old from (AnswersPrepare self.old.acceptor self.old.learner.whole.roster.executed ballot first) self.new o) }
+        ensures exact { IfOk result
+            (λ o. Responds self.old from
+            (AnswersPrepare self.old.acceptor self.old.learner.whole.roster.executed ballot first) self.new o) }
         ensures goes_on { IfOk result (λ o. GoesOn M.meaning (λ h. Unit {0}) self.old self.new nothing o) }
     {
         let out = self.answer_prepare(from, ballot, first)?;
@@ -79,8 +83,12 @@ impl<M: Machine> Node<M> {
 
     // Handles an Accept, and records its ballot's round.
     pub(crate) fn handle_accept(&mut self, from: NodeNo, vote: Vote) -> Result<Outbox, NoMemory>
-        ensures exact { IfOk result (λ o. Responds (with_round vote.ballot self.old) from (AnswersAccept self.old.acceptor self.old.learner.whole.roster.executed vote) self.new o) }
-        ensures goes_on { IfOk result (λ o. GoesOn M.meaning (λ h. HasSent h.genesis h.sent from (kinds.Accept vote)) self.old self.new nothing o) }
+        ensures exact { IfOk result
+            (λ o. Responds (with_round vote.ballot self.old) from
+            (AnswersAccept self.old.acceptor self.old.learner.whole.roster.executed vote) self.new o) }
+        ensures goes_on { IfOk result
+            (λ o. GoesOn M.meaning (λ h. HasSent h.genesis h.sent from (kinds.Accept vote))
+            self.old self.new nothing o) }
     {
         self.acceptor.facts();
         self.see_round(vote.ballot.get());

@@ -22,7 +22,8 @@ impl<M: Machine> Node<M> {
 
     // Redirects the client to the known leader, if the window names it.
     fn redirect(&self, request: &Request) -> Result<Outbox, NoMemory>
-        ensures { IfOk result (λ o. PointsTo (leader_in self.now.known self.now.learner.whole.roster.sets) self.now request.now self.now o) }
+        ensures { IfOk result (λ o. PointsTo
+            (leader_in self.now.known self.now.learner.whole.roster.sets) self.now request.now self.now o) }
     {
         let Some(member) = self.known_leader() else {
             return Ok(Outbox::new(self.alloc));
@@ -65,7 +66,8 @@ impl<M: Machine> Node<M> {
     // Handles a client's request.
     pub(crate) fn handle_request(&mut self, request: &Request) -> Result<Outbox, NoMemory>
         ensures exact { IfOk result (λ o. HearsRequest self.old request.now self.new o) }
-        ensures goes_on { IfOk result (λ o. GoesOn M.meaning (λ h. Contains h.asked request.now) self.old self.new nothing o) }
+        ensures goes_on { IfOk result
+            (λ o. GoesOn M.meaning (λ h. Contains h.asked request.now) self.old self.new nothing o) }
     {
         let out = self.take_request(request)?;
         Ok(out)

@@ -5,7 +5,8 @@ ghost use Rattle.lk_messages.specs.Values.{PartValue};
 ghost use Rattle.lk_messages.specs.declared.message.NodeMessage.TheVariants as kinds;
 ghost use Rattle.lk_node_io.specs.Outboxes.{nothing};
 ghost use Rattle.lk_node_io.specs.Saying.{saying};
-ghost use Rattle.lk_node.specs.CatchingUp.{sending_parts, FeedsParts, Feeds, HearsWant, AsksOn, Levels, HearsNack, following, AsksWhereMore, refusal, HearsLead};
+ghost use Rattle.lk_node.specs.CatchingUp.{sending_parts, FeedsParts, Feeds, HearsWant, AsksOn, Levels, HearsNack};
+ghost use Rattle.lk_node.specs.CatchingUp.{following, AsksWhereMore, refusal, HearsLead};
 ghost use Rattle.lk_node.specs.Replying.{SaysAlone};
 ghost use Rattle.lk_node.specs.Saying.{to_node};
 ghost use Rattle.lk_node.specs.Serving.{GoesOn};
@@ -20,7 +21,8 @@ impl<M: Machine> Node<M> {
     // Sends these parts to the other node, in order.
     fn send_parts(&self, other: NodeNo, parts: Vec<Part>) -> Result<Outbox, NoMemory>
         ensures said { IfOk result (λ o. o ≡ sending_parts self.now other parts.items nothing) }
-        ensures fits { OnOk result ((p : PartValue) → Contains parts.items p → IsMessage (saying self.now.header (kinds.Part p))) }
+        ensures fits { OnOk result
+            ((p : PartValue) → Contains parts.items p → IsMessage (saying self.now.header (kinds.Part p))) }
     {
         let mut out = Outbox::new(self.alloc);
         'parts: for part in parts {
@@ -31,7 +33,8 @@ impl<M: Machine> Node<M> {
 
     // Sends the snapshot from the offset on to the other node, if the snapshot has replaced the position.
     fn feed_parts(&self, other: NodeNo, first: Position, offset: u32) -> Result<Outbox, NoMemory>
-        ensures some { first ≤ self.now.learner.snapshot_position → IfOk result (λ o. FeedsParts self.now other offset o) }
+        ensures some { first ≤ self.now.learner.snapshot_position
+            → IfOk result (λ o. FeedsParts self.now other offset o) }
         ensures none { self.now.learner.snapshot_position < first → IfOk result (λ o. o ≡ nothing) }
     {
         let parts = self.learner.parts(first, offset)?;
@@ -108,7 +111,8 @@ impl<M: Machine> Node<M> {
 
     // Rejects a ballot below the promised one, with a Nack.
     fn send_nack(&self, other: NodeNo, ballot: RealBallot) -> Result<Outbox, NoMemory>
-        ensures { IfOk result (λ o. SaysAlone self.now (to_node self.now other) (kinds.Nack (refusal ballot self.now)) o) }
+        ensures { IfOk result (λ o. SaysAlone self.now (to_node self.now other)
+            (kinds.Nack (refusal ballot self.now)) o) }
     {
         let nack = Nack {
             ballot,

@@ -53,8 +53,11 @@ impl<M: Machine> Node<M> {
         command: &Command,
         out: &mut Outbox,
     ) -> Result<(), NoMemory>
-        ensures exact { OnOk result (Decides M.meaning members (position, command.now) self.old out.old self.new out.new) }
-        ensures goes_on { AreMembersAt self.old.learner.whole.roster position members → OnOk result (GoesOn M.meaning (λ h. ChosenAt h.genesis h.sent position command.now) self.old self.new out.old out.new) }
+        ensures exact { OnOk result
+            (Decides M.meaning members (position, command.now) self.old out.old self.new out.new) }
+        ensures goes_on { AreMembersAt self.old.learner.whole.roster position members
+            → OnOk result (GoesOn M.meaning
+            (λ h. ChosenAt h.genesis h.sent position command.now) self.old self.new out.old out.new) }
     {
         out.note(Note::Counted(self.header.node(), position, members, command.copy()))?;
         let letters = self.decided_letters(position, command)?;
@@ -67,7 +70,9 @@ impl<M: Machine> Node<M> {
     // Handles an Accepted.
     pub(crate) fn handle_accepted(&mut self, from: NodeNo, vote: &Vote) -> Result<Outbox, NoMemory>
         ensures exact { IfOk result (λ o. HearsAccepted M.meaning from vote.now self.old self.new o) }
-        ensures goes_on { IfOk result (λ o. GoesOn M.meaning (λ h. HasSent h.genesis h.sent from (kinds.Accepted vote.now)) self.old self.new nothing o) }
+        ensures goes_on { IfOk result
+            (λ o. GoesOn M.meaning (λ h. HasSent h.genesis h.sent from (kinds.Accepted vote.now))
+            self.old self.new nothing o) }
     {
         let mut out = Outbox::new(self.alloc);
         let Some(members) = self.count_vote(from, vote) else {

@@ -52,7 +52,9 @@ impl<M: Machine> Node<M> {
     // Handles a part of another node's snapshot.
     pub(crate) fn handle_part(&mut self, part: &PartRef<'_>) -> Result<Outbox, NoMemory>
         ensures exact { IfOk result (λ o. HearsPart M.meaning M.IsText self.old part.now self.new o) }
-        ensures goes_on { (from : ℕ) → IfOk result (λ o. GoesOn M.meaning (λ h. HasSent h.genesis h.sent from (kinds.Part part.now)) self.old self.new nothing o) }
+        ensures goes_on { (from : ℕ)
+            → IfOk result (λ o. GoesOn M.meaning
+            (λ h. HasSent h.genesis h.sent from (kinds.Part part.now)) self.old self.new nothing o) }
     {
         self.header.genesis().facts();
         if !self.add_part(part)? {

@@ -17,16 +17,19 @@ use lk_state::Machine;
 /// told of the node before, it does again with the step's entries, and none of these lies more than twice alpha above
 /// what a restart from the entries before it executes.
 pub fn a_step_tells_of_its_node<M: Machine>()
-    ensures { (old new : NodeValue) (i : Input) (out : OutboxValue) → Steps M.meaning M.IsText old i new out → out.rebase ≡ false → TellsOn old new out.entries }
+    ensures { (old new : NodeValue) (i : Input) (out : OutboxValue) → Steps M.meaning M.IsText old i new out
+        → out.rebase ≡ false → TellsOn old new out.entries }
 {}
 
 /// So does the Base that a node writes: nothing in it lies farther, and it tells of the node.
 pub fn a_base_tells_of_its_node()
     ensures near { (node : NodeValue) → HoldsNear node → AllLieNear (alpha node.learner) (standing_of node) }
-    ensures tells { (node : NodeValue) → HoldsNear node → 1 ≤ alpha node.learner → TellsOf (alpha node.learner) (standing_of node) (with_snapshot node) }
+    ensures tells { (node : NodeValue) → HoldsNear node → 1 ≤ alpha node.learner
+        → TellsOf (alpha node.learner) (standing_of node) (with_snapshot node) }
 {}
 
 /// Wherever a stop cuts such entries, no vote or pair lies farther: so far as this goes a restart is never refused.
 pub fn what_a_stop_leaves_lies_near()
-    ensures { (ahead : ℕ) (s : StandingValue) (es : List Entry) (k : ℕ) → AllLieNear ahead s → EntriesLieNear ahead s es → AllLieNear ahead (with_all (take k es) s) }
+    ensures { (ahead : ℕ) (s : StandingValue) (es : List Entry) (k : ℕ) → AllLieNear ahead s
+        → EntriesLieNear ahead s es → AllLieNear ahead (with_all (take k es) s) }
 {}

@@ -8,7 +8,8 @@ ghost use Rattle.lk_leader.specs.Proposing.{AreMembersAt};
 ghost use Rattle.lk_members.specs.Nodes.{nodes_of};
 ghost use Rattle.lk_node_io.specs.Outboxes.{nothing};
 ghost use Rattle.lk_node_io.specs.Saying.{saying};
-ghost use Rattle.lk_node.specs.Leading.{KeepsPromise, DropsPromise, HearsPromise, ProposesVote, having_proposed, NothingOpen, ProposesNext, ProposesOpen};
+ghost use Rattle.lk_node.specs.Leading.{KeepsPromise, DropsPromise, HearsPromise, ProposesVote, having_proposed};
+ghost use Rattle.lk_node.specs.Leading.{NothingOpen, ProposesNext, ProposesOpen};
 ghost use Rattle.lk_node.specs.Promised.{HasPromised};
 ghost use Rattle.lk_node.specs.Serving.{GoesOn};
 ghost use Rattle.lk_node.specs.Telling.{telling};
@@ -23,7 +24,8 @@ use lk_wire::{NodeMessage, PromiseRef};
 impl<M: Machine> Node<M> {
     // The leader records a promise.
     fn keep_promise(&mut self, from: NodeNo, promise: &PromiseRef<'_>) -> Result<(), NoMemory>
-        ensures { OnOk result (KeepsPromise self.old from promise.now self.new ⊎ DropsPromise self.old from promise.now self.new) }
+        ensures { OnOk result (KeepsPromise self.old from promise.now self.new
+            ⊎ DropsPromise self.old from promise.now self.new) }
     {
         let (ballot, first) = (promise.ballot(), promise.first());
         let roster = self.learner.whole().roster();
@@ -40,7 +42,9 @@ impl<M: Machine> Node<M> {
         promise: &PromiseRef<'_>,
     ) -> Result<Outbox, NoMemory>
         ensures exact { IfOk result (λ o. HearsPromise self.old from promise.now self.new o) }
-        ensures goes_on { IfOk result (λ o. GoesOn M.meaning (λ h. HasSent h.genesis h.sent from (kinds.Promise promise.now)) self.old self.new nothing o) }
+        ensures goes_on { IfOk result
+            (λ o. GoesOn M.meaning (λ h. HasSent h.genesis h.sent from (kinds.Promise promise.now))
+            self.old self.new nothing o) }
     {
         self.keep_promise(from, promise)?;
         Ok(Outbox::new(self.alloc))
@@ -57,7 +61,8 @@ impl<M: Machine> Node<M> {
 
     // What the term proposes next, as a vote of its ballot.
     fn next_vote(&mut self) -> Option<Vote>
-        ensures { MatchOption result (NothingOpen self.old × (self.new ≡ self.old)) (λ x. (p : ProposesVote self.old x) × (self.new ≡ having_proposed self.old x p)) }
+        ensures { MatchOption result (NothingOpen self.old × (self.new ≡ self.old))
+            (λ x. (p : ProposesVote self.old x) × (self.new ≡ having_proposed self.old x p)) }
     {
         let Some(ballot) = self.leader.ballot() else {
             return None;
@@ -75,8 +80,10 @@ impl<M: Machine> Node<M> {
 
     // Sends Accept to the members of the vote's position, in rising order.
     fn send_accepts(&self, vote: Vote, out: &mut Outbox) -> Result<(), NoMemory>
-        ensures said { (set : List MemberValue) → AreMembersAt self.now.learner.whole.roster vote.position set → OnOk result (out.new ≡ telling self.now (nodes_of set) (kinds.Accept vote) out.old) }
-        ensures fits { (set : List MemberValue) → AreMembersAt self.now.learner.whole.roster vote.position set → OnOk result (IsMessage (saying self.now.header (kinds.Accept vote))) }
+        ensures said { (set : List MemberValue) → AreMembersAt self.now.learner.whole.roster vote.position set
+            → OnOk result (out.new ≡ telling self.now (nodes_of set) (kinds.Accept vote) out.old) }
+        ensures fits { (set : List MemberValue) → AreMembersAt self.now.learner.whole.roster vote.position set
+            → OnOk result (IsMessage (saying self.now.header (kinds.Accept vote))) }
     {
         let Some(set) = self.roster().members_at(vote.position) else {
             return Ok(());

@@ -24,7 +24,8 @@ impl<M: Machine> Node<M> {
         out: &mut Outbox,
     ) -> Result<(), NoMemory>
         ensures exact { OnOk result (Learns (position, command.now) self.old out.old self.new out.new) }
-        ensures goes_on { OnOk result (GoesOn M.meaning (λ h. ChosenAt h.genesis h.sent position command.now) self.old self.new out.old out.new) }
+        ensures goes_on { OnOk result
+            (GoesOn M.meaning (λ h. ChosenAt h.genesis h.sent position command.now) self.old self.new out.old out.new) }
     {
         if self.learner.decided(position, command) {
             out.write(Entry::Decided(position, command.copy()))?;
@@ -40,7 +41,8 @@ impl<M: Machine> Node<M> {
         out: &mut Outbox,
     ) -> Result<(), NoMemory>
         ensures exact { OnOk result (TakesPair M.meaning (position, command.now) self.old out.old self.new out.new) }
-        ensures goes_on { OnOk result (GoesOn M.meaning (λ h. ChosenAt h.genesis h.sent position command.now) self.old self.new out.old out.new) }
+        ensures goes_on { OnOk result
+            (GoesOn M.meaning (λ h. ChosenAt h.genesis h.sent position command.now) self.old self.new out.old out.new) }
     {
         self.learn(position, command, out)?;
         self.execute(out)?;
@@ -55,7 +57,9 @@ impl<M: Machine> Node<M> {
         told: &Commands<'a>,
         out: &mut Outbox,
     ) -> Result<Option<Commands<'a>>, NoMemory>
-        ensures some { IfOk result (λ x. IfSome x (λ others. TakesFirst M.meaning position told.now others self.old out.old self.new out.new)) }
+        ensures some { IfOk result
+            (λ x. IfSome x (λ others. TakesFirst M.meaning position told.now others self.old
+            out.old self.new out.new)) }
         ensures none { IfOk result (λ x. x ≡ None → told.now ≡ []) }
     {
         if !self.learner.is_wanted(position) {
@@ -71,8 +75,12 @@ impl<M: Machine> Node<M> {
 
     // Handles Decided: takes its commands in order.
     pub(crate) fn handle_decided(&mut self, decided: &DecidedRef<'_>) -> Result<Outbox, NoMemory>
-        ensures exact { IfOk result (λ o. TakesPairs M.meaning decided.now.first decided.now.commands self.old nothing (length decided.now.commands) self.new o) }
-        ensures goes_on { (from : ℕ) → IfOk result (λ o. GoesOn M.meaning (λ h. HasSent h.genesis h.sent from (kinds.Decided decided.now)) self.old self.new nothing o) }
+        ensures exact { IfOk result
+            (λ o. TakesPairs M.meaning decided.now.first decided.now.commands self.old nothing
+            (length decided.now.commands) self.new o) }
+        ensures goes_on { (from : ℕ)
+            → IfOk result (λ o. GoesOn M.meaning
+            (λ h. HasSent h.genesis h.sent from (kinds.Decided decided.now)) self.old self.new nothing o) }
     {
         decided.facts();
         let mut out = Outbox::new(self.alloc);

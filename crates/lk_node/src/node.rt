@@ -42,14 +42,32 @@ impl<M: Machine> Model for Node<M> {
 
     ghost invariant = { λ n. HasPromised n.acceptor n.leader × AreNear n.acceptor n.learner };
 
-    ghost view = { λ n. record { header = n.header; acceptor = n.acceptor; learner = n.learner; leader = n.leader; ticks = n.ticks; rounds = n.rounds; known = n.known; halted = n.halted } };
+    ghost view = { λ n. record {
+      header = n.header;
+      acceptor = n.acceptor;
+      learner = n.learner;
+      leader = n.leader;
+      ticks = n.ticks;
+      rounds = n.rounds;
+      known = n.known;
+      halted = n.halted;
+    } };
 }
 
 impl<M: Machine> Node<M> {
     /// A node that holds this and has learned that. It has no term, and remembers nothing else.
     pub fn new(alloc: Global, header: Header, acceptor: Acceptor, learner: Learner<M>) -> Node<M>
         requires near { AreNear acceptor learner }
-        ensures { result ≡ record { header = header; acceptor = acceptor; learner = learner; leader = idle; ticks = 0; rounds = 0; known = None; halted = false } }
+        ensures { result ≡ record {
+          header = header;
+          acceptor = acceptor;
+          learner = learner;
+          leader = idle;
+          ticks = 0;
+          rounds = 0;
+          known = None;
+          halted = false;
+        } }
     {
         Node {
             alloc,
@@ -92,7 +110,8 @@ impl<M: Machine> Node<M> {
         message: NodeMessage,
         out: &mut Outbox,
     ) -> Result<(), NoMemory>
-        ensures said { OnOk result (out.new ≡ with_letter (record { to = to; bytes = spelling (saying self.now.header message) }) out.old) }
+        ensures said { OnOk result
+            (out.new ≡ with_letter (record { to = to; bytes = spelling (saying self.now.header message) }) out.old) }
         ensures fits { OnOk result (IsMessage (saying self.now.header message)) }
     {
         let bytes = spelled(self.alloc, &self.header, message)?;
@@ -107,7 +126,11 @@ impl<M: Machine> Node<M> {
         message: NodeMessage,
         out: &mut Outbox,
     ) -> Result<(), NoMemory>
-        ensures said { OnOk result (out.new ≡ with_letter (record { to = to_node self.now node; bytes = spelling (saying self.now.header message) }) out.old) }
+        ensures said { OnOk result
+            (out.new ≡ with_letter (record {
+              to = to_node self.now node;
+              bytes = spelling (saying self.now.header message);
+            }) out.old) }
         ensures fits { OnOk result (IsMessage (saying self.now.header message)) }
     {
         let to = To::Node(node, self.roster().port_number_of(node));

@@ -24,8 +24,11 @@ impl<M: Machine> Node<M> {
         from: NodeNo,
         message: &NodeMessageRef<'_>,
     ) -> Result<Outbox, NoMemory>
-        ensures exact { IfOk result (λ o. HearsNode M.meaning M.IsText self.old from (shown_node message.now) self.new o) }
-        ensures goes_on { IfOk result (λ o. GoesOn M.meaning (λ h. HasSent h.genesis h.sent from (shown_node message.now)) self.old self.new nothing o) }
+        ensures exact { IfOk result
+            (λ o. HearsNode M.meaning M.IsText self.old from (shown_node message.now) self.new o) }
+        ensures goes_on { IfOk result
+            (λ o. GoesOn M.meaning (λ h. HasSent h.genesis h.sent from (shown_node message.now))
+            self.old self.new nothing o) }
     {
         match message {
             NodeMessageRef::Prepare(ballot, first) => self.handle_prepare(from, *ballot, *first),
@@ -45,7 +48,8 @@ impl<M: Machine> Node<M> {
     // Dispatches a message of the cluster.
     fn handle_message(&mut self, content: &ContentRef<'_>) -> Result<Outbox, NoMemory>
         ensures exact { IfOk result (λ o. Hears M.meaning M.IsText self.old (shown_content content.now) self.new o) }
-        ensures goes_on { IfOk result (λ o. GoesOn M.meaning (λ h. WasHeard h (shown_content content.now)) self.old self.new nothing o) }
+        ensures goes_on { IfOk result
+            (λ o. GoesOn M.meaning (λ h. WasHeard h (shown_content content.now)) self.old self.new nothing o) }
     {
         match content {
             ContentRef::Request(request) => self.handle_request(&request.request()),
@@ -57,7 +61,8 @@ impl<M: Machine> Node<M> {
     // Handles any bytes.
     fn take_bytes(&mut self, datagram: &Datagram<'_>) -> Result<Outbox, NoMemory>
         ensures exact { IfOk result (λ o. TakesBytes M.meaning M.IsText self.old datagram.now self.new o) }
-        ensures goes_on { IfOk result (λ o. GoesOn M.meaning (λ h. IsHeard h datagram.now) self.old self.new nothing o) }
+        ensures goes_on { IfOk result
+            (λ o. GoesOn M.meaning (λ h. IsHeard h datagram.now) self.old self.new nothing o) }
     {
         let Ok(message) = datagram.message() else {
             return Ok(Outbox::new(self.alloc));
@@ -73,7 +78,8 @@ impl<M: Machine> Node<M> {
     fn take_datagram(&mut self, datagram: &Datagram<'_>) -> Result<Outbox, NoMemory>
         ensures exact { IfOk result (λ o. TakesDatagram M.meaning M.IsText self.old datagram.now self.new o) }
         ensures done { OnOk result (NothingOpen self.new) }
-        ensures goes_on { IfOk result (λ o. GoesOn M.meaning (λ h. IsHeard h datagram.now) self.old self.new nothing o) }
+        ensures goes_on { IfOk result
+            (λ o. GoesOn M.meaning (λ h. IsHeard h datagram.now) self.old self.new nothing o) }
     {
         let mut out = self.take_bytes(datagram)?;
         self.propose(&mut out)?;
@@ -84,7 +90,8 @@ impl<M: Machine> Node<M> {
     // Dispatches an input.
     fn handle_input(&mut self, input: Input) -> Result<Outbox, NoMemory>
         ensures exact { IfOk result (λ o. Steps M.meaning M.IsText self.old input.entry self.new o) }
-        ensures goes_on { IfOk result (λ o. GoesOn M.meaning (λ h. InputFits h input.entry) self.old self.new nothing o) }
+        ensures goes_on { IfOk result
+            (λ o. GoesOn M.meaning (λ h. InputFits h input.entry) self.old self.new nothing o) }
     {
         match input {
             Input::Tick => self.tick(),
@@ -99,7 +106,8 @@ impl<M: Machine> Node<M> {
     /// It fails with `Halted` if it runs out of memory; after that every call fails with `Halted`.
     pub fn step(&mut self, input: Input) -> Result<Outbox, Halted>
         ensures steps { IfOk result (λ o. Steps M.meaning M.IsText self.old input.entry self.new o) }
-        ensures goes_on { IfOk result (λ o. GoesOn M.meaning (λ h. InputFits h input.entry) self.old self.new nothing o) }
+        ensures goes_on { IfOk result
+            (λ o. GoesOn M.meaning (λ h. InputFits h input.entry) self.old self.new nothing o) }
         ensures runs { NothingToRun self.old → OnOk result (NothingToRun self.new) }
         ensures done { OnOk result (NothingOpen self.new) }
         ensures halts { OnErr result (self.new.halted ≡ true) }

@@ -1,5 +1,6 @@
 -- What a client is told of a request that is not new.
-use Rattle.std.proofs.Common.{◌≡◌, ℕ, ◌≤◌, ◌<◌, inl, inr, true, false, Option, Some, None, refl, subst, arith, nat_lt, eqb}
+use Rattle.std.proofs.Common.{◌≡◌, ℕ, ◌≤◌, ◌<◌, inl, inr, true, false, Option, Some, None, refl, subst, arith, nat_lt}
+use Rattle.std.proofs.Common.{eqb}
 use Rattle.std.proofs.lemmas.Bool.{cases_Bool, eqb-true, eq-eqb, lt-ltb, ltb-false, ltb-true}
 use Rattle.lk_types.specs.declared.answer.Answer.{Answer}
 use Rattle.lk_messages.specs.declared.message.NodeMessage.{NodeMessage}
@@ -19,12 +20,14 @@ some_is : (a b : NodeMessage) → Some a ≡ Some b → a ≡ b
 some_is a b e = cc
 
 -- a reply to the number of the last one has its answer
-pub answer_same : (client number : ℕ) (a : Answer) (reply : NodeMessage) → kept_reply client number (seen.Same a) ≡ Some reply
+pub answer_same : (client number : ℕ) (a : Answer) (reply : NodeMessage)
+    → kept_reply client number (seen.Same a) ≡ Some reply
     → kinds.Answer (record { client = client; number = number; answer = a }) ≡ reply
 answer_same client number a reply e = some_is _ reply e
 
 -- a reply to a number that was passed tells the last one
-pub passed_same : (client number last : ℕ) (reply : NodeMessage) → kept_reply client number (seen.Passed last) ≡ Some reply → passed_by client number last ≡ reply
+pub passed_same : (client number last : ℕ) (reply : NodeMessage)
+    → kept_reply client number (seen.Passed last) ≡ Some reply → passed_by client number last ≡ reply
 passed_same client number last reply e =
     elim (cases_Bool (nat_lt number last)) [
       | inl below ↦ (let same : Some (passed_by client number last) ≡ Some reply = rw below at e in some_is _ _ same)
@@ -32,7 +35,8 @@ passed_same client number last reply e =
     ]
 
 -- one with none is new
-pub none_is_new : (o : Option Session) (client number : ℕ) → kept_reply client number (seen_as o number) ≡ None → seen_as o number ≡ seen.New
+pub none_is_new : (o : Option Session) (client number : ℕ) → kept_reply client number (seen_as o number) ≡ None
+    → seen_as o number ≡ seen.New
 none_is_new o client number e = by_seen (seen_as o number) refl e
   where
     by_seen : (x : Seen) → seen_as o number ≡ x → kept_reply client number x ≡ None → x ≡ seen.New
@@ -45,11 +49,13 @@ none_is_new o client number e = by_seen (seen_as o number) refl e
         absurd cc
 
 -- a waiting number that a session has reached is told of it
-pub reached_is_told : (s : Session) (number : ℕ) → number ≤ s.number → kept_reply s.client number (seen_as (Some s) number) ≡ Some (session_reply s number)
+pub reached_is_told : (s : Session) (number : ℕ) → number ≤ s.number
+    → kept_reply s.client number (seen_as (Some s) number) ≡ Some (session_reply s number)
 reached_is_told s number le =
     elim (cases_Bool (nat_lt number s.number)) [
       | inl below ↦ rw (other below, below, below) refl
-      | inr above ↦ (let same : number ≡ s.number = omega (arith, le, ltb-false number s.number above) in rw (equal same, above) refl)
+      | inr above ↦ (let same : number ≡ s.number = omega (arith, le, ltb-false number s.number above) in
+          rw (equal same, above) refl)
     ]
   where
     equal : number ≡ s.number → eqb number s.number ≡ true
@@ -58,6 +64,7 @@ reached_is_told s number le =
     other : nat_lt number s.number ≡ true → eqb number s.number ≡ false
     other below =
         elim (cases_Bool (eqb number s.number)) [
-          | inl is ↦ (let bad : ⊥ = omega (arith, eqb-true number s.number is, ltb-true number s.number below) in absurd bad)
+          | inl is ↦
+              (let bad : ⊥ = omega (arith, eqb-true number s.number is, ltb-true number s.number below) in absurd bad)
           | inr isnt ↦ isnt
         ]

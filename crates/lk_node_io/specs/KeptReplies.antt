@@ -11,7 +11,8 @@ use Rattle.lk_state.specs.declared.whole.Seen.TheVariants as seen
 -- the number of the client's last request gets the stored answer, a smaller one the last number, and a new one nothing
 abbrev pub kept_reply : ℕ → ℕ → Seen → Option NodeMessage
 kept_reply client number seen.New = None
-kept_reply client number (seen.Same answer) = Some (Answer (record { client = client; number = number; answer = answer }))
+kept_reply client number (seen.Same answer) =
+    Some (Answer (record { client = client; number = number; answer = answer }))
 kept_reply client number (seen.Passed last) =
     if nat_lt number last then Some (Passed (record { client = client; number = number; last = last }))
     else None

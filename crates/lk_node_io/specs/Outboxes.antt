@@ -23,11 +23,13 @@ with_rebase o = record { rebase = true; entries = o.entries; sync = o.sync; note
 
 -- with one more letter
 abbrev pub with_letter : LetterValue → OutboxValue → OutboxValue
-with_letter l o = record { rebase = o.rebase; entries = o.entries; sync = o.sync; notes = o.notes; letters = o.letters ++ l ∷ [] }
+with_letter l o =
+    record { rebase = o.rebase; entries = o.entries; sync = o.sync; notes = o.notes; letters = o.letters ++ l ∷ [] }
 
 -- with these letters added
 abbrev pub with_letters : List LetterValue → OutboxValue → OutboxValue
-with_letters ls o = record { rebase = o.rebase; entries = o.entries; sync = o.sync; notes = o.notes; letters = o.letters ++ ls }
+with_letters ls o =
+    record { rebase = o.rebase; entries = o.entries; sync = o.sync; notes = o.notes; letters = o.letters ++ ls }
 
 -- the entry is synced before anything is sent: a promise and a vote are
 abbrev pub is_synced : Entry → Bool
@@ -37,7 +39,13 @@ is_synced (Decided i c) = false
 
 -- with one more entry
 abbrev pub with_entry : Entry → OutboxValue → OutboxValue
-with_entry e o = record { rebase = o.rebase; entries = o.entries ++ e ∷ []; sync = o.sync || is_synced e; notes = o.notes; letters = o.letters }
+with_entry e o = record {
+  rebase = o.rebase;
+  entries = o.entries ++ e ∷ [];
+  sync = o.sync || is_synced e;
+  notes = o.notes;
+  letters = o.letters;
+}
 
 -- with the entry, if there is one
 abbrev pub with_optional : Option Entry → OutboxValue → OutboxValue
@@ -46,4 +54,5 @@ with_optional (Some e) o = with_entry e o
 
 -- with one more note
 abbrev pub with_note : Note → OutboxValue → OutboxValue
-with_note x o = record { rebase = o.rebase; entries = o.entries; sync = o.sync; notes = o.notes ++ x ∷ []; letters = o.letters }
+with_note x o =
+    record { rebase = o.rebase; entries = o.entries; sync = o.sync; notes = o.notes ++ x ∷ []; letters = o.letters }

@@ -34,4 +34,5 @@ to_node sets node = to.Node node (number_or_zero (port_of node sets))
 
 -- a node of this header sends this to each of these
 abbrev pub letters_to : HeaderValue → List (List Member) → NodeMessage → List ℕ → List LetterValue
-letters_to whose sets message nodes = map (λ k. record { to = to_node sets k; bytes = spelling (saying whose message) }) nodes
+letters_to whose sets message nodes =
+    map (λ k. record { to = to_node sets k; bytes = spelling (saying whose message) }) nodes

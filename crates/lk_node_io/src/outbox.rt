@@ -24,7 +24,13 @@ impl Model for Outbox {
 
     ghost Value = { OutboxValue };
 
-    ghost view = { λ o. record { rebase = o.rebase; entries = o.entries.items; sync = o.sync; notes = o.notes.items; letters = o.letters.items } };
+    ghost view = { λ o. record {
+      rebase = o.rebase;
+      entries = o.entries.items;
+      sync = o.sync;
+      notes = o.notes.items;
+      letters = o.letters.items;
+    } };
 }
 
 impl Outbox {

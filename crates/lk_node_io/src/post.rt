@@ -29,7 +29,8 @@ pub trait Post {
 
     /// Sends bytes to a node or a client. A failed call sends nothing.
     fn send(&mut self, to: To, bytes: &[u8]) -> Result<(), SendFault>
-        ensures ok { is_telling → OnOk result (sent self.new ≡ sent self.old ++ record { to = to; bytes = bytes.now } ∷ []) }
+        ensures ok { is_telling → OnOk result
+            (sent self.new ≡ sent self.old ++ record { to = to; bytes = bytes.now } ∷ []) }
         ensures err { is_telling → OnErr result (sent self.new ≡ sent self.old) }
         ensures carries { Carries self.old (record { to = to; bytes = bytes.now }) (is_ok result) self.new }
         ensures cause { HasCause (failures self.old) (failures self.new) result };

@@ -51,7 +51,8 @@ impl SeenRound {
 
     /// The node's ballot in the round above this one and the promised ballot's, or none if that would exceed 2^48.
     pub fn next_ballot(&self, promised: Ballot, node: NodeNo) -> Option<RealBallot>
-        ensures { MatchOption result (max_count ≤ greater_round promised self.now) (λ b. (b ≡ ballot_above promised self.now node) × IsBelow promised b) }
+        ensures { MatchOption result (max_count ≤ greater_round promised self.now)
+            (λ b. (b ≡ ballot_above promised self.now node) × IsBelow promised b) }
     {
         let (promised, seen) = (promised.round(), self.get());
         let greatest = if promised < seen { seen } else { promised };

@@ -35,7 +35,8 @@ type Usage<'a> = (&'a str, &'a str, &'a [Row<'a>]);
 #[rattlefmt::skip]
 const SUBCOMMANDS: &[Usage] = &[
     ("sim", "runs a script from standard input", &[
-        (Kind::Flag, "state", "prints, after the last line, what the disks of each node hold, as inspect does, and how much of it is synced"),
+        (Kind::Flag, "state",
+            "prints, after the last line, what the disks of each node hold, as inspect does, and how much of it is synced"),
     ]),
     ("fuzz", "runs random events in a world of three nodes", &[
         (Kind::Word, "start", "the seed of the events"),
@@ -49,7 +50,8 @@ const SUBCOMMANDS: &[Usage] = &[
         (Kind::Word, "port", "the UDP port of the node"),
         (Kind::Word, "dir", "the folder of its files"),
         (Kind::Given, "hosts", "a file of lines NODE ADDRESS: where each node lives"),
-        (Kind::Given, "bind", "the address at which the node listens; by default that of its line in the hosts, or 127.0.0.1"),
+        (Kind::Given, "bind",
+            "the address at which the node listens; by default that of its line in the hosts, or 127.0.0.1"),
         (Kind::Given, "key", "the file of the key that the nodes share"),
         (Kind::Given, "client-key", "the file of the master from which the clients' keys are derived"),
         (Kind::Given, "ticks", "what ticks go by: datagrams, or clock (each 100 ms; always with a key)"),
@@ -65,7 +67,8 @@ const SUBCOMMANDS: &[Usage] = &[
         (Kind::Given, "client-key", "the file of the client's key"),
         (Kind::Word, "client", "the number of the client, 1 to 256"),
         (Kind::Word, "request", "the number of the request, higher each time"),
-        (Kind::Words, "op", "acquire NAME, release NAME FENCE, ask NAME, check NAME FENCE, share NAME, break NAME FENCE, join NODE PORT, leave NODE, raise 2 or raw HEX"),
+        (Kind::Words, "op",
+            "acquire NAME, release NAME FENCE, ask NAME, check NAME FENCE, share NAME, break NAME FENCE, join NODE PORT, leave NODE, raise 2 or raw HEX"),
     ]),
     ("status", "asks several nodes for their status, and prints a line for each", &[
         (Kind::Word, "cluster", "the number of the cluster"),
@@ -77,7 +80,8 @@ const SUBCOMMANDS: &[Usage] = &[
         (Kind::Flag, "json", "prints one object of JSON"),
         (Kind::Flag, "prometheus", "prints metrics for node_exporter's textfile collector"),
         (Kind::Given, "wait", "how long to wait for silent nodes, in milliseconds; 500 by default"),
-        (Kind::Pair, "until", "ready SECONDS: waits up to this long until all nodes have executed what the leader had at first"),
+        (Kind::Pair, "until",
+            "ready SECONDS: waits up to this long until all nodes have executed what the leader had at first"),
     ]),
     ("demo", "shows three nodes and two clients", &[]),
     ("dump", "prints the generation, the promise and the counts of a folder's store", &[

@@ -46,7 +46,8 @@ impl SyncPause {
 
     /// A group has ended with a sync, for which this many letters waited.
     pub fn note(&mut self, took: Duration, letters: usize)
-        ensures longest { self.new.longest ≡ max (min (as_nanos took / 1000) 32000) (self.old.longest - self.old.longest / 8) }
+        ensures longest { self.new.longest
+            ≡ max (min (as_nanos took / 1000) 32000) (self.old.longest - self.old.longest / 8) }
         ensures fullest { self.new.fullest ≡ max letters (self.old.fullest - 1) }
         ensures left { self.new.left ≡ 16 }
     {
@@ -59,8 +60,12 @@ impl SyncPause {
     /// The next pause of a group that has this many letters, if one is due: more letters waited for an earlier sync,
     /// the pause is not too short, and the group has had fewer than 16.
     pub fn next_pause(&mut self, letters: usize) -> Option<Duration>
-        ensures some { IfSome result (λ d. (as_nanos d ≡ self.old.longest / 16 * 1000) × (50 ≤ self.old.longest / 16) × (letters < self.old.fullest) × (self.new.left + 1 ≡ self.old.left)) }
-        ensures none { IsNone result → (self.new ≡ self.old) × ((self.old.longest / 16 < 50) ⊎ (self.old.fullest ≤ letters) ⊎ (self.old.left ≡ 0)) }
+        ensures some { IfSome result
+            (λ d. (as_nanos d ≡ self.old.longest / 16 * 1000) × (50 ≤ self.old.longest / 16)
+            × (letters < self.old.fullest) × (self.new.left + 1 ≡ self.old.left)) }
+        ensures none { IsNone result
+            → (self.new ≡ self.old) × ((self.old.longest / 16 < 50)
+            ⊎ (self.old.fullest ≤ letters) ⊎ (self.old.left ≡ 0)) }
         ensures others { self.new ≡ record self.old { left = self.new.left } }
     {
         let micros = self.longest / u64::from(PART);

@@ -1,5 +1,6 @@
 -- Ways to build a reader of others, beside those of the fields.
-use Rattle.std.proofs.Common.{◌≡◌, ℕ, suc, ◌-◌, ◌≤◌, Bool, true, false, cond, eqb, ◌&&◌, List, [], ◌∷◌, ◌++◌, length, replicate, Option, Some, None, refl, ap, subst, ◌∙◌, arith, inl, inr}
+use Rattle.std.proofs.Common.{◌≡◌, ℕ, suc, ◌-◌, ◌≤◌, Bool, true, false, cond, eqb, ◌&&◌, List, [], ◌∷◌, ◌++◌, length}
+use Rattle.std.proofs.Common.{replicate, Option, Some, None, refl, ap, subst, ◌∙◌, arith, inl, inr}
 use Rattle.std.proofs.lemmas.Bool.{eqb-true}
 use Rattle.std.proofs.lemmas.Bool.Decides.{nat_tests}
 use Rattle.std.proofs.lemmas.List.{length-append, length-replicate}
@@ -10,15 +11,19 @@ use Rattle.lk_probe.specs.Reading.{are_zeros, fronted, filled}
 
 module _ {X Y : Type 0} where
   -- another view of the value, which can be undone where it fits
-  pub remade_reads : (f : X → Y) (g : Y → X) (p : List ℕ → Option (X × List ℕ)) (s : X → List ℕ) (F : X → Type 0) (G : Y → Type 0)
-      → ((x : X) → F x → (g (f x) ≡ x) × G (f x)) → ((y : Y) → G y → (f (g y) ≡ y) × F (g y)) → Reads p s F → Reads (made f p) (λ (y : Y). s (g y)) G
+  pub remade_reads : (f : X → Y) (g : Y → X) (p : List ℕ → Option (X × List ℕ)) (s : X → List ℕ)
+      (F : X → Type 0) (G : Y → Type 0)
+      → ((x : X) → F x → (g (f x) ≡ x) × G (f x)) → ((y : Y) → G y → (f (g y) ≡ y) × F (g y)) → Reads p s F
+      → Reads (made f p) (λ (y : Y). s (g y)) G
   remade_reads f g p s F G to back r = record {
-    takes = λ bytes y rest h e. made_as f p s F r (λ (z : Y) (w : List ℕ). Took (λ (y : Y). s (g y)) G bytes z w) bytes y rest h e
+    takes = λ bytes y rest h e. made_as f p s F r
+        (λ (z : Y) (w : List ℕ). Took (λ (y : Y). s (g y)) G bytes z w) bytes y rest h e
         (λ x t. let is = to x t.fits in record { parts = rw is.0 t.parts; rest_fits = t.rest_fits; fits = is.1 });
     again = λ y rest fits. let is = back y fits in rw (r.again (g y) rest is.1) (ap (λ (z : Y). Some (z, rest)) is.0);
   }
 
-letters : (k a b c d : ℕ) → (eqb a 76 && eqb b 80 && eqb c 1 && eqb d k) ≡ true → (a ≡ 76) × (b ≡ 80) × (c ≡ 1) × (d ≡ k)
+letters : (k a b c d : ℕ) → (eqb a 76 && eqb b 80 && eqb c 1 && eqb d k) ≡ true
+    → (a ≡ 76) × (b ≡ 80) × (c ≡ 1) × (d ≡ k)
 letters k a b c d e = grind (arith, nat_tests)
 
 same : (k : ℕ) → eqb k k ≡ true
@@ -26,14 +31,19 @@ same k = grind (arith, nat_tests)
 
 module _ {X : Type 0} where
   fronted_takes : (k : ℕ) (p : List ℕ → Option (X × List ℕ)) (s : X → List ℕ) (F : X → Type 0) → Reads p s F
-      → (bytes : List ℕ) (x : X) (rest : List ℕ) → IsBytes bytes → fronted k p bytes ≡ Some (x, rest) → Took (λ (x : X). front k (s x)) F bytes x rest
+      → (bytes : List ℕ) (x : X) (rest : List ℕ) → IsBytes bytes → fronted k p bytes ≡ Some (x, rest)
+      → Took (λ (x : X). front k (s x)) F bytes x rest
   fronted_takes k p s F r (a ∷ b ∷ c ∷ d ∷ bytes) x rest h e =
       elim (chosen (eqb a 76 && eqb b 80 && eqb c 1 && eqb d k) (p bytes) None (Some (x, rest)) e) [
         | inr failing ↦ let bad = failing.1 in absurd cc
         | inl passing ↦
             let are = letters k a b c d passing.0 in
             let t = r.takes bytes x rest (λ i. h (suc (suc (suc (suc i))))) passing.1 in
-            record { parts = rw (are.0, are.1, are.2, are.3) (ap (front k) t.parts); rest_fits = t.rest_fits; fits = t.fits }
+            record {
+              parts = rw (are.0, are.1, are.2, are.3) (ap (front k) t.parts);
+              rest_fits = t.rest_fits;
+              fits = t.fits;
+            }
       ]
   fronted_takes k p s F r [] x rest h e = absurd cc
   fronted_takes k p s F r (a ∷ []) x rest h e = absurd cc
@@ -41,7 +51,8 @@ module _ {X : Type 0} where
   fronted_takes k p s F r (a ∷ b ∷ c ∷ []) x rest h e = absurd cc
 
   -- after the letters, the version and the number
-  pub fronted_reads : (k : ℕ) (p : List ℕ → Option (X × List ℕ)) (s : X → List ℕ) (F : X → Type 0) → Reads p s F → Reads (fronted k p) (λ (x : X). front k (s x)) F
+  pub fronted_reads : (k : ℕ) (p : List ℕ → Option (X × List ℕ)) (s : X → List ℕ) (F : X → Type 0) → Reads p s F
+      → Reads (fronted k p) (λ (x : X). front k (s x)) F
   fronted_reads k p s F r = record {
     takes = fronted_takes k p s F r;
     again = λ x rest fits. rw (same k) (r.again x rest fits);
@@ -65,20 +76,28 @@ are_zeros-replicate (suc n) = are_zeros-replicate n
 
 pub length-padded : (bytes : List ℕ) → length bytes ≤ 174 → length (padded bytes) ≡ 174
 unfolding padded
-length-padded bytes short = omega (arith, length-append bytes (replicate (174 - length bytes) 0), length-replicate {A = ℕ} (174 - length bytes) 0)
+length-padded bytes short =
+    omega (
+      arith,
+      length-append bytes (replicate (174 - length bytes) 0),
+      length-replicate {A = ℕ} (174 - length bytes) 0,
+    )
 
 rest_is : (bytes taken rest : List ℕ) → bytes ≡ taken ++ rest → length bytes ≡ 174 → length rest ≡ 174 - length taken
 rest_is bytes taken rest e whole =
     let long : length bytes ≡ length (taken ++ rest) = ap length e in
     omega (arith, long, length-append taken rest)
 
-is_padded : (bytes taken rest : List ℕ) → bytes ≡ taken ++ rest → length bytes ≡ 174 → are_zeros rest ≡ true → bytes ≡ padded taken
+is_padded : (bytes taken rest : List ℕ) → bytes ≡ taken ++ rest → length bytes ≡ 174
+    → are_zeros rest ≡ true → bytes ≡ padded taken
 unfolding padded
 is_padded bytes taken rest e whole nothing =
-    e ∙ ap (λ (w : List ℕ). taken ++ w) (zeros rest nothing) ∙ ap (λ (n : ℕ). taken ++ replicate n 0) (rest_is bytes taken rest e whole)
+    e ∙ ap (λ (w : List ℕ). taken ++ w) (zeros rest nothing)
+    ∙ ap (λ (n : ℕ). taken ++ replicate n 0) (rest_is bytes taken rest e whole)
 
 module _ {X : Type 0} where
-  pub filled_takes : (p : List ℕ → Option (X × List ℕ)) (s : X → List ℕ) (F : X → Type 0) → Reads p s F → (bytes : List ℕ) (x : X) → IsBytes bytes → filled p bytes ≡ Some x → F x × (bytes ≡ padded (s x))
+  pub filled_takes : (p : List ℕ → Option (X × List ℕ)) (s : X → List ℕ) (F : X → Type 0) → Reads p s F
+      → (bytes : List ℕ) (x : X) → IsBytes bytes → filled p bytes ≡ Some x → F x × (bytes ≡ padded (s x))
   filled_takes p s F r bytes x h e =
       elim (chosen (eqb (length bytes) 174) (p bytes >>= λ a. cond (are_zeros a.1) (Some a.0) None) None (Some x) e) [
         | inr failing ↦ let bad = failing.1 in absurd cc
@@ -92,7 +111,8 @@ module _ {X : Type 0} where
             ]
       ]
 
-  pub filled_again : (p : List ℕ → Option (X × List ℕ)) (s : X → List ℕ) (F : X → Type 0) → Reads p s F → (x : X) → F x → length (s x) ≤ 174 → filled p (padded (s x)) ≡ Some x
+  pub filled_again : (p : List ℕ → Option (X × List ℕ)) (s : X → List ℕ) (F : X → Type 0) → Reads p s F → (x : X) → F x
+      → length (s x) ≤ 174 → filled p (padded (s x)) ≡ Some x
   unfolding padded
   filled_again p s F r x fits short =
       let zeros : List ℕ = replicate (174 - length (s x)) 0 in

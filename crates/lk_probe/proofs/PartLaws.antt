@@ -1,5 +1,6 @@
 -- Each part of a probe and of a report reads what its spelling is.
-use Rattle.std.proofs.Common.{◌≡◌, ℕ, suc, ◌^◌, ◌<◌, ◌≤◌, Bool, true, false, ltb, leb, eqb, List, ◌++◌, length, take, drop, replicate, Option, Some, None, refl, ap, sym, subst, ◌∙◌, arith, inl, inr}
+use Rattle.std.proofs.Common.{◌≡◌, ℕ, suc, ◌^◌, ◌<◌, ◌≤◌, Bool, true, false, ltb, leb, eqb, List, ◌++◌, length, take}
+use Rattle.std.proofs.Common.{drop, replicate, Option, Some, None, refl, ap, sym, subst, ◌∙◌, arith, inl, inr}
 use Rattle.std.specs.Prelude.{IfSome}
 use Rattle.std.specs.List.{AllByRecursion}
 use Rattle.std.proofs.lemmas.Bool.{ltb-false, le-ltb}
@@ -12,11 +13,18 @@ use Rattle.lk_types.specs.Rosters.{IsMember, AreMembers}
 use Rattle.lk_types.specs.declared.member.Member.{Member}
 use Rattle.lk_fields.specs.Fields.{one, two, four, eight, ballot, members}
 use Rattle.lk_fields.specs.Parser.{read_byte, both, tested}
-use Rattle.lk_fields.specs.FieldReading.{read_two, read_four, read_eight, read_node, read_total, read_mark, read_members}
-use Rattle.lk_fields.proofs.Spellings.{IsBytes, IsBytes-drop, chosen, some_is, Took, Reads, fitting, both_reads, made_reads, byte_reads, two_reads, four_reads, eight_reads, limited_reads, tested_reads, node_reads, total_reads, mark_reads, members_reads}
+use Rattle.lk_fields.specs.FieldReading.{read_two, read_four, read_eight, read_node, read_total, read_mark}
+use Rattle.lk_fields.specs.FieldReading.{read_members}
+use Rattle.lk_fields.proofs.Spellings.{IsBytes, IsBytes-drop, chosen, some_is, Took, Reads, fitting, both_reads}
+use Rattle.lk_fields.proofs.Spellings.{made_reads, byte_reads, two_reads, four_reads, eight_reads, limited_reads}
+use Rattle.lk_fields.proofs.Spellings.{tested_reads, node_reads, total_reads, mark_reads, members_reads}
 use Rattle.lk_seal.specs.Seals.{no_genesis}
-use Rattle.lk_probe.specs.Grammar.{or_zero, node_in, genesis_in, flag, version, identity, leadership, progress, traffic, status, probe, report, IsByte, IsVersion, IsIdentity, IsLeadership, IsProgress, IsTraffic, IsStatus, IsProbe, IsReport}
-use Rattle.lk_probe.specs.Reading.{or_none, is_with_node, origin_of, optional, read_maybe_node, read_maybe_client, read_flag, read_digest, read_version, read_identity, read_leadership, read_progress, read_traffic, read_status, read_probe_fields, read_report_fields}
+use Rattle.lk_probe.specs.Grammar.{or_zero, node_in, genesis_in, flag, version, identity, leadership, progress, traffic}
+use Rattle.lk_probe.specs.Grammar.{status, probe, report, IsByte, IsVersion, IsIdentity, IsLeadership, IsProgress}
+use Rattle.lk_probe.specs.Grammar.{IsTraffic, IsStatus, IsProbe, IsReport}
+use Rattle.lk_probe.specs.Reading.{or_none, is_with_node, origin_of, optional, read_maybe_node, read_maybe_client}
+use Rattle.lk_probe.specs.Reading.{read_flag, read_digest, read_version, read_identity, read_leadership, read_progress}
+use Rattle.lk_probe.specs.Reading.{read_traffic, read_status, read_probe_fields, read_report_fields}
 use Rattle.lk_probe.specs.declared.neighbours.Origin.{Origin}
 use Rattle.lk_probe.specs.declared.status.Version.{Version}
 use Rattle.lk_probe.specs.declared.status.Identity.{Identity}
@@ -45,10 +53,12 @@ zero_or most None h = (refl, omega arith)
 zero_or most (Some ℕ.zero) h = absurd (omega (arith, h))
 zero_or most (Some (suc n)) h = (or_none-suc n, h.1)
 
-optional_reads : (most limit : ℕ) → most < limit → (p : List ℕ → Option (ℕ × List ℕ)) (s : ℕ → List ℕ) → Reads p s (λ n. n < limit)
+optional_reads : (most limit : ℕ) → most < limit → (p : List ℕ → Option (ℕ × List ℕ)) (s : ℕ → List ℕ)
+    → Reads p s (λ n. n < limit)
     → Reads (optional most p) (λ (o : Option ℕ). s (or_zero o)) (λ (o : Option ℕ). IfSome o (IsFrom most))
 optional_reads most limit lt p s r =
-    remade_reads or_none or_zero (tested (λ n. leb n most) p) s (λ n. n ≤ most) (λ (o : Option ℕ). IfSome o (IsFrom most)) (none_or most) (zero_or most) (limited_reads most limit lt p s r)
+    remade_reads or_none or_zero (tested (λ n. leb n most) p) s (λ n. n ≤ most)
+    (λ (o : Option ℕ). IfSome o (IsFrom most)) (none_or most) (zero_or most) (limited_reads most limit lt p s r)
 
 maybe_node_reads : Reads read_maybe_node (λ (o : Option ℕ). four (or_zero o)) (λ (o : Option ℕ). IfSome o IsNode)
 unfolding read_maybe_node
@@ -71,11 +81,13 @@ flag_is false h = (refl, omega arith)
 
 flag_reads : Reads read_flag (λ (b : Bool). one (flag b)) (λ (b : Bool). Unit {0})
 unfolding read_flag
-flag_reads = remade_reads (λ n. eqb n 1) flag (tested (λ n. leb n 1) read_byte) one (λ n. n ≤ 1) (λ (b : Bool). Unit {0}) is_flag flag_is (limited_reads 1 256 (omega arith) read_byte one byte_reads)
+flag_reads = remade_reads (λ n. eqb n 1) flag (tested (λ n. leb n 1) read_byte) one (λ n. n ≤ 1)
+    (λ (b : Bool). Unit {0}) is_flag flag_is (limited_reads 1 256 (omega arith) read_byte one byte_reads)
 
 -- ---- the digest
 
-digest_takes : (bytes digest rest : List ℕ) → IsBytes bytes → read_digest bytes ≡ Some (digest, rest) → Took (λ (d : List ℕ). d) (λ (d : List ℕ). length d ≡ 32) bytes digest rest
+digest_takes : (bytes digest rest : List ℕ) → IsBytes bytes → read_digest bytes ≡ Some (digest, rest)
+    → Took (λ (d : List ℕ). d) (λ (d : List ℕ). length d ≡ 32) bytes digest rest
 unfolding read_digest
 digest_takes bytes digest rest h e =
     elim (chosen (ltb (length bytes) 32) None (Some (take 32 bytes, drop 32 bytes)) (Some (digest, rest)) e) [
@@ -83,8 +95,13 @@ digest_takes bytes digest rest h e =
       | inr long ↦
           let enough : 32 ≤ length bytes = ltb-false _ _ long.0 in
           let cut : List ℕ × List ℕ = (take 32 bytes, drop 32 bytes) in
-          subst (λ (z : List ℕ × List ℕ). Took (λ (d : List ℕ). d) (λ (d : List ℕ). length d ≡ 32) bytes z.0 z.1) (some_is cut (digest, rest) long.1)
-          (record { parts = sym (take-append-drop 32 bytes); rest_fits = IsBytes-drop 32 bytes h; fits = omega (arith, length-take 32 bytes) })
+          subst (λ (z : List ℕ × List ℕ). Took (λ (d : List ℕ). d) (λ (d : List ℕ). length d ≡ 32) bytes z.0 z.1)
+          (some_is cut (digest, rest) long.1)
+          (record {
+            parts = sym (take-append-drop 32 bytes);
+            rest_fits = IsBytes-drop 32 bytes h;
+            fits = omega (arith, length-take 32 bytes);
+          })
     ]
 
 digest_again : (digest rest : List ℕ) → length digest ≡ 32 → read_digest (digest ++ rest) ≡ Some (digest, rest)
@@ -100,35 +117,58 @@ digest_reads = record { takes = digest_takes; again = digest_again }
 
 version_reads : Reads read_version version IsVersion
 unfolding read_version
-version_reads = fitting read_version version (λ (v : Version). IsByte v.major × (IsByte v.minor × IsByte v.patch)) IsVersion (λ v f. (f.0, f.1.0, f.1.1)) (λ v f. (f.0, (f.1, f.2)))
-    (made_reads (λ (v : ℕ × (ℕ × ℕ)). let x : Version = record { major = v.0; minor = v.1.0; patch = v.1.1 } in x) (λ (v : Version). (v.major, (v.minor, v.patch))) (λ x. refl) (λ y. refl) _ _ _
-    (both_reads read_byte one IsByte _ _ _ byte_reads (both_reads read_byte one IsByte read_byte one IsByte byte_reads byte_reads)))
+version_reads = fitting read_version version
+    (λ (v : Version). IsByte v.major × (IsByte v.minor × IsByte v.patch)) IsVersion (λ v f. (f.0, f.1.0, f.1.1))
+    (λ v f. (f.0, (f.1, f.2)))
+    (made_reads (λ (v : ℕ × (ℕ × ℕ)). let x : Version = record { major = v.0; minor = v.1.0; patch = v.1.1 } in x)
+    (λ (v : Version). (v.major, (v.minor, v.patch))) (λ x. refl) (λ y. refl) _ _ _
+    (both_reads read_byte one IsByte _ _ _ byte_reads
+    (both_reads read_byte one IsByte read_byte one IsByte byte_reads byte_reads)))
 
 identity_reads : Reads read_identity identity IsIdentity
 unfolding read_identity
-identity_reads = fitting read_identity identity (λ (i : Identity). (length i.genesis ≡ 32) × (IsVersion i.program × (IsByte i.format × IsByte i.table))) IsIdentity (λ i f. (f.0, f.1.0, f.1.1.0, f.1.1.1)) (λ i f. (f.0, (f.1, (f.2, f.3))))
-    (made_reads (λ (i : List ℕ × (Version × (ℕ × ℕ))). let x : Identity = record { genesis = i.0; program = i.1.0; format = i.1.1.0; table = i.1.1.1 } in x) (λ (i : Identity). (i.genesis, (i.program, (i.format, i.table)))) (λ x. refl) (λ y. refl) _ _ _
+identity_reads = fitting read_identity identity
+    (λ (i : Identity). (length i.genesis ≡ 32) × (IsVersion i.program × (IsByte i.format × IsByte i.table))) IsIdentity
+    (λ i f. (f.0, f.1.0, f.1.1.0, f.1.1.1)) (λ i f. (f.0, (f.1, (f.2, f.3))))
+    (made_reads (λ (i : List ℕ × (Version × (ℕ × ℕ))). let x : Identity =
+    record { genesis = i.0; program = i.1.0; format = i.1.1.0; table = i.1.1.1 } in x)
+    (λ (i : Identity). (i.genesis, (i.program, (i.format, i.table)))) (λ x. refl) (λ y. refl) _ _ _
     (both_reads read_digest (λ (d : List ℕ). d) (λ (d : List ℕ). length d ≡ 32) _ _ _ digest_reads
-    (both_reads read_version version IsVersion _ _ _ version_reads (both_reads read_byte one IsByte read_byte one IsByte byte_reads byte_reads))))
+    (both_reads read_version version IsVersion _ _ _ version_reads
+    (both_reads read_byte one IsByte read_byte one IsByte byte_reads byte_reads))))
 
 leadership_reads : Reads read_leadership leadership IsLeadership
 unfolding read_leadership
-leadership_reads = fitting read_leadership leadership (λ (l : Leadership). Unit {0} × (IfSome l.leader IsNode × ((l.silence < 2 ^ 64) × IsMark l.promised))) IsLeadership (λ l f. (f.1.0, f.1.1.0, f.1.1.1)) (λ l f. (tt, (f.0, (f.1, f.2))))
-    (made_reads (λ (l : Bool × (Option ℕ × (ℕ × BallotValue))). let x : Leadership = record { leads = l.0; leader = l.1.0; silence = l.1.1.0; promised = l.1.1.1 } in x) (λ (l : Leadership). (l.leads, (l.leader, (l.silence, l.promised)))) (λ x. refl) (λ y. refl) _ _ _
+leadership_reads = fitting read_leadership leadership
+    (λ (l : Leadership). Unit {0} × (IfSome l.leader IsNode × ((l.silence < 2 ^ 64) × IsMark l.promised))) IsLeadership
+    (λ l f. (f.1.0, f.1.1.0, f.1.1.1)) (λ l f. (tt, (f.0, (f.1, f.2))))
+    (made_reads (λ (l : Bool × (Option ℕ × (ℕ × BallotValue))). let x : Leadership =
+    record { leads = l.0; leader = l.1.0; silence = l.1.1.0; promised = l.1.1.1 } in x)
+    (λ (l : Leadership). (l.leads, (l.leader, (l.silence, l.promised)))) (λ x. refl) (λ y. refl) _ _ _
     (both_reads read_flag (λ (b : Bool). one (flag b)) (λ (b : Bool). Unit {0}) _ _ _ flag_reads
-    (both_reads read_maybe_node (λ (o : Option ℕ). four (or_zero o)) (λ (o : Option ℕ). IfSome o IsNode) _ _ _ maybe_node_reads
+    (both_reads read_maybe_node (λ (o : Option ℕ). four (or_zero o))
+    (λ (o : Option ℕ). IfSome o IsNode) _ _ _ maybe_node_reads
     (both_reads read_eight eight (λ n. n < 2 ^ 64) read_mark ballot IsMark eight_reads mark_reads))))
 
 progress_reads : Reads read_progress progress IsProgress
 unfolding read_progress
-progress_reads = fitting read_progress progress (λ (p : Progress). IsTotal p.executed × (IsTotal p.snapshot × IsByte p.pending)) IsProgress (λ p f. (f.0, f.1.0, f.1.1)) (λ p f. (f.0, (f.1, f.2)))
-    (made_reads (λ (p : ℕ × (ℕ × ℕ)). let x : Progress = record { executed = p.0; snapshot = p.1.0; pending = p.1.1 } in x) (λ (p : Progress). (p.executed, (p.snapshot, p.pending))) (λ x. refl) (λ y. refl) _ _ _
-    (both_reads read_total eight IsTotal _ _ _ total_reads (both_reads read_total eight IsTotal read_byte one IsByte total_reads byte_reads)))
+progress_reads = fitting read_progress progress
+    (λ (p : Progress). IsTotal p.executed × (IsTotal p.snapshot × IsByte p.pending)) IsProgress
+    (λ p f. (f.0, f.1.0, f.1.1)) (λ p f. (f.0, (f.1, f.2)))
+    (made_reads (λ (p : ℕ × (ℕ × ℕ)). let x : Progress =
+    record { executed = p.0; snapshot = p.1.0; pending = p.1.1 } in x)
+    (λ (p : Progress). (p.executed, (p.snapshot, p.pending))) (λ x. refl) (λ y. refl) _ _ _
+    (both_reads read_total eight IsTotal _ _ _ total_reads
+    (both_reads read_total eight IsTotal read_byte one IsByte total_reads byte_reads)))
 
 traffic_reads : Reads read_traffic traffic IsTraffic
 unfolding read_traffic
-traffic_reads = fitting read_traffic traffic (λ (t : Traffic). (t.waiting < 2 ^ 16) × ((t.unread < 2 ^ 64) × ((t.unsent < 2 ^ 64) × (t.ticks < 2 ^ 64)))) IsTraffic (λ t f. (f.0, f.1.0, f.1.1.0, f.1.1.1)) (λ t f. (f.0, (f.1, (f.2, f.3))))
-    (made_reads (λ (t : ℕ × (ℕ × (ℕ × ℕ))). let x : Traffic = record { waiting = t.0; unread = t.1.0; unsent = t.1.1.0; ticks = t.1.1.1 } in x) (λ (t : Traffic). (t.waiting, (t.unread, (t.unsent, t.ticks)))) (λ x. refl) (λ y. refl) _ _ _
+traffic_reads = fitting read_traffic traffic
+    (λ (t : Traffic). (t.waiting < 2 ^ 16) × ((t.unread < 2 ^ 64) × ((t.unsent < 2 ^ 64) × (t.ticks < 2 ^ 64))))
+    IsTraffic (λ t f. (f.0, f.1.0, f.1.1.0, f.1.1.1)) (λ t f. (f.0, (f.1, (f.2, f.3))))
+    (made_reads (λ (t : ℕ × (ℕ × (ℕ × ℕ))). let x : Traffic =
+    record { waiting = t.0; unread = t.1.0; unsent = t.1.1.0; ticks = t.1.1.1 } in x)
+    (λ (t : Traffic). (t.waiting, (t.unread, (t.unsent, t.ticks)))) (λ x. refl) (λ y. refl) _ _ _
     (both_reads read_two two (λ n. n < 2 ^ 16) _ _ _ two_reads
     (both_reads read_eight eight (λ n. n < 2 ^ 64) _ _ _ eight_reads
     (both_reads read_eight eight (λ n. n < 2 ^ 64) read_eight eight (λ n. n < 2 ^ 64) eight_reads eight_reads))))
@@ -138,9 +178,12 @@ AreAll ms = AreMembers ms × AllByRecursion IsMember ms
 
 status_reads : Reads read_status status IsStatus
 unfolding read_status
-status_reads = fitting read_status status (λ (s : Status). IsIdentity s.identity × (IsLeadership s.leadership × (IsProgress s.progress × (IsTraffic s.traffic × AreAll s.members)))) IsStatus
+status_reads = fitting read_status status
+    (λ (s : Status). IsIdentity s.identity
+    × (IsLeadership s.leadership × (IsProgress s.progress × (IsTraffic s.traffic × AreAll s.members)))) IsStatus
     (λ s f. (f.0, f.1.0, f.1.1.0, f.1.1.1.0, f.1.1.1.1.0, f.1.1.1.1.1)) (λ s f. (f.0, (f.1, (f.2, (f.3, (f.4, f.5))))))
-    (made_reads (λ (s : Identity × (Leadership × (Progress × (Traffic × List Member)))). let x : Status = record { identity = s.0; leadership = s.1.0; progress = s.1.1.0; traffic = s.1.1.1.0; members = s.1.1.1.1 } in x)
+    (made_reads (λ (s : Identity × (Leadership × (Progress × (Traffic × List Member)))). let x : Status =
+    record { identity = s.0; leadership = s.1.0; progress = s.1.1.0; traffic = s.1.1.1.0; members = s.1.1.1.1 } in x)
     (λ (s : Status). (s.identity, (s.leadership, (s.progress, (s.traffic, s.members))))) (λ x. refl) (λ y. refl) _ _ _
     (both_reads read_identity identity IsIdentity _ _ _ identity_reads
     (both_reads read_leadership leadership IsLeadership _ _ _ leadership_reads
@@ -154,7 +197,8 @@ abbrev Asking : Type 0
 Asking = ℕ × (Option ℕ × (Option ℕ × (ℕ × List ℕ)))
 
 abbrev IsAsking : Asking → Type 0
-IsAsking x = (x.0 < 2 ^ 64) × (IfSome x.1.0 IsNode × (IfSome x.1.1.0 IsClient × ((x.1.1.1.0 < 2 ^ 64) × (length x.1.1.1.1 ≡ 32))))
+IsAsking x = (x.0 < 2 ^ 64)
+    × (IfSome x.1.0 IsNode × (IfSome x.1.1.0 IsClient × ((x.1.1.1.0 < 2 ^ 64) × (length x.1.1.1.1 ≡ 32))))
 
 abbrev spelled : Asking → List ℕ
 spelled x = eight x.0 ++ (four (or_zero x.1.0) ++ (two (or_zero x.1.1.0) ++ (eight x.1.1.1.0 ++ x.1.1.1.1)))
@@ -166,41 +210,63 @@ abbrev fields_of : Probe → Asking
 fields_of p = (p.cluster, (node_in p.origin, (p.client, (p.token, genesis_in p.origin))))
 
 -- a probe has its parts
-has_fields : (cluster : ℕ) (node client : Option ℕ) (token : ℕ) (genesis : List ℕ) → IsAsking (cluster, (node, (client, (token, genesis)))) × (is_with_node node genesis ≡ true)
-    → (fields_of (probe_by (cluster, (node, (client, (token, genesis))))) ≡ (cluster, (node, (client, (token, genesis))))) × IsProbe (probe_by (cluster, (node, (client, (token, genesis)))))
+has_fields : (cluster : ℕ) (node client : Option ℕ) (token : ℕ) (genesis : List ℕ)
+    → IsAsking (cluster, (node, (client, (token, genesis)))) × (is_with_node node genesis ≡ true)
+    → (fields_of (probe_by (cluster, (node, (client, (token, genesis)))))
+    ≡ (cluster, (node, (client, (token, genesis))))) × IsProbe (probe_by (cluster, (node, (client, (token, genesis)))))
 has_fields cluster None client token genesis f =
-    let none : no_genesis ≡ genesis = sym (zeros genesis f.1 ∙ ap (λ (n : ℕ). replicate n 0) f.0.1.1.1.1) in
-    (ap (λ (g : List ℕ). let x : Asking = (cluster, (None, (client, (token, g)))) in x) none, (f.0.0, tt, f.0.1.1.0, f.0.1.1.1.0))
+    let none : no_genesis ≡ genesis = sym (zeros genesis f.1 ∙ ap (λ (n : ℕ). replicate n 0) f.0.1.1.1.1) in (
+      ap (λ (g : List ℕ). let x : Asking = (cluster, (None, (client, (token, g)))) in x) none,
+      (f.0.0, tt, f.0.1.1.0, f.0.1.1.1.0),
+    )
 has_fields cluster (Some n) client token genesis f = (refl, (f.0.0, (f.0.1.0, f.0.1.1.1.1), f.0.1.1.0, f.0.1.1.1.0))
 
 -- its parts make it
-of_fields : (cluster : ℕ) (origin : Option Origin) (client : Option ℕ) (token : ℕ) → IsProbe (record { cluster = cluster; origin = origin; client = client; token = token })
-    → (origin_of (node_in origin) (genesis_in origin) ≡ origin) × (IsAsking (cluster, (node_in origin, (client, (token, genesis_in origin)))) × (is_with_node (node_in origin) (genesis_in origin) ≡ true))
+of_fields : (cluster : ℕ) (origin : Option Origin) (client : Option ℕ) (token : ℕ)
+    → IsProbe (record { cluster = cluster; origin = origin; client = client; token = token })
+    → (origin_of (node_in origin) (genesis_in origin) ≡ origin)
+    × (IsAsking (cluster, (node_in origin, (client, (token, genesis_in origin))))
+    × (is_with_node (node_in origin) (genesis_in origin) ≡ true))
 of_fields cluster None client token f = (refl, ((f.0, (tt, (f.2, (f.3, refl)))), are_zeros-replicate 32))
 of_fields cluster (Some o) client token f = (refl, ((f.0, (f.1.0, (f.2, (f.3, f.1.1)))), refl))
 
-fields_again : (p : Probe) → IsProbe p → (probe_by (fields_of p) ≡ p) × (IsAsking (fields_of p) × (is_with_node (node_in p.origin) (genesis_in p.origin) ≡ true))
+fields_again : (p : Probe) → IsProbe p
+    → (probe_by (fields_of p) ≡ p)
+    × (IsAsking (fields_of p) × (is_with_node (node_in p.origin) (genesis_in p.origin) ≡ true))
 fields_again p f =
-    let is = of_fields p.cluster p.origin p.client p.token f in
-    (ap (λ (o : Option Origin). let x : Probe = record { cluster = p.cluster; origin = o; client = p.client; token = p.token } in x) is.0, is.1)
+    let is = of_fields p.cluster p.origin p.client p.token f in (
+      ap (λ (o : Option Origin). let x : Probe =
+          record { cluster = p.cluster; origin = o; client = p.client; token = p.token } in x) is.0,
+      is.1,
+    )
 
 pub probe_fields_reads : Reads read_probe_fields probe IsProbe
 unfolding read_probe_fields
-probe_fields_reads = remade_reads probe_by fields_of (tested (λ (x : Asking). is_with_node x.1.0 x.1.1.1.1) (both read_eight (both read_maybe_node (both read_maybe_client (both read_eight read_digest))))) spelled (λ (x : Asking). IsAsking x × (is_with_node x.1.0 x.1.1.1.1 ≡ true)) IsProbe
+probe_fields_reads = remade_reads probe_by fields_of
+    (tested (λ (x : Asking). is_with_node x.1.0 x.1.1.1.1)
+    (both read_eight (both read_maybe_node (both read_maybe_client (both read_eight read_digest))))) spelled
+    (λ (x : Asking). IsAsking x × (is_with_node x.1.0 x.1.1.1.1 ≡ true)) IsProbe
     (λ x f. has_fields x.0 x.1.0 x.1.1.0 x.1.1.1.0 x.1.1.1.1 f) fields_again
     (tested_reads (λ (x : Asking). is_with_node x.1.0 x.1.1.1.1) _ spelled IsAsking
     (both_reads read_eight eight (λ n. n < 2 ^ 64) _ _ _ eight_reads
-    (both_reads read_maybe_node (λ (o : Option ℕ). four (or_zero o)) (λ (o : Option ℕ). IfSome o IsNode) _ _ _ maybe_node_reads
-    (both_reads read_maybe_client (λ (o : Option ℕ). two (or_zero o)) (λ (o : Option ℕ). IfSome o IsClient) _ _ _ maybe_client_reads
-    (both_reads read_eight eight (λ n. n < 2 ^ 64) read_digest (λ (d : List ℕ). d) (λ (d : List ℕ). length d ≡ 32) eight_reads digest_reads)))))
+    (both_reads read_maybe_node (λ (o : Option ℕ). four (or_zero o))
+    (λ (o : Option ℕ). IfSome o IsNode) _ _ _ maybe_node_reads
+    (both_reads read_maybe_client (λ (o : Option ℕ). two (or_zero o))
+    (λ (o : Option ℕ). IfSome o IsClient) _ _ _ maybe_client_reads
+    (both_reads read_eight eight (λ n. n < 2 ^ 64) read_digest (λ (d : List ℕ). d)
+    (λ (d : List ℕ). length d ≡ 32) eight_reads digest_reads)))))
 
 pub report_fields_reads : Reads read_report_fields report IsReport
 unfolding read_report_fields
-report_fields_reads = fitting read_report_fields report (λ (r : Report). (r.cluster < 2 ^ 64) × (IsNode r.node × (IfSome r.client IsClient × ((r.token < 2 ^ 64) × IsStatus r.status)))) IsReport
+report_fields_reads = fitting read_report_fields report
+    (λ (r : Report). (r.cluster < 2 ^ 64)
+    × (IsNode r.node × (IfSome r.client IsClient × ((r.token < 2 ^ 64) × IsStatus r.status)))) IsReport
     (λ r f. (f.0, f.1.0, f.1.1.0, f.1.1.1.0, f.1.1.1.1)) (λ r f. (f.0, (f.1, (f.2, (f.3, f.4)))))
-    (made_reads (λ (r : ℕ × (ℕ × (Option ℕ × (ℕ × Status)))). let x : Report = record { cluster = r.0; node = r.1.0; client = r.1.1.0; token = r.1.1.1.0; status = r.1.1.1.1 } in x)
+    (made_reads (λ (r : ℕ × (ℕ × (Option ℕ × (ℕ × Status)))). let x : Report =
+    record { cluster = r.0; node = r.1.0; client = r.1.1.0; token = r.1.1.1.0; status = r.1.1.1.1 } in x)
     (λ (r : Report). (r.cluster, (r.node, (r.client, (r.token, r.status))))) (λ x. refl) (λ y. refl) _ _ _
     (both_reads read_eight eight (λ n. n < 2 ^ 64) _ _ _ eight_reads
     (both_reads read_node four IsNode _ _ _ node_reads
-    (both_reads read_maybe_client (λ (o : Option ℕ). two (or_zero o)) (λ (o : Option ℕ). IfSome o IsClient) _ _ _ maybe_client_reads
+    (both_reads read_maybe_client (λ (o : Option ℕ). two (or_zero o))
+    (λ (o : Option ℕ). IfSome o IsClient) _ _ _ maybe_client_reads
     (both_reads read_eight eight (λ n. n < 2 ^ 64) read_status status IsStatus eight_reads status_reads)))))

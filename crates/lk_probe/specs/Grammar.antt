@@ -1,5 +1,6 @@
 -- The one spelling of a probe and of a report, byte by byte, and which of them fit.
-use Rattle.std.specs.Prelude.{◌≡◌, ℕ, ◌-◌, ◌<◌, ◌^◌, Bool, true, false, Option, Some, None, List, ◌∷◌, ◌++◌, length, replicate, IfSome}
+use Rattle.std.specs.Prelude.{◌≡◌, ℕ, ◌-◌, ◌<◌, ◌^◌, Bool, true, false, Option, Some, None, List, ◌∷◌, ◌++◌, length}
+use Rattle.std.specs.Prelude.{replicate, IfSome}
 use Rattle.std.specs.List.{AllByRecursion}
 use Rattle.lk_types.specs.Ranges.{IsNode, IsClient, IsTotal}
 use Rattle.lk_types.specs.Ballots.{IsMark}
@@ -46,7 +47,8 @@ abbrev pub traffic : Traffic → List ℕ
 traffic t = two t.waiting ++ (eight t.unread ++ (eight t.unsent ++ eight t.ticks))
 
 abbrev pub status : Status → List ℕ
-status s = identity s.identity ++ (leadership s.leadership ++ (progress s.progress ++ (traffic s.traffic ++ members s.members)))
+status s = identity s.identity
+    ++ (leadership s.leadership ++ (progress s.progress ++ (traffic s.traffic ++ members s.members)))
 
 -- two letters and the version, and which of both it is: 9 a probe, 10 a report
 abbrev pub front : ℕ → List ℕ → List ℕ
@@ -64,7 +66,8 @@ genesis_in (Some o) = o.genesis
 
 -- the cluster, the node that asks, the client, the token, and the digest of the genesis of the node
 abbrev pub probe : Probe → List ℕ
-probe p = eight p.cluster ++ (four (or_zero (node_in p.origin)) ++ (two (or_zero p.client) ++ (eight p.token ++ genesis_in p.origin)))
+probe p = eight p.cluster
+    ++ (four (or_zero (node_in p.origin)) ++ (two (or_zero p.client) ++ (eight p.token ++ genesis_in p.origin)))
 
 -- the cluster, the node that answers, the client and the token of the probe, and what the node tells of itself
 abbrev pub report : Report → List ℕ
@@ -101,7 +104,8 @@ abbrev pub IsTraffic : Traffic → Type 0
 IsTraffic t = (t.waiting < 2 ^ 16) × (t.unread < 2 ^ 64) × (t.unsent < 2 ^ 64) × (t.ticks < 2 ^ 64)
 
 abbrev pub IsStatus : Status → Type 0
-IsStatus s = IsIdentity s.identity × IsLeadership s.leadership × IsProgress s.progress × IsTraffic s.traffic × AreMembers s.members × AllByRecursion IsMember s.members
+IsStatus s = IsIdentity s.identity × IsLeadership s.leadership × IsProgress s.progress × IsTraffic s.traffic
+    × AreMembers s.members × AllByRecursion IsMember s.members
 
 abbrev pub IsOrigin : Origin → Type 0
 IsOrigin o = IsNode o.node × (length o.genesis ≡ 32)

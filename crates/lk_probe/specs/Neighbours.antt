@@ -1,6 +1,7 @@
 -- What a node knows of the addresses from which nodes write to it: whether it has asked which genesis the node there
 -- was started with, and what that told.
-use Rattle.std.specs.Prelude.{◌≡◌, ◌≤◌, ◌+◌, ◌||◌, ℕ, nat_lt, nat_eq, Bool, true, false, if◌then◌else◌, List, [], ◌∷◌, slice_get, slice_set, Option, Some, None}
+use Rattle.std.specs.Prelude.{◌≡◌, ◌≤◌, ◌+◌, ◌||◌, ℕ, nat_lt, nat_eq, Bool, true, false, if◌then◌else◌, List, [], ◌∷◌}
+use Rattle.std.specs.Prelude.{slice_get, slice_set, Option, Some, None}
 use Rattle.std.specs.Cmp.Lexicographic.{pointwise}
 use Rattle.std.specs.List.{list_any}
 use Rattle.std.specs.contracts.net.socket_addr.SocketAddrPartialEq.TheImpl as address
@@ -88,7 +89,9 @@ having_met place binds (Some n) = record { place = n.place; knowledge = n.knowle
 
 -- a node has written from there: the entry of the address, or a free one, is so, or there is no room
 pub record Meets (place : SocketAddr) (binds : Bool) (old new : Entries) : Type 0 where
-  pub room : entry_for place old ≤ 63 → (e : Option Neighbour) × (slice_get old (entry_for place old) ≡ Some e) × (new ≡ slice_set old (entry_for place old) (Some (having_met place binds e)))
+  pub room : entry_for place old ≤ 63
+      → (e : Option Neighbour) × (slice_get old (entry_for place old) ≡ Some e)
+      × (new ≡ slice_set old (entry_for place old) (Some (having_met place binds e)))
   pub full : 64 ≤ entry_for place old → new ≡ old
 
 -- a probe is due there, and is noted as sent; every other entry is as it was
@@ -102,7 +105,8 @@ pub record Asks (now : ℕ) (place : SocketAddr) (old new : Entries) : Type 0 wh
 
 -- the node at that address is readmitted, where it has an entry; every other entry is as it was
 pub record Readmits (place : SocketAddr) (old new : Entries) : Type 0 where
-  pub known : (n : Neighbour) → slice_get old (entry_for place old) ≡ Some (Some n) → new ≡ slice_set old (entry_for place old) (Some (record n { knowledge = readmitted n.knowledge }))
+  pub known : (n : Neighbour) → slice_get old (entry_for place old) ≡ Some (Some n)
+      → new ≡ slice_set old (entry_for place old) (Some (record n { knowledge = readmitted n.knowledge }))
   pub unknown : ((n : Neighbour) → slice_get old (entry_for place old) ≡ Some (Some n) → ⊥) → new ≡ old
 
 -- it was asked, and has not told
@@ -151,7 +155,8 @@ abbrev pub having_told : List ℕ → Origin → Knowledge
 having_told own told = if pointwise nat_eq told.genesis own then Same else Other told
 
 -- it was asked and tells that; every other entry is as it was
-pub record Learns (place : SocketAddr) (own : List ℕ) (told : Origin) (is : Neighbour) (old new : Entries) : Type 0 where
+pub record Learns (place : SocketAddr) (own : List ℕ) (told : Origin) (is : Neighbour)
+    (old new : Entries) : Type 0 where
   pub neighbour : Neighbour
   pub entry : slice_get old (entry_for place old) ≡ Some (Some neighbour)
   pub asked : is_open neighbour.knowledge ≡ true

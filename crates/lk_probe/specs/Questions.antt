@@ -14,4 +14,6 @@ question cluster asker = record { cluster = cluster; origin = Some asker; client
 -- what is taken of a datagram that came from there: what a report tells, if it answers the probe
 abbrev pub IsReportedOf : Probe → SocketAddr × List ℕ → Option Reported → Type 0
 IsReportedOf p d None = (r : Report) → SpellsReport r d.1 → Answers p r → ⊥
-IsReportedOf p d (Some t) = (r : Report) × SpellsReport r d.1 × Answers p r × (t.from ≡ d.0) × (t.told ≡ record { node = r.node; genesis = r.status.identity.genesis })
+IsReportedOf p d (Some t) =
+    (r : Report) × SpellsReport r d.1 × Answers p r × (t.from ≡ d.0)
+    × (t.told ≡ record { node = r.node; genesis = r.status.identity.genesis })

@@ -1,8 +1,10 @@
 -- Reading each part of a probe and of a report, and both.
-use Rattle.std.specs.Prelude.{ℕ, Bool, true, Option, Some, None, List, [], ◌∷◌, length, take, drop, nat_le, nat_lt, ◌==◌, ◌&&◌, if◌then◌else◌}
+use Rattle.std.specs.Prelude.{ℕ, Bool, true, Option, Some, None, List, [], ◌∷◌, length, take, drop, nat_le, nat_lt}
+use Rattle.std.specs.Prelude.{◌==◌, ◌&&◌, if◌then◌else◌}
 use Rattle.lk_types.specs.Limits.{max_node, max_client}
 use Rattle.lk_fields.specs.Parser.{◌>>=◌, read_byte, both, made, tested}
-use Rattle.lk_fields.specs.FieldReading.{read_two, read_four, read_eight, read_node, read_total, read_mark, read_members}
+use Rattle.lk_fields.specs.FieldReading.{read_two, read_four, read_eight, read_node, read_total, read_mark}
+use Rattle.lk_fields.specs.FieldReading.{read_members}
 use Rattle.lk_probe.specs.Grammar.{probe_length}
 use Rattle.lk_probe.specs.declared.neighbours.Origin.{Origin}
 use Rattle.lk_probe.specs.declared.status.Version.{Version}
@@ -35,7 +37,8 @@ unfoldable pub read_digest : List ℕ → Option (List ℕ × List ℕ)
 read_digest bytes = if nat_lt (length bytes) 32 then None else Some (take 32 bytes, drop 32 bytes)
 
 unfoldable pub read_version : List ℕ → Option (Version × List ℕ)
-read_version = made (λ v. record { major = v.0; minor = v.1.0; patch = v.1.1 }) (both read_byte (both read_byte read_byte))
+read_version =
+    made (λ v. record { major = v.0; minor = v.1.0; patch = v.1.1 }) (both read_byte (both read_byte read_byte))
 
 unfoldable pub read_identity : List ℕ → Option (Identity × List ℕ)
 read_identity = made (λ i. record { genesis = i.0; program = i.1.0; format = i.1.1.0; table = i.1.1.1 })
@@ -46,14 +49,21 @@ read_leadership = made (λ l. record { leads = l.0; leader = l.1.0; silence = l.
     (both read_flag (both read_maybe_node (both read_eight read_mark)))
 
 unfoldable pub read_progress : List ℕ → Option (Progress × List ℕ)
-read_progress = made (λ p. record { executed = p.0; snapshot = p.1.0; pending = p.1.1 }) (both read_total (both read_total read_byte))
+read_progress = made (λ p. record { executed = p.0; snapshot = p.1.0; pending = p.1.1 })
+    (both read_total (both read_total read_byte))
 
 unfoldable pub read_traffic : List ℕ → Option (Traffic × List ℕ)
 read_traffic = made (λ t. record { waiting = t.0; unread = t.1.0; unsent = t.1.1.0; ticks = t.1.1.1 })
     (both read_two (both read_eight (both read_eight read_eight)))
 
 unfoldable pub read_status : List ℕ → Option (Status × List ℕ)
-read_status = made (λ s. record { identity = s.0; leadership = s.1.0; progress = s.1.1.0; traffic = s.1.1.1.0; members = s.1.1.1.1 })
+read_status = made (λ s. record {
+  identity = s.0;
+  leadership = s.1.0;
+  progress = s.1.1.0;
+  traffic = s.1.1.1.0;
+  members = s.1.1.1.1;
+})
     (both read_identity (both read_leadership (both read_progress (both read_traffic read_members))))
 
 -- nothing but zeros
@@ -76,11 +86,14 @@ abbrev pub read_origin : Option ℕ → List ℕ → Option (Option Origin × Li
 read_origin node = made (origin_of node) (tested (is_with_node node) read_digest)
 
 unfoldable pub read_probe_fields : List ℕ → Option (Probe × List ℕ)
-read_probe_fields = made (λ p. record { cluster = p.0; origin = origin_of p.1.0 p.1.1.1.1; client = p.1.1.0; token = p.1.1.1.0 })
-    (tested (λ p. is_with_node p.1.0 p.1.1.1.1) (both read_eight (both read_maybe_node (both read_maybe_client (both read_eight read_digest)))))
+read_probe_fields =
+    made (λ p. record { cluster = p.0; origin = origin_of p.1.0 p.1.1.1.1; client = p.1.1.0; token = p.1.1.1.0 })
+    (tested (λ p. is_with_node p.1.0 p.1.1.1.1)
+    (both read_eight (both read_maybe_node (both read_maybe_client (both read_eight read_digest)))))
 
 unfoldable pub read_report_fields : List ℕ → Option (Report × List ℕ)
-read_report_fields = made (λ r. record { cluster = r.0; node = r.1.0; client = r.1.1.0; token = r.1.1.1.0; status = r.1.1.1.1 })
+read_report_fields =
+    made (λ r. record { cluster = r.0; node = r.1.0; client = r.1.1.0; token = r.1.1.1.0; status = r.1.1.1.1 })
     (both read_eight (both read_node (both read_maybe_client (both read_eight read_status))))
 
 module _ {X : Type 0} where
@@ -91,7 +104,8 @@ module _ {X : Type 0} where
 
   -- all of the bytes, which have that length and end in zeros
   abbrev pub filled : (List ℕ → Option (X × List ℕ)) → List ℕ → Option X
-  filled p bytes = if length bytes == probe_length then (p bytes >>= λ a. if are_zeros a.1 then Some a.0 else None) else None
+  filled p bytes =
+      if length bytes == probe_length then (p bytes >>= λ a. if are_zeros a.1 then Some a.0 else None) else None
 
 unfoldable pub probe_of : List ℕ → Option Probe
 probe_of = filled (fronted 9 read_probe_fields)

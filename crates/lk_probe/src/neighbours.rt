@@ -3,7 +3,9 @@
 ghost use Rattle.std.specs.Prelude.{◌≡◌, ◌≤◌, ◌<◌, true, false, Some, length, is_some, slice_get, IfSome, IsNone};
 ghost use Rattle.std.specs.List.{list_any};
 ghost use Rattle.std.specs.declared.net.socket_addr.SocketAddr.{SocketAddr as Address};
-ghost use Rattle.lk_probe.specs.Neighbours.{Asks, Learns, Meets, Readmits, bound_at, bound_by, bound_in, entry_for, having_asked, having_met, having_told, is_due, is_due_at, is_for, is_open, is_open_at, is_stranger, other_of, is_stranger_at, readmitted};
+ghost use Rattle.lk_probe.specs.Neighbours.{Asks, Learns, Meets, Readmits, bound_at, bound_by, bound_in, entry_for};
+ghost use Rattle.lk_probe.specs.Neighbours.{having_asked, having_met, having_told, is_due, is_due_at, is_for, is_open};
+ghost use Rattle.lk_probe.specs.Neighbours.{is_open_at, is_stranger, other_of, is_stranger_at, readmitted};
 
 use crate::status::DIGEST;
 use lk_types::NodeNo;
@@ -212,7 +214,9 @@ fn entry_for(place: SocketAddr, entries: &[Option<Neighbour>]) -> usize
 
 // The first entry for which a probe is due, and its index.
 fn first_due(now: u64, entries: &[Option<Neighbour>]) -> Option<(usize, Neighbour)>
-    ensures some { IfSome result (λ d. (slice_get entries.now d.0 ≡ Some (Some d.1)) × (is_due now d.1.knowledge ≡ true) × (d.0 < length entries.now)) }
+    ensures some { IfSome result
+        (λ d. (slice_get entries.now d.0 ≡ Some (Some d.1)) × (is_due now d.1.knowledge ≡ true)
+        × (d.0 < length entries.now)) }
     ensures none { IsNone result → list_any (is_due_at now) entries.now ≡ false }
 {
     let mut at = 0;
@@ -302,7 +306,8 @@ impl Neighbours {
         told: Origin,
     ) -> Option<Neighbour>
         ensures some { IfSome result (λ n. Learns place own.now told n self.old self.new) }
-        ensures none { IsNone result → (is_open_at (slice_get self.old (entry_for place self.old)) ≡ false) × (self.new ≡ self.old) }
+        ensures none { IsNone result
+            → (is_open_at (slice_get self.old (entry_for place self.old)) ≡ false) × (self.new ≡ self.old) }
     {
         let at = entry_for(place, &self.entries);
         if at >= ROOM {

@@ -1,7 +1,10 @@
 ghost use Rattle.std.specs.Prelude.{◌≡◌, IfSome, IsSomeAnd};
 ghost use Rattle.lk_fields.specs.Parser.{Finds};
 ghost use Rattle.lk_probe.specs.Grammar.{SpellsProbe, SpellsReport};
-ghost use Rattle.lk_probe.specs.Reading.{are_zeros, read_origin, read_maybe_node, read_maybe_client, read_flag, read_digest, read_version, read_identity, read_leadership, read_progress, read_traffic, read_status, read_probe_fields, read_report_fields, fronted, probe_of, report_of};
+ghost use Rattle.lk_probe.specs.Reading.{are_zeros, read_origin, read_maybe_node, read_maybe_client, read_flag};
+ghost use Rattle.lk_probe.specs.Reading.{read_digest, read_version, read_identity, read_leadership, read_progress};
+ghost use Rattle.lk_probe.specs.Reading.{read_traffic, read_status, read_probe_fields, read_report_fields, fronted};
+ghost use Rattle.lk_probe.specs.Reading.{probe_of, report_of};
 ghost use Rattle.lk_probe.specs.declared.probe.Probe.{Probe as ProbeValue};
 ghost use Rattle.lk_probe.specs.declared.probe.Report.{Report as ReportValue};
 

@@ -2,7 +2,9 @@ ghost use Rattle.std.specs.Prelude.{◌≡◌, ◌≤◌, ◌+◌, ◌*◌, ◌+
 ghost use Rattle.arrayvec.specs.ArrayVec.{array_vec_len};
 ghost use Rattle.lk_types.specs.Limits.{max_members};
 ghost use Rattle.lk_fields.specs.Fields.{one, two, four, eight, ballot, member, members};
-ghost use Rattle.lk_probe.specs.Grammar.{probe_length, flag, genesis_in, or_zero, version, identity, leadership, progress, traffic, status, front, probe, report, padded, probe_spelling, report_spelling};
+ghost use Rattle.lk_probe.specs.Grammar.{probe_length, flag, genesis_in, or_zero, version, identity, leadership};
+ghost use Rattle.lk_probe.specs.Grammar.{progress, traffic, status, front, probe, report, padded, probe_spelling};
+ghost use Rattle.lk_probe.specs.Grammar.{report_spelling};
 
 use crate::neighbours::Origin;
 use crate::probe::{Probe, Report};

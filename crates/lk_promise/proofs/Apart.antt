@@ -1,5 +1,6 @@
 -- In a reachable world each number is that of one node.
-use Rattle.std.proofs.Common.{◌≡◌, ℕ, zero, suc, List, [], ◌∷◌, ◌++◌, set, slice_get, Some, Contains, refl, ap, sym, ◌∙◌, subst, inl, inr, arith}
+use Rattle.std.proofs.Common.{◌≡◌, ℕ, zero, suc, List, [], ◌∷◌, ◌++◌, set, slice_get, Some, Contains, refl, ap, sym}
+use Rattle.std.proofs.Common.{◌∙◌, subst, inl, inr, arith}
 use Rattle.std.proofs.lemmas.Option.{slice_get-get_or, slice_get_within, get_or_from_slice_get}
 use Rattle.lk_types.specs.declared.genesis.Genesis.{Genesis}
 use Rattle.lk_simulated_disk.specs.Memory.{Memory}
@@ -11,7 +12,8 @@ use Rattle.lk_world_nodes.specs.declared.refused.Refused.{Refused}
 use Rattle.lk_world_nodes.specs.declared.seat.Seat.{Seat}
 use Rattle.lk_world_nodes.specs.declared.seat.Life.TheVariants.{Up, Down}
 use Rattle.lk_sim.proofs.Networks.{at_set, at_push}
-use Rattle.lk_promise.specs.Events.{IsStarted, IsUp, ChangesOnly, FallsDown, IsDone, IsRefused, Happens, HappenAll, IsReachable, nothing}
+use Rattle.lk_promise.specs.Events.{IsStarted, IsUp, ChangesOnly, FallsDown, IsDone, IsRefused, Happens, HappenAll}
+use Rattle.lk_promise.specs.Events.{IsReachable, nothing}
 
 -- ---- places
 
@@ -27,7 +29,8 @@ is_there xs k x e = (k, slice_get_within xs k x e, get_or_from_slice_get xs k x 
 pub read_there : {X : Type 0} (xs : List X) (x : X) (c : Contains xs x) → slice_get xs c.0 ≡ Some x
 read_there xs x c = slice_get-get_or xs c.0 x c.1 ∙ ap Some c.2
 
-pub get_set_here : {X : Type 0} (xs : List X) (k : ℕ) (x y : X) → slice_get xs k ≡ Some x → slice_get (set xs k y) k ≡ Some y
+pub get_set_here : {X : Type 0} (xs : List X) (k : ℕ) (x y : X) → slice_get xs k ≡ Some x
+    → slice_get (set xs k y) k ≡ Some y
 get_set_here [] k x y e = absurd (cc e)
 get_set_here (z ∷ xs) zero x y e = refl
 get_set_here (z ∷ xs) (suc k) x y e = get_set_here xs k x y e
@@ -42,16 +45,19 @@ set_same (z ∷ xs) (suc k) x e = ap (λ l. z ∷ l) (set_same xs k x e)
 abbrev pub Apart : List (Seat ReplicaValue) → Type 0
 Apart seats = (i j : ℕ) (s t : Seat ReplicaValue) → At seats i s → At seats j t → s.number ≡ t.number → i ≡ j
 
-pub one_place : (seats : List (Seat ReplicaValue)) → Apart seats → (i j : ℕ) (s t : Seat ReplicaValue) → slice_get seats i ≡ Some s → slice_get seats j ≡ Some t → s.number ≡ t.number → i ≡ j
+pub one_place : (seats : List (Seat ReplicaValue)) → Apart seats → (i j : ℕ) (s t : Seat ReplicaValue)
+    → slice_get seats i ≡ Some s → slice_get seats j ≡ Some t → s.number ≡ t.number → i ≡ j
 one_place seats apart i j s t here there same = apart i j s t (at_place seats i s here) (at_place seats j t there) same
 
-pub one_seat : (seats : List (Seat ReplicaValue)) → Apart seats → (i j : ℕ) (s t : Seat ReplicaValue) → slice_get seats i ≡ Some s → slice_get seats j ≡ Some t → s.number ≡ t.number → s ≡ t
+pub one_seat : (seats : List (Seat ReplicaValue)) → Apart seats → (i j : ℕ) (s t : Seat ReplicaValue)
+    → slice_get seats i ≡ Some s → slice_get seats j ≡ Some t → s.number ≡ t.number → s ≡ t
 one_seat seats apart i j s t here there same =
     let place : i ≡ j = one_place seats apart i j s t here there same in
     same_some s t (sym here ∙ ap (λ (k : ℕ). slice_get seats k) place ∙ there)
 
 -- a node that is down is not up
-pub not_up : (seats : List (Seat ReplicaValue)) → Apart seats → (n place : ℕ) (device : Memory) → slice_get seats place ≡ Some (record { number = n; life = Down device }) → IsUp seats n → ⊥
+pub not_up : (seats : List (Seat ReplicaValue)) → Apart seats → (n place : ℕ) (device : Memory)
+    → slice_get seats place ≡ Some (record { number = n; life = Down device }) → IsUp seats n → ⊥
 not_up seats apart n place device here up =
     let down : Seat ReplicaValue = record { number = n; life = Down device } in
     let same : up.0 ≡ down = one_seat seats apart up.2.0 place up.0 down (read_there seats up.0 up.2) here up.3 in
@@ -63,11 +69,17 @@ not_up seats apart n place device here up =
 -- ---- a node changes, or is added
 
 module _ (old : List (Seat ReplicaValue)) (apart : Apart old) where
-  module _ (place : ℕ) (s t : Seat ReplicaValue) (here : slice_get old place ≡ Some s) (number : t.number ≡ s.number) where
+  module _ (place : ℕ) (s t : Seat ReplicaValue) (here : slice_get old place ≡ Some s)
+      (number : t.number ≡ s.number) where
     -- who was at a place
-    was : (k : ℕ) (x : Seat ReplicaValue) → At (set old place t) k x → (y : Seat ReplicaValue) × At old k y × (x.number ≡ y.number)
+    was : (k : ℕ) (x : Seat ReplicaValue) → At (set old place t) k x
+        → (y : Seat ReplicaValue) × At old k y × (x.number ≡ y.number)
     was k x at = elim (at_set old place t k x at) [
-      | inl e ↦ (s, subst (λ (i : ℕ). At old i s) (sym e.0) (at_place old place s here), ap (λ (u : Seat ReplicaValue). u.number) (sym e.1) ∙ number)
+      | inl e ↦ (
+        s,
+        subst (λ (i : ℕ). At old i s) (sym e.0) (at_place old place s here),
+        ap (λ (u : Seat ReplicaValue). u.number) (sym e.1) ∙ number,
+      )
       | inr ne ↦ (x, ne.1, refl)
     ]
 
@@ -79,7 +91,8 @@ module _ (old : List (Seat ReplicaValue)) (apart : Apart old) where
 
   push_apart : (n : ℕ) (s : Seat ReplicaValue) → (IsStarted old n → ⊥) → s.number ≡ n → Apart (old ++ s ∷ [])
   push_apart n s unused number i j u v at_i at_j same =
-      let is : (x : Seat ReplicaValue) → s ≡ x → x.number ≡ n = λ x e. ap (λ (y : Seat ReplicaValue). y.number) (sym e) ∙ number in
+      let is : (x : Seat ReplicaValue) → s ≡ x
+      → x.number ≡ n = λ x e. ap (λ (y : Seat ReplicaValue). y.number) (sym e) ∙ number in
       elim (at_push old s i u at_i) [
         | inl p ↦ elim (at_push old s j v at_j) [
           | inl q ↦ apart i j u v p q same
@@ -106,16 +119,23 @@ module _ (old : List (Seat ReplicaValue)) (apart : Apart old) where
 pub done_apart : (old new : Scene ReplicaValue) (e : Event) → IsDone old e new → Apart old.seats → Apart new.seats
 done_apart old new e done apart = changes_apart old.seats apart done.only.0 new.seats done.only.2
 
-refused_apart : (old new : Scene ReplicaValue) (e : Event) (why : Refused) → IsRefused old e why new → Apart old.seats → Apart new.seats
+refused_apart : (old new : Scene ReplicaValue) (e : Event) (why : Refused) → IsRefused old e why new
+    → Apart old.seats → Apart new.seats
 refused_apart old new e why refused apart = elim refused.only [
   | inl same ↦ subst Apart (sym same) apart
   | inr falls ↦ falls_apart old.seats apart falls.0 new.seats falls.2
 ]
 
 happens_apart : (old new : Scene ReplicaValue) → Happens old new → Apart old.seats → Apart new.seats
-happens_apart old new h apart = elim h.1 [ inl done ↦ done_apart old new h.0 done apart | inr refused ↦ refused_apart old new h.0 refused.0 refused.1 apart ]
+happens_apart old new h apart =
+    elim h.1 [
+      | inl done ↦ done_apart old new h.0 done apart
+      | inr refused ↦
+          refused_apart old new h.0 refused.0 refused.1 apart
+    ]
 
-all_apart : (worlds : List (Scene ReplicaValue)) (first last : Scene ReplicaValue) → HappenAll first worlds last → Apart first.seats → Apart last.seats
+all_apart : (worlds : List (Scene ReplicaValue)) (first last : Scene ReplicaValue) → HappenAll first worlds last
+    → Apart first.seats → Apart last.seats
 all_apart [] first last same apart = subst (λ (w : Scene ReplicaValue). Apart w.seats) (sym same) apart
 all_apart (next ∷ worlds) first last all apart = all_apart worlds next last all.1 (happens_apart first next all.0 apart)
 

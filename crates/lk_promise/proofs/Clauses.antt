@@ -46,7 +46,8 @@ use Rattle.lk_promise.proofs.Quorums.{agreed, at_is, members_are, has_sent, is_c
 use Rattle.lk_promise.proofs.Explaining.{stands_at, all_fit, answered}
 
 module _ (genesis : Genesis) (sent : List Datagram) (trace : List Note) where
-  explains : (L : List Command) → Chosen genesis sent L → Explains table_meaning genesis sent trace L → promise.Explains genesis sent trace L
+  explains : (L : List Command) → Chosen genesis sent L → Explains table_meaning genesis sent trace L
+      → promise.Explains genesis sent trace L
   explains L chosen x =
       let fit = all_fit genesis sent L chosen in
       record {
@@ -57,14 +58,17 @@ module _ (genesis : Genesis) (sent : List Datagram) (trace : List Note) where
         counted = λ n i set v w c e. x.counted n i set v w c (sym (at_is L i) ∙ e);
         counted_once = λ n k i set other v w c d. x.counted_twice n k i set other v w c d;
         answered = λ n client number a c. answered genesis L client number a fit (x.answered n client number a c);
-        told = λ n client number last c. let t = x.told n client number last c in (t.0, (t.1.0, answered genesis L client last t.1.0 fit t.1.1));
+        told = λ n client number last c. let t = x.told n client number last c in
+            (t.0, (t.1.0, answered genesis L client last t.1.0 fit t.1.1));
         decided = λ n k d v w s e f.
             let next : k + 1 ≡ suc k = omega arith in
-            x.decided n k d v w (has_sent genesis sent n (message.Decided d) s) (sym (ap (at d.commands) next ∙ at_is d.commands (suc k)) ∙ e) (sym (at_is L (d.first + k)) ∙ f);
+            x.decided n k d v w (has_sent genesis sent n (message.Decided d) s)
+            (sym (ap (at d.commands) next ∙ at_is d.commands (suc k)) ∙ e) (sym (at_is L (d.first + k)) ∙ f);
         parts = λ n p s. is_part genesis L p fit (x.parts n p (has_sent genesis sent n (message.Part p) s));
       }
 
-  explained : (L : List Command) × Chosen genesis sent L × Explains table_meaning genesis sent trace L → IsExplained genesis sent trace
+  explained : (L : List Command) × Chosen genesis sent L × Explains table_meaning genesis sent trace L
+      → IsExplained genesis sent trace
   explained e = (e.0, is_chosen genesis sent e.0 e.1, explains e.0 e.1 e.2)
 
   effective : (L : List Command) (i : ℕ) (r : RequestValue) → TakesEffectAt genesis L i r → IsEffectiveAt L i r
@@ -80,7 +84,8 @@ module _ (genesis : Genesis) (sent : List Datagram) (trace : List Note) where
 
   ordered : InOrder genesis sent trace → IsOrdered genesis sent trace
   ordered o front back parts n client number a answered_there r new L i chosen takes =
-      let b = o front back parts n client number a answered_there r new L i (chosen_is genesis sent L chosen) (effective L i r takes) in
+      let b = o front back parts n client number a answered_there r new L i (chosen_is genesis sent L chosen)
+      (effective L i r takes) in
       (b.place, b.request, b.before, b.of_client, b.of_number, effective_back L b.place b.request b.effective)
 
 -- ---- of the replica of the lock table
@@ -97,17 +102,22 @@ locks_behave = record {
 }
 
 executed : (genesis : Genesis) (seats : List (Seat ReplicaValue)) (sent : List Datagram)
-    → ((k : ℕ) (s : Seat ReplicaValue) → At seats k s → SumsUpChosen (λ r. r.node.learner.whole) (disks_by locks_behave) table_meaning genesis sent s) → HaveExecuted genesis seats sent
+    → ((k : ℕ) (s : Seat ReplicaValue) → At seats k s
+    → SumsUpChosen (λ r. r.node.learner.whole) (disks_by locks_behave) table_meaning genesis sent s)
+    → HaveExecuted genesis seats sent
 executed genesis seats sent all s here r up =
     let e = (all here.0 s (here.1, here.2)).executed r up in
     has_executed genesis sent r e.0 e.1 e.2
 
 snapshots : (genesis : Genesis) (seats : List (Seat ReplicaValue)) (sent : List Datagram)
-    → ((k : ℕ) (s : Seat ReplicaValue) → At seats k s → SumsUpChosen (λ r. r.node.learner.whole) (disks_by locks_behave) table_meaning genesis sent s) → HaveSnapshots genesis seats sent
+    → ((k : ℕ) (s : Seat ReplicaValue) → At seats k s
+    → SumsUpChosen (λ r. r.node.learner.whole) (disks_by locks_behave) table_meaning genesis sent s)
+    → HaveSnapshots genesis seats sent
 snapshots genesis seats sent all s here = has_snapshots genesis sent s (all here.0 s (here.1, here.2))
 
 -- what a world promises is the promise
-pub promised : (w : Scene ReplicaValue) → Promises locks_behave (λ r. r.node.learner.whole) table_meaning w → KeepsPromise w
+pub promised : (w : Scene ReplicaValue)
+    → Promises locks_behave (λ r. r.node.learner.whole) table_meaning w → KeepsPromise w
 promised w p = record {
   explained = explained w.genesis w.sent w.trace p.explained;
   agree = agreed w.genesis w.sent p.agree;
@@ -121,7 +131,8 @@ promised w p = record {
   room = short w.seats p.room;
 }
 
-pub compacts : (e : Event) (w : Scene ReplicaValue) → LeavesPacked (λ r. r.node.learner.whole) (disks_by locks_behave) table_meaning e w → Compacts e w
+pub compacts : (e : Event) (w : Scene ReplicaValue)
+    → LeavesPacked (λ r. r.node.learner.whole) (disks_by locks_behave) table_meaning e w → Compacts e w
 compacts (event.Start n) w k = tt
 compacts (event.Restart n) w k = tt
 compacts (event.Tick n) w k = tt
@@ -143,10 +154,14 @@ if_err P Q (Ok x) f p = tt
 if_err P Q (Err e) f p = f e p
 
 pub done : (old new : Scene ReplicaValue) (e : Event) → Does locks_behave old e new → IsDone old e new
-done = is_done locks_behave (λ r. refl) (λ t r. refl) (λ r o q came k. k) (λ r given q came k. k) (λ device whose came k. k)
+done = is_done locks_behave (λ r. refl) (λ t r. refl) (λ r o q came k. k) (λ r given q came k. k)
+    (λ device whose came k. k)
 
-pub not_done : (old new : Scene ReplicaValue) (e : Event) (r : Refused) → doing.IsRefused locks_behave old e r new → IsRefused old e r new
-not_done = refused locks_behave (λ r. refl) (λ t r. refl) (λ r o q came k. k) (λ r given q came k. k) (λ device whose came k. k)
+pub not_done : (old new : Scene ReplicaValue) (e : Event) (r : Refused)
+    → doing.IsRefused locks_behave old e r new → IsRefused old e r new
+not_done = refused locks_behave (λ r. refl) (λ t r. refl) (λ r o q came k. k) (λ r given q came k. k)
+    (λ device whose came k. k)
 
-pub ran : (old : Scene ReplicaValue) (events : List Event) (how : RunEnd) (new : Scene ReplicaValue) → Runs locks_behave old events how new → IsRun old events how new
+pub ran : (old : Scene ReplicaValue) (events : List Event) (how : RunEnd) (new : Scene ReplicaValue)
+    → Runs locks_behave old events how new → IsRun old events how new
 ran = runs locks_behave (λ r. refl) (λ t r. refl) (λ r o q came k. k) (λ r given q came k. k) (λ device whose came k. k)

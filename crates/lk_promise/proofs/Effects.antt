@@ -1,5 +1,6 @@
 -- What a list leaves, in the words of the promise and in those of the crates below: the same.
-use Rattle.std.proofs.Common.{◌≡◌, ℕ, ◌+◌, Bool, true, false, cond, eqb, ltb, leb, ◌&&◌, List, [], ◌∷◌, ◌++◌, length, length-append, refl, ap, subst, sym, ◌∙◌, inl, inr, arith}
+use Rattle.std.proofs.Common.{◌≡◌, ℕ, ◌+◌, Bool, true, false, cond, eqb, ltb, leb, ◌&&◌, List, [], ◌∷◌, ◌++◌, length}
+use Rattle.std.proofs.Common.{length-append, refl, ap, subst, sym, ◌∙◌, inl, inr, arith}
 use Rattle.std.specs.List.{list_all}
 use Rattle.std.proofs.lemmas.Bool.{cases_Bool, eqb-true, le-leb}
 use Rattle.std.proofs.lemmas.List.Folds.{list_all-append}
@@ -10,7 +11,8 @@ use Rattle.lk_types.specs.declared.command.Op.{Op}
 use Rattle.lk_types.specs.declared.command.Op.TheVariants.{Table, Join, Leave, Raise}
 use Rattle.lk_types.specs.declared.genesis.Genesis.{Genesis}
 use Rattle.lk_members.specs.Effects.{Command, RequestValue, Noop, Request, is_older, in_effect, placed, effects}
-use Rattle.lk_members.specs.Rosters.{PlainRoster, next_roster, roster_of, roster_answer, is_granted, is_granted_change, last_change}
+use Rattle.lk_members.specs.Rosters.{PlainRoster, next_roster, roster_of, roster_answer, is_granted, is_granted_change}
+use Rattle.lk_members.specs.Rosters.{last_change}
 use Rattle.lk_members.specs.Windows.{RosterValue, roster_after}
 use Rattle.lk_members.proofs.Memberships.{roster_of-push, roster_after-push, newest_roster-roster_after}
 use Rattle.lk_state.proofs.Wholes.{by_pushes}
@@ -18,10 +20,12 @@ use Rattle.lk_locks.specs.Lists.{table_after, table_of}
 use Rattle.lk_locks.specs.Bodies.{body_of}
 use Rattle.lk_locks.proofs.Tables.{table_of-push}
 use Rattle.lk_locks.specs.Plain.{Table as TableValue}
-use Rattle.lk_promise.specs.Plain.{Locks, State, table, raise, serve, join, leave, takes_effect, after_one, begin, after}
+use Rattle.lk_promise.specs.Plain.{Locks, State, table, raise, serve, join, leave, takes_effect, after_one, begin}
+use Rattle.lk_promise.specs.Plain.{after}
 use Rattle.lk_promise.proofs.Locking.{locks_agree, greatest_agrees, join_agrees, leave_agrees}
 
-pub after-push : (genesis : Genesis) (L : List Command) (c : Command) → after genesis (L ++ c ∷ []) ≡ after_one (after genesis L) c
+pub after-push : (genesis : Genesis) (L : List Command) (c : Command)
+    → after genesis (L ++ c ∷ []) ≡ after_one (after genesis L) c
 unfolding after
 after-push genesis L c = fold-append after_one (begin genesis) L (c ∷ [])
 
@@ -58,16 +62,37 @@ raise_locks s = raised_both s s.raised refl
 
 -- a request leaves the same roster and the same table, and is answered the same
 pub record Serves (client : ℕ) (op : Op) (s : State) : Type 0 where
-  pub roster : next_roster (record { members = s.members; greatest = s.greatest }) op ≡ record { members = (serve client op s).1.members; greatest = (serve client op s).1.greatest }
+  pub roster : next_roster (record { members = s.members; greatest = s.greatest }) op
+      ≡ record { members = (serve client op s).1.members; greatest = (serve client op s).1.greatest }
   pub locks : table_after client op (table s) ≡ table (serve client op s).1
   pub least : (serve client op s).1.least ≡ s.least
-  pub changed : (serve client op s).1.changed ≡ cond (is_granted (roster_answer (roster_in s) op)) (s.position + 1) s.changed
+  pub changed : (serve client op s).1.changed
+      ≡ cond (is_granted (roster_answer (roster_in s) op)) (s.position + 1) s.changed
 
 serves : (client : ℕ) (op : Op) (s : State) → Serves client op s
-serves client (Table body) s = record { roster = refl; locks = ap (in_table s.raised) (locks_agree client s.raised (body_of body) s.locks).1; least = refl; changed = refl }
-serves client (Join node port) s = let j = join_agrees node port s in record { roster = j.roster_is; locks = same_table s (join node port s).1 j.raised j.locks; least = j.least; changed = j.changed }
-serves client (Leave node) s = let j = leave_agrees node s in record { roster = j.roster_is; locks = same_table s (leave node s).1 j.raised j.locks; least = j.least; changed = j.changed }
-serves client Raise s = record { roster = raise_roster s; locks = raise_locks s; least = raise_least s; changed = raise_changed s }
+serves client (Table body) s =
+    record {
+      roster = refl;
+      locks = ap (in_table s.raised) (locks_agree client s.raised (body_of body) s.locks).1;
+      least = refl;
+      changed = refl;
+    }
+serves client (Join node port) s = let j = join_agrees node port s in
+    record {
+      roster = j.roster_is;
+      locks = same_table s (join node port s).1 j.raised j.locks;
+      least = j.least;
+      changed = j.changed;
+    }
+serves client (Leave node) s = let j = leave_agrees node s in
+    record {
+      roster = j.roster_is;
+      locks = same_table s (leave node s).1 j.raised j.locks;
+      least = j.least;
+      changed = j.changed;
+    }
+serves client Raise s =
+    record { roster = raise_roster s; locks = raise_locks s; least = raise_least s; changed = raise_changed s }
 
 -- ---- one command
 
@@ -79,11 +104,14 @@ pub record Leaves (genesis : Genesis) (L : List Command) (s : State) : Type 0 wh
   pub position : s.position ≡ length L
   pub changed : last_change genesis L ≡ s.changed
 
-change_more : (genesis : Genesis) (L : List Command) (c : Command) → last_change genesis (L ++ c ∷ []) ≡ cond (is_granted_change (roster_of genesis L) (in_effect L c)) (length L + 1) (last_change genesis L)
+change_more : (genesis : Genesis) (L : List Command) (c : Command)
+    → last_change genesis (L ++ c ∷ [])
+    ≡ cond (is_granted_change (roster_of genesis L) (in_effect L c)) (length L + 1) (last_change genesis L)
 unfolding roster_after
 change_more genesis L c =
     ap (λ (v : RosterValue). v.changed) (roster_after-push genesis L c genesis.in_range.0)
-    ∙ ap (λ (r : PlainRoster). cond (is_granted_change r (in_effect L c)) (length L + 1) (last_change genesis L)) (newest_roster-roster_after genesis L genesis.in_range.0)
+    ∙ ap (λ (r : PlainRoster). cond (is_granted_change r (in_effect L c)) (length L + 1) (last_change genesis L))
+    (newest_roster-roster_after genesis L genesis.in_range.0)
 
 one_more : (L : List Command) (c : Command) (n : ℕ) → n ≡ length L → n + 1 ≡ length (L ++ c ∷ [])
 one_more L c n e = ap (λ (k : ℕ). k + 1) e ∙ sym (length-append L (c ∷ []))
@@ -92,8 +120,10 @@ and_true : (a : Bool) → (a && true) ≡ a
 and_true true = refl
 and_true false = refl
 
-older-push : (r : RequestValue) (L : List Command) (c : Command) → list_all (is_older r) (L ++ c ∷ []) ≡ (list_all (is_older r) L && is_older r c)
-older-push r L c = list_all-append (is_older r) L (c ∷ []) ∙ ap (λ (b : Bool). list_all (is_older r) L && b) (and_true (is_older r c))
+older-push : (r : RequestValue) (L : List Command) (c : Command)
+    → list_all (is_older r) (L ++ c ∷ []) ≡ (list_all (is_older r) L && is_older r c)
+older-push r L c =
+    list_all-append (is_older r) L (c ∷ []) ∙ ap (λ (b : Bool). list_all (is_older r) L && b) (and_true (is_older r c))
 
 -- a request that takes effect raises its client's number
 raised : (a x n : ℕ) → leb a x ≡ true → (leb a n && ltb x n) ≡ leb (x + 1) n
@@ -103,7 +133,9 @@ raised a x n le = grind arith
 passed : (a x n : ℕ) → leb a x ≡ false → (leb a n && ltb x n) ≡ leb a n
 passed a x n gt = grind arith
 
-older_with : (least : ℕ → ℕ) (q r : RequestValue) → leb (least q.client) q.number ≡ true → (leb (least r.client) r.number && is_older r (Request q)) ≡ leb (cond (eqb r.client q.client) (q.number + 1) (least r.client)) r.number
+older_with : (least : ℕ → ℕ) (q r : RequestValue) → leb (least q.client) q.number ≡ true
+    → (leb (least r.client) r.number && is_older r (Request q))
+    ≡ leb (cond (eqb r.client q.client) (q.number + 1) (least r.client)) r.number
 older_with least q r takes = elim (cases_Bool (eqb q.client r.client)) [
   | inl e ↦
       let same : q.client ≡ r.client = eqb-true _ _ e in
@@ -114,7 +146,8 @@ older_with least q r takes = elim (cases_Bool (eqb q.client r.client)) [
       rw (e, back) (and_true (leb (least r.client) r.number))
 ]
 
-older_without : (least : ℕ → ℕ) (q r : RequestValue) → leb (least q.client) q.number ≡ false → (leb (least r.client) r.number && is_older r (Request q)) ≡ leb (least r.client) r.number
+older_without : (least : ℕ → ℕ) (q r : RequestValue) → leb (least q.client) q.number ≡ false
+    → (leb (least r.client) r.number && is_older r (Request q)) ≡ leb (least r.client) r.number
 older_without least q r takes = elim (cases_Bool (eqb q.client r.client)) [
   | inl e ↦
       let same : q.client ≡ r.client = eqb-true _ _ e in
@@ -122,7 +155,8 @@ older_without least q r takes = elim (cases_Bool (eqb q.client r.client)) [
   | inr e ↦ rw e (and_true (leb (least r.client) r.number))
 ]
 
-step : (genesis : Genesis) (L : List Command) (c : Command) (s : State) → Leaves genesis L s → Leaves genesis (L ++ c ∷ []) (after_one s c)
+step : (genesis : Genesis) (L : List Command) (c : Command) (s : State) → Leaves genesis L s
+    → Leaves genesis (L ++ c ∷ []) (after_one s c)
 step genesis L Noop s now = record {
   least = λ r. older-push r L Noop ∙ and_true (list_all (is_older r) L) ∙ now.least r;
   roster = roster_of-push genesis L Noop ∙ now.roster;
@@ -136,18 +170,27 @@ step genesis L (Request q) s now = elim (cases_Bool (takes_effect s q)) [
       let does = serves q.client q.op s in
       let roster_now = roster_of-push genesis L (Request q) in
       let table_now = table_of-push L (Request q) in
-      let members_now : roster_of genesis (L ++ Request q ∷ []) ≡ next_roster (roster_of genesis L) q.op = rw takes at roster_now in
+      let members_now : roster_of genesis (L ++ Request q ∷ []) ≡ next_roster (roster_of genesis L) q.op =
+      rw takes at roster_now in
       let locks_now : table_of (L ++ Request q ∷ []) ≡ table_after q.client q.op (table_of L) = rw takes at table_now in
       let change_now = change_more genesis L (Request q) in
-      let change : last_change genesis (L ++ Request q ∷ []) ≡ cond (is_granted (roster_answer (roster_of genesis L) q.op)) (length L + 1) (last_change genesis L) = rw takes at change_now in
+      let change : last_change genesis (L ++ Request q ∷ [])
+      ≡ cond (is_granted (roster_answer (roster_of genesis L) q.op)) (length L + 1) (last_change genesis L) =
+      rw takes at change_now in
       rw e (record {
-        least = λ r. older-push r L (Request q) ∙ ap (λ (b : Bool). b && is_older r (Request q)) (now.least r) ∙ older_with s.least q r e ∙ ap (λ (f : ℕ → ℕ). leb (cond (eqb r.client q.client) (q.number + 1) (f r.client)) r.number) (sym does.least);
+        least = λ r. older-push r L (Request q) ∙ ap (λ (b : Bool). b && is_older r (Request q)) (now.least r)
+            ∙ older_with s.least q r e
+            ∙ ap (λ (f : ℕ → ℕ). leb (cond (eqb r.client q.client) (q.number + 1) (f r.client)) r.number)
+            (sym does.least);
         roster = members_now ∙ ap (λ (x : PlainRoster). next_roster x q.op) now.roster ∙ does.roster;
         locks = locks_now ∙ ap (table_after q.client q.op) now.locks ∙ does.locks;
         position = one_more L (Request q) s.position now.position;
-        changed = change ∙ ap (λ (x : PlainRoster). cond (is_granted (roster_answer x q.op)) (length L + 1) (last_change genesis L)) now.roster
-            ∙ ap (λ (k : ℕ). cond (is_granted (roster_answer (roster_in s) q.op)) (k + 1) (last_change genesis L)) (sym now.position)
-            ∙ ap (λ (k : ℕ). cond (is_granted (roster_answer (roster_in s) q.op)) (s.position + 1) k) now.changed ∙ sym does.changed;
+        changed = change ∙ ap (λ (x : PlainRoster). cond (is_granted (roster_answer x q.op)) (length L + 1)
+            (last_change genesis L)) now.roster
+            ∙ ap (λ (k : ℕ). cond (is_granted (roster_answer (roster_in s) q.op)) (k + 1) (last_change genesis L))
+            (sym now.position)
+            ∙ ap (λ (k : ℕ). cond (is_granted (roster_answer (roster_in s) q.op)) (s.position + 1) k) now.changed
+            ∙ sym does.changed;
       })
   | inr e ↦
       let takes : list_all (is_older q) L ≡ false = now.least q ∙ e in
@@ -158,7 +201,8 @@ step genesis L (Request q) s now = elim (cases_Bool (takes_effect s q)) [
       let change_now = change_more genesis L (Request q) in
       let change : last_change genesis (L ++ Request q ∷ []) ≡ last_change genesis L = rw takes at change_now in
       rw e (record {
-        least = λ r. older-push r L (Request q) ∙ ap (λ (b : Bool). b && is_older r (Request q)) (now.least r) ∙ older_without s.least q r e;
+        least = λ r. older-push r L (Request q) ∙ ap (λ (b : Bool). b && is_older r (Request q)) (now.least r)
+            ∙ older_without s.least q r e;
         roster = members_now ∙ now.roster;
         locks = locks_now ∙ now.locks;
         position = one_more L (Request q) s.position now.position;
@@ -170,7 +214,8 @@ first : (genesis : Genesis) → Leaves genesis [] (after genesis [])
 unfolding roster_of table_of effects placed after last_change
 first genesis = record {
   least = λ r. sym (le-leb 0 r.number (omega arith));
-  roster = ap (λ (n : ℕ). let x : PlainRoster = record { members = genesis.members; greatest = n } in x) (greatest_agrees genesis.members);
+  roster = ap (λ (n : ℕ). let x : PlainRoster = record { members = genesis.members; greatest = n } in x)
+      (greatest_agrees genesis.members);
   locks = refl;
   position = refl;
   changed = refl;
@@ -179,4 +224,5 @@ first genesis = record {
 -- each list does
 pub leaves : (genesis : Genesis) (L : List Command) → Leaves genesis L (after genesis L)
 leaves genesis = by_pushes (λ (L : List Command). Leaves genesis L (after genesis L)) (first genesis)
-    (λ L c now. subst (Leaves genesis (L ++ c ∷ [])) (sym (after-push genesis L c)) (step genesis L c (after genesis L) now))
+    (λ L c now. subst (Leaves genesis (L ++ c ∷ [])) (sym (after-push genesis L c))
+    (step genesis L c (after genesis L) now))

@@ -7,7 +7,8 @@ use Rattle.lk_types.specs.declared.command.Command.TheVariants.{Noop, Request}
 use Rattle.lk_types.specs.declared.command.Op.{Op}
 use Rattle.lk_types.specs.declared.command.Op.TheVariants.{Table, Join, Leave, Raise}
 use Rattle.lk_types.specs.declared.genesis.Genesis.{Genesis}
-use Rattle.lk_promise.specs.Plain.{State, serve, takes_effect, after_one, begin, after, changes, asks_change, HasFixedMembers}
+use Rattle.lk_promise.specs.Plain.{State, serve, takes_effect, after_one, begin, after, changes, asks_change}
+use Rattle.lk_promise.specs.Plain.{HasFixedMembers}
 
 op_fixed : (client : ℕ) (op : Op) (s : State) → changes op ≡ false → (serve client op s).1.members ≡ s.members
 op_fixed client (Table body) s e = refl
@@ -22,7 +23,8 @@ one_fixed s (Request r) e = elim (cases_Bool (takes_effect s r)) [
   | inr none ↦ rw none refl
 ]
 
-all_fixed : (n : ℕ) (L : List Command) (s : State) → list_any asks_change L ≡ false → (fold after_one s (take n L)).members ≡ s.members
+all_fixed : (n : ℕ) (L : List Command) (s : State) → list_any asks_change L ≡ false
+    → (fold after_one s (take n L)).members ≡ s.members
 all_fixed zero L s e = refl
 all_fixed (suc n) [] s e = refl
 all_fixed (suc n) (c ∷ L) s e =

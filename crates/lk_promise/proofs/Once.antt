@@ -1,5 +1,6 @@
 -- Each number of a client takes effect once, and greater numbers behind smaller ones.
-use Rattle.std.proofs.Common.{◌≡◌, ℕ, zero, suc, ◌-◌, ◌<◌, ◌≤◌, Bool, true, List, [], ◌∷◌, take, Some, Contains, ap, sym, ◌∙◌, inl, inr, arith}
+use Rattle.std.proofs.Common.{◌≡◌, ℕ, zero, suc, ◌-◌, ◌<◌, ◌≤◌, Bool, true, List, [], ◌∷◌, take, Some, Contains, ap}
+use Rattle.std.proofs.Common.{sym, ◌∙◌, inl, inr, arith}
 use Rattle.std.specs.List.{list_all}
 use Rattle.std.proofs.lemmas.Bool.{and_parts, cases_lt}
 use Rattle.lk_types.specs.declared.genesis.Genesis.{Genesis}
@@ -15,7 +16,8 @@ at_front [] (suc i) n v e le = absurd cc
 at_front (c ∷ L) (suc zero) zero v e le = absurd (omega (arith, le))
 at_front (c ∷ L) (suc zero) (suc n) v e le = (0, omega arith, cc)
 at_front (c ∷ L) (suc (suc i)) zero v e le = absurd (omega (arith, le))
-at_front (c ∷ L) (suc (suc i)) (suc n) v e le = contains_more c (take n L) v (at_front L (suc i) n v e (omega (arith, le)))
+at_front (c ∷ L) (suc (suc i)) (suc n) v e le =
+    contains_more c (take n L) v (at_front L (suc i) n v e (omega (arith, le)))
 
 each_passes : (p : Command → Bool) (L : List Command) (v : Command) → list_all p L ≡ true → Contains L v → p v ≡ true
 each_passes p [] v all c = absurd (omega (arith, c.1))
@@ -27,14 +29,17 @@ older_is_less : (q r : RequestValue) → q.client ≡ r.client → is_older r (R
 older_is_less q r client older = grind arith
 
 -- the numbers of a client that take effect rise along the list
-pub numbers_rise : (genesis : Genesis) (L : List Command) (i j : ℕ) (q r : RequestValue) → TakesEffectAt genesis L i q → TakesEffectAt genesis L j r → q.client ≡ r.client → i < j → q.number < r.number
+pub numbers_rise : (genesis : Genesis) (L : List Command) (i j : ℕ) (q r : RequestValue) → TakesEffectAt genesis L i q
+    → TakesEffectAt genesis L j r → q.client ≡ r.client → i < j → q.number < r.number
 numbers_rise genesis L i j q r first second client lt =
     let front = take (j - 1) L in
     let older : list_all (is_older r) front ≡ true = (leaves genesis front).least r ∙ second.1 in
-    older_is_less q r client (each_passes (is_older r) front (Request q) older (at_front L i (j - 1) (Request q) first.0 (omega (arith, lt))))
+    older_is_less q r client
+    (each_passes (is_older r) front (Request q) older (at_front L i (j - 1) (Request q) first.0 (omega (arith, lt))))
 
 -- of two requests of a client that take effect the one of the smaller number stands in front
-pub smaller_first : (genesis : Genesis) (L : List Command) (i j : ℕ) (q r : RequestValue) → TakesEffectAt genesis L i q → TakesEffectAt genesis L j r → q.client ≡ r.client → q.number < r.number → i < j
+pub smaller_first : (genesis : Genesis) (L : List Command) (i j : ℕ) (q r : RequestValue) → TakesEffectAt genesis L i q
+    → TakesEffectAt genesis L j r → q.client ≡ r.client → q.number < r.number → i < j
 smaller_first genesis L i j q r first second client less = elim (cases_lt i j) [
   | inl lower ↦ lower
   | inr most ↦ elim (cases_lt j i) [

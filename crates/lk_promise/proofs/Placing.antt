@@ -1,5 +1,6 @@
 -- Where a request that was answered takes effect.
-use Rattle.std.proofs.Common.{◌≡◌, ℕ, suc, ◌+◌, ◌-◌, true, List, [], ◌∷◌, ◌++◌, length, take, slice_get, Some, refl, ap, sym, ◌∙◌, subst, arith}
+use Rattle.std.proofs.Common.{◌≡◌, ℕ, suc, ◌+◌, ◌-◌, true, List, [], ◌∷◌, ◌++◌, length, take, slice_get, Some, refl, ap}
+use Rattle.std.proofs.Common.{sym, ◌∙◌, subst, arith}
 use Rattle.lk_types.specs.declared.answer.Answer.{Answer}
 use Rattle.lk_types.specs.declared.command.Command.{Command}
 use Rattle.lk_types.specs.declared.command.Command.TheVariants.{Request}
@@ -29,18 +30,23 @@ pub record IsPlaced (genesis : Genesis) (L : List Command) (client number : ℕ)
   pub takes : TakesEffectAt genesis L position request
   pub answered : (serve client request.op (after genesis (take (position - 1) L))).0 ≡ answer
 
-pub placed : (genesis : Genesis) (L : List Command) (client number : ℕ) (answer : Answer) → IsAnswered genesis L client number answer → IsPlaced genesis L client number answer
+pub placed : (genesis : Genesis) (L : List Command) (client number : ℕ) (answer : Answer)
+    → IsAnswered genesis L client number answer → IsPlaced genesis L client number answer
 placed genesis L client number answer a =
     let place : ℕ = length a.before in
     let next : place + 1 ≡ suc place = omega arith in
     let less : (place + 1) - 1 ≡ place = omega arith in
-    let front : take ((place + 1) - 1) L ≡ a.before = ap (λ (n : ℕ). take n L) less ∙ ap (λ (l : List Command). take place l) a.stands ∙ take_front a.before (Request a.request ∷ a.later) in
-    let stands : at L (place + 1) ≡ Some (Request a.request) = ap (λ (n : ℕ). at L n) next ∙ at_is L (suc place) ∙ ap (λ (l : List Command). slice_get l place) a.stands ∙ get_middle a.before (Request a.request) a.later in
+    let front : take ((place + 1) - 1) L ≡ a.before = ap (λ (n : ℕ). take n L) less
+    ∙ ap (λ (l : List Command). take place l) a.stands ∙ take_front a.before (Request a.request ∷ a.later) in
+    let stands : at L (place + 1) ≡ Some (Request a.request) = ap (λ (n : ℕ). at L n) next ∙ at_is L (suc place)
+    ∙ ap (λ (l : List Command). slice_get l place) a.stands ∙ get_middle a.before (Request a.request) a.later in
     record {
       position = place + 1;
       request = a.request;
       of_client = a.of_client;
       of_number = a.of_number;
-      takes = (stands, subst (λ (l : List Command). takes_effect (after genesis l) a.request ≡ true) (sym front) a.takes);
-      answered = subst (λ (l : List Command). (serve client a.request.op (after genesis l)).0 ≡ answer) (sym front) a.answered;
+      takes =
+          (stands, subst (λ (l : List Command). takes_effect (after genesis l) a.request ≡ true) (sym front) a.takes);
+      answered =
+          subst (λ (l : List Command). (serve client a.request.op (after genesis l)).0 ≡ answer) (sym front) a.answered;
     }

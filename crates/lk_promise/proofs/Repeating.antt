@@ -1,5 +1,6 @@
 -- A node of a world that is stopped and restarted again and again is the same.
-use Rattle.std.proofs.Common.{◌≡◌, ℕ, List, [], ◌∷◌, ◌++◌, set, slice_get, Some, Ok, refl, ap, sym, ◌∙◌, subst, inl, inr, append-nil, append_assoc}
+use Rattle.std.proofs.Common.{◌≡◌, ℕ, List, [], ◌∷◌, ◌++◌, set, slice_get, Some, Ok, refl, ap, sym, ◌∙◌, subst, inl}
+use Rattle.std.proofs.Common.{inr, append-nil, append_assoc}
 use Rattle.lk_types.specs.declared.genesis.Genesis.{Genesis}
 use Rattle.lk_simulated_disk.specs.Memory.{Memory}
 use Rattle.lk_entries.specs.Values.{HeaderValue}
@@ -15,9 +16,11 @@ use Rattle.lk_world_nodes.specs.declared.seat.Seat.{Seat}
 use Rattle.lk_world_nodes.specs.declared.seat.Life.{Life}
 use Rattle.lk_world_nodes.specs.declared.seat.Life.TheVariants.{Up, Down}
 use Rattle.lk_sim.proofs.Networks.{set_twice}
-use Rattle.lk_promise.specs.Events.{remaining, IsStopped, IsRestarted, IsNotRestarted, IsUp, IsDone, AreDone, IsReachable}
+use Rattle.lk_promise.specs.Events.{remaining, IsStopped, IsRestarted, IsNotRestarted, IsUp, IsDone, AreDone}
+use Rattle.lk_promise.specs.Events.{IsReachable}
 use Rattle.lk_promise.specs.Restarting.{ComesUp, IsLeftBy, FindsFormatTwo, stops_and_restarts, as_often, IsTheSame}
-use Rattle.lk_promise.proofs.Apart.{Apart, is_there, get_set_here, set_same, one_place, one_seat, not_up, done_apart, reachable_apart}
+use Rattle.lk_promise.proofs.Apart.{Apart, is_there, get_set_here, set_same, one_place, one_seat, not_up, done_apart}
+use Rattle.lk_promise.proofs.Apart.{reachable_apart}
 use Rattle.lk_promise.proofs.Restarting.{Stands, first_stands, now, same_node, same_notes, same_file, still_today}
 
 module _ (genesis : Genesis) (n : ℕ) where
@@ -56,7 +59,8 @@ module _ (genesis : Genesis) (n : ℕ) where
     stands : Stands header replica notes
 
   -- it is the same after what the notes say
-  record Comes (world : Scene ReplicaValue) (place : ℕ) (replica : ReplicaValue) (notes : List Note) (all : List Note) (last : Scene ReplicaValue) : Type 0 where
+  record Comes (world : Scene ReplicaValue) (place : ℕ) (replica : ReplicaValue) (notes : List Note) (all : List Note)
+      (last : Scene ReplicaValue) : Type 0 where
     again : ReplicaValue
     is_at : IsAt last place again notes
     seats : last.seats ≡ set world.seats place (up again)
@@ -67,16 +71,19 @@ module _ (genesis : Genesis) (n : ℕ) where
 
   -- ---- a stop and a restart
 
-  module _ (world mid next : Scene ReplicaValue) (place : ℕ) (replica : ReplicaValue) (notes : List Note) (w : IsAt world place replica notes) (x y : ℕ)
+  module _ (world mid next : Scene ReplicaValue) (place : ℕ) (replica : ReplicaValue) (notes : List Note)
+      (w : IsAt world place replica notes) (x y : ℕ)
       (stop : IsDone world (event.Stop n x y) mid) (restart : IsDone mid (event.Restart n) next) where
     abbrev stopped : IsStopped world mid n x y
     stopped = stop.stops
 
     at_place : stopped.place ≡ place
-    at_place = one_place world.seats w.apart stopped.place place (up stopped.replica) (up replica) stopped.was_up w.here refl
+    at_place =
+        one_place world.seats w.apart stopped.place place (up stopped.replica) (up replica) stopped.was_up w.here refl
 
     of_replica : stopped.replica ≡ replica
-    of_replica = same_up stopped.replica replica (one_seat world.seats w.apart stopped.place place (up stopped.replica) (up replica) stopped.was_up w.here refl)
+    of_replica = same_up stopped.replica replica
+        (one_seat world.seats w.apart stopped.place place (up stopped.replica) (up replica) stopped.was_up w.here refl)
 
     left : IsLeftBy replica stopped.device
     left = (
@@ -93,7 +100,8 @@ module _ (genesis : Genesis) (n : ℕ) where
     mid_apart = done_apart world mid (event.Stop n x y) stop w.apart
 
     mid_here : slice_get mid.seats place ≡ Some (down stopped.device)
-    mid_here = ap (λ (l : List (Seat ReplicaValue)). slice_get l place) mid_seats ∙ get_set_here world.seats place (up replica) (down stopped.device) w.here
+    mid_here = ap (λ (l : List (Seat ReplicaValue)). slice_get l place) mid_seats
+        ∙ get_set_here world.seats place (up replica) (down stopped.device) w.here
 
     mid_begun : mid.genesis ≡ genesis
     mid_begun = stop.grows.2 ∙ w.begun
@@ -106,19 +114,22 @@ module _ (genesis : Genesis) (n : ℕ) where
       there = one_place mid.seats mid_apart r.place place (down r.device) (down stopped.device) r.was_down mid_here refl
 
       of_device : r.device ≡ stopped.device
-      of_device = same_down r.device stopped.device (one_seat mid.seats mid_apart r.place place (down r.device) (down stopped.device) r.was_down mid_here refl)
+      of_device = same_down r.device stopped.device
+          (one_seat mid.seats mid_apart r.place place (down r.device) (down stopped.device) r.was_down mid_here refl)
 
       comes_up : ComesUp header stopped.device r.replica r.notes
       comes_up =
           subst (λ (d : Memory). RevivesTo table_meaning IsTableText d header (Ok (r.replica, r.notes))) of_device
-          (subst (λ (g : Genesis). RevivesTo table_meaning IsTableText r.device (header_of g n) (Ok (r.replica, r.notes))) mid_begun r.revives)
+          (subst (λ (g : Genesis). RevivesTo table_meaning IsTableText r.device (header_of g n)
+          (Ok (r.replica, r.notes))) mid_begun r.revives)
 
       noted_same : r.notes ≡ notes
       noted_same = same_notes header replica notes w.stands stopped.device left r.replica r.notes comes_up
 
       next_seats : next.seats ≡ set world.seats place (up r.replica)
       next_seats =
-          r.is_up ∙ ap (λ (k : ℕ). set mid.seats k (up r.replica)) there ∙ ap (λ (l : List (Seat ReplicaValue)). set l place (up r.replica)) mid_seats
+          r.is_up ∙ ap (λ (k : ℕ). set mid.seats k (up r.replica)) there
+          ∙ ap (λ (l : List (Seat ReplicaValue)). set l place (up r.replica)) mid_seats
           ∙ set_twice world.seats place (down stopped.device) (up r.replica)
 
       round : Comes world place replica notes notes next
@@ -127,28 +138,35 @@ module _ (genesis : Genesis) (n : ℕ) where
         is_at = record {
           apart = next_apart;
           begun = restart.grows.2 ∙ mid_begun;
-          here = ap (λ (l : List (Seat ReplicaValue)). slice_get l place) next_seats ∙ get_set_here world.seats place (up replica) (up r.replica) w.here;
-          stands = subst (λ (l : List Note). Stands header r.replica l) noted_same (now header replica notes w.stands stopped.device left r.replica r.notes comes_up);
+          here = ap (λ (l : List (Seat ReplicaValue)). slice_get l place) next_seats
+              ∙ get_set_here world.seats place (up replica) (up r.replica) w.here;
+          stands = subst (λ (l : List Note). Stands header r.replica l) noted_same
+              (now header replica notes w.stands stopped.device left r.replica r.notes comes_up);
         };
         seats = next_seats;
         node = same_node header replica notes w.stands stopped.device left r.replica r.notes comes_up;
         file = same_file header replica notes w.stands stopped.device left r.replica r.notes comes_up;
-        trace = r.noted ∙ ap (λ (l : List Note). l ++ r.notes) stopped.nothing_noted ∙ ap (λ (l : List Note). world.trace ++ l) noted_same;
+        trace = r.noted ∙ ap (λ (l : List Note). l ++ r.notes) stopped.nothing_noted
+            ∙ ap (λ (l : List Note). world.trace ++ l) noted_same;
         sent = r.nothing_sent ∙ stopped.nothing_sent;
       }
 
   -- ---- however often
 
   -- a node that is down is not stopped, so it is not up in the end
-  never_up : (more : List (ℕ × ℕ)) (world last : Scene ReplicaValue) → Apart world.seats → (place : ℕ) (device : Memory) → slice_get world.seats place ≡ Some (down device)
+  never_up : (more : List (ℕ × ℕ)) (world last : Scene ReplicaValue) → Apart world.seats
+      → (place : ℕ) (device : Memory) → slice_get world.seats place ≡ Some (down device)
       → AreDone (stops_and_restarts n more) world last → IsUp last.seats n → ⊥
-  never_up [] world last apart place device here same is_up = not_up world.seats apart n place device here (subst (λ (w : Scene ReplicaValue). IsUp w.seats n) same is_up)
+  never_up [] world last apart place device here same is_up =
+      not_up world.seats apart n place device here (subst (λ (w : Scene ReplicaValue). IsUp w.seats n) same is_up)
   never_up (most ∷ more) world last apart place device here all is_up =
       let k : IsStopped world all.0 n most.0 most.1 = all.1.stops in
-      up_not_down k.replica device (one_seat world.seats apart k.place place (up k.replica) (down device) k.was_up here refl)
+      up_not_down k.replica device
+      (one_seat world.seats apart k.place place (up k.replica) (down device) k.was_up here refl)
 
   -- nothing has happened yet
-  still : (world last : Scene ReplicaValue) (place : ℕ) (replica : ReplicaValue) (notes : List Note) → IsAt world place replica notes → last ≡ world → Comes world place replica notes [] last
+  still : (world last : Scene ReplicaValue) (place : ℕ) (replica : ReplicaValue) (notes : List Note)
+      → IsAt world place replica notes → last ≡ world → Comes world place replica notes [] last
   still world last place replica notes w same = record {
     again = replica;
     is_at = subst (λ (s : Scene ReplicaValue). IsAt s place replica notes) (sym same) w;
@@ -159,20 +177,24 @@ module _ (genesis : Genesis) (n : ℕ) where
     sent = ap (λ (s : Scene ReplicaValue). s.sent) same;
   }
 
-  after : (world mid last : Scene ReplicaValue) (place : ℕ) (replica : ReplicaValue) (notes front back : List Note) (c : Comes world place replica notes front mid)
+  after : (world mid last : Scene ReplicaValue) (place : ℕ) (replica : ReplicaValue) (notes front back : List Note)
+      (c : Comes world place replica notes front mid)
       → Comes mid place c.again notes back last → Comes world place replica notes (front ++ back) last
   after world mid last place replica notes front back c d = record {
     again = d.again;
     is_at = d.is_at;
-    seats = d.seats ∙ ap (λ (l : List (Seat ReplicaValue)). set l place (up d.again)) c.seats ∙ set_twice world.seats place (up c.again) (up d.again);
+    seats = d.seats ∙ ap (λ (l : List (Seat ReplicaValue)). set l place (up d.again)) c.seats
+        ∙ set_twice world.seats place (up c.again) (up d.again);
     node = d.node ∙ c.node;
     file = d.file ∙ c.file;
     trace = d.trace ∙ ap (λ (l : List Note). l ++ back) c.trace ∙ append_assoc world.trace front back;
     sent = d.sent ∙ c.sent;
   }
 
-  comes : (more : List (ℕ × ℕ)) (world last : Scene ReplicaValue) (place : ℕ) (replica : ReplicaValue) (notes : List Note) → IsAt world place replica notes
-      → AreDone (stops_and_restarts n more) world last → IsUp last.seats n → Comes world place replica notes (as_often more notes) last
+  comes : (more : List (ℕ × ℕ)) (world last : Scene ReplicaValue) (place : ℕ) (replica : ReplicaValue)
+      (notes : List Note) → IsAt world place replica notes
+      → AreDone (stops_and_restarts n more) world last → IsUp last.seats n
+      → Comes world place replica notes (as_often more notes) last
   comes [] world last place replica notes w same is_up = still world last place replica notes w same
   comes (most ∷ more) world last place replica notes w all is_up =
       let mid : Scene ReplicaValue = all.0 in
@@ -181,17 +203,23 @@ module _ (genesis : Genesis) (n : ℕ) where
       let restart : IsDone mid (event.Restart n) next = all.2.1 in
       elim restart.restarts [
         | inl r ↦
-            let c : Comes world place replica notes notes next = round world mid next place replica notes w most.0 most.1 stop restart r in
-            after world next last place replica notes notes (as_often more notes) c (comes more next last place c.again notes c.is_at all.2.2 is_up)
+            let c : Comes world place replica notes notes next =
+            round world mid next place replica notes w most.0 most.1 stop restart r in
+            after world next last place replica notes notes (as_often more notes) c
+            (comes more next last place c.again notes c.is_at all.2.2 is_up)
         | inr f ↦ absurd
-            (never_up more next last (next_apart world mid next place replica notes w most.0 most.1 stop restart) f.place f.rest
-            (ap (λ (l : List (Seat ReplicaValue)). slice_get l f.place) f.is_down ∙ get_set_here mid.seats f.place (down f.device) (down f.rest) f.was_down) all.2.2 is_up)
+            (never_up more next last
+            (next_apart world mid next place replica notes w most.0 most.1 stop restart) f.place f.rest
+            (ap (λ (l : List (Seat ReplicaValue)). slice_get l f.place) f.is_down
+            ∙ get_set_here mid.seats f.place (down f.device) (down f.rest) f.was_down) all.2.2 is_up)
       ]
 
 -- ---- in a world
 
-module _ (world first last : Scene ReplicaValue) (n : ℕ) (more : List (ℕ × ℕ)) (apart : Apart world.seats) (today : FindsFormatTwo world n)
-    (restart : IsDone world (event.Restart n) first) (all : AreDone (stops_and_restarts n more) first last) (is_up : IsUp last.seats n) where
+module _ (world first last : Scene ReplicaValue) (n : ℕ) (more : List (ℕ × ℕ)) (apart : Apart world.seats)
+    (today : FindsFormatTwo world n)
+    (restart : IsDone world (event.Restart n) first) (all : AreDone (stops_and_restarts n more) first last)
+    (is_up : IsUp last.seats n) where
   first_apart : Apart first.seats
   first_apart = done_apart world first (event.Restart n) restart apart
 
@@ -200,19 +228,22 @@ module _ (world first last : Scene ReplicaValue) (n : ℕ) (more : List (ℕ × 
     seat = record { number = n; life = Down r.device }
 
     here : slice_get first.seats r.place ≡ Some (record { number = n; life = Up r.replica })
-    here = ap (λ (l : List (Seat ReplicaValue)). slice_get l r.place) r.is_up ∙ get_set_here world.seats r.place seat (record { number = n; life = Up r.replica }) r.was_down
+    here = ap (λ (l : List (Seat ReplicaValue)). slice_get l r.place) r.is_up
+        ∙ get_set_here world.seats r.place seat (record { number = n; life = Up r.replica }) r.was_down
 
     starts : IsAt world.genesis n first r.place r.replica r.notes
     starts = record {
       apart = first_apart;
       begun = restart.grows.2;
       here = here;
-      stands = first_stands (header_of world.genesis n) r.device r.replica r.notes (today r.device (is_there world.seats r.place seat r.was_down)) r.revives;
+      stands = first_stands (header_of world.genesis n) r.device r.replica r.notes
+          (today r.device (is_there world.seats r.place seat r.was_down)) r.revives;
     }
 
     is_the_same : IsTheSame n world first more last
     is_the_same =
-        let c : Comes world.genesis n first r.place r.replica r.notes (as_often more r.notes) last = comes world.genesis n more first last r.place r.replica r.notes starts all is_up in
+        let c : Comes world.genesis n first r.place r.replica r.notes (as_often more r.notes) last =
+        comes world.genesis n more first last r.place r.replica r.notes starts all is_up in
         record {
           place = r.place;
           once = r.replica;
@@ -221,7 +252,8 @@ module _ (world first last : Scene ReplicaValue) (n : ℕ) (more : List (ℕ × 
           is_up = c.seats;
           same_node = c.node;
           same_file = c.file;
-          format_two = λ left stopped. still_today (header_of world.genesis n) c.again r.notes c.is_at.stands left stopped;
+          format_two =
+              λ left stopped. still_today (header_of world.genesis n) c.again r.notes c.is_at.stands left stopped;
           notes = r.notes;
           noted = r.noted;
           noted_again = c.trace;
@@ -231,12 +263,16 @@ module _ (world first last : Scene ReplicaValue) (n : ℕ) (more : List (ℕ × 
   not_down : IsNotRestarted world n first → ⊥
   not_down f =
       never_up world.genesis n more first last first_apart f.place f.rest
-      (ap (λ (l : List (Seat ReplicaValue)). slice_get l f.place) f.is_down ∙ get_set_here world.seats f.place (record { number = n; life = Down f.device }) (record { number = n; life = Down f.rest }) f.was_down) all is_up
+      (ap (λ (l : List (Seat ReplicaValue)). slice_get l f.place) f.is_down
+      ∙ get_set_here world.seats f.place (record { number = n; life = Down f.device })
+      (record { number = n; life = Down f.rest }) f.was_down) all is_up
 
   comes_the_same : IsTheSame n world first more last
   comes_the_same = elim restart.restarts [ inl r ↦ is_the_same r | inr f ↦ absurd (not_down f) ]
 
-pub comes_back_the_same : (genesis : Genesis) (world first last : Scene ReplicaValue) (n : ℕ) (more : List (ℕ × ℕ)) → IsReachable genesis world → FindsFormatTwo world n
-    → IsDone world (event.Restart n) first → AreDone (stops_and_restarts n more) first last → IsUp last.seats n → IsTheSame n world first more last
+pub comes_back_the_same : (genesis : Genesis) (world first last : Scene ReplicaValue) (n : ℕ) (more : List (ℕ × ℕ))
+    → IsReachable genesis world → FindsFormatTwo world n
+    → IsDone world (event.Restart n) first → AreDone (stops_and_restarts n more) first last → IsUp last.seats n
+    → IsTheSame n world first more last
 comes_back_the_same genesis world first last n more reached today restart all is_up =
     comes_the_same world first last n more (reachable_apart genesis world reached) today restart all is_up

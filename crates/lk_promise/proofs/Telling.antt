@@ -12,22 +12,37 @@ use Rattle.lk_world_nodes.specs.Told.{told_by_node, told_by, Tells}
 use Rattle.lk_sim.specs.Traces.{told_in}
 use Rattle.lk_promise.specs.Promise.{AreReplies, nothing_more, an_answer, a_pass, no_reply, is_told, AreTold}
 
-by_node : (d : Datagram) (ds : List Datagram) (rest : List Note) (cluster node : ℕ) (x : NodeMessage) → Spells (record { cluster = cluster; content = content.Node node x }) d.bytes → AreReplies ds rest → AreReplies (d ∷ ds) (told_by_node node x ++ rest)
-by_node d ds rest cluster node (message.Prepare b first) spelled later = no_reply d (record { cluster = cluster; content = content.Node node (message.Prepare b first) }) spelled refl later
-by_node d ds rest cluster node (message.Promise p) spelled later = no_reply d (record { cluster = cluster; content = content.Node node (message.Promise p) }) spelled refl later
-by_node d ds rest cluster node (message.Accept v) spelled later = no_reply d (record { cluster = cluster; content = content.Node node (message.Accept v) }) spelled refl later
-by_node d ds rest cluster node (message.Accepted v) spelled later = no_reply d (record { cluster = cluster; content = content.Node node (message.Accepted v) }) spelled refl later
-by_node d ds rest cluster node (message.Nack x) spelled later = no_reply d (record { cluster = cluster; content = content.Node node (message.Nack x) }) spelled refl later
-by_node d ds rest cluster node (message.Decided x) spelled later = no_reply d (record { cluster = cluster; content = content.Node node (message.Decided x) }) spelled refl later
-by_node d ds rest cluster node (message.Want x) spelled later = no_reply d (record { cluster = cluster; content = content.Node node (message.Want x) }) spelled refl later
-by_node d ds rest cluster node (message.Part x) spelled later = no_reply d (record { cluster = cluster; content = content.Node node (message.Part x) }) spelled refl later
+by_node : (d : Datagram) (ds : List Datagram) (rest : List Note) (cluster node : ℕ) (x : NodeMessage)
+    → Spells (record { cluster = cluster; content = content.Node node x }) d.bytes → AreReplies ds rest
+    → AreReplies (d ∷ ds) (told_by_node node x ++ rest)
+by_node d ds rest cluster node (message.Prepare b first) spelled later =
+    no_reply d (record { cluster = cluster; content = content.Node node (message.Prepare b first) }) spelled refl later
+by_node d ds rest cluster node (message.Promise p) spelled later =
+    no_reply d (record { cluster = cluster; content = content.Node node (message.Promise p) }) spelled refl later
+by_node d ds rest cluster node (message.Accept v) spelled later =
+    no_reply d (record { cluster = cluster; content = content.Node node (message.Accept v) }) spelled refl later
+by_node d ds rest cluster node (message.Accepted v) spelled later =
+    no_reply d (record { cluster = cluster; content = content.Node node (message.Accepted v) }) spelled refl later
+by_node d ds rest cluster node (message.Nack x) spelled later =
+    no_reply d (record { cluster = cluster; content = content.Node node (message.Nack x) }) spelled refl later
+by_node d ds rest cluster node (message.Decided x) spelled later =
+    no_reply d (record { cluster = cluster; content = content.Node node (message.Decided x) }) spelled refl later
+by_node d ds rest cluster node (message.Want x) spelled later =
+    no_reply d (record { cluster = cluster; content = content.Node node (message.Want x) }) spelled refl later
+by_node d ds rest cluster node (message.Part x) spelled later =
+    no_reply d (record { cluster = cluster; content = content.Node node (message.Part x) }) spelled refl later
 by_node d ds rest cluster node (message.Answer a) spelled later = an_answer d cluster node a spelled later
-by_node d ds rest cluster node (message.Elsewhere x) spelled later = no_reply d (record { cluster = cluster; content = content.Node node (message.Elsewhere x) }) spelled refl later
+by_node d ds rest cluster node (message.Elsewhere x) spelled later =
+    no_reply d (record { cluster = cluster; content = content.Node node (message.Elsewhere x) }) spelled refl later
 by_node d ds rest cluster node (message.Passed p) spelled later = a_pass d cluster node p spelled later
-by_node d ds rest cluster node (message.Lead b n) spelled later = no_reply d (record { cluster = cluster; content = content.Node node (message.Lead b n) }) spelled refl later
+by_node d ds rest cluster node (message.Lead b n) spelled later =
+    no_reply d (record { cluster = cluster; content = content.Node node (message.Lead b n) }) spelled refl later
 
-by_content : (d : Datagram) (ds : List Datagram) (rest : List Note) (cluster : ℕ) (x : Content) → Spells (record { cluster = cluster; content = x }) d.bytes → AreReplies ds rest → AreReplies (d ∷ ds) (told_by x ++ rest)
-by_content d ds rest cluster (content.Request r) spelled later = no_reply d (record { cluster = cluster; content = content.Request r }) spelled refl later
+by_content : (d : Datagram) (ds : List Datagram) (rest : List Note) (cluster : ℕ) (x : Content)
+    → Spells (record { cluster = cluster; content = x }) d.bytes → AreReplies ds rest
+    → AreReplies (d ∷ ds) (told_by x ++ rest)
+by_content d ds rest cluster (content.Request r) spelled later =
+    no_reply d (record { cluster = cluster; content = content.Request r }) spelled refl later
 by_content d ds rest cluster (content.Node node x) spelled later = by_node d ds rest cluster node x spelled later
 
 replies : (sent : List Datagram) (notes : List Note) → Tells sent notes → AreReplies sent notes
@@ -40,8 +55,10 @@ told_is [] = refl
 told_is (note.Asked r ∷ xs) = told_is xs
 told_is (note.Counted node i set v ∷ xs) = told_is xs
 told_is (note.Ran node i v ∷ xs) = told_is xs
-told_is (note.Answered node client number a ∷ xs) = ap (λ (ys : List Note). note.Answered node client number a ∷ ys) (told_is xs)
-told_is (note.Told node client number last ∷ xs) = ap (λ (ys : List Note). note.Told node client number last ∷ ys) (told_is xs)
+told_is (note.Answered node client number a ∷ xs) =
+    ap (λ (ys : List Note). note.Answered node client number a ∷ ys) (told_is xs)
+told_is (note.Told node client number last ∷ xs) =
+    ap (λ (ys : List Note). note.Told node client number last ∷ ys) (told_is xs)
 
 pub told : (sent : List Datagram) (trace : List Note) → Tells sent (told_in trace) → AreTold sent trace
 told sent trace t = subst (AreReplies sent) (told_is trace) (replies sent (told_in trace) t)

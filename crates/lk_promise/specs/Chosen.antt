@@ -20,15 +20,19 @@ pub record Says (genesis : Genesis) (sent : List Datagram) (node : ℕ) (m : Nod
   pub in_words : Spells (record { cluster = genesis.cluster; content = content.Node node m }) datagram.bytes
 
 -- more than half of these members have accepted the command at position i in the ballot
-pub record IsAcceptedBy (genesis : Genesis) (sent : List Datagram) (set : List Member) (i : ℕ) (v : Command) (ballot : Ballot) : Type 0 where
+pub record IsAcceptedBy (genesis : Genesis) (sent : List Datagram) (set : List Member) (i : ℕ) (v : Command)
+    (ballot : Ballot) : Type 0 where
   pub among : Member → Bool
   pub more_than_half : length set < 2 * count_by among set
-  pub each : (m : Member) → Contains set m → IsTrue (among m) → Says genesis sent m.node (message.Accepted (record { position = i; ballot = ballot; command = v }))
+  pub each : (m : Member) → Contains set m → IsTrue (among m)
+      → Says genesis sent m.node (message.Accepted (record { position = i; ballot = ballot; command = v }))
 
 -- the list is chosen: at each of its positions a majority of that position's members has accepted its command in one
 -- ballot. (Lamport, Paxos Made Simple, 2001, section 2.2)
 unfoldable pub IsChosen : Genesis → List Datagram → List Command → Type 0
-IsChosen genesis sent L = (i : ℕ) (v : Command) → at L i ≡ Some v → (ballot : Ballot) × IsAcceptedBy genesis sent (members genesis L i) i v ballot
+IsChosen genesis sent L =
+    (i : ℕ) (v : Command) → at L i ≡ Some v
+    → (ballot : Ballot) × IsAcceptedBy genesis sent (members genesis L i) i v ballot
 
 -- the first list is a prefix of the second
 abbrev pub Begins : List Command → List Command → Type 0

@@ -12,8 +12,11 @@ use Rattle.lk_promise.specs.Promise.{IsChosen, kept_by}
 
 pub record Converges (world : Scene ReplicaValue) : Type 0 where
   -- two nodes that are up and have executed as much keep the same, and pack it into the same bytes
-  pub nodes : (s t : Seat ReplicaValue) → Contains world.seats s → Contains world.seats t → (q r : ReplicaValue) → s.life ≡ Up q → t.life ≡ Up r
-      → (kept_by q).executed ≡ (kept_by r).executed → (kept_by q ≡ kept_by r) × (kept_text (kept_by q) ≡ kept_text (kept_by r))
+  pub nodes : (s t : Seat ReplicaValue) → Contains world.seats s → Contains world.seats t → (q r : ReplicaValue)
+      → s.life ≡ Up q → t.life ≡ Up r
+      → (kept_by q).executed ≡ (kept_by r).executed
+      → (kept_by q ≡ kept_by r) × (kept_text (kept_by q) ≡ kept_text (kept_by r))
   -- two snapshots of chosen lists of one length, on any disks and in any datagrams, are the same bytes
-  pub snapshots : (K L : List Command) → IsChosen world.genesis world.sent K → IsChosen world.genesis world.sent L → length K ≡ length L
+  pub snapshots : (K L : List Command) → IsChosen world.genesis world.sent K
+      → IsChosen world.genesis world.sent L → length K ≡ length L
       → (a b : List ℕ) → IsSnapshot world.genesis K a → IsSnapshot world.genesis L b → a ≡ b

@@ -2,7 +2,8 @@
 -- run of them does.
 --
 -- As on the page of the promise, all is said in words of its own, but for the contract of a replica, which is named.
-use Rattle.std.specs.Prelude.{◌≡◌, ℕ, ◌+◌, ◌<◌, ◌≤◌, ◌⊎◌, false, Option, Some, None, Ok, Err, List, [], ◌∷◌, ◌++◌, length, take, set, slice_get, Contains}
+use Rattle.std.specs.Prelude.{◌≡◌, ℕ, ◌+◌, ◌<◌, ◌≤◌, ◌⊎◌, false, Option, Some, None, Ok, Err, List, [], ◌∷◌, ◌++◌}
+use Rattle.std.specs.Prelude.{length, take, set, slice_get, Contains}
 use Rattle.std.specs.List.{filter_map, flat_map}
 use Rattle.lk_types.specs.declared.command.Request.{Request as Asking}
 use Rattle.lk_types.specs.declared.genesis.Genesis.{Genesis}
@@ -33,7 +34,8 @@ use Rattle.lk_world_nodes.specs.declared.refused.Refused.{Refused}
 use Rattle.lk_sim.specs.declared.event.Event.TheVariants as event
 use Rattle.lk_sim.specs.declared.event.Turn.{Turn}
 use Rattle.lk_sim.specs.declared.event.Turn.TheVariants as turn
-use Rattle.lk_world_nodes.specs.declared.refused.Refused.TheVariants.{NoSuchNode, NotUp, AlreadyUp, NoSuchDatagram, Forged, WorldFull, WorldMemory}
+use Rattle.lk_world_nodes.specs.declared.refused.Refused.TheVariants.{NoSuchNode, NotUp, AlreadyUp, NoSuchDatagram}
+use Rattle.lk_world_nodes.specs.declared.refused.Refused.TheVariants.{Forged, WorldFull, WorldMemory}
 use Rattle.lk_world_nodes.specs.declared.seat.Life.TheVariants.{Up, Down}
 use Rattle.lk_world_nodes.specs.declared.seat.Seat.{Seat}
 use Rattle.lk_promise.specs.Disks.{EachImage, HasSnapshot}
@@ -62,8 +64,10 @@ requests trace = filter_map asked_of trace
 -- bytes that are a request ask it, and others ask nothing
 abbrev pub AreAskedIn : List ℕ → List Asking → Type 0
 AreAskedIn bytes asked =
-    ((r : Asking) × ((cluster : ℕ) × Spells (record { cluster = cluster; content = content.Request r }) bytes) × (asked ≡ r ∷ []))
-    ⊎ (((r : Asking) (cluster : ℕ) → Spells (record { cluster = cluster; content = content.Request r }) bytes → ⊥) × (asked ≡ []))
+    ((r : Asking) × ((cluster : ℕ) × Spells (record { cluster = cluster; content = content.Request r }) bytes)
+    × (asked ≡ r ∷ []))
+    ⊎ (((r : Asking) (cluster : ℕ) → Spells (record { cluster = cluster; content = content.Request r }) bytes → ⊥)
+    × (asked ≡ []))
 
 -- a client asks, or bytes are injected; no other event asks
 abbrev pub AreAskedBy : Event → List Asking → Type 0
@@ -78,7 +82,8 @@ IsFor sent (event.Restart n) number = number ≡ n
 IsFor sent (event.Tick n) number = number ≡ n
 IsFor sent (event.Compact n) number = number ≡ n
 IsFor sent (event.Client n r) number = number ≡ n
-IsFor sent (event.Deliver k) number = (j : ℕ) × (d : Datagram) × (k ≡ j + 1) × (slice_get sent j ≡ Some d) × (d.to ≡ party.Node number)
+IsFor sent (event.Deliver k) number =
+    (j : ℕ) × (d : Datagram) × (k ≡ j + 1) × (slice_get sent j ≡ Some d) × (d.to ≡ party.Node number)
 IsFor sent (event.Group n turns) number = number ≡ n
 IsFor sent (event.Inject n bytes) number = number ≡ n
 IsFor sent (event.Stop n x y) number = number ≡ n
@@ -92,24 +97,28 @@ IsStarted seats number = (s : Seat ReplicaValue) × Contains seats s × (s.numbe
 abbrev pub ChangesOnly : ℕ → List (Seat ReplicaValue) → List (Seat ReplicaValue) → Type 0
 ChangesOnly number old new =
     (new ≡ old)
-    ⊎ ((place : ℕ) × (s t : Seat ReplicaValue) × (slice_get old place ≡ Some s) × (s.number ≡ number) × (t.number ≡ number) × (new ≡ set old place t))
+    ⊎ ((place : ℕ) × (s t : Seat ReplicaValue) × (slice_get old place ≡ Some s) × (s.number ≡ number)
+    × (t.number ≡ number) × (new ≡ set old place t))
     ⊎ ((IsStarted old number → ⊥) × ((s : Seat ReplicaValue) × (s.number ≡ number) × (new ≡ old ++ s ∷ [])))
 
 -- it alone is down now
 abbrev pub FallsDown : ℕ → List (Seat ReplicaValue) → List (Seat ReplicaValue) → Type 0
 FallsDown number old new =
-    (place : ℕ) × (s : Seat ReplicaValue) × (device : Memory) × (slice_get old place ≡ Some s) × (s.number ≡ number) × (new ≡ set old place (record { number = number; life = Down device }))
+    (place : ℕ) × (s : Seat ReplicaValue) × (device : Memory) × (slice_get old place ≡ Some s) × (s.number ≡ number)
+    × (new ≡ set old place (record { number = number; life = Down device }))
 
 -- what a client asks joins the datagrams, alone, addressed to the node, and changes no node
 abbrev pub SendsAsAsked : Scene ReplicaValue → Event → Scene ReplicaValue → Type 0
 SendsAsAsked old (event.Client n r) new =
-    (d : Datagram) × (d.from ≡ party.Client r.client) × (d.to ≡ party.Node n) × Spells (record { cluster = old.genesis.cluster; content = content.Request r }) d.bytes
+    (d : Datagram) × (d.from ≡ party.Client r.client) × (d.to ≡ party.Node n)
+    × Spells (record { cluster = old.genesis.cluster; content = content.Request r }) d.bytes
     × (new.sent ≡ old.sent ++ d ∷ []) × (new.seats ≡ old.seats)
 SendsAsAsked old _ new = Unit {0}
 
 -- what was sent stays sent, and what was noted stays noted
 abbrev pub Grows : Scene ReplicaValue → Scene ReplicaValue → Type 0
-Grows old new = ((more : List Datagram) × (new.sent ≡ old.sent ++ more)) × ((more : List Note) × (new.trace ≡ old.trace ++ more)) × (new.genesis ≡ old.genesis)
+Grows old new = ((more : List Datagram) × (new.sent ≡ old.sent ++ more))
+    × ((more : List Note) × (new.trace ≡ old.trace ++ more)) × (new.genesis ≡ old.genesis)
 
 -- a stop leaves of a disk everything that was synced and up to this many of the other bytes, and all of that is synced
 abbrev pub remaining : ℕ → Disk → Disk
@@ -143,13 +152,17 @@ StopsAsAsked old _ new = Unit {0}
 -- ---- when an event is refused, and what one leaves up
 
 abbrev pub IsUpWith : List (Seat ReplicaValue) → ℕ → (ReplicaValue → Type 0) → Type 0
-IsUpWith seats number Is = (s : Seat ReplicaValue) × (replica : ReplicaValue) × Contains seats s × (s.number ≡ number) × (s.life ≡ Up replica) × Is replica
+IsUpWith seats number Is =
+    (s : Seat ReplicaValue) × (replica : ReplicaValue) × Contains seats s × (s.number ≡ number)
+    × (s.life ≡ Up replica) × Is replica
 
 abbrev pub IsUp : List (Seat ReplicaValue) → ℕ → Type 0
-IsUp seats number = (s : Seat ReplicaValue) × (replica : ReplicaValue) × Contains seats s × (s.number ≡ number) × (s.life ≡ Up replica)
+IsUp seats number =
+    (s : Seat ReplicaValue) × (replica : ReplicaValue) × Contains seats s × (s.number ≡ number) × (s.life ≡ Up replica)
 
 abbrev pub IsDown : List (Seat ReplicaValue) → ℕ → Type 0
-IsDown seats number = (s : Seat ReplicaValue) × (device : Memory) × Contains seats s × (s.number ≡ number) × (s.life ≡ Down device)
+IsDown seats number =
+    (s : Seat ReplicaValue) × (device : Memory) × Contains seats s × (s.number ≡ number) × (s.life ≡ Down device)
 
 -- only a node that was never started is started, and only one that is down is restarted
 abbrev pub IsAlready : List (Seat ReplicaValue) → Event → Type 0
@@ -174,12 +187,15 @@ LacksLife old e = (n : ℕ) × IsFor old.sent e n × IsDown old.seats n
 -- a datagram that is to be delivered was sent, to a node; those of a group to that of the group
 abbrev pub LacksDatagram : List Datagram → Event → Type 0
 LacksDatagram sent (event.Deliver k) = (n : ℕ) → IsFor sent (event.Deliver k) n → ⊥
-LacksDatagram sent (event.Group n turns) = ((k : ℕ) → Contains turns.items (turn.Deliver k) → IsFor sent (event.Deliver k) n) → ⊥
+LacksDatagram sent (event.Group n turns) =
+    ((k : ℕ) → Contains turns.items (turn.Deliver k) → IsFor sent (event.Deliver k) n) → ⊥
 LacksDatagram sent _ = ⊥
 
 -- what only a node says is not injected
 abbrev pub IsForged : Event → Type 0
-IsForged (event.Inject n bytes) = (cluster node : ℕ) × (m : NodeMessage) × Spells (record { cluster = cluster; content = content.Node node m }) bytes.items
+IsForged (event.Inject n bytes) =
+    (cluster node : ℕ) × (m : NodeMessage)
+    × Spells (record { cluster = cluster; content = content.Node node m }) bytes.items
 IsForged _ = ⊥
 
 -- a world has 16 nodes, and no room for what is sent once it has more than 99,000 datagrams
@@ -230,11 +246,13 @@ IsEnding (Stopped n) = Unit {0}
 
 -- where it ended a node, that is the one that it is for, and it is down
 abbrev pub LeavesDown : Scene ReplicaValue → Event → Scene ReplicaValue → Type 0
-LeavesDown old e new = (x : End) → new.ended ≡ Some x → IsFor old.sent e (ended_node x) × IsDown new.seats (ended_node x) × IsEnding x
+LeavesDown old e new =
+    (x : End) → new.ended ≡ Some x → IsFor old.sent e (ended_node x) × IsDown new.seats (ended_node x) × IsEnding x
 
 -- a replica took a tick, or these bytes: it did what its contract says, and what it sent was sent. (The contracts,
 -- `ComesTo` and `ComesToAll`, are named here and not restated)
-pub record IsTaken (old : Scene ReplicaValue) (n : ℕ) (given : Option (List ℕ)) (new : Scene ReplicaValue) : Type 0 where
+pub record IsTaken (old : Scene ReplicaValue) (n : ℕ) (given : Option (List ℕ))
+    (new : Scene ReplicaValue) : Type 0 where
   pub before : ReplicaValue
   pub after : ReplicaValue
   pub was_up : IsUpWith old.seats n (λ replica. replica ≡ before)
@@ -247,9 +265,11 @@ pub record IsTaken (old : Scene ReplicaValue) (n : ℕ) (given : Option (List �
 -- what the turns of a group give: nothing but the time at a tick, and else the bytes of the datagram at that place
 abbrev pub AreGiven : List Datagram → List Turn → List (Option (List ℕ)) → Type 0
 AreGiven sent [] given = given ≡ []
-AreGiven sent (turn.Tick ∷ turns) given = (rest : List (Option (List ℕ))) × (given ≡ None ∷ rest) × AreGiven sent turns rest
+AreGiven sent (turn.Tick ∷ turns) given =
+    (rest : List (Option (List ℕ))) × (given ≡ None ∷ rest) × AreGiven sent turns rest
 AreGiven sent (turn.Deliver k ∷ turns) given =
-    (j : ℕ) × (d : Datagram) × (k ≡ j + 1) × (slice_get sent j ≡ Some d) × ((rest : List (Option (List ℕ))) × (given ≡ Some d.bytes ∷ rest) × AreGiven sent turns rest)
+    (j : ℕ) × (d : Datagram) × (k ≡ j + 1) × (slice_get sent j ≡ Some d)
+    × ((rest : List (Option (List ℕ))) × (given ≡ Some d.bytes ∷ rest) × AreGiven sent turns rest)
 
 -- so a replica took these together
 pub record AreTaken (old : Scene ReplicaValue) (n : ℕ) (turns : List Turn) (new : Scene ReplicaValue) : Type 0 where
@@ -267,7 +287,8 @@ pub record AreTaken (old : Scene ReplicaValue) (n : ℕ) (turns : List Turn) (ne
 abbrev pub TakesAsTold : Scene ReplicaValue → Event → Scene ReplicaValue → Type 0
 TakesAsTold old (event.Tick n) new = new.ended ≡ None → IsTaken old n None new
 TakesAsTold old (event.Inject n bytes) new = new.ended ≡ None → IsTaken old n (Some bytes.items) new
-TakesAsTold old (event.Deliver k) new = new.ended ≡ None → (n : ℕ) × (f : IsFor old.sent (event.Deliver k) n) × IsTaken old n (Some f.1.bytes) new
+TakesAsTold old (event.Deliver k) new =
+    new.ended ≡ None → (n : ℕ) × (f : IsFor old.sent (event.Deliver k) n) × IsTaken old n (Some f.1.bytes) new
 TakesAsTold old (event.Group n turns) new = new.ended ≡ None → AreTaken old n turns.items new
 TakesAsTold old _ new = Unit {0}
 
@@ -289,7 +310,8 @@ pub record IsRestarted (old : Scene ReplicaValue) (n : ℕ) (new : Scene Replica
 -- armed stop, if it has reached one, for this many bytes
 abbrev pub EndsOn : Option ℕ → ℕ → ℕ → Memory → Memory → Option End → Type 0
 EndsOn None n number left rest ended = (ended ≡ Some (Fault n number)) × (rest.a ≡ left.a) × (rest.b ≡ left.b)
-EndsOn (Some bytes) n number left rest ended = (ended ≡ Some (Stopped n)) × (rest.a ≡ remaining bytes left.a) × (rest.b ≡ remaining bytes left.b)
+EndsOn (Some bytes) n number left rest ended =
+    (ended ≡ Some (Stopped n)) × (rest.a ≡ remaining bytes left.a) × (rest.b ≡ remaining bytes left.b)
 
 -- its restart failed as the contract of a replica says, not for want of memory, and it is down
 pub record IsNotRestarted (old : Scene ReplicaValue) (n : ℕ) (new : Scene ReplicaValue) : Type 0 where
@@ -329,12 +351,14 @@ abbrev pub Compacts : Event → Scene ReplicaValue → Type 0
 Compacts (event.Compact n) new =
     new.ended ≡ None
     → (s : Seat ReplicaValue) × (replica : ReplicaValue) × Contains new.seats s × (s.number ≡ n) × (s.life ≡ Up replica)
-    × EachImage new.genesis s (λ memory. (memory.position ≡ (kept_by replica).executed) × HasSnapshot new.genesis new.sent memory)
+    × EachImage new.genesis s
+    (λ memory. (memory.position ≡ (kept_by replica).executed) × HasSnapshot new.genesis new.sent memory)
 Compacts _ new = Unit {0}
 
 -- an event that is refused has a cause and changes nothing. When out of memory it notes and sends nothing, and the
 -- node that it is for may have gone down
-pub record IsRefused (old : Scene ReplicaValue) (e : Event) (refused : Refused) (new : Scene ReplicaValue) : Type 0 where
+pub record IsRefused (old : Scene ReplicaValue) (e : Event) (refused : Refused)
+    (new : Scene ReplicaValue) : Type 0 where
   pub cause : HasCause old e refused
   pub unchanged : (refused ≡ WorldMemory → ⊥) → new ≡ old
   pub only : (new.seats ≡ old.seats) ⊎ ((number : ℕ) × IsFor old.sent e number × FallsDown number old.seats new.seats)
@@ -350,10 +374,12 @@ AreDone (e ∷ events) old new = (mid : Scene ReplicaValue) × IsDone old e mid 
 -- all of them were, or the next one is rejected
 abbrev pub EndsSo : List Event → ℕ → Option Refused → Scene ReplicaValue → Scene ReplicaValue → Type 0
 EndsSo events done None last new = (done ≡ length events) × (new ≡ last)
-EndsSo events done (Some refused) last new = (e : Event) × (slice_get events done ≡ Some e) × IsRefused last e refused new
+EndsSo events done (Some refused) last new =
+    (e : Event) × (slice_get events done ≡ Some e) × IsRefused last e refused new
 
 -- a run does this many of the events in order, and ends like this
-pub record IsRun (old : Scene ReplicaValue) (events : List Event) (how : RunEnd) (new : Scene ReplicaValue) : Type 0 where
+pub record IsRun (old : Scene ReplicaValue) (events : List Event) (how : RunEnd)
+    (new : Scene ReplicaValue) : Type 0 where
   pub last : Scene ReplicaValue
   pub done : AreDone (take how.done events) old last
   pub ends : EndsSo events how.done how.refused last new

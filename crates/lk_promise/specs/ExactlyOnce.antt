@@ -20,7 +20,8 @@ Asks trace client r = Contains trace (note.Asked r) × (r.client ≡ client)
 
 -- the request of this number was answered
 abbrev pub WasAnswered : List Note → ℕ → ℕ → Type 0
-WasAnswered trace client number = (node : ℕ) × (answer : Answer) × Contains trace (note.Answered node client number answer)
+WasAnswered trace client number =
+    (node : ℕ) × (answer : Answer) × Contains trace (note.Answered node client number answer)
 
 -- after these notes the client asks the second request for the first time; the first one it has asked in them
 pub record AsksAfter (trace : List Note) (client : ℕ) (before : List Note) (q r : Asking) : Type 0 where
@@ -37,22 +38,30 @@ pub record FollowsRule (trace : List Note) (client : ℕ) : Type 0 where
   -- each further operation has a greater number
   pub rises : (before : List Note) (q r : Asking) → AsksAfter trace client before q r → q.number < r.number
   -- and is asked once all earlier ones are answered
-  pub waits : (before : List Note) (q r : Asking) → AsksAfter trace client before q r → WasAnswered before client q.number
+  pub waits : (before : List Note) (q r : Asking) → AsksAfter trace client before q r
+      → WasAnswered before client q.number
 
 -- what it gets for that, by a list that takes effect
 pub record IsServedOnce (genesis : Genesis) (L : List Command) (trace : List Note) (client : ℕ) : Type 0 where
   -- an operation that was answered takes effect at some position, and was answered what it is answered there
-  pub takes_effect : (r : Asking) (node : ℕ) (answer : Answer) → Asks trace client r → Contains trace (note.Answered node client r.number answer)
+  pub takes_effect : (r : Asking) (node : ℕ) (answer : Answer) → Asks trace client r
+      → Contains trace (note.Answered node client r.number answer)
       → (i : ℕ) × TakesEffectAt genesis L i r × ((serve client r.op (after genesis (take (i - 1) L))).0 ≡ answer)
   -- no operation takes effect at two
-  pub once : (r : Asking) (i j : ℕ) → TakesEffectAt genesis L i r → TakesEffectAt genesis L j r → r.client ≡ client → i ≡ j
+  pub once : (r : Asking) (i j : ℕ) → TakesEffectAt genesis L i r → TakesEffectAt genesis L j r
+      → r.client ≡ client → i ≡ j
   -- nothing takes effect that it has not asked
   pub asked : (r : Asking) (i : ℕ) → TakesEffectAt genesis L i r → r.client ≡ client → Asks trace client r
   -- operations take effect in the order in which it asked them
-  pub in_order : (before : List Note) (q r : Asking) (i j : ℕ) → AsksAfter trace client before q r → TakesEffectAt genesis L i q → TakesEffectAt genesis L j r → i < j
+  pub in_order : (before : List Note) (q r : Asking) (i j : ℕ) → AsksAfter trace client before q r
+      → TakesEffectAt genesis L i q → TakesEffectAt genesis L j r → i < j
   -- and of an operation that it has asked it is not told Passed before that is answered
-  pub not_passed : (before later : List Note) (r : Asking) (node last : ℕ) → trace ≡ before ++ note.Told node client r.number last ∷ later → Asks before client r → WasAnswered before client r.number
+  pub not_passed : (before later : List Note) (r : Asking) (node last : ℕ)
+      → trace ≡ before ++ note.Told node client r.number last ∷ later → Asks before client r
+      → WasAnswered before client r.number
 
 -- so with each client that follows the rule, by one chosen list
 abbrev pub AreServedOnce : Genesis → List Datagram → List Note → Type 0
-AreServedOnce genesis sent trace = (L : List Command) × IsChosen genesis sent L × ((client : ℕ) → FollowsRule trace client → IsServedOnce genesis L trace client)
+AreServedOnce genesis sent trace =
+    (L : List Command) × IsChosen genesis sent L
+    × ((client : ℕ) → FollowsRule trace client → IsServedOnce genesis L trace client)

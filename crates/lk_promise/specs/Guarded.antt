@@ -40,9 +40,11 @@ pub record IsUnder (genesis : Genesis) (L : List Command) (name : List ℕ) (w :
 -- whatever writes come to the resource, and whatever list grants them
 pub record IsGuarded (genesis : Genesis) (L : List Command) (name : List ℕ) (writes : List Write) : Type 0 where
   -- what was accepted at one fence was written under one grant
-  pub one_grant : (v w : Write) (i j : ℕ) → IsUnder genesis L name v i → IsUnder genesis L name w j → v.fence ≡ w.fence → i ≡ j
+  pub one_grant : (v w : Write) (i j : ℕ) → IsUnder genesis L name v i → IsUnder genesis L name w j
+      → v.fence ≡ w.fence → i ≡ j
   -- after a write under a later grant was accepted, none under an earlier one is
-  pub in_order : (front back : List Write) (v w : Write) (i j : ℕ) → accepted 0 writes ≡ front ++ v ∷ back → Contains back w → IsUnder genesis L name v i → IsUnder genesis L name w j → i ≤ j
+  pub in_order : (front back : List Write) (v w : Write) (i j : ℕ) → accepted 0 writes ≡ front ++ v ∷ back
+      → Contains back w → IsUnder genesis L name v i → IsUnder genesis L name w j → i ≤ j
 
 -- each grant that was told is in a chosen list
 abbrev pub AreListed : Genesis → List Datagram → List Note → Type 0

@@ -23,7 +23,15 @@ abbrev pub object : State → Object
 object s = record { members = s.members; greatest = s.greatest; raised = s.raised; locks = s.locks }
 
 abbrev pub state_of : Object → State
-state_of o = record { position = 0; least = λ client. 0; members = o.members; greatest = o.greatest; changed = 0; raised = o.raised; locks = o.locks }
+state_of o = record {
+  position = 0;
+  least = λ client. 0;
+  members = o.members;
+  greatest = o.greatest;
+  changed = 0;
+  raised = o.raised;
+  locks = o.locks;
+}
 
 -- an operation of a client on it: its answer, and the object after it
 abbrev pub alone : ℕ → Op → Object → Answer × Object
@@ -47,7 +55,8 @@ pub record Linearizes (genesis : Genesis) (trace : List Note) (history : Sequenc
   -- and nothing that was not asked
   pub invoked : (r : Asking) (answer : Answer) → Contains history (r, answer) → Contains trace (note.Asked r)
   -- it has a number of a client at most once
-  pub once : (front back : Sequence) (r q : Asking) (a b : Answer) → history ≡ front ++ (r, a) ∷ back → Contains front (q, b) → q.client ≡ r.client → q.number ≡ r.number → ⊥
+  pub once : (front back : Sequence) (r q : Asking) (a b : Answer) → history ≡ front ++ (r, a) ∷ back
+      → Contains front (q, b) → q.client ≡ r.client → q.number ≡ r.number → ⊥
   -- real time: what was answered before a request was first asked precedes it
   pub in_time : (before later : List Note) → trace ≡ before ++ later
       → (node client number : ℕ) (answer : Answer) → Contains before (note.Answered node client number answer)

@@ -1,12 +1,17 @@
 -- What a list of commands leaves: the plain lock table and the members, which requests take effect, and their answers;
 -- and what a node keeps of a list that it has executed.
-use Rattle.std.specs.Prelude.{◌≡◌, ℕ, zero, suc, ◌+◌, ◌-◌, ◌<◌, ◌≤◌, max, Bool, true, false, not, ◌&&◌, ◌==◌, nat_lt, nat_le, if◌then◌else◌, Option, Some, None, List, [], ◌∷◌, ◌++◌, length, take, fold, filter, slice_get, Contains, IsTrue}
+use Rattle.std.specs.Prelude.{◌≡◌, ℕ, zero, suc, ◌+◌, ◌-◌, ◌<◌, ◌≤◌, max, Bool, true, false, not, ◌&&◌, ◌==◌, nat_lt}
+use Rattle.std.specs.Prelude.{nat_le, if◌then◌else◌, Option, Some, None, List, [], ◌∷◌, ◌++◌, length, take, fold}
+use Rattle.std.specs.Prelude.{filter, slice_get, Contains, IsTrue}
 use Rattle.std.specs.List.{list_any}
 use Rattle.std.specs.Ordering.{nat_cmp}
 use Rattle.std.specs.Cmp.Lexicographic.{slice_cmp}
 use Rattle.std.specs.FinMap as map
 use Rattle.lk_types.specs.declared.answer.Answer.{Answer}
-use Rattle.lk_types.specs.declared.answer.Answer.TheVariants.{Granted, Busy, Released, NotHeld, Free, Held, Valid, Stale, NoRoom, Bad, Spent, Shared, HeldShared, Broken, Joined, Used, Full, Left, NotMember, Last, Raised, AlreadyRaised}
+use Rattle.lk_types.specs.declared.answer.Answer.TheVariants.{Granted, Busy, Released, NotHeld, Free, Held, Valid}
+use Rattle.lk_types.specs.declared.answer.Answer.TheVariants.{Stale, NoRoom, Bad, Spent, Shared, HeldShared, Broken}
+use Rattle.lk_types.specs.declared.answer.Answer.TheVariants.{Joined, Used, Full, Left, NotMember, Last, Raised}
+use Rattle.lk_types.specs.declared.answer.Answer.TheVariants.{AlreadyRaised}
 use Rattle.lk_types.specs.declared.command.Command.{Command}
 use Rattle.lk_types.specs.declared.command.Command.TheVariants.{Noop, Request}
 use Rattle.lk_types.specs.declared.command.Op.{Op}
@@ -110,7 +115,8 @@ without client (Together clients) = those (filter (λ c. not (c == client)) clie
 abbrev pub release : ℕ → List ℕ → ℕ → Option Lock → Locks → Answer × Locks
 release client name fence None locks = (NotHeld, locks)
 release client name fence (Some lock) locks =
-    if is_held_by client lock.holders && lock.fence == fence then (Released, hold name fence (without client lock.holders) locks)
+    if is_held_by client lock.holders && lock.fence == fence
+    then (Released, hold name fence (without client lock.holders) locks)
     else (NotHeld, locks)
 
 -- somebody holds the name at this fence
@@ -144,8 +150,10 @@ use_locks client raised (Some (Acquire name)) locks = acquire client name (map.g
 use_locks client raised (Some (Release name fence)) locks = release client name fence (map.get locks name) locks
 use_locks client raised (Some (Ask name)) locks = (asks (map.get locks name), locks)
 use_locks client raised (Some (Check name fence)) locks = (checks fence (map.get locks name), locks)
-use_locks client raised (Some (Share name)) locks = if raised then share client name (map.get locks name) locks else (Bad, locks)
-use_locks client raised (Some (Break name fence)) locks = if raised then break_lock name fence (map.get locks name) locks else (Bad, locks)
+use_locks client raised (Some (Share name)) locks =
+    if raised then share client name (map.get locks name) locks else (Bad, locks)
+use_locks client raised (Some (Break name fence)) locks =
+    if raised then break_lock name fence (map.get locks name) locks else (Bad, locks)
 
 -- ---- the state after a list of commands
 
@@ -188,7 +196,14 @@ abbrev pub join : ℕ → ℕ → State → Answer × State
 join node port s =
     if nat_le node s.greatest then (Used, s)
     else if nat_le 7 (length s.members) then (Full, s)
-    else (Joined, record s { members = s.members ++ record { node = node; port = port } ∷ []; greatest = node; changed = s.position + 1 })
+    else (
+      Joined,
+      record s {
+        members = s.members ++ record { node = node; port = port } ∷ [];
+        greatest = node;
+        changed = s.position + 1;
+      },
+    )
 
 -- a member leaves, unless it is the only one
 abbrev pub leave : ℕ → State → Answer × State
@@ -204,7 +219,10 @@ raise s = if s.raised then (AlreadyRaised, s) else (Raised, record s { raised = 
 
 -- the answer to a request, and the state after that
 abbrev pub serve : ℕ → Op → State → Answer × State
-serve client (Table body) s = ((use_locks client s.raised (body_of body) s.locks).0, record s { locks = (use_locks client s.raised (body_of body) s.locks).1 })
+serve client (Table body) s = (
+  (use_locks client s.raised (body_of body) s.locks).0,
+  record s { locks = (use_locks client s.raised (body_of body) s.locks).1 },
+)
 serve client (Join node port) s = join node port s
 serve client (Leave node) s = leave node s
 serve client Raise s = raise s
@@ -256,7 +274,8 @@ TakesEffectAt genesis L i r = (at L i ≡ Some (Request r)) × IsTrue (takes_eff
 -- each number of a client takes effect at most at one position
 abbrev pub TakesEffectOnce : Genesis → List Command → Type 0
 TakesEffectOnce genesis L =
-    (i j : ℕ) (q r : Asking) → TakesEffectAt genesis L i q → TakesEffectAt genesis L j r → q.client ≡ r.client → q.number ≡ r.number → i ≡ j
+    (i j : ℕ) (q r : Asking) → TakesEffectAt genesis L i q → TakesEffectAt genesis L j r → q.client ≡ r.client
+    → q.number ≡ r.number → i ≡ j
 
 -- the members that decide position i: those that the entries up to alpha positions earlier leave. (Lamport, Paxos Made
 -- Simple, 2001, section 3; Lamport, Malkhi, Zhou, Reconfiguring a State Machine, 2010)
@@ -301,8 +320,10 @@ pub record IsKeptOf (genesis : Genesis) (L : List Command) (kept : Kept) : Type 
   pub changed : kept.changed ≡ (after genesis L).changed
   -- for each client that has asked, in rising order, its request of greatest number, and the answer to that
   pub answers : (s : Session) → Contains kept.sessions s → IsAnswered genesis L s.client s.number s.answer
-  pub last : (s : Session) → Contains kept.sessions s → (r : Asking) → Contains L (Request r) → r.client ≡ s.client → r.number ≤ s.number
+  pub last : (s : Session) → Contains kept.sessions s → (r : Asking) → Contains L (Request r)
+      → r.client ≡ s.client → r.number ≤ s.number
   pub clients : (r : Asking) → Contains L (Request r) → (s : Session) × Contains kept.sessions s × (s.client ≡ r.client)
-  pub rise : (k : ℕ) (s t : Session) → slice_get kept.sessions k ≡ Some s → slice_get kept.sessions (k + 1) ≡ Some t → s.client < t.client
+  pub rise : (k : ℕ) (s t : Session) → slice_get kept.sessions k ≡ Some s
+      → slice_get kept.sessions (k + 1) ≡ Some t → s.client < t.client
   -- the plain table
   pub locks : kept.locks ≡ table_text (table (after genesis L))

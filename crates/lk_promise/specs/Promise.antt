@@ -7,12 +7,13 @@
 -- All of that is stated here a second time, in words of its own. Of the crates below, these files import the values,
 -- the order of ballots, the grammar of bytes, bodies and files, the packed text of a lock table, and what a world
 -- shows (its genesis, its nodes, its datagrams, its trace). Of the definitions of lk_members, lk_agreement, lk_state,
--- lk_world_nodes and lk_sim they import none but such values: so a definition that is weakened there breaks a proof of this
--- crate.
+-- lk_world_nodes and lk_sim they import none but such values: so a definition that is weakened there breaks a proof of
+-- this crate.
 --
 -- Not restated: what is named above, the contract of a replica (`ComesTo`), what a revival revives, and what a trap
 -- that is set does.
-use Rattle.std.specs.Prelude.{◌≡◌, ℕ, ◌+◌, ◌-◌, ◌<◌, ◌≤◌, Bool, true, false, Some, List, [], ◌∷◌, ◌++◌, length, take, drop, filter, set, Contains}
+use Rattle.std.specs.Prelude.{◌≡◌, ℕ, ◌+◌, ◌-◌, ◌<◌, ◌≤◌, Bool, true, false, Some, List, [], ◌∷◌, ◌++◌, length, take}
+use Rattle.std.specs.Prelude.{drop, filter, set, Contains}
 use Rattle.lk_types.specs.declared.answer.Answer.{Answer}
 use Rattle.lk_types.specs.declared.command.Command.{Command}
 use Rattle.lk_types.specs.declared.command.Command.TheVariants.{Request}
@@ -35,7 +36,9 @@ use Rattle.lk_world_nodes.specs.declared.seat.Life.TheVariants.{Up}
 use Rattle.lk_world_nodes.specs.declared.seat.Seat.{Seat}
 use Rattle.lk_promise.specs.Plain.{at, members, IsAnswered, TakesEffectAt, Kept, IsKeptOf}
 pub use Rattle.lk_promise.specs.Chosen.{Says, IsAcceptedBy, IsChosen, Begins, Agree}
-pub use Rattle.lk_promise.specs.Disks.{members_text, session_text, kept_text, IsSnapshot, device_in, MayRemain, MayRemainOf, Remembers, EachImage, HasSnapshot, HaveSnapshots, HasVote, IsCovered, AreCovered, IsRemembered, IsKeptBy, AreKept, IsShort, AreShort}
+pub use Rattle.lk_promise.specs.Disks.{members_text, session_text, kept_text, IsSnapshot, device_in, MayRemain}
+pub use Rattle.lk_promise.specs.Disks.{MayRemainOf, Remembers, EachImage, HasSnapshot, HaveSnapshots, HasVote}
+pub use Rattle.lk_promise.specs.Disks.{IsCovered, AreCovered, IsRemembered, IsKeptBy, AreKept, IsShort, AreShort}
 
 -- ---- what one chosen list explains
 
@@ -54,17 +57,24 @@ pub record Explains (genesis : Genesis) (sent : List Datagram) (trace : List Not
   -- what a node executed at a position is the list's command there
   pub ran : (node i : ℕ) (v : Command) → Contains trace (note.Ran node i v) → at L i ≡ Some v
   -- whoever counted a majority at a position counted it among the members of that position, which the list names
-  pub known : (node i : ℕ) (set : List Member) (v : Command) → Contains trace (note.Counted node i set v) → i - genesis.alpha ≤ length L
-  pub among : (node i : ℕ) (set : List Member) (v : Command) → Contains trace (note.Counted node i set v) → set ≡ members genesis L i
+  pub known : (node i : ℕ) (set : List Member) (v : Command) → Contains trace (note.Counted node i set v)
+      → i - genesis.alpha ≤ length L
+  pub among : (node i : ℕ) (set : List Member) (v : Command) → Contains trace (note.Counted node i set v)
+      → set ≡ members genesis L i
   -- and for the list's command there; at each position, even beyond the list, for one command
-  pub counted : (node i : ℕ) (set : List Member) (v w : Command) → Contains trace (note.Counted node i set v) → at L i ≡ Some w → v ≡ w
-  pub counted_once : (node other i : ℕ) (set others : List Member) (v w : Command) → Contains trace (note.Counted node i set v) → Contains trace (note.Counted other i others w) → v ≡ w
+  pub counted : (node i : ℕ) (set : List Member) (v w : Command) → Contains trace (note.Counted node i set v)
+      → at L i ≡ Some w → v ≡ w
+  pub counted_once : (node other i : ℕ) (set others : List Member) (v w : Command)
+      → Contains trace (note.Counted node i set v) → Contains trace (note.Counted other i others w) → v ≡ w
   -- a client's answer is the answer to its request where that takes effect; and any other reply tells it a greater
   -- number of its own that takes effect
-  pub answered : (node client number : ℕ) (answer : Answer) → Contains trace (note.Answered node client number answer) → IsAnswered genesis L client number answer
-  pub told : (node client number last : ℕ) → Contains trace (note.Told node client number last) → (number < last) × ((answer : Answer) × IsAnswered genesis L client last answer)
+  pub answered : (node client number : ℕ) (answer : Answer) → Contains trace (note.Answered node client number answer)
+      → IsAnswered genesis L client number answer
+  pub told : (node client number last : ℕ) → Contains trace (note.Told node client number last)
+      → (number < last) × ((answer : Answer) × IsAnswered genesis L client last answer)
   -- a command that was sent as decided for a position of the list is the list's command there
-  pub decided : (node k : ℕ) (d : DecidedValue) (v w : Command) → Says genesis sent node (message.Decided d) → at d.commands (k + 1) ≡ Some v → at L (d.first + k) ≡ Some w → v ≡ w
+  pub decided : (node k : ℕ) (d : DecidedValue) (v w : Command) → Says genesis sent node (message.Decided d)
+      → at d.commands (k + 1) ≡ Some v → at L (d.first + k) ≡ Some w → v ≡ w
   -- and a part of a snapshot is a piece of the snapshot of a prefix of the list
   pub parts : (node : ℕ) (p : PartValue) → Says genesis sent node (message.Part p) → IsPart genesis L p
 
@@ -85,10 +95,12 @@ is_reply (content.Node node _) = false
 pub data AreReplies : List Datagram → List Note → Type 0 where
   nothing_more : AreReplies [] []
   an_answer : {datagrams : List Datagram} {notes : List Note} (d : Datagram) (cluster node : ℕ) (a : Answered)
-      → Spells (record { cluster = cluster; content = content.Node node (message.Answer a) }) d.bytes → AreReplies datagrams notes
+      → Spells (record { cluster = cluster; content = content.Node node (message.Answer a) }) d.bytes
+      → AreReplies datagrams notes
       → AreReplies (d ∷ datagrams) (note.Answered node a.client a.number a.answer ∷ notes)
   a_pass : {datagrams : List Datagram} {notes : List Note} (d : Datagram) (cluster node : ℕ) (p : PassedValue)
-      → Spells (record { cluster = cluster; content = content.Node node (message.Passed p) }) d.bytes → AreReplies datagrams notes
+      → Spells (record { cluster = cluster; content = content.Node node (message.Passed p) }) d.bytes
+      → AreReplies datagrams notes
       → AreReplies (d ∷ datagrams) (note.Told node p.client p.number p.last ∷ notes)
   no_reply : {datagrams : List Datagram} {notes : List Note} (d : Datagram) (m : Message)
       → Spells m d.bytes → is_reply m.content ≡ false → AreReplies datagrams notes
@@ -122,7 +134,8 @@ IsOrdered genesis sent trace =
 -- a greater number of which a client was told was asked before
 abbrev pub AreToldInTime : List Note → Type 0
 AreToldInTime trace =
-    (before later : List Note) → trace ≡ before ++ later → (node client number last : ℕ) → Contains before (note.Told node client number last)
+    (before later : List Note) → trace ≡ before ++ later → (node client number last : ℕ)
+    → Contains before (note.Told node client number last)
     → (r : Asking) × (r.client ≡ client) × (r.number ≡ last) × Contains before (note.Asked r)
 
 -- ---- what a node that is up has executed
@@ -144,7 +157,9 @@ HasExecuted genesis sent replica = (L : List Command) × IsChosen genesis sent L
 
 -- each node that is up
 abbrev pub HaveExecuted : Genesis → List (Seat ReplicaValue) → List Datagram → Type 0
-HaveExecuted genesis seats sent = (s : Seat ReplicaValue) → Contains seats s → (replica : ReplicaValue) → s.life ≡ Up replica → HasExecuted genesis sent replica
+HaveExecuted genesis seats sent =
+    (s : Seat ReplicaValue) → Contains seats s → (replica : ReplicaValue) → s.life ≡ Up replica
+    → HasExecuted genesis sent replica
 
 -- ---- the promise
 

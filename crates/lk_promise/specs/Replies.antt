@@ -12,5 +12,7 @@ use Rattle.lk_promise.specs.Plain.{IsAnswered}
 
 -- the list explains each datagram that answers a request, or tells of a greater number
 pub record ExplainsReplies (genesis : Genesis) (sent : List Datagram) (L : List Command) : Type 0 where
-  pub answers : (node : ℕ) (a : Answered) → Says genesis sent node (message.Answer a) → IsAnswered genesis L a.client a.number a.answer
-  pub passes : (node : ℕ) (p : PassedValue) → Says genesis sent node (message.Passed p) → (answer : Answer) × IsAnswered genesis L p.client p.last answer
+  pub answers : (node : ℕ) (a : Answered) → Says genesis sent node (message.Answer a)
+      → IsAnswered genesis L a.client a.number a.answer
+  pub passes : (node : ℕ) (p : PassedValue) → Says genesis sent node (message.Passed p)
+      → (answer : Answer) × IsAnswered genesis L p.client p.last answer

@@ -25,11 +25,13 @@ ComesUp header device replica notes = RevivesTo table_meaning IsTableText device
 
 -- it was refused with the fault of this number
 abbrev pub StaysDown : HeaderValue → Memory → ℕ → Type 0
-StaysDown header device number = (left : Memory) × RevivesTo table_meaning IsTableText device header (Err (number, left))
+StaysDown header device number =
+    (left : Memory) × RevivesTo table_meaning IsTableText device header (Err (number, left))
 
 -- a stop of the replica left this device, with some of the bytes that were not synced
 abbrev pub IsLeftBy : ReplicaValue → Memory → Type 0
-IsLeftBy replica left = (x y : ℕ) × (left.a ≡ remaining x (device_of replica.store).a) × (left.b ≡ remaining y (device_of replica.store).b)
+IsLeftBy replica left =
+    (x y : ℕ) × (left.a ≡ remaining x (device_of replica.store).a) × (left.b ≡ remaining y (device_of replica.store).b)
 
 -- stops and restarts, one after another: each stop leaves a device, on which the replica comes up with some notes
 abbrev pub Restarts : HeaderValue → ReplicaValue → List (Memory × (ReplicaValue × List Note)) → Type 0
@@ -48,15 +50,18 @@ ReadsFormatTwo device = (entries : List Stored) → IsLive (seen (disk_of device
 -- what comes after a restart that came to this replica and these notes
 pub record IsIdempotent (header : HeaderValue) (replica : ReplicaValue) (notes : List Note) : Type 0 where
   -- each further one comes to the same node and the same notes
-  pub same : (more : List (Memory × (ReplicaValue × List Note))) → Restarts header replica more → (x : Memory × (ReplicaValue × List Note)) → Contains more x → (x.1.0.node ≡ replica.node) × (x.1.1 ≡ notes)
+  pub same : (more : List (Memory × (ReplicaValue × List Note))) → Restarts header replica more
+      → (x : Memory × (ReplicaValue × List Note)) → Contains more x → (x.1.0.node ≡ replica.node) × (x.1.1 ≡ notes)
   -- and is refused for nothing but a call of the device that failed, or memory
-  pub comes_up : (more : List (Memory × (ReplicaValue × List Note))) → Restarts header replica more → (left : Memory) → IsLeftBy (last_up replica more) left → (number : ℕ) → StaysDown header left number → (number ≡ 7) ⊎ (number ≡ 8)
+  pub comes_up : (more : List (Memory × (ReplicaValue × List Note))) → Restarts header replica more → (left : Memory)
+      → IsLeftBy (last_up replica more) left → (number : ℕ) → StaysDown header left number → (number ≡ 7) ⊎ (number ≡ 8)
 
 -- ---- in a world
 
 -- the file that a restart of the node reads is not of format 1
 abbrev pub FindsFormatTwo : Scene ReplicaValue → ℕ → Type 0
-FindsFormatTwo world n = (device : Memory) → Contains world.seats (record { number = n; life = Down device }) → ReadsFormatTwo device
+FindsFormatTwo world n =
+    (device : Memory) → Contains world.seats (record { number = n; life = Down device }) → ReadsFormatTwo device
 
 -- the node stops and restarts, as often as there are pairs: each says how many bytes of its disks A and B that were not
 -- synced the stop keeps at most
@@ -71,7 +76,8 @@ as_often (most ∷ more) notes = notes ++ as_often more notes
 
 -- The first world comes of a restart of the node in this one, and the last of such stops and restarts after that. What
 -- may differ is its other file and what its device counts.
-pub record IsTheSame (n : ℕ) (world first : Scene ReplicaValue) (more : List (ℕ × ℕ)) (last : Scene ReplicaValue) : Type 0 where
+pub record IsTheSame (n : ℕ) (world first : Scene ReplicaValue) (more : List (ℕ × ℕ))
+    (last : Scene ReplicaValue) : Type 0 where
   pub place : ℕ
   pub once : ReplicaValue
   pub again : ReplicaValue

@@ -19,7 +19,8 @@ ghost use Rattle.lk_promise.specs.Linear.{IsLinearizable};
 ghost use Rattle.lk_promise.specs.Plain.{HasFixedMembers, TakesEffectOnce};
 ghost use Rattle.lk_promise.specs.Promise.{Explains, KeepsPromise};
 ghost use Rattle.lk_promise.specs.Replies.{ExplainsReplies};
-ghost use Rattle.lk_promise.specs.Restarting.{ComesUp, FindsFormatTwo, IsIdempotent, IsTheSame, ReadsFormatTwo, stops_and_restarts};
+ghost use Rattle.lk_promise.specs.Restarting.{ComesUp, FindsFormatTwo, IsIdempotent, IsTheSame, ReadsFormatTwo};
+ghost use Rattle.lk_promise.specs.Restarting.{stops_and_restarts};
 
 /// A list in which nobody asks to join or to leave names the members of the genesis at each position.
 pub fn members_stay_fixed()
@@ -41,7 +42,8 @@ pub fn worlds_are_linearizable()
 /// accepted writes at one fence are made under one grant, and after a write under a later grant it accepts none under
 /// an earlier one.
 pub fn fences_guard_resources()
-    ensures { (genesis : Genesis) (L : List Command) (name : List ℕ) (writes : List Write) → IsGuarded genesis L name writes }
+    ensures { (genesis : Genesis) (L : List Command) (name : List ℕ) (writes : List Write)
+        → IsGuarded genesis L name writes }
 {}
 
 /// Each grant that a client of a world that keeps the promise was told is in some chosen list, for a name that its
@@ -52,7 +54,8 @@ pub fn grants_are_listed()
 
 /// A list that explains what was noted in a world that keeps the promise explains each datagram to a client.
 pub fn replies_are_explained()
-    ensures { (world : Scene ReplicaValue) (L : List Command) → KeepsPromise world → Explains world.genesis world.sent world.trace L → ExplainsReplies world.genesis world.sent L }
+    ensures { (world : Scene ReplicaValue) (L : List Command) → KeepsPromise world
+        → Explains world.genesis world.sent world.trace L → ExplainsReplies world.genesis world.sent L }
 {}
 
 /// Exactly once: of a world that keeps the promise, each operation of a client that follows the rule takes effect at
@@ -72,12 +75,14 @@ pub fn nodes_converge()
 /// not synced, it is the same node and notes the same; and it comes up again, but for memory or a call of the device
 /// that failed.
 pub fn restarts_are_idempotent()
-    ensures { (header : HeaderValue) (device : Memory) (replica : ReplicaValue) (notes : List Note) → ReadsFormatTwo device → ComesUp header device replica notes → IsIdempotent header replica notes }
+    ensures { (header : HeaderValue) (device : Memory) (replica : ReplicaValue) (notes : List Note)
+        → ReadsFormatTwo device → ComesUp header device replica notes → IsIdempotent header replica notes }
 {}
 
 /// Whatever a run of events makes of a reachable world is reachable.
 pub fn worlds_stay_reachable()
-    ensures { (genesis : Genesis) (world : Scene ReplicaValue) (events : List Event) (how : RunEnd) (new : Scene ReplicaValue) → IsReachable genesis world → IsRun world events how new → IsReachable genesis new }
+    ensures { (genesis : Genesis) (world : Scene ReplicaValue) (events : List Event) (how : RunEnd)
+        (new : Scene ReplicaValue) → IsReachable genesis world → IsRun world events how new → IsReachable genesis new }
 {}
 
 /// A restart always comes back: in every reachable world a Restart of a node that is down is refused for nothing but
@@ -92,6 +97,8 @@ pub fn a_node_comes_back()
 /// file, each restart has noted the same, and nothing else has changed (recovery may be repeated: Mohan et al., ARIES,
 /// 1992).
 pub fn a_node_comes_back_the_same()
-    ensures { (genesis : Genesis) (world first last : Scene ReplicaValue) (n : ℕ) (more : List (ℕ × ℕ)) → IsReachable genesis world → FindsFormatTwo world n
-        → IsDone world (event.Restart n) first → AreDone (stops_and_restarts n more) first last → IsUp last.seats n → IsTheSame n world first more last }
+    ensures { (genesis : Genesis) (world first last : Scene ReplicaValue) (n : ℕ) (more : List (ℕ × ℕ))
+        → IsReachable genesis world → FindsFormatTwo world n
+        → IsDone world (event.Restart n) first → AreDone (stops_and_restarts n more) first last → IsUp last.seats n
+        → IsTheSame n world first more last }
 {}

@@ -21,8 +21,11 @@ pub grown_then : (old mid new : Side → Disk) → StaysWithin 49152 old mid →
 grown_then old mid new a b s = omega (arith, a s, b s)
 
 -- a step's entries
-pub grown_put : (old new : StoreValue) → new.live ≡ old.live → length (contents new.live_disk) ≤ length (contents old.live_disk) + 1632 → new.other_disk ≡ old.other_disk → GrowsByStep (disks old) (disks new)
-grown_put old new is grows beside = subst (λ (side : Side). GrowsByStep (disks old) (pick side new.live_disk new.other_disk)) (sym is) (on old.live)
+pub grown_put : (old new : StoreValue) → new.live ≡ old.live
+    → length (contents new.live_disk) ≤ length (contents old.live_disk) + 1632 → new.other_disk ≡ old.other_disk
+    → GrowsByStep (disks old) (disks new)
+grown_put old new is grows beside =
+    subst (λ (side : Side). GrowsByStep (disks old) (pick side new.live_disk new.other_disk)) (sym is) (on old.live)
   where
     on : (side : Side) → GrowsByStep (pick side old.live_disk old.other_disk) (pick side new.live_disk new.other_disk)
     on A A = grows

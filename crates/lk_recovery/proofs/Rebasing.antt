@@ -1,5 +1,6 @@
 -- What a rebase leaves of a node and its store: the new Base covers what the old entries covered, and fits as they did.
-use Rattle.std.proofs.Common.{◌≡◌, ℕ, ◌+◌, ◌*◌, ◌<◌, ◌≤◌, inl, inr, Bool, true, false, cond, List, [], ◌∷◌, ◌++◌, map, length, take, Contains, refl, sym, ◌∙◌, ap, subst, subst₂, arith}
+use Rattle.std.proofs.Common.{◌≡◌, ℕ, ◌+◌, ◌*◌, ◌<◌, ◌≤◌, inl, inr, Bool, true, false, cond, List, [], ◌∷◌, ◌++◌, map}
+use Rattle.std.proofs.Common.{length, take, Contains, refl, sym, ◌∙◌, ap, subst, subst₂, arith}
 use Rattle.std.specs.Prelude.{⊤}
 use Rattle.lk_types.specs.BallotValue.{BallotValue}
 use Rattle.lk_types.specs.Ballots.{IsAtMost, is_below}
@@ -21,7 +22,8 @@ use Rattle.lk_log.specs.StoreValue.{StoreValue, pick, disks}
 use Rattle.lk_log.specs.Stores.{HoldsOn, Holds, MayBegin, next_base, KeepsOrIs}
 use Rattle.lk_log.specs.Rooms.{StaysWithin}
 use Rattle.lk_log.proofs.Room.{within_same, within_first}
-use Rattle.lk_log.proofs.StoreLaws.{rising_stands, one_standing, one_header, of_every, plain_take, synced_live, rebase_every}
+use Rattle.lk_log.proofs.StoreLaws.{rising_stands, one_standing, one_header, of_every, plain_take, synced_live}
+use Rattle.lk_log.proofs.StoreLaws.{rebase_every}
 use Rattle.lk_state.specs.Meanings.{Meaning}
 use Rattle.lk_state.specs.Packed.{packed}
 use Rattle.lk_agreement.specs.Acceptors.{AcceptorState, Covers, AreProposed, TakesSnapshot}
@@ -46,7 +48,8 @@ use Rattle.lk_recovery.proofs.Growing.{grown_base}
 use Rattle.lk_recovery.specs.Compacting.{AllStandAt, IsDue, IsSameStore}
 use Rattle.lk_recovery.specs.Rebased.{HasSwitchedFiles, StaysSafe, IsReadyToStep, LeavesDisks}
 use Rattle.lk_recovery.specs.Remembering.{Remembers}
-use Rattle.lk_recovery.proofs.Images.{known_rest, grown_fit, held_fit, EntriesCover, entries_fit, cover_entries, entries_cover, cover_disks, none_asked, cover_more}
+use Rattle.lk_recovery.proofs.Images.{known_rest, grown_fit, held_fit, EntriesCover, entries_fit, cover_entries}
+use Rattle.lk_recovery.proofs.Images.{entries_cover, cover_disks, none_asked, cover_more}
 use Rattle.lk_recovery.proofs.Ordered.{standing_ordered}
 use Rattle.lk_recovery.proofs.Revivals.{nothing_later}
 
@@ -60,18 +63,22 @@ greater_stays b c most = by_test (is_below b c) refl
     by_test false e = refl
 
 -- no vote is in a greater ballot than the promised one
-greatest_stays : (b : BallotValue) (vs : List Vote) → ((v : Vote) → Contains vs v → IsAtMost v.ballot b) → greatest_of b (map ballot_of vs) ≡ b
+greatest_stays : (b : BallotValue) (vs : List Vote) → ((v : Vote) → Contains vs v → IsAtMost v.ballot b)
+    → greatest_of b (map ballot_of vs) ≡ b
 greatest_stays b [] all = refl
 greatest_stays b (v ∷ vs) all =
     ap (λ (g : BallotValue). greatest_of g (map ballot_of vs)) (greater_stays b v.ballot (all v (0, omega arith, refl)))
     ∙ greatest_stays b vs (λ w c. all w (contains_more v vs w c))
 
-base_is : (b : BaseValue) → ((v : Vote) → Contains b.standing.votes v → IsAtMost v.ballot b.standing.promised) → of_base b ≡ b.standing
-base_is b all = ap (λ (g : BallotValue). record b.standing { promised = g }) (greatest_stays b.standing.promised b.standing.votes all)
+base_is : (b : BaseValue)
+    → ((v : Vote) → Contains b.standing.votes v → IsAtMost v.ballot b.standing.promised) → of_base b ≡ b.standing
+base_is b all = ap (λ (g : BallotValue). record b.standing { promised = g })
+    (greatest_stays b.standing.promised b.standing.votes all)
 
 -- ---- a snapshot covers what the votes covered whose place it takes
 
-pub snapshot_covers : (old new : AcceptorState) (i : ℕ) → TakesSnapshot old i new → (x : NodeMessage) → Covers old x → Covers new x
+pub snapshot_covers : (old new : AcceptorState) (i : ℕ) → TakesSnapshot old i new → (x : NodeMessage)
+    → Covers old x → Covers new x
 snapshot_covers old new i t (kinds.Prepare b first) c = subst (IsAtMost b) (sym t.promised) c
 snapshot_covers old new i t (kinds.Promise p) c = subst (IsAtMost p.ballot) (sym t.promised) c
 snapshot_covers old new i t (kinds.Accept v) c = subst (IsAtMost v.ballot) (sym t.promised) c
@@ -79,7 +86,8 @@ snapshot_covers old new i t (kinds.Accepted v) c = (
   subst (IsAtMost v.ballot) (sym t.promised) c.0,
   elim c.1 [
     | inl under ↦ inl (omega (arith, under, t.later, t.snapshot))
-    | inr y ↦ elim (t.above y.0 y.1) [ inl under ↦ inl (omega (arith, under, y.2, t.snapshot)) | inr kept ↦ inr (y.0, kept, y.2, y.3) ]
+    | inr y ↦ elim (t.above y.0 y.1)
+        [ inl under ↦ inl (omega (arith, under, y.2, t.snapshot)) | inr kept ↦ inr (y.0, kept, y.2, y.3) ]
   ],
 )
 snapshot_covers old new i t (kinds.Nack k) c = c
@@ -93,19 +101,22 @@ snapshot_covers old new i t (kinds.Lead b k) c = c
 
 -- ---- the new Base
 
-module _ (m : Meaning) (genesis : Genesis) (n : ℕ) (node : NodeValue) (old new : StoreValue) (keeps : Keeps (header_of genesis n) old node.acceptor.state)
+module _ (m : Meaning) (genesis : Genesis) (n : ℕ) (node : NodeValue) (old new : StoreValue)
+    (keeps : Keeps (header_of genesis n) old node.acceptor.state)
     (may : MayBegin (standing_of node)) (within : node.acceptor.state.snapshot_position ≤ executed node.learner) where
   abbrev base : BaseValue
   base = next_base old (standing_of node)
 
-  takes : TakesSnapshot node.acceptor.state (executed node.learner) (without_votes_to node.acceptor.state (executed node.learner))
+  takes : TakesSnapshot node.acceptor.state (executed node.learner)
+      (without_votes_to node.acceptor.state (executed node.learner))
   takes = takes_snapshot node.acceptor.state (executed node.learner) within
 
   ordered : (v : Vote) → Contains node.acceptor.state.votes v → IsAtMost v.ballot node.acceptor.state.promised
   ordered = (subst IsOrdered keeps.remembers (standing_ordered keeps.entries keeps.standing keeps.stands)).promised
 
   pub base_stands : StandsFor (Base base ∷ []) (standing_of node)
-  base_stands = subst (StandsFor (Base base ∷ [])) (base_is base (λ v c. ordered v (takes.only v c))) (rising_stands base may.votes_rise may.pairs_rise)
+  base_stands = subst (StandsFor (Base base ∷ [])) (base_is base (λ v c. ordered v (takes.only v c)))
+      (rising_stands base may.votes_rise may.pairs_rise)
 
   base_header : base.header ≡ header_of genesis n
   base_header = one_header keeps.entries old.header (header_of genesis n) keeps.holds.header_is keeps.header
@@ -113,24 +124,40 @@ module _ (m : Meaning) (genesis : Genesis) (n : ℕ) (node : NodeValue) (old new
   -- ---- whatever has happened
 
   pub base_covers : (y : NodeMessage) → Covers node.acceptor.state y → EntriesCover genesis n y (Base base ∷ [])
-  base_covers y c = (base_header, (standing_of node, base_stands, snapshot_covers node.acceptor.state (without_votes_to node.acceptor.state (executed node.learner)) (executed node.learner) takes y c))
+  base_covers y c = (
+    base_header,
+    (
+      standing_of node,
+      base_stands,
+      snapshot_covers node.acceptor.state (without_votes_to node.acceptor.state (executed node.learner))
+          (executed node.learner) takes y c,
+    ),
+  )
 
   -- after any exit of a rebase every image covers what every image covered
-  pub rebase_covers : KeepsOrIs (disks new) keeps.entries (plain keeps.loose) base → (y : NodeMessage) → AllCover m genesis n (disks old) y → AllCover m genesis n (disks new) y
+  pub rebase_covers : KeepsOrIs (disks new) keeps.entries (plain keeps.loose) base → (y : NodeMessage)
+      → AllCover m genesis n (disks old) y → AllCover m genesis n (disks new) y
   rebase_covers left y c =
       let every = cover_entries m genesis n (disks old) y c in
-      let ks : EntriesCover genesis n y keeps.entries = of_every (EntriesCover genesis n y) old keeps.entries (plain keeps.loose) (header_of genesis n) (text m genesis []) keeps.holds every in
-      let same : acceptor_of ks.1.0 ≡ node.acceptor.state = ap acceptor_of (one_standing keeps.entries ks.1.0 keeps.standing ks.1.1 keeps.stands) ∙ keeps.remembers in
+      let ks : EntriesCover genesis n y keeps.entries =
+      of_every (EntriesCover genesis n y) old keeps.entries (plain keeps.loose) (header_of genesis n)
+      (text m genesis []) keeps.holds every in
+      let same : acceptor_of ks.1.0 ≡ node.acceptor.state =
+      ap acceptor_of (one_standing keeps.entries ks.1.0 keeps.standing ks.1.1 keeps.stands) ∙ keeps.remembers in
       entries_cover m genesis n (disks new) y
-      (rebase_every (EntriesCover genesis n y) (λ e. Unit {0}) old new keeps.entries (plain keeps.loose) keeps.loose base (header_of genesis n) (text m genesis []) keeps.holds refl left
-      (cover_more genesis n y) (none_asked keeps.loose) (base_covers y (subst (λ (a : AcceptorState). Covers a y) same ks.1.2)) every)
+      (rebase_every (EntriesCover genesis n y) (λ e. Unit {0}) old new keeps.entries
+      (plain keeps.loose) keeps.loose base (header_of genesis n) (text m genesis []) keeps.holds refl left
+      (cover_more genesis n y) (none_asked keeps.loose)
+      (base_covers y (subst (λ (a : AcceptorState). Covers a y) same ks.1.2)) every)
 
   -- where it was made every image covers what the node does
-  pub rebase_syncs : Holds new (Base base ∷ []) [] → (y : NodeMessage) → Covers node.acceptor.state y → AllCover m genesis n (disks new) y
+  pub rebase_syncs : Holds new (Base base ∷ []) [] → (y : NodeMessage) → Covers node.acceptor.state y
+      → AllCover m genesis n (disks new) y
   rebase_syncs holds y c = cover_disks m genesis n new (Base base ∷ []) [] y holds (base_covers y c)
 
   -- and the store keeps what the acceptor then holds
-  pub rebase_keeps : node.header ≡ header_of genesis n → Holds new (Base base ∷ []) [] → Remembers (with_snapshot node) new genesis n
+  pub rebase_keeps : node.header ≡ header_of genesis n → Holds new (Base base ∷ []) []
+      → Remembers (with_snapshot node) new genesis n
   rebase_keeps whose holds = record {
     whose = whose;
     keeps = record {
@@ -146,22 +173,46 @@ module _ (m : Meaning) (genesis : Genesis) (n : ℕ) (node : NodeValue) (old new
   }
 
 -- a node that stands, stands in the middle of a step
-abbrev pub before_step : (m : Meaning) (node : NodeValue) (store : StoreValue) (genesis : Genesis) (n : ℕ) (x : Holding) → Stands m node store genesis n x → StandsBefore m node store genesis n x
-before_step m node store genesis n x s = record { whose = s.whose; keeps = s.keeps; known = s.known; held = s.held; some = s.told.tells.some; near = s.told.near }
+abbrev pub before_step : (m : Meaning) (node : NodeValue) (store : StoreValue) (genesis : Genesis) (n : ℕ)
+    (x : Holding) → Stands m node store genesis n x → StandsBefore m node store genesis n x
+before_step m node store genesis n x s =
+    record {
+      whose = s.whose;
+      keeps = s.keeps;
+      known = s.known;
+      held = s.held;
+      some = s.told.tells.some;
+      near = s.told.near;
+    }
 
-abbrev pub before_fits : (m : Meaning) (h : History) (n : ℕ) (node : NodeValue) (store : StoreValue) → NodeFits m h n (Stands m node store h.genesis n) (disks store) → NodeFits m h n (StandsBefore m node store h.genesis n) (disks store)
-before_fits m h n node store f = record { lawful = f.lawful; holding = f.holding; shown = before_step m node store h.genesis n f.holding f.shown; fits = f.fits; left = f.left }
+abbrev pub before_fits : (m : Meaning) (h : History) (n : ℕ) (node : NodeValue) (store : StoreValue)
+    → NodeFits m h n (Stands m node store h.genesis n) (disks store)
+    → NodeFits m h n (StandsBefore m node store h.genesis n) (disks store)
+before_fits m h n node store f =
+    record {
+      lawful = f.lawful;
+      holding = f.holding;
+      shown = before_step m node store h.genesis n f.holding f.shown;
+      fits = f.fits;
+      left = f.left;
+    }
 
-module _ (m : Meaning) (genesis : Genesis) (n : ℕ) (node : NodeValue) (old new : StoreValue) (x : Holding) (shown : StandsBefore m node old genesis n x)
+module _ (m : Meaning) (genesis : Genesis) (n : ℕ) (node : NodeValue) (old new : StoreValue) (x : Holding)
+    (shown : StandsBefore m node old genesis n x)
     (may : MayBegin (standing_of node)) (close : HoldsNear node) where
   window : length node.learner.whole.roster.sets ≡ genesis.alpha
   window = window_is m genesis x.view.done node.learner.whole shown.held.follows.sums
 
   -- what the node then holds
   abbrev pub here : Holding
-  here = record { view = view_with x.view (without_votes_to x.view.acceptor (executed node.learner)); waiting = x.waiting; gathered = x.gathered }
+  here = record {
+    view = view_with x.view (without_votes_to x.view.acceptor (executed node.learner));
+    waiting = x.waiting;
+    gathered = x.gathered;
+  }
 
-  pub rebase_stands : Holds new (Base (next_base old (standing_of node)) ∷ []) [] → Stands m (with_snapshot node) new genesis n here
+  pub rebase_stands : Holds new (Base (next_base old (standing_of node)) ∷ []) []
+      → Stands m (with_snapshot node) new genesis n here
   unfolding rebase_keeps
   rebase_stands holds = record {
     whose = shown.whose;
@@ -189,8 +240,10 @@ module _ (m : Meaning) (genesis : Genesis) (n : ℕ) (node : NodeValue) (old new
 
 -- ---- in a history
 
-module _ (m : Meaning) (h : History) (n : ℕ) (node : NodeValue) (old new : StoreValue) (x : Holding) (shown : StandsBefore m node old h.genesis n x)
-    (may : MayBegin (standing_of node)) (close : HoldsNear node) (lawful : IsLawful m h) (fits : HoldingFits m h n x) where
+module _ (m : Meaning) (h : History) (n : ℕ) (node : NodeValue) (old new : StoreValue) (x : Holding)
+    (shown : StandsBefore m node old h.genesis n x)
+    (may : MayBegin (standing_of node)) (close : HoldsNear node) (lawful : IsLawful m h)
+    (fits : HoldingFits m h n x) where
   far : executed node.learner ≡ length x.view.done
   far = executed_is m h.genesis x.view.done node.learner.whole shown.held.follows.sums
 
@@ -203,10 +256,13 @@ module _ (m : Meaning) (h : History) (n : ℕ) (node : NodeValue) (old new : Sto
     under = x.view.done;
     position = sym far;
     snapshot = ap packed shown.held.follows.sums;
-    covers = λ y sent. snapshot_covers node.acceptor.state (without_votes_to node.acceptor.state (executed node.learner)) (executed node.learner) (takes m h.genesis n node old new shown.keeps may close.0.snapshot) y
+    covers = λ y sent. snapshot_covers node.acceptor.state
+        (without_votes_to node.acceptor.state (executed node.learner)) (executed node.learner)
+        (takes m h.genesis n node old new shown.keeps may close.0.snapshot) y
         (subst (λ (a : AcceptorState). Covers a y) shown.held.acceptor (fits.view.covers y sent));
     stems = record {
-      votes = λ v c. subst (AreProposed h.genesis h.sent) shown.held.acceptor fits.view.stems.votes v ((takes m h.genesis n node old new shown.keeps may close.0.snapshot).only v c);
+      votes = λ v c. subst (AreProposed h.genesis h.sent) shown.held.acceptor fits.view.stems.votes v
+          ((takes m h.genesis n node old new shown.keeps may close.0.snapshot).only v c);
       done = fits.view.stems.done;
       snapshot = omega (arith, far);
       pairs = λ i v c. fits.view.stems.pairs i v (shown.held.follows.known (i, v) c);
@@ -215,14 +271,23 @@ module _ (m : Meaning) (h : History) (n : ℕ) (node : NodeValue) (old new : Sto
       votes = λ v c. (
         executed node.learner,
         λ i low most. absurd (omega (arith, low, most)),
-        omega (arith, close.0.votes v ((takes m h.genesis n node old new shown.keeps may close.0.snapshot).only v c), window m h.genesis n node old new x shown may close),
+        omega (
+          arith,
+          close.0.votes v ((takes m h.genesis n node old new shown.keeps may close.0.snapshot).only v c),
+          window m h.genesis n node old new x shown may close,
+        ),
       );
-      pairs = λ p c. (executed node.learner, λ i low most. absurd (omega (arith, low, most)), omega (arith, close.1.near p c, window m h.genesis n node old new x shown may close));
+      pairs = λ p c. (
+        executed node.learner,
+        λ i low most. absurd (omega (arith, low, most)),
+        omega (arith, close.1.near p c, window m h.genesis n node old new x shown may close),
+      );
     };
   }
 
   -- after any exit of a rebase every image fits
-  pub rebase_fits : KeepsOrIs (disks new) shown.keeps.entries (plain shown.keeps.loose) (next_base old (standing_of node)) → DisksFit m h n (disks old) → DisksFit m h n (disks new)
+  pub rebase_fits : KeepsOrIs (disks new) shown.keeps.entries (plain shown.keeps.loose)
+      (next_base old (standing_of node)) → DisksFit m h n (disks old) → DisksFit m h n (disks new)
   rebase_fits keeps left =
       let k = shown.keeps in
       let rests = known_rest h n x.view fits.view k.loose shown.known in
@@ -230,14 +295,16 @@ module _ (m : Meaning) (h : History) (n : ℕ) (node : NodeValue) (old new : Sto
         | inl at ↦ (
           k.entries ++ plain (take at.0 k.loose),
           inl (subst (λ (l : List Stored). IsLive image (k.entries ++ l)) (plain_take at.0 k.loose) at.1),
-          grown_fit m h n k.entries k.standing k.loose k.stands (held_fit m h n old k.entries (plain k.loose) k.holds left) rests shown.near at.0,
+          grown_fit m h n k.entries k.standing k.loose k.stands
+              (held_fit m h n old k.entries (plain k.loose) k.holds left) rests shown.near at.0,
         )
         | inr alone ↦ (Base (next_base old (standing_of node)) ∷ [], inl alone, base_fits)
       ])
 
   pub here_fits : HoldingFits m h n (here m h.genesis n node old new x shown may close)
   here_fits = record {
-    view = change_fits h.genesis h.sent lawful.sound n x.view (view_with x.view (without_votes_to x.view.acceptor (executed node.learner))) fits.view
+    view = change_fits h.genesis h.sent lawful.sound n x.view
+        (view_with x.view (without_votes_to x.view.acceptor (executed node.learner))) fits.view
         (packs (executed node.learner) (without_votes_to x.view.acceptor (executed node.learner)) (omega (arith, far))
         (takes_snapshot x.view.acceptor (executed node.learner) (omega (arith, far, fits.view.stems.snapshot))));
     waiting = fits.waiting;
@@ -246,7 +313,8 @@ module _ (m : Meaning) (h : History) (n : ℕ) (node : NodeValue) (old new : Sto
   }
 
   -- where it was made the node goes on, with nothing noted and nothing sent
-  pub rebase_goes : Holds new (Base (next_base old (standing_of node)) ∷ []) [] → DisksFit m h n (disks new) → Goes m h n (Stands m (with_snapshot node) new h.genesis n) (disks new) [] []
+  pub rebase_goes : Holds new (Base (next_base old (standing_of node)) ∷ []) [] → DisksFit m h n (disks new)
+      → Goes m h n (Stands m (with_snapshot node) new h.genesis n) (disks new) [] []
   rebase_goes holds left = record {
     holding = here m h.genesis n node old new x shown may close;
     shown = rebase_stands m h.genesis n node old new x shown may close holds;
@@ -257,13 +325,20 @@ module _ (m : Meaning) (h : History) (n : ℕ) (node : NodeValue) (old new : Sto
   }
 
 -- each image then stands for the snapshot
-module _ (m : Meaning) (genesis : Genesis) (n : ℕ) (node : NodeValue) (old new : StoreValue) (x : Holding) (shown : Stands m node old genesis n x)
+module _ (m : Meaning) (genesis : Genesis) (n : ℕ) (node : NodeValue) (old new : StoreValue) (x : Holding)
+    (shown : Stands m node old genesis n x)
     (may : MayBegin (standing_of node)) (within : node.acceptor.state.snapshot_position ≤ executed node.learner) where
-  pub all_stand : Holds new (Base (next_base old (standing_of node)) ∷ []) [] → AllStandAt m genesis n (disks new) (executed node.learner) x.view.done
+  pub all_stand : Holds new (Base (next_base old (standing_of node)) ∷ []) []
+      → AllStandAt m genesis n (disks new) (executed node.learner) x.view.done
   all_stand holds image left =
       let live = synced_live new (Base (next_base old (standing_of node)) ∷ []) holds image left in (
         standing_of node,
-        record { entries = Base (next_base old (standing_of node)) ∷ []; found = inl live; header = base_header m genesis n node old new shown.keeps may within; stands = base_stands m genesis n node old new shown.keeps may within },
+        record {
+          entries = Base (next_base old (standing_of node)) ∷ [];
+          found = inl live;
+          header = base_header m genesis n node old new shown.keeps may within;
+          stands = base_stands m genesis n node old new shown.keeps may within;
+        },
         refl,
         sym (executed_is m genesis x.view.done node.learner.whole shown.held.follows.sums),
         ap packed shown.held.follows.sums,
@@ -283,7 +358,8 @@ module _ (m : Meaning) (old new : StoreValue) (same : IsSameStore old new) where
     header_is = subst (HasHeader ks) (sym same.header) h.header_is;
   }
 
-  abbrev pub same_remembers : (node : NodeValue) (genesis : Genesis) (n : ℕ) → Remembers node old genesis n → Remembers node new genesis n
+  abbrev pub same_remembers : (node : NodeValue) (genesis : Genesis) (n : ℕ) → Remembers node old genesis n
+      → Remembers node new genesis n
   same_remembers node genesis n s = record {
     whose = s.whose;
     keeps = record {
@@ -298,7 +374,8 @@ module _ (m : Meaning) (old new : StoreValue) (same : IsSameStore old new) where
     };
   }
 
-  pub same_stands : (node : NodeValue) (genesis : Genesis) (n : ℕ) (x : Holding) → Stands m node old genesis n x → Stands m node new genesis n x
+  pub same_stands : (node : NodeValue) (genesis : Genesis) (n : ℕ) (x : Holding) → Stands m node old genesis n x
+      → Stands m node new genesis n x
   same_stands node genesis n x s = record {
     whose = s.whose;
     keeps = (same_remembers node genesis n (record { whose = s.whose; keeps = s.keeps })).keeps;
@@ -310,52 +387,81 @@ module _ (m : Meaning) (old new : StoreValue) (same : IsSameStore old new) where
   pub same_fit : (h : History) (n : ℕ) → DisksFit m h n (disks old) → DisksFit m h n (disks new)
   same_fit h n = subst (DisksFit m h n) (sym same_disks)
 
-  pub same_cover : (genesis : Genesis) (n : ℕ) (x : NodeMessage) → AllCover m genesis n (disks old) x → AllCover m genesis n (disks new) x
+  pub same_cover : (genesis : Genesis) (n : ℕ) (x : NodeMessage) → AllCover m genesis n (disks old) x
+      → AllCover m genesis n (disks new) x
   same_cover genesis n x = subst (λ d. AllCover m genesis n d x) (sym same_disks)
 
   pub same_room : StaysWithin 49152 (disks old) (disks new)
-  same_room = subst (λ d. StaysWithin 49152 (disks old) d) (sym same_disks) (within_same 49152 (disks old) (disks old) (λ s. refl))
+  same_room = subst (λ d. StaysWithin 49152 (disks old) d) (sym same_disks)
+      (within_same 49152 (disks old) (disks old) (λ s. refl))
 
-  pub same_node_fits : (node : NodeValue) (h : History) (n : ℕ) → NodeFits m h n (Stands m node old h.genesis n) (disks old) → NodeFits m h n (Stands m node new h.genesis n) (disks new)
-  same_node_fits node h n f = record { lawful = f.lawful; holding = f.holding; shown = same_stands node h.genesis n f.holding f.shown; fits = f.fits; left = same_fit h n f.left }
+  pub same_node_fits : (node : NodeValue) (h : History) (n : ℕ)
+      → NodeFits m h n (Stands m node old h.genesis n) (disks old)
+      → NodeFits m h n (Stands m node new h.genesis n) (disks new)
+  same_node_fits node h n f =
+      record {
+        lawful = f.lawful;
+        holding = f.holding;
+        shown = same_stands node h.genesis n f.holding f.shown;
+        fits = f.fits;
+        left = same_fit h n f.left;
+      }
 
 -- a node that went on with nothing noted and nothing sent fits again
-pub goes_fits : (m : Meaning) (h : History) (n : ℕ) (node : NodeValue) (store : StoreValue) → IsLawful m h → DisksFit m h n (disks store) → Goes m h n (Stands m node store h.genesis n) (disks store) [] [] → NodeFits m h n (Stands m node store h.genesis n) (disks store)
-goes_fits m h n node store lawful left g = record { lawful = lawful; holding = g.holding; shown = g.shown; fits = g.fits; left = left }
+pub goes_fits : (m : Meaning) (h : History) (n : ℕ) (node : NodeValue) (store : StoreValue) → IsLawful m h
+    → DisksFit m h n (disks store) → Goes m h n (Stands m node store h.genesis n) (disks store) [] []
+    → NodeFits m h n (Stands m node store h.genesis n) (disks store)
+goes_fits m h n node store lawful left g =
+    record { lawful = lawful; holding = g.holding; shown = g.shown; fits = g.fits; left = left }
 
 -- ---- what a rebase comes to
 
-module _ (m : Meaning) (node : NodeValue) (old new : StoreValue) (may : MayBegin (standing_of node)) (close : HoldsNear node)
-    (any : (ks ls : List Stored) → Holds old ks ls → KeepsOrIs (disks new) ks ls (next_base old (standing_of node))) where
+module _ (m : Meaning) (node : NodeValue) (old new : StoreValue)
+    (may : MayBegin (standing_of node)) (close : HoldsNear node)
+    (any : (ks ls : List Stored) → Holds old ks ls
+    → KeepsOrIs (disks new) ks ls (next_base old (standing_of node))) where
   -- after any exit
   pub stays_safe : StaysWithin 49152 (disks old) (disks new) → StaysSafe m node old new
   stays_safe room = record {
-    fits = λ h n f. rebase_fits m h n node old new f.holding f.shown may close f.lawful f.fits (any f.shown.keeps.entries (plain f.shown.keeps.loose) f.shown.keeps.holds) f.left;
-    covers = λ genesis n x keeps every. rebase_covers m genesis n node old new keeps may close.0.snapshot (any keeps.entries (plain keeps.loose) keeps.holds) x every;
+    fits = λ h n f. rebase_fits m h n node old new f.holding f.shown may close f.lawful f.fits
+        (any f.shown.keeps.entries (plain f.shown.keeps.loose) f.shown.keeps.holds) f.left;
+    covers = λ genesis n x keeps every. rebase_covers m genesis n node old new keeps may close.0.snapshot
+        (any keeps.entries (plain keeps.loose) keeps.holds) x every;
     room = room;
   }
 
   -- where it was made
-  pub files_switched : (Metered : Type 0) → (new.generation ≡ old.generation + 1) → ((ks ls : List Stored) → Holds old ks ls → Holds new (Base (next_base old (standing_of node)) ∷ []) []) → (Metered → Passes old.meter new.meter rebase_calls) → length (contents new.live_disk) ≤ 49152
+  pub files_switched : (Metered : Type 0) → (new.generation ≡ old.generation + 1)
+      → ((ks ls : List Stored) → Holds old ks ls → Holds new (Base (next_base old (standing_of node)) ∷ []) [])
+      → (Metered → Passes old.meter new.meter rebase_calls) → length (contents new.live_disk) ≤ 49152
       → HasSwitchedFiles m Metered node old (with_snapshot node) new
   files_switched Metered further writes calls short = record {
     rebases = record { becomes = refl; generation = further; writes = writes };
     calls = calls;
     short = short;
     goes = λ h n f.
-        rebase_goes m h n node old new f.holding (before_step m node old h.genesis n f.holding f.shown) may close f.lawful f.fits (writes f.shown.keeps.entries (plain f.shown.keeps.loose) f.shown.keeps.holds)
-        (rebase_fits m h n node old new f.holding (before_step m node old h.genesis n f.holding f.shown) may close f.lawful f.fits (any f.shown.keeps.entries (plain f.shown.keeps.loose) f.shown.keeps.holds) f.left);
+        rebase_goes m h n node old new f.holding
+        (before_step m node old h.genesis n f.holding f.shown) may close f.lawful f.fits
+        (writes f.shown.keeps.entries (plain f.shown.keeps.loose) f.shown.keeps.holds)
+        (rebase_fits m h n node old new f.holding
+        (before_step m node old h.genesis n f.holding f.shown) may close f.lawful f.fits
+        (any f.shown.keeps.entries (plain f.shown.keeps.loose) f.shown.keeps.holds) f.left);
     shows = λ genesis n held shown. (
       here m genesis n node old new held (before_step m node old genesis n held shown) may close,
-      rebase_stands m genesis n node old new held (before_step m node old genesis n held shown) may close (writes shown.keeps.entries (plain shown.keeps.loose) shown.keeps.holds),
+      rebase_stands m genesis n node old new held (before_step m node old genesis n held shown) may close
+          (writes shown.keeps.entries (plain shown.keeps.loose) shown.keeps.holds),
     );
-    remembers = λ genesis n shown. rebase_keeps m genesis n node old new shown.keeps may close.0.snapshot shown.whose (writes shown.keeps.entries (plain shown.keeps.loose) shown.keeps.holds);
-    syncs = λ genesis n x keeps covers. rebase_syncs m genesis n node old new keeps may close.0.snapshot (writes keeps.entries (plain keeps.loose) keeps.holds) x covers;
-    stands = λ genesis n held shown. all_stand m genesis n node old new held shown may close.0.snapshot (writes shown.keeps.entries (plain shown.keeps.loose) shown.keeps.holds);
+    remembers = λ genesis n shown. rebase_keeps m genesis n node old new shown.keeps may close.0.snapshot shown.whose
+        (writes shown.keeps.entries (plain shown.keeps.loose) shown.keeps.holds);
+    syncs = λ genesis n x keeps covers. rebase_syncs m genesis n node old new keeps may close.0.snapshot
+        (writes keeps.entries (plain keeps.loose) keeps.holds) x covers;
+    stands = λ genesis n held shown. all_stand m genesis n node old new held shown may close.0.snapshot
+        (writes shown.keeps.entries (plain shown.keeps.loose) shown.keeps.holds);
   }
 
 -- what it leaves on the disks
-pub leaves_safe : (m : Meaning) (node : NodeValue) (old new : StoreValue) → StaysSafe m node old new → LeavesDisks m (λ h. ⊤) 49152 node old (disks new)
+pub leaves_safe : (m : Meaning) (node : NodeValue) (old new : StoreValue) → StaysSafe m node old new
+    → LeavesDisks m (λ h. ⊤) 49152 node old (disks new)
 leaves_safe m node old new safe = record {
   ends = λ h n f heard. safe.fits h n (before_fits m h n node old f);
   covers = λ genesis n x shown every. safe.covers genesis n x shown.keeps every;
@@ -366,7 +472,8 @@ leaves_safe m node old new safe = record {
 -- ---- one that is made where it is due, once the store was asked how long its live file is
 
 module _ (m : Meaning) (node : NodeValue) (old mid : StoreValue) (same : IsSameStore old mid) where
-  pub ready_as_was : (Metered : Type 0) → (IsDue node old → ⊥) → (Metered → Passes old.meter mid.meter 0) → length (contents mid.live_disk) < 131072 → IsReadyToStep m Metered node old node mid
+  pub ready_as_was : (Metered : Type 0) → (IsDue node old → ⊥) → (Metered → Passes old.meter mid.meter 0)
+      → length (contents mid.live_disk) < 131072 → IsReadyToStep m Metered node old node mid
   ready_as_was Metered none calls short = record {
     rebases = record { due = λ due. absurd (none due); rests = λ other. (refl, same) };
     calls = λ metered. (0, record { due = λ due. absurd (none due); rests = λ other. refl }, calls metered);
@@ -385,29 +492,45 @@ module _ (m : Meaning) (node : NodeValue) (old mid : StoreValue) (same : IsSameS
   }
 
   same_base : next_base mid (standing_of node) ≡ next_base old (standing_of node)
-  same_base = λ i. record { generation = same.generation i + 1; format = 2; header = same.header i; standing = standing_of node }
+  same_base = λ i. record {
+    generation = same.generation i + 1;
+    format = 2;
+    header = same.header i;
+    standing = standing_of node;
+  }
 
-  pub ready_by_rebase : (Metered : Type 0) (new : NodeValue) (after : StoreValue) → IsDue node old → (Metered → Passes old.meter mid.meter 0) → HasSwitchedFiles m Metered node mid new after → StaysSafe m node mid after → IsReadyToStep m Metered node old new after
+  pub ready_by_rebase : (Metered : Type 0) (new : NodeValue) (after : StoreValue) → IsDue node old
+      → (Metered → Passes old.meter mid.meter 0) → HasSwitchedFiles m Metered node mid new after
+      → StaysSafe m node mid after → IsReadyToStep m Metered node old new after
   ready_by_rebase Metered new after due calls done safe = record {
     rebases = record {
       due = λ _. record {
         becomes = done.rebases.becomes;
         generation = omega (arith, done.rebases.generation, same.generation);
-        writes = λ ks ls h. subst (λ (b : BaseValue). Holds after (Base b ∷ []) []) same_base (done.rebases.writes ks ls (same_holds m old mid same ks ls h));
+        writes = λ ks ls h. subst (λ (b : BaseValue). Holds after (Base b ∷ []) []) same_base
+            (done.rebases.writes ks ls (same_holds m old mid same ks ls h));
       };
       rests = λ other. absurd (other due);
     };
-    calls = λ metered. (rebase_calls, record { due = λ _. refl; rests = λ other. absurd (other due) }, passes_on 0 (calls metered) rebase_calls (done.calls metered));
+    calls = λ metered. (
+      rebase_calls,
+      record { due = λ _. refl; rests = λ other. absurd (other due) },
+      passes_on 0 (calls metered) rebase_calls (done.calls metered),
+    );
     short = omega (arith, done.short);
-    fits = λ h n f. let between = same_node_fits m old mid same node h n f in goes_fits m h n new after f.lawful (safe.fits h n (before_fits m h n node mid between)) (done.goes h n between);
+    fits = λ h n f. let between = same_node_fits m old mid same node h n f in
+        goes_fits m h n new after f.lawful (safe.fits h n (before_fits m h n node mid between)) (done.goes h n between);
     shows = λ genesis n held shown. done.shows genesis n held (same_stands m old mid same node genesis n held shown);
     remembers = λ genesis n shown. done.remembers genesis n (same_remembers m old mid same node genesis n shown);
   }
 
-  pub leaves_by_rebase : (after : StoreValue) → StaysSafe m node mid after → LeavesDisks m (λ h. ⊤) 49152 node old (disks after)
+  pub leaves_by_rebase : (after : StoreValue) → StaysSafe m node mid after
+      → LeavesDisks m (λ h. ⊤) 49152 node old (disks after)
   leaves_by_rebase after safe = record {
     ends = λ h n f heard. safe.fits h n (before_fits m h n node mid (same_node_fits m old mid same node h n f));
-    covers = λ genesis n x shown every. safe.covers genesis n x (same_remembers m old mid same node genesis n shown).keeps (same_cover m old mid same genesis n x every);
+    covers = λ genesis n x shown every. safe.covers genesis n x
+        (same_remembers m old mid same node genesis n shown).keeps (same_cover m old mid same genesis n x every);
     room = within_first 49152 (disks old) (disks mid) (disks after) (same_room m old mid same) safe.room;
-    grows = grown_base (disks old) (disks after) (within_first 49152 (disks old) (disks mid) (disks after) (same_room m old mid same) safe.room);
+    grows = grown_base (disks old) (disks after)
+        (within_first 49152 (disks old) (disks mid) (disks after) (same_room m old mid same) safe.room);
   }

@@ -24,16 +24,22 @@ failed_so : (f : StoreFault) → f ≡ store.Failed → IsStoreFault (fault_numb
 failed_so f is = inr (inr (ap (λ z. fault_number (fault_of z)) is))
 
 -- which refusals a rebase has
-pub rebase_refused : (old : StoreValue) (f : StoreFault) → (old.failed ≡ true → IsErrOf {T = Unit {0}} (Err f) store.Failed) → (max_count ≤ old.generation → IsErrOf {T = Unit {0}} (Err f) store.Failed)
-    → (old.failed ≡ false → old.generation < max_count → (f ≡ store.Device) ⊎ (f ≡ store.NoMemory)) → IsStoreFault (fault_number (fault_of f))
+pub rebase_refused : (old : StoreValue) (f : StoreFault)
+    → (old.failed ≡ true → IsErrOf {T = Unit {0}} (Err f) store.Failed)
+    → (max_count ≤ old.generation → IsErrOf {T = Unit {0}} (Err f) store.Failed)
+    → (old.failed ≡ false → old.generation < max_count → (f ≡ store.Device) ⊎ (f ≡ store.NoMemory))
+    → IsStoreFault (fault_number (fault_of f))
 rebase_refused old f before last otherwise = by_state old.failed refl
   where
     by_state : (b : Bool) → old.failed ≡ b → IsStoreFault (fault_number (fault_of f))
     by_state true is = failed_so f (same_error f store.Failed (before is))
-    by_state false is = elim (cases_lt old.generation max_count) [ inl less ↦ refused_so f (otherwise is less) | inr most ↦ failed_so f (same_error f store.Failed (last most)) ]
+    by_state false is = elim (cases_lt old.generation max_count)
+        [ inl less ↦ refused_so f (otherwise is less) | inr most ↦ failed_so f (same_error f store.Failed (last most)) ]
 
 -- and a put
-pub put_refused : (old : StoreValue) (f : StoreFault) → (old.failed ≡ true → IsErrOf {T = Unit {0}} (Err f) store.Failed) → (old.failed ≡ false → (f ≡ store.Device) ⊎ (f ≡ store.NoMemory)) → IsStoreFault (fault_number (fault_of f))
+pub put_refused : (old : StoreValue) (f : StoreFault)
+    → (old.failed ≡ true → IsErrOf {T = Unit {0}} (Err f) store.Failed)
+    → (old.failed ≡ false → (f ≡ store.Device) ⊎ (f ≡ store.NoMemory)) → IsStoreFault (fault_number (fault_of f))
 put_refused old f before otherwise = by_state old.failed refl
   where
     by_state : (b : Bool) → old.failed ≡ b → IsStoreFault (fault_number (fault_of f))

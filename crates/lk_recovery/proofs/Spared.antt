@@ -1,5 +1,6 @@
 -- What a refusal leaves that comes from no failed call of the device.
-use Rattle.std.proofs.Common.{◌≡◌, ℕ, ◌+◌, ◌<◌, ◌≤◌, ◌⊎◌, inl, inr, Bool, true, false, List, length, Err, refl, sym, ap, subst, ◌∙◌, arith}
+use Rattle.std.proofs.Common.{◌≡◌, ℕ, ◌+◌, ◌<◌, ◌≤◌, ◌⊎◌, inl, inr, Bool, true, false, List, length, Err, refl, sym, ap}
+use Rattle.std.proofs.Common.{subst, ◌∙◌, arith}
 use Rattle.std.specs.Prelude.{IsErrOf}
 use Rattle.std.proofs.lemmas.Bool.{cases_lt}
 use Rattle.lk_types.specs.Limits.{max_count}
@@ -42,7 +43,8 @@ spared_more P Q fault.Halted more p = more p
 spared_more P Q (fault.Send notes) more p = tt
 
 -- by its number
-pub spared_number : (P : Type 0) (f : ReplicaFault) → IfSpared P f → (fault_number f ≡ 7 → ⊥) → (fault_number f ≡ 15 → ⊥) → P
+pub spared_number : (P : Type 0) (f : ReplicaFault) → IfSpared P f → (fault_number f ≡ 7 → ⊥)
+    → (fault_number f ≡ 15 → ⊥) → P
 spared_number P fault.Device p device post = absurd (device refl)
 spared_number P fault.NoMemory p device post = p
 spared_number P fault.Damaged p device post = p
@@ -51,7 +53,8 @@ spared_number P fault.Failed p device post = p
 spared_number P fault.Halted p device post = p
 spared_number P (fault.Send notes) p device post = absurd (post refl)
 
-by_memory : (P : Type 0) (f : StoreFault) → (IsErrOf {T = Unit {0}} (Err f) store.NoMemory → P) → (f ≡ store.Device) ⊎ (f ≡ store.NoMemory) → IfSpared P (fault_of f)
+by_memory : (P : Type 0) (f : StoreFault) → (IsErrOf {T = Unit {0}} (Err f) store.NoMemory → P)
+    → (f ≡ store.Device) ⊎ (f ≡ store.NoMemory) → IfSpared P (fault_of f)
 by_memory P f memory by = elim by [
   | inl device ↦ subst (λ z. IfSpared P (fault_of z)) (sym device) tt
   | inr wanting ↦ spared_all P (fault_of f) (memory (ap Err wanting))
@@ -61,19 +64,25 @@ same_as : (old new : StoreValue) → new ≡ old → AreSame (disks old) (disks 
 same_as old new e s = ap (λ z. disks z s) e
 
 -- of a put
-pub put_spares : (old new : StoreValue) (f : StoreFault) → new.live ≡ old.live → new.other_disk ≡ old.other_disk → (IsErrOf {T = Unit {0}} (Err f) store.NoMemory → new.live_disk ≡ old.live_disk)
-    → (old.failed ≡ true → new ≡ old) → (old.failed ≡ false → (f ≡ store.Device) ⊎ (f ≡ store.NoMemory)) → IfSpared (AreSame (disks old) (disks new)) (fault_of f)
+pub put_spares : (old new : StoreValue) (f : StoreFault) → new.live ≡ old.live → new.other_disk ≡ old.other_disk
+    → (IsErrOf {T = Unit {0}} (Err f) store.NoMemory → new.live_disk ≡ old.live_disk)
+    → (old.failed ≡ true → new ≡ old) → (old.failed ≡ false → (f ≡ store.Device) ⊎ (f ≡ store.NoMemory))
+    → IfSpared (AreSame (disks old) (disks new)) (fault_of f)
 put_spares old new f live there memory before otherwise = by_state old.failed refl
   where
     by_state : (b : Bool) → old.failed ≡ b → IfSpared (AreSame (disks old) (disks new)) (fault_of f)
     by_state true is = spared_all (AreSame (disks old) (disks new)) (fault_of f) (same_as old new (before is))
-    by_state false is = by_memory (AreSame (disks old) (disks new)) f (λ wanting s i. pick (live i) (memory wanting i) (there i) s) (otherwise is)
+    by_state false is = by_memory (AreSame (disks old) (disks new)) f
+        (λ wanting s i. pick (live i) (memory wanting i) (there i) s) (otherwise is)
 
 -- of a sync
-pub sync_refused : (old : StoreValue) (f : StoreFault) → (old.failed ≡ true → IsErrOf {T = Unit {0}} (Err f) store.Failed) → (old.failed ≡ false → f ≡ store.Device) → IsStoreFault (fault_number (fault_of f))
+pub sync_refused : (old : StoreValue) (f : StoreFault)
+    → (old.failed ≡ true → IsErrOf {T = Unit {0}} (Err f) store.Failed) → (old.failed ≡ false → f ≡ store.Device)
+    → IsStoreFault (fault_number (fault_of f))
 sync_refused old f before otherwise = put_refused old f before (λ alive. inl (otherwise alive))
 
-pub sync_spares : (old new : StoreValue) (f : StoreFault) → (old.failed ≡ true → new ≡ old) → (old.failed ≡ false → f ≡ store.Device) → IfSpared (AreSame (disks old) (disks new)) (fault_of f)
+pub sync_spares : (old new : StoreValue) (f : StoreFault) → (old.failed ≡ true → new ≡ old)
+    → (old.failed ≡ false → f ≡ store.Device) → IfSpared (AreSame (disks old) (disks new)) (fault_of f)
 sync_spares old new f before otherwise = by_state old.failed refl
   where
     by_state : (b : Bool) → old.failed ≡ b → IfSpared (AreSame (disks old) (disks new)) (fault_of f)
@@ -81,8 +90,11 @@ sync_spares old new f before otherwise = by_state old.failed refl
     by_state false is = subst (λ z. IfSpared (AreSame (disks old) (disks new)) (fault_of z)) (sym (otherwise is)) tt
 
 -- of a rebase
-pub rebase_spares : (old new : StoreValue) (f : StoreFault) → (IsErrOf {T = Unit {0}} (Err f) store.NoMemory → AreSame (disks old) (disks new)) → (old.failed ≡ true → new ≡ old) → (max_count ≤ old.generation → new ≡ old)
-    → (old.failed ≡ false → old.generation < max_count → (f ≡ store.Device) ⊎ (f ≡ store.NoMemory)) → IfSpared (AreSame (disks old) (disks new)) (fault_of f)
+pub rebase_spares : (old new : StoreValue) (f : StoreFault)
+    → (IsErrOf {T = Unit {0}} (Err f) store.NoMemory → AreSame (disks old) (disks new))
+    → (old.failed ≡ true → new ≡ old) → (max_count ≤ old.generation → new ≡ old)
+    → (old.failed ≡ false → old.generation < max_count → (f ≡ store.Device) ⊎ (f ≡ store.NoMemory))
+    → IfSpared (AreSame (disks old) (disks new)) (fault_of f)
 rebase_spares old new f memory before last otherwise = by_state old.failed refl
   where
     by_state : (b : Bool) → old.failed ≡ b → IfSpared (AreSame (disks old) (disks new)) (fault_of f)
@@ -110,24 +122,29 @@ either_due node store = elim (cases_lt (length (contents store.live_disk)) 13107
 ]
 
 -- a refusal after what was due was done
-pub left_after : (node mid : NodeValue) (old between new : StoreValue) → RebasesWhereDue node old mid between → AreSame (disks between) (disks new) → AreLeft node old new
+pub left_after : (node mid : NodeValue) (old between new : StoreValue) → RebasesWhereDue node old mid between
+    → AreSame (disks between) (disks new) → AreLeft node old new
 left_after node mid old between new where_due same = elim (either_due node old) [
   | inl due ↦ inr (mid, between, due, where_due.due due, same)
-  | inr none ↦ inl (then_same (disks old) (disks between) (disks new) (same_files old between (where_due.rests none).1) same)
+  | inr none ↦
+      inl (then_same (disks old) (disks between) (disks new) (same_files old between (where_due.rests none).1) same)
 ]
 
 -- the same file stays live
 pub kept_then : (old mid new : StoreValue) → KeepsItsFile old mid → KeepsItsFile mid new → KeepsItsFile old new
 kept_then old mid new a b = (b.0 ∙ a.0, b.1 ∙ a.1, b.2 ∙ a.2, b.3 ∙ a.3)
 
-pub file_after : (node mid : NodeValue) (old between new : StoreValue) → RebasesWhereDue node old mid between → KeepsItsFile between new → KeepsOrSwitchesFiles node old new
+pub file_after : (node mid : NodeValue) (old between new : StoreValue) → RebasesWhereDue node old mid between
+    → KeepsItsFile between new → KeepsOrSwitchesFiles node old new
 file_after node mid old between new where_due kept = elim (either_due node old) [
   | inl due ↦ inr (due, kept.1 ∙ (where_due.due due).generation)
-  | inr none ↦ let same = (where_due.rests none).1 in inl (kept.0 ∙ same.live, kept.1 ∙ same.generation, kept.2 ∙ same.format, kept.3 ∙ same.header)
+  | inr none ↦ let same = (where_due.rests none).1 in
+      inl (kept.0 ∙ same.live, kept.1 ∙ same.generation, kept.2 ∙ same.format, kept.3 ∙ same.header)
 ]
 
 -- where one generation was left and the next one is refused, a rebase was due
-pub second_after : (node mid : NodeValue) (old between : StoreValue) → RebasesWhereDue node old mid between → (between.generation + 1 ≤ max_count → ⊥) → old.generation < max_count → IsDue node old
+pub second_after : (node mid : NodeValue) (old between : StoreValue) → RebasesWhereDue node old mid between
+    → (between.generation + 1 ≤ max_count → ⊥) → old.generation < max_count → IsDue node old
 second_after node mid old between where_due short less = elim (either_due node old) [
   | inl due ↦ due
   | inr none ↦ absurd (short (omega (arith, less, (where_due.rests none).1.generation)))
@@ -136,8 +153,12 @@ second_after node mid old between where_due short less = elim (either_due node o
 -- ---- of a revival
 
 -- the device that a store gives back has its disks
-pub given_narrow : (old : Side → Disk) (whose : HeaderValue) (text : List ℕ) (s : StoreValue) (d : Side → Disk) → d s.live ≡ s.live_disk → d (other s.live) ≡ s.other_disk → NarrowsOrBegins old (disks s) whose text → NarrowsOrBegins old d whose text
-given_narrow old whose text s d here there = subst (λ (e : Side → Disk). NarrowsOrBegins old e whose text) (λ i side. sym (picked s.live d s.live_disk s.other_disk here there side) i)
+pub given_narrow : (old : Side → Disk) (whose : HeaderValue) (text : List ℕ) (s : StoreValue) (d : Side → Disk)
+    → d s.live ≡ s.live_disk → d (other s.live) ≡ s.other_disk → NarrowsOrBegins old (disks s) whose text
+    → NarrowsOrBegins old d whose text
+given_narrow old whose text s d here there =
+    subst (λ (e : Side → Disk). NarrowsOrBegins old e whose text)
+    (λ i side. sym (picked s.live d s.live_disk s.other_disk here there side) i)
 
 pub damage_only : (f : OpenFault) → fault_number (open_fault f) ≡ 9 → f ≡ opening.Damaged
 damage_only opening.Device e = absurd (omega (arith, e))
@@ -154,8 +175,10 @@ open_not_failed opening.WrongStore e = omega (arith, e)
 -- a refusal for such a reason is not `Failed`
 pub not_failed_so : (f : StoreFault) → (f ≡ store.Device) ⊎ (f ≡ store.NoMemory) → fault_of f ≡ fault.Failed → ⊥
 not_failed_so f by is = elim by [
-  | inl device ↦ let e : 7 ≡ 11 = sym (ap (λ z. fault_number (fault_of z)) device) ∙ ap fault_number is in omega (arith, e)
-  | inr memory ↦ let e : 8 ≡ 11 = sym (ap (λ z. fault_number (fault_of z)) memory) ∙ ap fault_number is in omega (arith, e)
+  | inl device ↦ let e : 7 ≡ 11 = sym (ap (λ z. fault_number (fault_of z)) device) ∙ ap fault_number is in
+      omega (arith, e)
+  | inr memory ↦ let e : 8 ≡ 11 = sym (ap (λ z. fault_number (fault_of z)) memory) ∙ ap fault_number is in
+      omega (arith, e)
 ]
 
 pub sync_not_failed : (f : StoreFault) → f ≡ store.Device → fault_of f ≡ fault.Failed → ⊥

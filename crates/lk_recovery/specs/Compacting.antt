@@ -21,11 +21,13 @@ use Rattle.lk_node.specs.Served.{text}
 -- list, which has that length
 abbrev pub AllStandAt : Meaning → Genesis → ℕ → (Side → Disk) → ℕ → List Command → Type 0
 AllStandAt m genesis n disks position done = (image : Image) → MayLeaveBoth disks image
-    → (s : StandingValue) × StandsAs (header_of genesis n) (text m genesis []) image s × (s.position ≡ position) × (length done ≡ s.position) × (s.snapshot ≡ text m genesis done)
+    → (s : StandingValue) × StandsAs (header_of genesis n) (text m genesis []) image s × (s.position ≡ position)
+    × (length done ≡ s.position) × (s.snapshot ≡ text m genesis done)
 
 -- the live file has grown to half of its maximum, or 256 positions are executed above the snapshot
 abbrev pub IsDue : NodeValue → StoreValue → Type 0
-IsDue node store = (131072 ≤ length (contents store.live_disk)) ⊎ (node.acceptor.state.snapshot_position + 256 ≤ executed node.learner)
+IsDue node store =
+    (131072 ≤ length (contents store.live_disk)) ⊎ (node.acceptor.state.snapshot_position + 256 ≤ executed node.learner)
 
 -- the store has the same files and knows the same of them
 pub record IsSameStore (old new : StoreValue) : Type 0 where
@@ -40,7 +42,8 @@ pub record IsSameStore (old new : StoreValue) : Type 0 where
 pub record Rebases (node : NodeValue) (store : StoreValue) (new : NodeValue) (after : StoreValue) : Type 0 where
   pub becomes : new ≡ with_snapshot node
   pub generation : after.generation ≡ store.generation + 1
-  pub writes : (ks ls : List Stored) → Holds store ks ls → Holds after (Base (next_base store (standing_of node)) ∷ []) []
+  pub writes : (ks ls : List Stored) → Holds store ks ls
+      → Holds after (Base (next_base store (standing_of node)) ∷ []) []
 
 -- a store of format 1 was rebased, and so has format 2, and one of format 2 is unchanged
 pub record Renews (node : NodeValue) (store : StoreValue) (new : NodeValue) (after : StoreValue) : Type 0 where
@@ -64,7 +67,8 @@ AreSame old new = (s : Side) → new s ≡ old s
 abbrev pub AreLeft : NodeValue → StoreValue → StoreValue → Type 0
 AreLeft node old new =
     AreSame (disks old) (disks new)
-    ⊎ ((mid : NodeValue) × (between : StoreValue) × IsDue node old × Rebases node old mid between × AreSame (disks between) (disks new))
+    ⊎ ((mid : NodeValue) × (between : StoreValue) × IsDue node old × Rebases node old mid between
+    × AreSame (disks between) (disks new))
 
 -- the same file is live, with the same generation, format and header, or, after a rebase that was due, one of the next
 -- generation

@@ -43,21 +43,28 @@ pub record StandsOnBase (node : NodeValue) (store : StoreValue) (new : NodeValue
 -- no longer than a Base may be. In each history that the node fitted it goes on, and sends and notes nothing; it holds
 -- something if it did before, and the store keeps what the acceptor holds if it did before; whatever a stop may leave
 -- of the disks covers what the node does, and stands for a snapshot of everything executed
-pub record HasSwitchedFiles (m : Meaning) (Metered : Type 0) (node : NodeValue) (store : StoreValue) (new : NodeValue) (after : StoreValue) : Type 0 where
+pub record HasSwitchedFiles (m : Meaning) (Metered : Type 0) (node : NodeValue) (store : StoreValue) (new : NodeValue)
+    (after : StoreValue) : Type 0 where
   pub rebases : Rebases node store new after
   pub calls : Metered → Passes store.meter after.meter rebase_calls
   pub short : length (contents after.live_disk) ≤ max_base
-  pub goes : (h : History) (n : ℕ) → NodeFits m h n (Stands m node store h.genesis n) (disks store) → Goes m h n (Stands m new after h.genesis n) (disks after) [] []
-  pub shows : (genesis : Genesis) (n : ℕ) (held : Holding) → Stands m node store genesis n held → (x : Holding) × Stands m new after genesis n x
+  pub goes : (h : History) (n : ℕ) → NodeFits m h n (Stands m node store h.genesis n) (disks store)
+      → Goes m h n (Stands m new after h.genesis n) (disks after) [] []
+  pub shows : (genesis : Genesis) (n : ℕ) (held : Holding) → Stands m node store genesis n held
+      → (x : Holding) × Stands m new after genesis n x
   pub remembers : (genesis : Genesis) (n : ℕ) → Remembers node store genesis n → Remembers new after genesis n
-  pub syncs : (genesis : Genesis) (n : ℕ) (x : NodeMessage) → Keeps (header_of genesis n) store node.acceptor.state → Covers node.acceptor.state x → AllCover m genesis n (disks after) x
-  pub stands : (genesis : Genesis) (n : ℕ) (held : Holding) → Stands m node store genesis n held → AllStandAt m genesis n (disks after) (executed new.learner) held.view.done
+  pub syncs : (genesis : Genesis) (n : ℕ) (x : NodeMessage) → Keeps (header_of genesis n) store node.acceptor.state
+      → Covers node.acceptor.state x → AllCover m genesis n (disks after) x
+  pub stands : (genesis : Genesis) (n : ℕ) (held : Holding) → Stands m node store genesis n held
+      → AllStandAt m genesis n (disks after) (executed new.learner) held.view.done
 
 -- each image that a stop may leave of the store fits each history that the node fitted, and covers what every image
 -- covered; neither file has grown, except up to the size of a Base
 pub record StaysSafe (m : Meaning) (node : NodeValue) (store after : StoreValue) : Type 0 where
-  pub fits : (h : History) (n : ℕ) → NodeFits m h n (StandsBefore m node store h.genesis n) (disks store) → DisksFit m h n (disks after)
-  pub covers : (genesis : Genesis) (n : ℕ) (x : NodeMessage) → Keeps (header_of genesis n) store node.acceptor.state → AllCover m genesis n (disks store) x → AllCover m genesis n (disks after) x
+  pub fits : (h : History) (n : ℕ) → NodeFits m h n (StandsBefore m node store h.genesis n) (disks store)
+      → DisksFit m h n (disks after)
+  pub covers : (genesis : Genesis) (n : ℕ) (x : NodeMessage) → Keeps (header_of genesis n) store node.acceptor.state
+      → AllCover m genesis n (disks store) x → AllCover m genesis n (disks after) x
   pub room : StaysWithin max_base (disks store) (disks after)
 
 -- a write failed with this fault, for its cause: the device has failed, memory ran out, or, if the store failed
@@ -71,7 +78,8 @@ pub record IsNotWritten (Honest Metered : Type 0) (store after : StoreValue) (e 
   pub stays : Honest → IfSpared (AreSame (disks store) (disks after)) e
 
 -- a rebase failed with this, and the node is unchanged: it matches no Base to which its store has not switched
-pub record IsNotRebased (Honest Metered : Type 0) (node : NodeValue) (store : StoreValue) (new : NodeValue) (after : StoreValue) (e : ReplicaFault) : Type 0 where
+pub record IsNotRebased (Honest Metered : Type 0) (node : NodeValue) (store : StoreValue) (new : NodeValue)
+    (after : StoreValue) (e : ReplicaFault) : Type 0 where
   pub rests : new ≡ node
   pub why : IsNotWritten Honest Metered store after e
 
@@ -87,12 +95,15 @@ pub record StaysAlive (node : NodeValue) (store : StoreValue) (new : NodeValue) 
 -- what was due was done, in the calls that this takes of a device that counts them (`Metered`), and the length of the
 -- live file makes none due. The node fits each history that it fitted; it holds something if it did before, and the
 -- store keeps what the acceptor holds if it did before
-pub record IsReadyToStep (m : Meaning) (Metered : Type 0) (node : NodeValue) (store : StoreValue) (new : NodeValue) (after : StoreValue) : Type 0 where
+pub record IsReadyToStep (m : Meaning) (Metered : Type 0) (node : NodeValue) (store : StoreValue) (new : NodeValue)
+    (after : StoreValue) : Type 0 where
   pub rebases : RebasesWhereDue node store new after
   pub calls : Metered → (k : ℕ) × CallsWhereDue node store k × Passes store.meter after.meter k
   pub short : length (contents after.live_disk) < 131072
-  pub fits : (h : History) (n : ℕ) → NodeFits m h n (Stands m node store h.genesis n) (disks store) → NodeFits m h n (Stands m new after h.genesis n) (disks after)
-  pub shows : (genesis : Genesis) (n : ℕ) (held : Holding) → Stands m node store genesis n held → (x : Holding) × Stands m new after genesis n x
+  pub fits : (h : History) (n : ℕ) → NodeFits m h n (Stands m node store h.genesis n) (disks store)
+      → NodeFits m h n (Stands m new after h.genesis n) (disks after)
+  pub shows : (genesis : Genesis) (n : ℕ) (held : Holding) → Stands m node store genesis n held
+      → (x : Holding) × Stands m new after genesis n x
   pub remembers : (genesis : Genesis) (n : ℕ) → Remembers node store genesis n → Remembers new after genesis n
 
 -- ---- a call that may rebase
@@ -100,8 +111,11 @@ pub record IsReadyToStep (m : Meaning) (Metered : Type 0) (node : NodeValue) (st
 -- what a call leaves on the disks, however it ends: if the history has the call's input, each image that a stop may
 -- leave fits the earlier history; each covers what every image covered; and neither file has grown, except up to this
 -- many bytes, nor by more than a step except by a Base
-pub record LeavesDisks (m : Meaning) (Hears : History → Type 0) (most : ℕ) (node : NodeValue) (store : StoreValue) (after : Side → Disk) : Type 0 where
-  pub ends : (h : History) (n : ℕ) → NodeFits m h n (Stands m node store h.genesis n) (disks store) → Hears h → DisksFit m h n after
-  pub covers : (genesis : Genesis) (n : ℕ) (x : NodeMessage) → Remembers node store genesis n → AllCover m genesis n (disks store) x → AllCover m genesis n after x
+pub record LeavesDisks (m : Meaning) (Hears : History → Type 0) (most : ℕ) (node : NodeValue) (store : StoreValue)
+    (after : Side → Disk) : Type 0 where
+  pub ends : (h : History) (n : ℕ) → NodeFits m h n (Stands m node store h.genesis n) (disks store)
+      → Hears h → DisksFit m h n after
+  pub covers : (genesis : Genesis) (n : ℕ) (x : NodeMessage) → Remembers node store genesis n
+      → AllCover m genesis n (disks store) x → AllCover m genesis n after x
   pub room : StaysWithin most (disks store) after
   pub grows : GrowsFromBase (disks store) after

@@ -14,9 +14,11 @@ use Rattle.lk_recovery.specs.Remembering.{Remembers}
 
 -- a store of format 1 was rebased, and one of format 2 is unchanged; the node fits each history that it fitted, and
 -- the store keeps what the acceptor holds if it did before
-pub record IsRenewed (m : Meaning) (node : NodeValue) (store : StoreValue) (new : NodeValue) (after : StoreValue) : Type 0 where
+pub record IsRenewed (m : Meaning) (node : NodeValue) (store : StoreValue) (new : NodeValue)
+    (after : StoreValue) : Type 0 where
   pub renews : Renews node store new after
-  pub goes : (h : History) (n : ℕ) → NodeFits m h n (Stands m node store h.genesis n) (disks store) → NodeFits m h n (Stands m new after h.genesis n) (disks after)
+  pub goes : (h : History) (n : ℕ) → NodeFits m h n (Stands m node store h.genesis n) (disks store)
+      → NodeFits m h n (Stands m new after h.genesis n) (disks after)
   pub remembers : (genesis : Genesis) (n : ℕ) → Remembers node store genesis n → Remembers new after genesis n
 
 -- the store has format 2, and has not failed if it had not before; the node is the same, and if it had executed all

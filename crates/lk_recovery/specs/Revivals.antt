@@ -1,5 +1,6 @@
 -- What a restart makes of what a store stands for.
-use Rattle.std.specs.Prelude.{◌≡◌, ℕ, ◌⊎◌, ◌+◌, ◌*◌, ◌≤◌, ◌==◌, if◌then◌else◌, false, None, List, [], ◌∷◌, length, drop, Contains}
+use Rattle.std.specs.Prelude.{◌≡◌, ℕ, ◌⊎◌, ◌+◌, ◌*◌, ◌≤◌, ◌==◌, if◌then◌else◌, false, None, List, [], ◌∷◌, length, drop}
+use Rattle.std.specs.Prelude.{Contains}
 use Rattle.lk_types.specs.Limits.{max_count}
 use Rattle.lk_types.specs.declared.vote.Vote.{Vote}
 use Rattle.lk_disk.specs.Disk.{Disk}
@@ -63,7 +64,8 @@ reached e pairs = e + length (run_from e pairs)
 
 -- a node may restart from the standing: its snapshot unpacks, and no vote or pair is more than twice alpha above what
 -- is then executed
-pub record MayRevive (IsText : List ℕ → Type 0) (whose : HeaderValue) (s : StandingValue) (w : WholeValue) : Type 0 where
+pub record MayRevive (IsText : List ℕ → Type 0) (whose : HeaderValue) (s : StandingValue)
+    (w : WholeValue) : Type 0 where
   pub unpacks : Unpacks IsText whose.alpha s.position s.snapshot w
   pub votes : (v : Vote) → Contains s.votes v → v.position ≤ reached s.position s.pairs + 2 * whose.alpha
   pub pairs : (p : Pair) → Contains s.pairs p → p.0 ≤ reached s.position s.pairs + 2 * whose.alpha
@@ -82,7 +84,8 @@ revived m whose s w = record {
 }
 
 -- the standing restarts as this node, with these notes
-pub record Restores (m : Meaning) (IsText : List ℕ → Type 0) (whose : HeaderValue) (s : StandingValue) (node : NodeValue) (notes : List Note) : Type 0 where
+pub record Restores (m : Meaning) (IsText : List ℕ → Type 0) (whose : HeaderValue) (s : StandingValue)
+    (node : NodeValue) (notes : List Note) : Type 0 where
   pub whole : WholeValue
   pub may : MayRevive IsText whose s whole
   pub only : (w : WholeValue) → Packs IsText w s.snapshot → whole ≡ w
@@ -90,7 +93,8 @@ pub record Restores (m : Meaning) (IsText : List ℕ → Type 0) (whose : Header
   pub notes_are : notes ≡ notes_of whose.node s.position (run_from s.position s.pairs)
 
 -- what these disks stand for, or a new store, restarts as this store and this node, with these notes
-pub record TakesUp (m : Meaning) (IsText : List ℕ → Type 0) (disks : Side → Disk) (whose : HeaderValue) (node : NodeValue) (store : StoreValue) (notes : List Note) : Type 0 where
+pub record TakesUp (m : Meaning) (IsText : List ℕ → Type 0) (disks : Side → Disk) (whose : HeaderValue)
+    (node : NodeValue) (store : StoreValue) (notes : List Note) : Type 0 where
   pub genesis : Genesis
   pub began : whose ≡ header_of genesis whose.node
   pub standing : StandingValue
@@ -134,10 +138,12 @@ NarrowsOrRenews old new whose zero = (image : Image) → MayLeaveBoth new image
     → ((before : Image) × MayLeaveBoth old before × SameMeaning before image)
     ⊎ (IsEmpty (seen old) × IsLive image (Base (first_base whose zero) ∷ []))
     ⊎ ((es : List Stored) × IsLive (seen old) es × (format es ≡ 1)
-    × (IsLive image es ⊎ ((b : BaseValue) × (b.format ≡ 2) × (b.generation ≡ generation es + 1) × IsLive image (Base b ∷ []))))
+    × (IsLive image es ⊎ ((b : BaseValue) × (b.format ≡ 2) × (b.generation ≡ generation es + 1)
+    × IsLive image (Base b ∷ []))))
 
 -- no node may restart from what these disks stand for
-pub record NoneRevives (m : Meaning) (IsText : List ℕ → Type 0) (disks : Side → Disk) (whose : HeaderValue) : Type 0 where
+pub record NoneRevives (m : Meaning) (IsText : List ℕ → Type 0) (disks : Side → Disk)
+    (whose : HeaderValue) : Type 0 where
   pub genesis : Genesis
   pub began : whose ≡ header_of genesis whose.node
   pub standing : StandingValue
@@ -145,7 +151,8 @@ pub record NoneRevives (m : Meaning) (IsText : List ℕ → Type 0) (disks : Sid
   pub none : (w : WholeValue) → MayRevive IsText whose standing w → ⊥
 
 -- a node may restart from what these disks stand for
-pub record SomeRevives (m : Meaning) (IsText : List ℕ → Type 0) (disks : Side → Disk) (whose : HeaderValue) : Type 0 where
+pub record SomeRevives (m : Meaning) (IsText : List ℕ → Type 0) (disks : Side → Disk)
+    (whose : HeaderValue) : Type 0 where
   pub genesis : Genesis
   pub began : whose ≡ header_of genesis whose.node
   pub standing : StandingValue
@@ -157,7 +164,8 @@ pub record SomeRevives (m : Meaning) (IsText : List ℕ → Type 0) (disks : Sid
 -- are damaged or no node may restart from what they stand for, 10 if they are another's, and 11 if the file has format
 -- 1, no generation is left for a rebase, and a node may restart from what the file stands for: 9 has precedence.
 -- Damaged files and another's are unchanged
-pub record IsRefusedFor (m : Meaning) (IsText : List ℕ → Type 0) (old : Side → Disk) (whose : HeaderValue) (number : ℕ) (left : Side → Disk) : Type 0 where
+pub record IsRefusedFor (m : Meaning) (IsText : List ℕ → Type 0) (old : Side → Disk) (whose : HeaderValue) (number : ℕ)
+    (left : Side → Disk) : Type 0 where
   pub damaged : number ≡ 9 → IsDamaged (seen old) ⊎ NoneRevives m IsText old whose
   pub wrong : number ≡ 10 → IsWrong (seen old) whose
   pub last : number ≡ 11 → IsLastOld (seen old)

@@ -22,4 +22,5 @@ GrowsFromBase old new = (s : Side) → length (contents (new s)) ≤ max (length
 
 -- so of this many steps
 abbrev pub GrowsBySteps : ℕ → (Side → Disk) → (Side → Disk) → Type 0
-GrowsBySteps steps old new = (s : Side) → length (contents (new s)) ≤ max (length (contents (old s))) max_base + max_step * steps
+GrowsBySteps steps old new =
+    (s : Side) → length (contents (new s)) ≤ max (length (contents (old s))) max_base + max_step * steps

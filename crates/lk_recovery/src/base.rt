@@ -1,5 +1,6 @@
 // Writing everything that a node holds as the Base of the other file.
-ghost use Rattle.std.specs.Prelude.{◌≡◌, ◌+◌, ◌≤◌, ◌<◌, length, List, false, ◌↔◌, IsTrue, OnOk, IfOk, IfErr, IsErrAnd, IsErrOf, ⊤};
+ghost use Rattle.std.specs.Prelude.{◌≡◌, ◌+◌, ◌≤◌, ◌<◌, length, List, false, ◌↔◌, IsTrue, OnOk, IfOk, IfErr, IsErrAnd};
+ghost use Rattle.std.specs.Prelude.{IsErrOf, ⊤};
 ghost use Rattle.lk_types.specs.Limits.{max_base, max_count};
 ghost use Rattle.lk_disk.specs.Disk.{contents};
 ghost use Rattle.lk_entries.specs.declared.stored.Stored.{Stored};
@@ -8,7 +9,8 @@ ghost use Rattle.lk_log.specs.Stores.{Holds, KeepsItsFile, KeepsOrIs, next_base}
 ghost use Rattle.lk_node.specs.Packing.{standing_of};
 ghost use Rattle.lk_node.specs.Reaching.{HoldsNear};
 ghost use Rattle.lk_recovery.specs.Compacting.{IsDue, IsSameStore};
-ghost use Rattle.lk_recovery.specs.Rebased.{StandsOnBase, HasSwitchedFiles, StaysSafe, IsNotRebased, StaysAlive, IsReadyToStep, LeavesDisks};
+ghost use Rattle.lk_recovery.specs.Rebased.{StandsOnBase, HasSwitchedFiles, StaysSafe, IsNotRebased, StaysAlive};
+ghost use Rattle.lk_recovery.specs.Rebased.{IsReadyToStep, LeavesDisks};
 ghost use Rattle.lk_node_io.specs.Faults.{fault_number, RaisesFailures, PassesOr, WantsNoMemory};
 
 use lk_disk::LogDisk;
@@ -26,13 +28,15 @@ pub fn write_base<M: Machine, D: LogDisk + Drop>(
     store: &mut Store<D>,
 ) -> Result<(), ReplicaFault>
     // At Ok it has switched: the Base alone is in the file, the node matches it, and goes on.
-    ensures done { D.is_honest → OnOk result (HasSwitchedFiles M.meaning D.is_metered node.old store.old node.new store.new) }
+    ensures done { D.is_honest
+        → OnOk result (HasSwitchedFiles M.meaning D.is_metered node.old store.old node.new store.new) }
     ensures becomes { OnOk result (StandsOnBase node.old store.old node.new store.new) }
     // However it ends, every image that a stop may leave fits and covers what every image covered before, and neither
     // file has grown, except up to the size of a Base.
     ensures disks { D.is_honest → StaysSafe M.meaning node.old store.old store.new }
     // However it ends, every image has what it had before, or the Base alone.
-    ensures any { D.is_honest → (ks ls : List Stored) → Holds store.old ks ls → KeepsOrIs (disks store.new) ks ls (next_base store.old (standing_of node.old)) }
+    ensures any { D.is_honest → (ks ls : List Stored) → Holds store.old ks ls
+        → KeepsOrIs (disks store.new) ks ls (next_base store.old (standing_of node.old)) }
     // What the node holds above what it has executed lies near.
     ensures near { HoldsNear node.old }
     ensures wakes { node.new.halted ≡ node.old.halted }
@@ -77,7 +81,8 @@ pub fn rebase_if_due<M: Machine, D: LogDisk + Drop>(
     node: &mut Node<M>,
     store: &mut Store<D>,
 ) -> Result<(), ReplicaFault>
-    ensures done { D.is_honest → OnOk result (IsReadyToStep M.meaning D.is_metered node.old store.old node.new store.new) }
+    ensures done { D.is_honest
+        → OnOk result (IsReadyToStep M.meaning D.is_metered node.old store.old node.new store.new) }
     ensures alive { OnOk result (StaysAlive node.old store.old node.new store.new) }
     // What is on the disks, however it ends: neither file has grown, except up to the size of a Base.
     ensures disks { D.is_honest → LeavesDisks M.meaning (λ h. ⊤) max_base node.old store.old (disks store.new) }
@@ -86,7 +91,8 @@ pub fn rebase_if_due<M: Machine, D: LogDisk + Drop>(
     ensures refused { IfErr result (IsNotRebased D.is_honest D.is_metered node.old store.old node.new store.new) }
     // If a rebase is due at generation 2^48, it fails with `Failed`, even if it is out of memory, or with `Device` if
     // the device fails.
-    ensures last { D.is_honest → max_count ≤ store.old.generation → IsDue node.old store.old → IsErrAnd result (λ e. WantsNoMemory (fault_number e)) }
+    ensures last { D.is_honest → max_count ≤ store.old.generation → IsDue node.old store.old
+        → IsErrAnd result (λ e. WantsNoMemory (fault_number e)) }
     ensures cause { RaisesFailures store.old.failures store.new.failures result }
 {
     let due = is_rebase_due(node, store)?;

@@ -1,6 +1,8 @@
 // What a node learns again when it restarts.
-ghost use Rattle.std.specs.Prelude.{◌≡◌, ◌⊎◌, ℕ, ◌+◌, ◌*◌, ◌<◌, ◌≤◌, ◌++◌, [], ◌∷◌, Contains, IsTrue, length, OnOk, IfOk, IfErr, IsErrOf};
-ghost use Rattle.lk_learner.specs.Learners.{Command as CommandValue, Pair, IsLearner, IsNext, IsWanted, executed, keeping, advanced};
+ghost use Rattle.std.specs.Prelude.{◌≡◌, ◌⊎◌, ℕ, ◌+◌, ◌*◌, ◌<◌, ◌≤◌, ◌++◌, [], ◌∷◌, Contains, IsTrue, length, OnOk};
+ghost use Rattle.std.specs.Prelude.{IfOk, IfErr, IsErrOf};
+ghost use Rattle.lk_learner.specs.Learners.{Command as CommandValue, Pair, IsLearner, IsNext, IsWanted, executed};
+ghost use Rattle.lk_learner.specs.Learners.{keeping, advanced};
 ghost use Rattle.lk_learner.specs.Pairs.{are_pairs_above};
 ghost use Rattle.lk_recovery.specs.Revivals.{run_from, notes_of, relearned, reached};
 ghost use Rattle.lk_node_io.specs.declared.note.Note.TheVariants as note;
@@ -19,8 +21,10 @@ fn run_next<M: Machine>(
     node: NodeNo,
     command: &Command,
 ) -> Result<(), NoMemory>
-    ensures runs { IsNext learner.old command.now → OnOk result (learner.new ≡ advanced M.meaning command.now learner.old) }
-    ensures noted { IsNext learner.old command.now → OnOk result (notes.new.items ≡ notes.old.items ++ note.Ran node (executed learner.old + 1) command.now ∷ []) }
+    ensures runs { IsNext learner.old command.now
+        → OnOk result (learner.new ≡ advanced M.meaning command.now learner.old) }
+    ensures noted { IsNext learner.old command.now
+        → OnOk result (notes.new.items ≡ notes.old.items ++ note.Ran node (executed learner.old + 1) command.now ∷ []) }
     ensures none { ((v : CommandValue) → IsNext learner.old v → ⊥) → OnOk result (learner.new ≡ learner.old) }
     ensures silent { ((v : CommandValue) → IsNext learner.old v → ⊥) → OnOk result (notes.new.items ≡ notes.old.items) }
 {
@@ -38,9 +42,12 @@ fn learn<M: Machine>(
     pair: &(Position, Command),
 ) -> Result<(), ReplicaFault>
     requires quiet { (v : CommandValue) → IsNext learner.old v → ⊥ }
-    ensures runs { pair.now.0 ≡ executed learner.old + 1 → OnOk result (learner.new ≡ advanced M.meaning pair.now.1 (keeping pair.now learner.old)) }
-    ensures noted { pair.now.0 ≡ executed learner.old + 1 → OnOk result (notes.new.items ≡ notes.old.items ++ note.Ran node pair.now.0 pair.now.1 ∷ []) }
-    ensures keeps { (pair.now.0 ≡ executed learner.old + 1 → ⊥) → OnOk result (learner.new ≡ keeping pair.now learner.old) }
+    ensures runs { pair.now.0 ≡ executed learner.old + 1
+        → OnOk result (learner.new ≡ advanced M.meaning pair.now.1 (keeping pair.now learner.old)) }
+    ensures noted { pair.now.0 ≡ executed learner.old + 1
+        → OnOk result (notes.new.items ≡ notes.old.items ++ note.Ran node pair.now.0 pair.now.1 ∷ []) }
+    ensures keeps { (pair.now.0 ≡ executed learner.old + 1 → ⊥)
+        → OnOk result (learner.new ≡ keeping pair.now learner.old) }
     ensures silent { (pair.now.0 ≡ executed learner.old + 1 → ⊥) → OnOk result (notes.new.items ≡ notes.old.items) }
     ensures fits { IsLearner learner.old }
     ensures damaged { IsErrOf result ReplicaFault.Damaged → IsWanted learner.old pair.now.0 → ⊥ }
@@ -66,12 +73,17 @@ pub fn relearn<M: Machine>(
     requires text { snapshot.items ≡ packed whole }
     requires rising { IsTrue (are_pairs_above whole.roster.executed pairs.now) }
     ensures learner { IfOk result (λ r. r.0 ≡ relearned M.meaning whole pairs.now) }
-    ensures notes { IfOk result (λ r. r.1.items ≡ notes_of node whole.roster.executed (run_from whole.roster.executed pairs.now)) }
+    ensures notes { IfOk result
+        (λ r. r.1.items ≡ notes_of node whole.roster.executed (run_from whole.roster.executed pairs.now)) }
     ensures reaches { IfOk result (λ r. executed r.0 ≡ reached whole.roster.executed pairs.now) }
     ensures sets { IfOk result (λ r. length r.0.whole.roster.sets ≡ length whole.roster.sets) }
     ensures quiet { IfOk result (λ r. (v : CommandValue) → IsNext r.0 v → ⊥) }
-    ensures near { IfOk result (λ r. (p : Pair) → Contains pairs.now p → p.0 ≤ reached whole.roster.executed pairs.now + 2 * length whole.roster.sets) }
-    ensures damaged { IsErrOf result ReplicaFault.Damaged → ((p : Pair) → Contains pairs.now p → p.0 ≤ reached whole.roster.executed pairs.now + 2 * length whole.roster.sets) → ⊥ }
+    ensures near { IfOk result
+        (λ r. (p : Pair) → Contains pairs.now p
+        → p.0 ≤ reached whole.roster.executed pairs.now + 2 * length whole.roster.sets) }
+    ensures damaged { IsErrOf result ReplicaFault.Damaged
+        → ((p : Pair) → Contains pairs.now p
+        → p.0 ≤ reached whole.roster.executed pairs.now + 2 * length whole.roster.sets) → ⊥ }
     ensures only { IfErr result (λ e. (e ≡ ReplicaFault.Damaged) ⊎ (e ≡ ReplicaFault.NoMemory)) }
 {
     let mut learner = Learner::new(alloc, whole, snapshot);

@@ -30,12 +30,15 @@ pub fn renew<M: Machine, D: LogDisk + Drop>(
     ensures safe { D.is_honest → StaysSafe M.meaning node.old store.old store.new }
     ensures wakes { node.new.halted ≡ node.old.halted }
     // After an error every image has what it had before, or the Base alone.
-    ensures left { D.is_honest → (ks ls : List Stored) → Holds store.old ks ls → OnErr result (KeepsOrIs (disks store.new) ks ls (next_base store.old (standing_of node.old))) }
+    ensures left { D.is_honest → (ks ls : List Stored) → Holds store.old ks ls
+        → OnErr result (KeepsOrIs (disks store.new) ks ls (next_base store.old (standing_of node.old))) }
     ensures refused { IfErr result (λ e. IsNotRenewed store.old (fault_number e)) }
     // For a store of format 1 at the last generation it fails with `Failed`, even if it is out of memory.
-    ensures last { store.old.format ≡ 1 → max_count ≤ store.old.generation → (store.new ≡ store.old) × IsErrOf result ReplicaFault.Failed }
+    ensures last { store.old.format ≡ 1 → max_count ≤ store.old.generation
+        → (store.new ≡ store.old) × IsErrOf result ReplicaFault.Failed }
     ensures cause { RaisesFailures store.old.failures store.new.failures result }
-    ensures metered { D.is_metered → D.is_honest → PassesOr store.old.meter store.new.meter (renew_calls store.old.format) result }
+    ensures metered { D.is_metered → D.is_honest
+        → PassesOr store.old.meter store.new.meter (renew_calls store.old.format) result }
 {
     if store.format() == 2 {
         return Ok(());

@@ -1,5 +1,6 @@
 // Restarting from what a stop has left.
-ghost use Rattle.std.specs.Prelude.{◌≡◌, ◌⊎◌, ℕ, ◌+◌, ◌*◌, ◌≤◌, ◌↔◌, IsTrue, [], length, nat_le, IfOk, IfErr, IsErrOf, MatchResult};
+ghost use Rattle.std.specs.Prelude.{◌≡◌, ◌⊎◌, ℕ, ◌+◌, ◌*◌, ◌≤◌, ◌↔◌, IsTrue, [], length, nat_le, IfOk, IfErr, IsErrOf};
+ghost use Rattle.std.specs.Prelude.{MatchResult};
 ghost use Rattle.std.specs.List.{list_all};
 ghost use Rattle.lk_log.specs.Images.{IsEmpty, seen};
 ghost use Rattle.lk_log.specs.Stores.{NarrowsOrBegins, StandsForSome};
@@ -16,7 +17,8 @@ ghost use Rattle.lk_node.specs.Executing.{NothingToRun};
 ghost use Rattle.lk_node.specs.Histories.{History, Genesis as GenesisValue, IsLawful};
 ghost use Rattle.lk_node.specs.Keeping.{Stands};
 ghost use Rattle.lk_node.specs.Leavings.{header_of, DisksFit, AllCover};
-ghost use Rattle.lk_recovery.specs.Revivals.{Unpacks, MayRevive, Restores, TakesUp, IsTakenUp, IsRefusedFor, CallsOfOpening};
+ghost use Rattle.lk_recovery.specs.Revivals.{Unpacks, MayRevive, Restores, TakesUp, IsTakenUp, IsRefusedFor};
+ghost use Rattle.lk_recovery.specs.Revivals.{CallsOfOpening};
 ghost use Rattle.lk_node.specs.Served.{text};
 
 use crate::fault::ReviveFault;
@@ -54,7 +56,8 @@ fn unpacked<M: Machine>(
 ) -> Result<Whole<M>, ReplicaFault>
     ensures unpacks { IfOk result (λ w. Unpacks M.IsText alpha position snapshot.now w) }
     ensures one { (w : WholeValue) → Packs M.IsText w snapshot.now → IfOk result (λ v. v ≡ w) }
-    ensures damaged { IsErrOf result ReplicaFault.Damaged → (w : WholeValue) → Unpacks M.IsText alpha position snapshot.now w → ⊥ }
+    ensures damaged { IsErrOf result ReplicaFault.Damaged → (w : WholeValue)
+        → Unpacks M.IsText alpha position snapshot.now w → ⊥ }
     ensures only { IfErr result (λ e. (e ≡ ReplicaFault.Damaged) ⊎ (e ≡ ReplicaFault.NoMemory)) }
 {
     let whole: Whole<M> = Whole::unpack(alloc, snapshot)?;
@@ -81,7 +84,8 @@ fn restored<M: Machine>(
     requires stands { StandsForSome standing }
     ensures runs { IfOk result (λ r. NothingToRun r.0) }
     ensures restores { IfOk result (λ r. Restores M.meaning M.IsText header.now standing r.0 r.1.items) }
-    ensures damaged { IsErrOf result ReplicaFault.Damaged → (w : WholeValue) → MayRevive M.IsText header.now standing w → ⊥ }
+    ensures damaged { IsErrOf result ReplicaFault.Damaged → (w : WholeValue)
+        → MayRevive M.IsText header.now standing w → ⊥ }
     ensures only { IfErr result (λ e. (e ≡ ReplicaFault.Damaged) ⊎ (e ≡ ReplicaFault.NoMemory)) }
 {
     let Standing {
@@ -122,34 +126,45 @@ pub fn take_up<M: Machine, D: LogDisk + Drop>(
 ) -> Result<TakenUp<M, D>, ReviveFault<D>>
     // If the disks fit a history, the restarted replica goes on in it, and what an error leaves fits it; they are
     // neither damaged nor another's.
-    ensures fits { D.is_honest → (h : History) (n : ℕ) → header.now ≡ header_of h.genesis n → IsLawful M.meaning h → DisksFit M.meaning h n (D.disk device)
+    ensures fits { D.is_honest → (h : History) (n : ℕ) → header.now ≡ header_of h.genesis n → IsLawful M.meaning h
+        → DisksFit M.meaning h n (D.disk device)
         → MatchResult result
         (λ r. Goes M.meaning h n (Stands M.meaning r.node r.store h.genesis n) (disks r.store) r.notes.items [])
         (λ e. IsNumberOfRevival (fault_number e.fault) × DisksFit M.meaning h n (D.disk e.device)) }
     // Every image covers whatever every image covered before.
-    ensures covers { D.is_honest → (genesis : GenesisValue) (n : ℕ) (x : NodeMessage) → header.now ≡ header_of genesis n → AllCover M.meaning genesis n (D.disk device) x
-        → MatchResult result (λ r. AllCover M.meaning genesis n (disks r.store) x) (λ e. AllCover M.meaning genesis n (D.disk e.device) x) }
+    ensures covers { D.is_honest → (genesis : GenesisValue) (n : ℕ) (x : NodeMessage)
+        → header.now ≡ header_of genesis n → AllCover M.meaning genesis n (D.disk device) x
+        → MatchResult result (λ r. AllCover M.meaning genesis n (disks r.store) x)
+        (λ e. AllCover M.meaning genesis n (D.disk e.device) x) }
     // Its store keeps what its acceptor holds, whatever has happened to the disks.
-    ensures remembers { D.is_honest → (genesis : GenesisValue) (n : ℕ) → header.now ≡ header_of genesis n → IfOk result (λ r. Remembers r.node r.store genesis n) }
+    ensures remembers { D.is_honest → (genesis : GenesisValue) (n : ℕ) → header.now ≡ header_of genesis n
+        → IfOk result (λ r. Remembers r.node r.store genesis n) }
     // It restarts exactly what the disks stand for, and executes nothing else. The store is new exactly if there was no
     // Base.
-    ensures exact { D.is_honest → IfOk result (λ r. TakesUp M.meaning M.IsText (D.disk device) header.now r.node r.store r.notes.items × (IsTrue r.is_new ↔ IsEmpty (seen (D.disk device)))) }
+    ensures exact { D.is_honest
+        → IfOk result (λ r. TakesUp M.meaning M.IsText (D.disk device) header.now r.node r.store r.notes.items
+        × (IsTrue r.is_new ↔ IsEmpty (seen (D.disk device)))) }
     // Nothing of it has failed, and it has executed what it can.
     ensures ready { IfOk result (λ r. IsTakenUp header.now r.node r.store) }
     // An error has its cause. A damaged store and another's are unchanged.
-    ensures refused { D.is_honest → IfErr result (λ e. IsRefusedFor M.meaning M.IsText (D.disk device) header.now (fault_number e.fault) (D.disk e.device)) }
+    ensures refused { D.is_honest
+        → IfErr result (λ e. IsRefusedFor M.meaning M.IsText (D.disk device) header.now
+        (fault_number e.fault) (D.disk e.device)) }
     // After an error every image amounts to what an image before it did, or to a new store.
     ensures stays_err { D.is_honest → (genesis : GenesisValue) → header.now ≡ header_of genesis header.now.node
         → IfErr result (λ e. NarrowsOrBegins (D.disk device) (D.disk e.device) header.now (text M.meaning genesis [])) }
     // It fails with 7 to 10, and with `Device` exactly if a call of the device has failed.
     ensures cause { MatchResult result
         (λ r. r.store.failures ≡ D.failures device)
-        (λ e. (7 ≤ fault_number e.fault) × (fault_number e.fault ≤ 10) × (D.failures e.device ≡ failures_by (fault_number e.fault) (D.failures device))) }
+        (λ e. (7 ≤ fault_number e.fault) × (fault_number e.fault ≤ 10)
+        × (D.failures e.device ≡ failures_by (fault_number e.fault) (D.failures device))) }
     ensures metered { D.is_metered → D.is_honest → MatchResult result
         (λ r. CallsOfOpening (D.disk device) (D.meter device) r.store.meter)
         (λ e. RefusedAfter (fault_number e.fault) (D.meter device) (D.meter e.device)) }
     // However it ends, neither file has grown, except up to the size of a Base.
-    ensures room { D.is_honest → MatchResult result (λ r. StaysWithin max_base (D.disk device) (disks r.store)) (λ e. StaysWithin max_base (D.disk device) (D.disk e.device)) }
+    ensures room { D.is_honest
+        → MatchResult result (λ r. StaysWithin max_base (D.disk device) (disks r.store))
+        (λ e. StaysWithin max_base (D.disk device) (D.disk e.device)) }
 {
     header.genesis().facts();
     let Ok(zero) = zero_text::<M>(alloc, header.genesis()) else {

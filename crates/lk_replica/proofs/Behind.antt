@@ -35,11 +35,13 @@ use Rattle.lk_node.specs.Serving.{IsLight, Tells, Serves, GoesOn}
 use Rattle.lk_replica.specs.Posts.{AreOf}
 use Rattle.lk_recovery.specs.Remembering.{Remembers}
 use Rattle.lk_replica.proofs.Going.{said_covered, said_light, batch_covered, bound, serves}
-use Rattle.lk_recovery.proofs.Recoveries.{fit_disks, snapshot_covers, base_stands, here, rebase_stands, base_fits, here_fits}
+use Rattle.lk_recovery.proofs.Recoveries.{fit_disks, snapshot_covers, base_stands, here, rebase_stands, base_fits}
+use Rattle.lk_recovery.proofs.Recoveries.{here_fits}
 use Rattle.lk_replica.proofs.Thinning.{batch_among}
 
 -- all but promises and votes may still be sent
-light_may : (h : History) (w : View) (i : ℕ) (x : NodeMessage) → IsLight x → MaySend h.genesis h.sent w x → MaySend h.genesis h.sent (view_with w (without_votes_to w.acceptor i)) x
+light_may : (h : History) (w : View) (i : ℕ) (x : NodeMessage) → IsLight x → MaySend h.genesis h.sent w x
+    → MaySend h.genesis h.sent (view_with w (without_votes_to w.acceptor i)) x
 light_may h w i (kinds.Prepare b first) light may = may
 light_may h w i (kinds.Promise p) light may = absurd light
 light_may h w i (kinds.Accept v) light may = may
@@ -53,25 +55,33 @@ light_may h w i (kinds.Elsewhere k) light may = may
 light_may h w i (kinds.Passed p) light may = may
 light_may h w i (kinds.Lead b k) light may = may
 
--- The node stands on the store as it was before the step, since the step has left its acceptor and what is unsynced known.
-module _ (m : Meaning) (h : History) (n : ℕ) (node : NodeValue) (old new : StoreValue) (x : Holding) (shown : StandsBefore m node old h.genesis n x)
+-- The node stands on the store as it was before the step, since the step has left its acceptor and what is unsynced
+-- known.
+module _ (m : Meaning) (h : History) (n : ℕ) (node : NodeValue) (old new : StoreValue) (x : Holding)
+    (shown : StandsBefore m node old h.genesis n x)
     (may : MayBegin (standing_of node)) (close : HoldsNear node) (lawful : IsLawful m h) (fits : HoldingFits m h n x)
-    (out : OutboxValue) (tells : (l : LetterValue) → Contains out.letters l → Tells node.header node.acceptor.state out.rebase l)
-    (goes : (d : Datagram) → Contains (batch_of n out.letters) d → MayGo m h n x.view d) (light : (d : Datagram) (c : Contains (batch_of n out.letters) d) → IsLight (goes d c).message)
-    (noted : (k : Note) → Contains out.notes k → IsOfNode k × IsBorneOut m h k) (holds : Holds new (Base (next_base old (standing_of node)) ∷ []) [])
+    (out : OutboxValue) (tells : (l : LetterValue) → Contains out.letters l
+    → Tells node.header node.acceptor.state out.rebase l)
+    (goes : (d : Datagram) → Contains (batch_of n out.letters) d → MayGo m h n x.view d)
+    (light : (d : Datagram) (c : Contains (batch_of n out.letters) d) → IsLight (goes d c).message)
+    (noted : (k : Note) → Contains out.notes k → IsOfNode k × IsBorneOut m h k)
+    (holds : Holds new (Base (next_base old (standing_of node)) ∷ []) [])
     (sent : List LetterValue) (among : AreOf sent out.letters) where
   base : EntriesFit m h n (Base (next_base old (standing_of node)) ∷ [])
   base = base_fits m h n node old new x shown may close lawful fits
 
   same : standing_of node ≡ base.standing
-  same = one_standing (Base (next_base old (standing_of node)) ∷ []) (standing_of node) base.standing (base_stands m h.genesis n node old new shown.keeps may close.0.snapshot) base.stands
+  same = one_standing (Base (next_base old (standing_of node)) ∷ []) (standing_of node) base.standing
+      (base_stands m h.genesis n node old new shown.keeps may close.0.snapshot) base.stands
 
   sent_covered : (k : ℕ) → CoversSent h.genesis (take k (batch_of n sent)) n (acceptor_of (standing_of node))
   sent_covered k y c =
-      snapshot_covers node.acceptor.state (without_votes_to node.acceptor.state (executed node.learner)) (executed node.learner) (takes_snapshot node.acceptor.state (executed node.learner) close.0.snapshot) y
+      snapshot_covers node.acceptor.state (without_votes_to node.acceptor.state (executed node.learner))
+      (executed node.learner) (takes_snapshot node.acceptor.state (executed node.learner) close.0.snapshot) y
       (batch_covered h.genesis n node out.rebase sent shown.whose (λ l d. tells l (among l d)) k y c)
 
-  sent_fit : (k : ℕ) → EntriesFit m (later h (take k (batch_of n sent))) n (Base (next_base old (standing_of node)) ∷ [])
+  sent_fit : (k : ℕ) → EntriesFit m (later h (take k (batch_of n sent))) n
+      (Base (next_base old (standing_of node)) ∷ [])
   sent_fit k = record {
     standing = base.standing;
     header = base.header;
@@ -80,7 +90,8 @@ module _ (m : Meaning) (h : History) (n : ℕ) (node : NodeValue) (old new : Sto
     position = base.position;
     snapshot = base.snapshot;
     covers = covers_both h.genesis h.sent (take k (batch_of n sent)) n (acceptor_of base.standing) base.covers
-        (subst (λ (s : StandingValue). CoversSent h.genesis (take k (batch_of n sent)) n (acceptor_of s)) same (sent_covered k));
+        (subst (λ (s : StandingValue). CoversSent h.genesis (take k (batch_of n sent)) n (acceptor_of s)) same
+        (sent_covered k));
     stems = still_stems h.genesis h.sent (take k (batch_of n sent)) (view_of base.standing base.under) base.stems;
     near = base.near;
   }
@@ -93,17 +104,26 @@ module _ (m : Meaning) (h : History) (n : ℕ) (node : NodeValue) (old new : Sto
     may = λ d c.
         let listed = batch_among n sent out.letters among d c in
         let k = goes d listed in
-        record { message = k.message; from = k.from; spelled = k.spelled; may = light_may h x.view (executed node.learner) k.message (light d listed) k.may; served = k.served };
+        record {
+          message = k.message;
+          from = k.from;
+          spelled = k.spelled;
+          may = light_may h x.view (executed node.learner) k.message (light d listed) k.may;
+          served = k.served;
+        };
     noted = noted;
-    left = λ k. fit_disks m (later h (take k (batch_of n sent))) n new (Base (next_base old (standing_of node)) ∷ []) (standing_of node) [] holds
+    left = λ k. fit_disks m (later h (take k (batch_of n sent))) n new (Base (next_base old (standing_of node)) ∷ [])
+        (standing_of node) [] holds
         (base_stands m h.genesis n node old new shown.keeps may close.0.snapshot) tt tt (sent_fit k);
   }
 
 -- ---- the call
 
 -- The step has left the acceptor, and so the store keeps it as before.
-module _ (m : Meaning) (Heard : History → Type 0) (genesis : Genesis) (n : ℕ) (node stepped : NodeValue) (old : StoreValue) (whose : node.header ≡ header_of genesis n)
-    (k : Keeps (header_of genesis n) old node.acceptor.state) (out : OutboxValue) (g : GoesOn m Heard node stepped nothing out) (is : out.rebase ≡ true) where
+module _ (m : Meaning) (Heard : History → Type 0) (genesis : Genesis) (n : ℕ) (node stepped : NodeValue)
+    (old : StoreValue) (whose : node.header ≡ header_of genesis n)
+    (k : Keeps (header_of genesis n) old node.acceptor.state) (out : OutboxValue)
+    (g : GoesOn m Heard node stepped nothing out) (is : out.rebase ≡ true) where
   abbrev pub still_keeps : Keeps (header_of genesis n) old stepped.acceptor.state
   still_keeps = record {
     entries = k.entries;
@@ -121,13 +141,16 @@ module _ (m : Meaning) (Heard : History → Type 0) (genesis : Genesis) (n : ℕ
   still_remembers = record { whose = (bound m Heard node stepped out g).header ∙ whose; keeps = still_keeps }
 
   -- whatever is sent, the acceptor covers
-  pub sent_is_covered : (x : NodeMessage) (d : Datagram) → Contains (batch_of n out.letters) d → Spells (said_by genesis n x) d.bytes → Covers stepped.acceptor.state x
+  pub sent_is_covered : (x : NodeMessage) (d : Datagram) → Contains (batch_of n out.letters) d
+      → Spells (said_by genesis n x) d.bytes → Covers stepped.acceptor.state x
   sent_is_covered x d c said =
       let b = bound m Heard node stepped out g in
       said_covered genesis n stepped out.rebase out.letters (b.header ∙ whose) b.tells x d c n said
 
-module _ (m : Meaning) (h : History) (n : ℕ) (node stepped : NodeValue) (old : StoreValue) (i : Input) (out : OutboxValue)
-    (f : NodeFits m h n (Stands m node old h.genesis n) (disks old)) (heard : InputFits h i) (g : GoesOn m (λ k. InputFits k i) node stepped nothing out) (is : out.rebase ≡ true) where
+module _ (m : Meaning) (h : History) (n : ℕ) (node stepped : NodeValue) (old : StoreValue)
+    (i : Input) (out : OutboxValue)
+    (f : NodeFits m h n (Stands m node old h.genesis n) (disks old)) (heard : InputFits h i)
+    (g : GoesOn m (λ k. InputFits k i) node stepped nothing out) (is : out.rebase ≡ true) where
   abbrev served : Serves m h n f.shown.keeps.loose stepped out
   served = serves m h n node stepped old old i out f heard g
 
@@ -149,9 +172,14 @@ module _ (m : Meaning) (h : History) (n : ℕ) (node stepped : NodeValue) (old :
   }
 
   -- where its Base was written, these letters of it are sent
-  pub installed_goes : (new : StoreValue) → MayBegin (standing_of stepped) → HoldsNear stepped → Holds new (Base (next_base old (standing_of stepped)) ∷ []) []
-      → (sent : List LetterValue) → AreOf sent out.letters → Goes m h n (Stands m (with_snapshot stepped) new h.genesis n) (disks new) out.notes (batch_of n sent)
+  pub installed_goes : (new : StoreValue) → MayBegin (standing_of stepped) → HoldsNear stepped
+      → Holds new (Base (next_base old (standing_of stepped)) ∷ []) []
+      → (sent : List LetterValue) → AreOf sent out.letters
+      → Goes m h n (Stands m (with_snapshot stepped) new h.genesis n) (disks new) out.notes (batch_of n sent)
   installed_goes new may close holds sent among =
       let b = bound m (λ k. InputFits k i) node stepped out g in
-      rebased_goes m h n stepped old new served.holding stepped_fits.shown may close f.lawful served.fits out b.tells served.may
-      (λ d c. let k = served.may d c in said_light h.genesis n stepped out.rebase out.letters served.whose b.tells is k.message d c n k.spelled) served.noted holds sent among
+      rebased_goes m h n stepped old new served.holding stepped_fits.shown may close f.lawful
+      served.fits out b.tells served.may
+      (λ d c. let k = served.may d c in
+      said_light h.genesis n stepped out.rebase out.letters served.whose b.tells is k.message d c n k.spelled)
+      served.noted holds sent among

@@ -18,11 +18,14 @@ use Rattle.lk_replica.proofs.OnDevices.{on_device}
 use Rattle.lk_recovery.proofs.Recoveries.{same_error}
 
 -- it has compacted
-pub compacted : {T : Type 0} (m : Meaning) (old new : ReplicaValue) (r : Result T ReplicaFault) → OnOk r (HasSwitchedFiles m ⊤ old.node old.store new.node new.store) → OnOk r (StandsOnBase old.node old.store new.node new.store) → OnOk r (new.failed ≡ false)
+pub compacted : {T : Type 0} (m : Meaning) (old new : ReplicaValue) (r : Result T ReplicaFault)
+    → OnOk r (HasSwitchedFiles m ⊤ old.node old.store new.node new.store)
+    → OnOk r (StandsOnBase old.node old.store new.node new.store) → OnOk r (new.failed ≡ false)
     → OnOk r (IsCompacted m old new)
 compacted m old new (Ok x) done becomes alive = record {
   rebases = done.rebases;
-  stands = λ genesis n x shown. on_device (λ d. AllStandAt m genesis n d (executed new.node.learner) x.view.done) new.store (done.stands genesis n x shown);
+  stands = λ genesis n x shown. on_device
+      (λ d. AllStandAt m genesis n d (executed new.node.learner) x.view.done) new.store (done.stands genesis n x shown);
   calls = done.calls tt;
   alive = alive;
   store_alive = becomes.store_alive;
@@ -30,8 +33,11 @@ compacted m old new (Ok x) done becomes alive = record {
 compacted m old new (Err e) done becomes alive = tt
 
 -- it was refused, for a cause
-pub refused : {T : Type 0} (m : Meaning) (old new : ReplicaValue) (r : Result T ReplicaFault) → RaisesFailures old.store.failures new.store.failures r → IfErr r (λ e. IsNotCompacted ⊤ ⊤ old new (fault_number e)) → new.node.halted ≡ old.node.halted
-    → (max_count ≤ old.store.generation → (new.store ≡ old.store) × IsErrOf r fault.Failed) → IfErr r (λ e. CompactsTo m old new (Err (fault_number e)))
+pub refused : {T : Type 0} (m : Meaning) (old new : ReplicaValue) (r : Result T ReplicaFault)
+    → RaisesFailures old.store.failures new.store.failures r
+    → IfErr r (λ e. IsNotCompacted ⊤ ⊤ old new (fault_number e)) → new.node.halted ≡ old.node.halted
+    → (max_count ≤ old.store.generation → (new.store ≡ old.store) × IsErrOf r fault.Failed)
+    → IfErr r (λ e. CompactsTo m old new (Err (fault_number e)))
 refused m old new (Ok x) cause why wakes last = tt
 refused m old new (Err e) cause why wakes last = (
   record {
@@ -44,7 +50,13 @@ refused m old new (Err e) cause why wakes last = (
     ends = λ other. why.ends;
     file = λ honest post. inl why.file;
     stays = λ honest device post. inl (why.stays honest device);
-    halts = λ number. absurd (elim why.of_store [ inl a ↦ omega (arith, a, number) | inr (inl a) ↦ omega (arith, a, number) | inr (inr a) ↦ omega (arith, a, number) ]);
+    halts = λ number. absurd
+        (elim why.of_store [
+          | inl a ↦ omega (arith, a, number)
+          | inr (inl a) ↦ omega (arith, a, number)
+          | inr (inr a) ↦
+              omega (arith, a, number)
+        ]);
     awake = λ was other. wakes ∙ was;
   },
   why.of_store,
@@ -54,15 +66,20 @@ refused m old new (Err e) cause why wakes last = (
 )
 
 -- with such a number
-pub told : {T : Type 0} (old new : ReplicaValue) (r : Result T ReplicaFault) → IfErr r (λ e. IsNotCompacted ⊤ ⊤ old new (fault_number e)) → IfErr r (λ e. IsStoreFault (fault_number e))
+pub told : {T : Type 0} (old new : ReplicaValue) (r : Result T ReplicaFault)
+    → IfErr r (λ e. IsNotCompacted ⊤ ⊤ old new (fault_number e)) → IfErr r (λ e. IsStoreFault (fault_number e))
 told old new (Ok x) why = tt
 told old new (Err e) why = why.of_store
 
 -- the calls of the device that it has made
-pub calls_ok : {T : Type 0} (m : Meaning) (old new : ReplicaValue) (r : Result T ReplicaFault) → OnOk r (HasSwitchedFiles m ⊤ old.node old.store new.node new.store) → OnOk r (Passes old.store.meter new.store.meter rebase_calls)
+pub calls_ok : {T : Type 0} (m : Meaning) (old new : ReplicaValue) (r : Result T ReplicaFault)
+    → OnOk r (HasSwitchedFiles m ⊤ old.node old.store new.node new.store)
+    → OnOk r (Passes old.store.meter new.store.meter rebase_calls)
 calls_ok m old new (Ok x) done = done.calls tt
 calls_ok m old new (Err e) done = tt
 
-pub calls_err : {T : Type 0} (old new : ReplicaValue) (r : Result T ReplicaFault) → IfErr r (λ e. IsNotCompacted ⊤ ⊤ old new (fault_number e)) → IfErr r (λ e. RefusedAfter (fault_number e) old.store.meter new.store.meter)
+pub calls_err : {T : Type 0} (old new : ReplicaValue) (r : Result T ReplicaFault)
+    → IfErr r (λ e. IsNotCompacted ⊤ ⊤ old new (fault_number e))
+    → IfErr r (λ e. RefusedAfter (fault_number e) old.store.meter new.store.meter)
 calls_err old new (Ok x) why = tt
 calls_err old new (Err e) why = why.calls tt tt

@@ -1,5 +1,6 @@
 -- What a call leaves that steps, puts what the step writes, and then sends.
-use Rattle.std.proofs.Common.{◌≡◌, ℕ, Bool, true, false, List, [], ◌∷◌, ◌++◌, take, Contains, refl, sym, ◌∙◌, ap, subst, subst₂, arith}
+use Rattle.std.proofs.Common.{◌≡◌, ℕ, Bool, true, false, List, [], ◌∷◌, ◌++◌, take, Contains, refl, sym, ◌∙◌, ap, subst}
+use Rattle.std.proofs.Common.{subst₂, arith}
 use Rattle.std.specs.List.{AllByRecursion}
 use Rattle.lk_types.specs.declared.entry.Entry.{Entry}
 use Rattle.lk_types.specs.declared.entry.Entry.TheVariants.{Promise, Vote, Decided}
@@ -44,11 +45,13 @@ use Rattle.lk_replica.proofs.Thinning.{batch_among}
 
 -- ---- lists
 
-all_append : (P : Entry → Type 0) (xs ys : List Entry) → AllByRecursion P xs → AllByRecursion P ys → AllByRecursion P (xs ++ ys)
+all_append : (P : Entry → Type 0) (xs ys : List Entry) → AllByRecursion P xs → AllByRecursion P ys
+    → AllByRecursion P (xs ++ ys)
 all_append P [] ys a b = b
 all_append P (x ∷ xs) ys a b = (a.0, all_append P xs ys a.1 b)
 
-all_map : (P Q : Entry → Type 0) (xs : List Entry) → ((e : Entry) → P e → Q e) → AllByRecursion P xs → AllByRecursion Q xs
+all_map : (P Q : Entry → Type 0) (xs : List Entry) → ((e : Entry) → P e → Q e)
+    → AllByRecursion P xs → AllByRecursion Q xs
 all_map P Q [] f a = tt
 all_map P Q (x ∷ xs) f a = (f x a.0, all_map P Q xs f a.1)
 
@@ -56,13 +59,19 @@ all_map P Q (x ∷ xs) f a = (f x a.0, all_map P Q xs f a.1)
 
 -- a store that keeps what it kept, and the entries: those that are not synced are the old ones and, where nothing was
 -- synced, these
-pub record KeepsToo (whose : HeaderValue) (new : StoreValue) (b : AcceptorState) (standing : StandingValue) (loose es : List Entry) (sync : Bool) : Type 0 where
+pub record KeepsToo (whose : HeaderValue) (new : StoreValue) (b : AcceptorState) (standing : StandingValue)
+    (loose es : List Entry) (sync : Bool) : Type 0 where
   pub keeps : Keeps whose new b
-  pub known : (w : View) → AllByRecursion (IsKnown w) loose → (sync ≡ false → AllByRecursion (IsKnown w) es) → AllByRecursion (IsKnown w) keeps.loose
-  pub told : (ahead : ℕ) (node now : NodeValue) → IsTold ahead standing loose node → TellsOn node now es → IsTold ahead keeps.standing keeps.loose now
+  pub known : (w : View) → AllByRecursion (IsKnown w) loose → (sync ≡ false → AllByRecursion (IsKnown w) es)
+      → AllByRecursion (IsKnown w) keeps.loose
+  pub told : (ahead : ℕ) (node now : NodeValue) → IsTold ahead standing loose node → TellsOn node now es
+      → IsTold ahead keeps.standing keeps.loose now
 
-pub put_keeps : (whose : HeaderValue) (old new : StoreValue) (a b : AcceptorState) (es : List Entry) (sync : Bool) (k : Keeps whose old a) → b ≡ with_entries es a → (sync ≡ false → AllByRecursion TellsDecided es)
-    → (sync ≡ false → Holds new k.entries (plain k.loose ++ plain es)) → (sync ≡ true → Holds new (k.entries ++ (plain k.loose ++ plain es)) []) → KeepsToo whose new b k.standing k.loose es sync
+pub put_keeps : (whose : HeaderValue) (old new : StoreValue) (a b : AcceptorState) (es : List Entry) (sync : Bool)
+    (k : Keeps whose old a) → b ≡ with_entries es a → (sync ≡ false → AllByRecursion TellsDecided es)
+    → (sync ≡ false → Holds new k.entries (plain k.loose ++ plain es))
+    → (sync ≡ true → Holds new (k.entries ++ (plain k.loose ++ plain es)) [])
+    → KeepsToo whose new b k.standing k.loose es sync
 put_keeps whose old new a b es false k written decided added synced = record {
   keeps = record {
     entries = k.entries;
@@ -81,15 +90,18 @@ put_keeps whose old new a b es true k written decided added synced = record {
   keeps = record {
     entries = k.entries ++ plain (k.loose ++ es);
     loose = [];
-    holds = subst (λ (more : List Stored). Holds new (k.entries ++ more) []) (sym (plain_append k.loose es)) (synced refl);
+    holds =
+        subst (λ (more : List Stored). Holds new (k.entries ++ more) []) (sym (plain_append k.loose es)) (synced refl);
     decided = tt;
     header = header_more k.entries (plain (k.loose ++ es)) whose k.header;
     standing = with_all (k.loose ++ es) k.standing;
     stands = all_stand k.entries k.standing (k.loose ++ es) k.stands;
-    remembers = entries_are k.standing (k.loose ++ es) ∙ ap (with_entries (k.loose ++ es)) k.remembers ∙ entries_behind k.loose es a ∙ ap (with_entries es) (decided_leave k.loose a k.decided) ∙ sym written;
+    remembers = entries_are k.standing (k.loose ++ es) ∙ ap (with_entries (k.loose ++ es)) k.remembers
+        ∙ entries_behind k.loose es a ∙ ap (with_entries es) (decided_leave k.loose a k.decided) ∙ sym written;
   };
   known = λ w old' new'. tt;
-  told = λ ahead node now t on. told_synced ahead k.standing (k.loose ++ es) now (told_behind ahead k.standing k.loose es node now t on);
+  told = λ ahead node now t on. told_synced ahead k.standing (k.loose ++ es) now
+      (told_behind ahead k.standing k.loose es node now t on);
 }
 
 -- ---- what rests on what was sent
@@ -102,39 +114,59 @@ still_rests h more (Decided i c) r = still_chosen_at h.genesis h.sent more i c r
 -- ---- what is sent
 
 -- a datagram of the batch is a letter's
-letter_of : (n : ℕ) (letters : List LetterValue) (d : Datagram) → Contains (batch_of n letters) d → (l : LetterValue) × Contains letters l × (datagram_of n l ≡ d)
+letter_of : (n : ℕ) (letters : List LetterValue) (d : Datagram) → Contains (batch_of n letters) d
+    → (l : LetterValue) × Contains letters l × (datagram_of n l ≡ d)
 letter_of n letters d c = map_contains (datagram_of n) letters d c
 
-module _ (genesis : Genesis) (n : ℕ) (new : NodeValue) (rebase : Bool) (letters : List LetterValue) (is : new.header ≡ header_of genesis n)
+module _ (genesis : Genesis) (n : ℕ) (new : NodeValue) (rebase : Bool) (letters : List LetterValue)
+    (is : new.header ≡ header_of genesis n)
     (tells : (l : LetterValue) → Contains letters l → Tells new.header new.acceptor.state rebase l) where
   -- what a datagram of the batch says, a letter tells
-  letter_says : (x : NodeMessage) (d : Datagram) → Contains (batch_of n letters) d → (k : ℕ) → Spells (said_by genesis k x) d.bytes → (l : LetterValue) × (c : Contains letters l) × ((tells l c).message ≡ x)
+  letter_says : (x : NodeMessage) (d : Datagram) → Contains (batch_of n letters) d → (k : ℕ)
+      → Spells (said_by genesis k x) d.bytes → (l : LetterValue) × (c : Contains letters l) × ((tells l c).message ≡ x)
   letter_says x d c k said =
       let l = letter_of n letters d c in
       let t = tells l.0 l.1 in (
         l.0,
         l.1,
-        (said_alike genesis n k t.message x d.bytes (subst (λ (e : Datagram). Spells (said_by genesis n t.message) e.bytes) l.2 (letter_spelled genesis n new.header t.message l.0.bytes is t.fits t.bytes)) said).1,
+        (said_alike genesis n k t.message x d.bytes
+            (subst (λ (e : Datagram). Spells (said_by genesis n t.message) e.bytes) l.2
+            (letter_spelled genesis n new.header t.message l.0.bytes is t.fits t.bytes)) said).1,
       )
 
   -- whatever a letter says, the acceptor covers
-  pub said_covered : (x : NodeMessage) (d : Datagram) → Contains (batch_of n letters) d → (k : ℕ) → Spells (said_by genesis k x) d.bytes → Covers new.acceptor.state x
-  said_covered x d c k said = let l = letter_says x d c k said in subst (Covers new.acceptor.state) l.2 (tells l.0 l.1).covers
+  pub said_covered : (x : NodeMessage) (d : Datagram) → Contains (batch_of n letters) d → (k : ℕ)
+      → Spells (said_by genesis k x) d.bytes → Covers new.acceptor.state x
+  said_covered x d c k said = let l = letter_says x d c k said in
+      subst (Covers new.acceptor.state) l.2 (tells l.0 l.1).covers
 
   -- and it is light where the step rebases
-  pub said_light : rebase ≡ true → (x : NodeMessage) (d : Datagram) → Contains (batch_of n letters) d → (k : ℕ) → Spells (said_by genesis k x) d.bytes → IsLight x
-  said_light rebases x d c k said = let l = letter_says x d c k said in subst IsLight l.2 ((tells l.0 l.1).light rebases)
+  pub said_light : rebase ≡ true → (x : NodeMessage) (d : Datagram) → Contains (batch_of n letters) d → (k : ℕ)
+      → Spells (said_by genesis k x) d.bytes → IsLight x
+  said_light rebases x d c k said = let l = letter_says x d c k said in
+      subst IsLight l.2 ((tells l.0 l.1).light rebases)
 
   pub batch_covered : (k : ℕ) → CoversSent genesis (take k (batch_of n letters)) n new.acceptor.state
-  batch_covered k x sent = said_covered x sent.datagram (take_contains k (batch_of n letters) sent.datagram sent.listed) n sent.spelled
+  batch_covered k x sent =
+      said_covered x sent.datagram (take_contains k (batch_of n letters) sent.datagram sent.listed) n sent.spelled
 
 -- ---- the call
 
-pub bound : (m : Meaning) (Heard : History → Type 0) (node new : NodeValue) (out : OutboxValue) → GoesOn m Heard node new nothing out → Binds node new out
-bound m Heard node new out g = g.binds node (record { header = refl; written = refl; unsynced = λ e. tt; still = λ e. refl; tells = λ l c. absurd (omega (arith, c.1)) })
+pub bound : (m : Meaning) (Heard : History → Type 0) (node new : NodeValue) (out : OutboxValue)
+    → GoesOn m Heard node new nothing out → Binds node new out
+bound m Heard node new out g =
+    g.binds node (record {
+      header = refl;
+      written = refl;
+      unsynced = λ e. tt;
+      still = λ e. refl;
+      tells = λ l c. absurd (omega (arith, c.1));
+    })
 
-module _ (m : Meaning) (h : History) (n : ℕ) (node new : NodeValue) (old store : StoreValue) (i : Input) (out : OutboxValue)
-    (f : NodeFits m h n (Stands m node old h.genesis n) (disks old)) (heard : InputFits h i) (g : GoesOn m (λ k. InputFits k i) node new nothing out) where
+module _ (m : Meaning) (h : History) (n : ℕ) (node new : NodeValue) (old store : StoreValue)
+    (i : Input) (out : OutboxValue)
+    (f : NodeFits m h n (Stands m node old h.genesis n) (disks old)) (heard : InputFits h i)
+    (g : GoesOn m (λ k. InputFits k i) node new nothing out) where
   abbrev loose : List Entry
   loose = f.shown.keeps.loose
 
@@ -153,8 +185,10 @@ module _ (m : Meaning) (h : History) (n : ℕ) (node new : NodeValue) (old store
         noted = λ x c. absurd (omega (arith, c.1));
       }) heard
 
-module _ (m : Meaning) (h : History) (n : ℕ) (node new : NodeValue) (old store : StoreValue) (i : Input) (out : OutboxValue)
-    (f : NodeFits m h n (Stands m node old h.genesis n) (disks old)) (heard : InputFits h i) (g : GoesOn m (λ k. InputFits k i) node new nothing out) (on : TellsOn node new out.entries) where
+module _ (m : Meaning) (h : History) (n : ℕ) (node new : NodeValue) (old store : StoreValue)
+    (i : Input) (out : OutboxValue)
+    (f : NodeFits m h n (Stands m node old h.genesis n) (disks old)) (heard : InputFits h i)
+    (g : GoesOn m (λ k. InputFits k i) node new nothing out) (on : TellsOn node new out.entries) where
   abbrev unsynced : List Entry
   unsynced = f.shown.keeps.loose
 
@@ -162,14 +196,19 @@ module _ (m : Meaning) (h : History) (n : ℕ) (node new : NodeValue) (old store
   served = serves m h n node new old store i out f heard g
 
   -- after any exit of the put every image fits
-  pub put_leaves : KeepsAtLeast store f.shown.keeps.entries (plain unsynced ++ plain out.entries) → DisksFit m h n (disks store)
+  pub put_leaves : KeepsAtLeast store f.shown.keeps.entries (plain unsynced ++ plain out.entries)
+      → DisksFit m h n (disks store)
   put_leaves keeps =
-      put_fits m h n old store f.shown.keeps.entries f.shown.keeps.standing unsynced out.entries f.shown.keeps.holds f.shown.keeps.stands keeps
-      (all_append (Rests h) unsynced out.entries (all_map (IsKnown f.holding.view) (Rests h) unsynced (known_rests h n f.holding.view f.fits.view) f.shown.known) served.rests)
+      put_fits m h n old store f.shown.keeps.entries f.shown.keeps.standing unsynced out.entries f.shown.keeps.holds
+      f.shown.keeps.stands keeps
+      (all_append (Rests h) unsynced out.entries
+      (all_map (IsKnown f.holding.view) (Rests h) unsynced (known_rests h n f.holding.view f.fits.view) f.shown.known)
+      served.rests)
       (told_behind h.genesis.alpha f.shown.keeps.standing unsynced out.entries node new f.shown.told on).near f.left
 
   -- these letters of it are sent
-  module _ (k : KeepsToo (header_of h.genesis n) store new.acceptor.state f.shown.keeps.standing unsynced out.entries out.sync) (left : DisksFit m h n (disks store)) (sent : List LetterValue) (among : AreOf sent out.letters) where
+  module _ (k : KeepsToo (header_of h.genesis n) store new.acceptor.state f.shown.keeps.standing unsynced out.entries
+      out.sync) (left : DisksFit m h n (disks store)) (sent : List LetterValue) (among : AreOf sent out.letters) where
     tells : (l : LetterValue) → Contains sent l → Tells new.header new.acceptor.state out.rebase l
     tells l c = (bound m (λ k. InputFits k i) node new out g).tells l (among l c)
 
@@ -180,7 +219,9 @@ module _ (m : Meaning) (h : History) (n : ℕ) (node new : NodeValue) (old store
     entries = held_fit m h n store k.keeps.entries (plain k.keeps.loose) k.keeps.holds left
 
     remembers : acceptor_of entries.standing ≡ new.acceptor.state
-    remembers = ap acceptor_of (one_standing k.keeps.entries entries.standing k.keeps.standing entries.stands k.keeps.stands) ∙ k.keeps.remembers
+    remembers = ap acceptor_of
+        (one_standing k.keeps.entries entries.standing k.keeps.standing entries.stands k.keeps.stands)
+        ∙ k.keeps.remembers
 
     sent_fit : (j : ℕ) → EntriesFit m (later h (take j (batch_of n sent))) n k.keeps.entries
     sent_fit j = record {
@@ -191,8 +232,10 @@ module _ (m : Meaning) (h : History) (n : ℕ) (node new : NodeValue) (old store
       position = entries.position;
       snapshot = entries.snapshot;
       covers = covers_both h.genesis h.sent (take j (batch_of n sent)) n (acceptor_of entries.standing) entries.covers
-          (subst (CoversSent h.genesis (take j (batch_of n sent)) n) (sym remembers) (batch_covered h.genesis n new out.rebase sent served.whose tells j));
-      stems = still_stems h.genesis h.sent (take j (batch_of n sent)) (view_of entries.standing entries.under) entries.stems;
+          (subst (CoversSent h.genesis (take j (batch_of n sent)) n) (sym remembers)
+          (batch_covered h.genesis n new out.rebase sent served.whose tells j));
+      stems = still_stems h.genesis h.sent (take j (batch_of n sent))
+          (view_of entries.standing entries.under) entries.stems;
       near = entries.near;
     }
 
@@ -201,7 +244,8 @@ module _ (m : Meaning) (h : History) (n : ℕ) (node new : NodeValue) (old store
 
     loose_rest : (j : ℕ) → AllByRecursion (Rests (later h (take j (batch_of n sent)))) k.keeps.loose
     loose_rest j = all_map (IsKnown served.holding.view) (Rests (later h (take j (batch_of n sent)))) k.keeps.loose
-        (λ e is. still_rests h (take j (batch_of n sent)) e (known_rests h n served.holding.view served.fits.view e is)) known
+        (λ e is. still_rests h (take j (batch_of n sent)) e
+        (known_rests h n served.holding.view served.fits.view e is)) known
 
     pub put_goes : Goes m h n (Stands m new store h.genesis n) (disks store) out.notes (batch_of n sent)
     put_goes = record {
@@ -210,43 +254,65 @@ module _ (m : Meaning) (h : History) (n : ℕ) (node new : NodeValue) (old store
       fits = served.fits;
       may = λ d c. served.may d (batch_among n sent out.letters among d c);
       noted = served.noted;
-      left = λ j. fit_disks m (later h (take j (batch_of n sent))) n store k.keeps.entries k.keeps.standing k.keeps.loose k.keeps.holds k.keeps.stands (loose_rest j) told.near (sent_fit j);
+      left = λ j. fit_disks m (later h (take j (batch_of n sent))) n store k.keeps.entries k.keeps.standing
+          k.keeps.loose k.keeps.holds k.keeps.stands (loose_rest j) told.near (sent_fit j);
     }
 
 -- ---- sync before send, whatever has happened
 
 -- a replica that stands so remembers
-abbrev pub remembered : (m : Meaning) (genesis : Genesis) (n : ℕ) (held : Holding) (node : NodeValue) (store : StoreValue) → Stands m node store genesis n held → Remembers node store genesis n
+abbrev pub remembered : (m : Meaning) (genesis : Genesis) (n : ℕ) (held : Holding) (node : NodeValue)
+    (store : StoreValue) → Stands m node store genesis n held → Remembers node store genesis n
 remembered m genesis n held node store shown = record { whose = shown.whose; keeps = shown.keeps }
 
-module _ (m : Meaning) (genesis : Genesis) (n : ℕ) (node new : NodeValue) (old store : StoreValue) (Heard : History → Type 0) (out : OutboxValue)
+module _ (m : Meaning) (genesis : Genesis) (n : ℕ) (node new : NodeValue) (old store : StoreValue)
+    (Heard : History → Type 0) (out : OutboxValue)
     (shown : Remembers node old genesis n) (g : GoesOn m Heard node new nothing out) where
   -- what was put the store keeps
-  pub step_keeps : (out.sync ≡ false → Holds store shown.keeps.entries (plain shown.keeps.loose ++ plain out.entries)) → (out.sync ≡ true → Holds store (shown.keeps.entries ++ (plain shown.keeps.loose ++ plain out.entries)) [])
-      → KeepsToo (header_of genesis n) store new.acceptor.state shown.keeps.standing shown.keeps.loose out.entries out.sync
+  pub step_keeps : (out.sync ≡ false → Holds store shown.keeps.entries (plain shown.keeps.loose ++ plain out.entries))
+      → (out.sync ≡ true → Holds store (shown.keeps.entries ++ (plain shown.keeps.loose ++ plain out.entries)) [])
+      → KeepsToo (header_of genesis n) store new.acceptor.state shown.keeps.standing
+      shown.keeps.loose out.entries out.sync
   step_keeps added synced =
       let b = bound m Heard node new out g in
-      put_keeps (header_of genesis n) old store node.acceptor.state new.acceptor.state out.entries out.sync shown.keeps b.written b.unsynced added synced
+      put_keeps (header_of genesis n) old store node.acceptor.state new.acceptor.state out.entries out.sync shown.keeps
+      b.written b.unsynced added synced
 
   -- and so it remembers
-  pub step_remembers : KeepsToo (header_of genesis n) store new.acceptor.state shown.keeps.standing shown.keeps.loose out.entries out.sync → Remembers new store genesis n
+  pub step_remembers : KeepsToo
+      (header_of genesis n) store new.acceptor.state shown.keeps.standing shown.keeps.loose out.entries out.sync
+      → Remembers new store genesis n
   step_remembers k = record { whose = (bound m Heard node new out g).header ∙ shown.whose; keeps = k.keeps }
 
-  pub step_syncs : (k : Keeps (header_of genesis n) store new.acceptor.state) (x : NodeMessage) (d : Datagram) → Contains (batch_of n out.letters) d → Spells (said_by genesis n x) d.bytes
+  pub step_syncs : (k : Keeps (header_of genesis n) store new.acceptor.state) (x : NodeMessage) (d : Datagram)
+      → Contains (batch_of n out.letters) d → Spells (said_by genesis n x) d.bytes
       → AllCover m genesis n (disks store) x
   step_syncs k x d c said =
       let b = bound m Heard node new out g in
-      cover_disks m genesis n store k.entries k.loose x k.holds
-      (k.header, (k.standing, k.stands, subst (λ (a : AcceptorState). Covers a x) (sym k.remembers) (said_covered genesis n new out.rebase out.letters (b.header ∙ shown.whose) b.tells x d c n said)))
+      cover_disks m genesis n store k.entries k.loose x k.holds (
+        k.header,
+        (
+          k.standing,
+          k.stands,
+          subst (λ (a : AcceptorState). Covers a x) (sym k.remembers)
+              (said_covered genesis n new out.rebase out.letters (b.header ∙ shown.whose) b.tells x d c n said),
+        ),
+      )
 
-  pub step_covers : KeepsAtLeast store shown.keeps.entries (plain shown.keeps.loose ++ plain out.entries) → (x : NodeMessage) → AllCover m genesis n (disks old) x → AllCover m genesis n (disks store) x
-  step_covers keeps x c = put_covers m genesis n old store shown.keeps.entries shown.keeps.loose out.entries x shown.keeps.holds keeps c
+  pub step_covers : KeepsAtLeast store shown.keeps.entries (plain shown.keeps.loose ++ plain out.entries)
+      → (x : NodeMessage) → AllCover m genesis n (disks old) x → AllCover m genesis n (disks store) x
+  step_covers keeps x c =
+      put_covers m genesis n old store shown.keeps.entries shown.keeps.loose out.entries x shown.keeps.holds keeps c
 
 -- ---- the calls in which a step is written
 
-pub put_written : (m n : Meter) (o : OutboxValue) (entries : List Entry) (sync : Bool) → entries ≡ o.entries → sync ≡ o.sync → o.rebase ≡ false → Passes m n (put_calls entries sync) → Passes m n (write_calls o)
+pub put_written : (m n : Meter) (o : OutboxValue) (entries : List Entry) (sync : Bool) → entries ≡ o.entries
+    → sync ≡ o.sync → o.rebase ≡ false → Passes m n (put_calls entries sync) → Passes m n (write_calls o)
 put_written m n o entries sync these said not_so calls =
-    subst (λ (b : Bool). Passes m n (if b then rebase_calls else put_calls o.entries o.sync)) (sym not_so) (subst₂ (λ (es : List Entry) (b : Bool). Passes m n (put_calls es b)) these said calls)
+    subst (λ (b : Bool). Passes m n (if b then rebase_calls else put_calls o.entries o.sync)) (sym not_so)
+    (subst₂ (λ (es : List Entry) (b : Bool). Passes m n (put_calls es b)) these said calls)
 
-pub base_written : (m n : Meter) (o : OutboxValue) → o.rebase ≡ true → Passes m n rebase_calls → Passes m n (write_calls o)
-base_written m n o so calls = subst (λ (b : Bool). Passes m n (if b then rebase_calls else put_calls o.entries o.sync)) (sym so) calls
+pub base_written : (m n : Meter) (o : OutboxValue) → o.rebase ≡ true → Passes m n rebase_calls
+    → Passes m n (write_calls o)
+base_written m n o so calls =
+    subst (λ (b : Bool). Passes m n (if b then rebase_calls else put_calls o.entries o.sync)) (sym so) calls

@@ -35,6 +35,7 @@ sends_not fault.Halted none is = omega (arith, is)
 sends_not (fault.Send notes) none is = none
 
 -- a call that was refused so does not go on
-pub goes_not : (P : List Note → Type 0) (r : Result (Vec Note Global) ReplicaFault) (e : ReplicaFault) → IsErrAnd r (λ x. x ≡ e) → IfSend (λ notes. ⊥) e → IfGoesOn r P
+pub goes_not : (P : List Note → Type 0) (r : Result (Vec Note Global) ReplicaFault) (e : ReplicaFault)
+    → IsErrAnd r (λ x. x ≡ e) → IfSend (λ notes. ⊥) e → IfGoesOn r P
 goes_not P (Ok notes) e is none = absurd is
 goes_not P (Err x) e is none = never_sends P x (subst (IfSend (λ notes. ⊥)) (sym is) none)

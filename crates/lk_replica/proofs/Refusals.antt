@@ -33,17 +33,21 @@ halted_alone fault.Halted is = refl
 halted_alone (fault.Send notes) is = absurd (omega (arith, is))
 
 -- a call of a replica that had not failed, by what it did to the node and the store
-pub refused_by_parts : {T : Type 0} (Honest Metered : Type 0) (r : Result T ReplicaFault) (f : ReplicaFault) (old : ReplicaValue) (node : NodeValue) (store : StoreValue)
+pub refused_by_parts : {T : Type 0} (Honest Metered : Type 0) (r : Result T ReplicaFault) (f : ReplicaFault)
+    (old : ReplicaValue) (node : NodeValue) (store : StoreValue)
     → IsErrAnd r (λ e. e ≡ f) → old.failed ≡ false → store.failures ≡ failures_by (fault_number f) old.store.failures
-    → IsCutShort Honest Metered 2 old.node old.store node store (KeepsOrSwitchesFiles old.node old.store store) (AreLeft old.node old.store store) f
-    → IfErr r (λ e. IsRefused Honest Metered old (record { node = node; store = store; failed = true }) (fault_number e))
+    → IsCutShort Honest Metered 2 old.node old.store node store (KeepsOrSwitchesFiles old.node old.store store)
+    (AreLeft old.node old.store store) f
+    → IfErr r (λ e. IsRefused Honest Metered old
+    (record { node = node; store = store; failed = true }) (fault_number e))
 refused_by_parts Honest Metered r f old node store is alive failures cut =
     let kept : IsRefused Honest Metered old (record { node = node; store = store; failed = true }) (fault_number f) =
     record {
       told = number_of_calls f cut.told;
       failures = failures;
       calls = cut.calls;
-      earlier = λ number before store_alive further. cut.earlier (failed_alone f number) store_alive (omega (arith, further));
+      earlier =
+          λ number before store_alive further. cut.earlier (failed_alone f number) store_alive (omega (arith, further));
       second = λ honest number before store_alive less. cut.second honest (failed_alone f number) store_alive less;
       once = λ ended. absurd (let both : false ≡ true = sym alive ∙ ended in cc both);
       ends = λ other. refl;
@@ -52,12 +56,19 @@ refused_by_parts Honest Metered r f old node store is alive failures cut =
       halts = λ number. cut.halts (halted_alone f number);
       awake = cut.awake;
     } in
-    err_as (λ e. IsRefused Honest Metered old (record { node = node; store = store; failed = true }) (fault_number e)) r f is kept
+    err_as (λ e. IsRefused Honest Metered old (record { node = node; store = store; failed = true }) (fault_number e))
+    r f is kept
 
 -- ---- of a store
 
 other_fault : (number : ℕ) → IsStoreFault number → 8 < number → (number ≡ 11 → ⊥) → ⊥
-other_fault number by more other = elim by [ inl device ↦ omega (arith, device, more) | inr (inl memory) ↦ omega (arith, memory, more) | inr (inr failed) ↦ other failed ]
+other_fault number by more other =
+    elim by [
+      | inl device ↦ omega (arith, device, more)
+      | inr (inl memory) ↦
+          omega (arith, memory, more)
+      | inr (inr failed) ↦ other failed
+    ]
 
 -- a refusal of the store is one of the calls, and none of the post or the node
 pub store_told : (e : ReplicaFault) → IsStoreFault (fault_number e) → IsOfCalls e
@@ -79,16 +90,21 @@ store_only fault.Halted by = tt
 store_only (fault.Send notes) by = other_fault 15 by (omega arith) (λ is. omega (arith, is))
 
 pub store_awake : (e : ReplicaFault) → IsStoreFault (fault_number e) → e ≡ fault.Halted → ⊥
-store_awake e by is = other_fault (fault_number e) by (omega (arith, ap fault_number is)) (λ failed. omega (arith, ap fault_number is, failed))
+store_awake e by is = other_fault (fault_number e) by (omega (arith, ap fault_number is))
+    (λ failed. omega (arith, ap fault_number is, failed))
 
 -- ---- of a compaction
 
 -- that of a replica that had not failed, by what it did to the node and the store
-pub not_compacted_by_parts : {T : Type 0} (Honest Metered : Type 0) (r : Result T ReplicaFault) (f : ReplicaFault) (old : ReplicaValue) (node : NodeValue) (store : StoreValue)
-    → IsErrAnd r (λ e. e ≡ f) → old.failed ≡ false → IsNotRebased Honest Metered old.node old.store node store f → IfErr r (λ e. IsNotCompacted Honest Metered old (record { node = node; store = store; failed = true }) (fault_number e))
+pub not_compacted_by_parts : {T : Type 0} (Honest Metered : Type 0) (r : Result T ReplicaFault) (f : ReplicaFault)
+    (old : ReplicaValue) (node : NodeValue) (store : StoreValue)
+    → IsErrAnd r (λ e. e ≡ f) → old.failed ≡ false → IsNotRebased Honest Metered old.node old.store node store f
+    → IfErr r (λ e. IsNotCompacted Honest Metered old
+    (record { node = node; store = store; failed = true }) (fault_number e))
 not_compacted_by_parts Honest Metered r f old node store is alive rebase =
     let why = rebase.why in
-    let kept : IsNotCompacted Honest Metered old (record { node = node; store = store; failed = true }) (fault_number f) =
+    let kept : IsNotCompacted Honest Metered old
+    (record { node = node; store = store; failed = true }) (fault_number f) =
     record {
       of_store = why.of_store;
       calls = why.calls;
@@ -97,6 +113,9 @@ not_compacted_by_parts Honest Metered r f old node store is alive rebase =
       rests = rebase.rests;
       file = why.file;
       ends = refl;
-      stays = λ honest device. spared_number (AreSame (disks old.store) (disks store)) f (why.stays honest) device (λ post. other_fault (fault_number f) why.of_store (omega (arith, post)) (λ failed. omega (arith, post, failed)));
+      stays = λ honest device. spared_number (AreSame (disks old.store) (disks store)) f (why.stays honest) device
+          (λ post. other_fault (fault_number f) why.of_store (omega (arith, post))
+          (λ failed. omega (arith, post, failed)));
     } in
-    err_as (λ e. IsNotCompacted Honest Metered old (record { node = node; store = store; failed = true }) (fault_number e)) r f is kept
+    err_as (λ e. IsNotCompacted Honest Metered old (record { node = node; store = store; failed = true })
+    (fault_number e)) r f is kept

@@ -29,6 +29,7 @@ decided_leave (Promise b ∷ es) a all = absurd all.0
 decided_leave (Vote v ∷ es) a all = absurd all.0
 decided_leave (Decided i c ∷ es) a all = decided_leave es a all.1
 
-pub entries_behind : (es more : List Entry) (a : AcceptorState) → with_entries (es ++ more) a ≡ with_entries more (with_entries es a)
+pub entries_behind : (es more : List Entry) (a : AcceptorState)
+    → with_entries (es ++ more) a ≡ with_entries more (with_entries es a)
 entries_behind [] more a = refl
 entries_behind (e ∷ es) more a = entries_behind es more (acceptor_with e a)

@@ -1,5 +1,7 @@
 -- A group that a replica takes together, step by step.
-use Rattle.std.proofs.Common.{◌≡◌, ℕ, ◌+◌, ◌-◌, Bool, ◌⊎◌, false, inl, inr, List, [], ◌∷◌, ◌++◌, length, take, drop, map, Contains, refl, sym, ap, ◌∙◌, subst, arith, append_assoc, append-nil, length-append, zero, suc}
+use Rattle.std.proofs.Common.{◌≡◌, ℕ, ◌+◌, ◌-◌, Bool, ◌⊎◌, false, inl, inr, List, [], ◌∷◌, ◌++◌, length, take, drop}
+use Rattle.std.proofs.Common.{map, Contains, refl, sym, ap, ◌∙◌, subst, arith, append_assoc, append-nil, length-append}
+use Rattle.std.proofs.Common.{zero, suc}
 use Rattle.std.specs.List.{AllByRecursion}
 use Rattle.std.specs.Prelude.{⊤}
 use Rattle.std.proofs.Math.Nat.{add-sub_cancel_left}
@@ -27,13 +29,16 @@ use Rattle.lk_node.specs.Holdings.{Holding}
 use Rattle.lk_node.specs.Keeping.{Stands}
 use Rattle.lk_node.specs.Leavings.{DisksFit, AllCover}
 use Rattle.lk_node.specs.NodeValue.{NodeValue}
-use Rattle.lk_replica.specs.Groups.{GroupValue, Adds, IsCovered, KeepsGroup, LeavesInGroup, IsGathered, IsSettled, IsRefusedInGroup, StepSaid, letters_of, GoesThrough, as_sent, with_step, gather_calls, Recalls, GroupStays}
+use Rattle.lk_replica.specs.Groups.{GroupValue, Adds, IsCovered, KeepsGroup, LeavesInGroup, IsGathered, IsSettled}
+use Rattle.lk_replica.specs.Groups.{IsRefusedInGroup, StepSaid, letters_of, GoesThrough, as_sent, with_step}
+use Rattle.lk_replica.specs.Groups.{gather_calls, Recalls, GroupStays}
 use Rattle.lk_replica.specs.Posts.{AreOf}
 use Rattle.lk_recovery.specs.Remembering.{Remembers}
 use Rattle.lk_replica.specs.ReplicaValue.{ReplicaValue, device_of}
 use Rattle.lk_recovery.specs.Rooms.{max_after}
 use Rattle.lk_node_io.specs.Faults.{RefusedAfter}
-use Rattle.lk_replica.specs.Together.{Said, sent_of, parts_of, said_by_steps, GoesAll, GathersAll, IsGatheredFrom, IsTakenTogether, IsNotKept, IsNotSent, IsTogetherRefused}
+use Rattle.lk_replica.specs.Together.{Said, sent_of, parts_of, said_by_steps, GoesAll, GathersAll, IsGatheredFrom}
+use Rattle.lk_replica.specs.Together.{IsTakenTogether, IsNotKept, IsNotSent, IsTogetherRefused}
 use Rattle.lk_replica.specs.declared.taken.Step.{Step}
 use Rattle.lk_recovery.proofs.Recoveries.{refused_on}
 use Rattle.lk_replica.proofs.Grouped.{begun, begin_fits, room_as_sent, settled_node_fits, settled_covers}
@@ -43,12 +48,22 @@ use Rattle.lk_replica.proofs.Grouped.{begun, begin_fits, room_as_sent, settled_n
 -- the steps noted this, and as many of the letters are their own
 abbrev pub AreStepsOf : List Step → List StepSaid → Type 0
 AreStepsOf [] said = said ≡ []
-AreStepsOf (s ∷ steps) said = (letters : List LetterValue) × (rest : List StepSaid) × (said ≡ (s.notes.items, letters) ∷ rest) × (s.sends ≡ length letters) × AreStepsOf steps rest
+AreStepsOf (s ∷ steps) said =
+    (letters : List LetterValue) × (rest : List StepSaid) × (said ≡ (s.notes.items, letters) ∷ rest)
+    × (s.sends ≡ length letters) × AreStepsOf steps rest
 
-one_step_more : (steps : List Step) (said : List StepSaid) (s : Step) (letters : List LetterValue) → AreStepsOf steps said → s.sends ≡ length letters → AreStepsOf (steps ++ s ∷ []) (said ++ (s.notes.items, letters) ∷ [])
-one_step_more [] said s letters are sends = (letters, [], ap (λ (l : List StepSaid). l ++ (s.notes.items, letters) ∷ []) are, sends, refl)
-one_step_more (x ∷ steps) said s letters are sends =
-    (are.0, are.1 ++ (s.notes.items, letters) ∷ [], ap (λ (l : List StepSaid). l ++ (s.notes.items, letters) ∷ []) are.2, are.3, one_step_more steps are.1 s letters are.4 sends)
+one_step_more : (steps : List Step) (said : List StepSaid) (s : Step) (letters : List LetterValue)
+    → AreStepsOf steps said → s.sends ≡ length letters
+    → AreStepsOf (steps ++ s ∷ []) (said ++ (s.notes.items, letters) ∷ [])
+one_step_more [] said s letters are sends =
+    (letters, [], ap (λ (l : List StepSaid). l ++ (s.notes.items, letters) ∷ []) are, sends, refl)
+one_step_more (x ∷ steps) said s letters are sends = (
+  are.0,
+  are.1 ++ (s.notes.items, letters) ∷ [],
+  ap (λ (l : List StepSaid). l ++ (s.notes.items, letters) ∷ []) are.2,
+  are.3,
+  one_step_more steps are.1 s letters are.4 sends,
+)
 
 batch_append : (n : ℕ) (xs ys : List LetterValue) → batch_of n (xs ++ ys) ≡ batch_of n xs ++ batch_of n ys
 batch_append n [] ys = refl
@@ -58,45 +73,61 @@ batch_length : (n : ℕ) (xs : List LetterValue) → length (batch_of n xs) ≡ 
 batch_length n [] = refl
 batch_length n (x ∷ xs) = omega (arith, batch_length n xs)
 
-own_of : (n k : ℕ) (letters more : List LetterValue) → k ≡ length letters → take k (batch_of n (letters ++ more)) ≡ batch_of n letters
+own_of : (n k : ℕ) (letters more : List LetterValue) → k ≡ length letters
+    → take k (batch_of n (letters ++ more)) ≡ batch_of n letters
 own_of n k letters more is =
-    ap (λ (j : ℕ). take j (batch_of n (letters ++ more))) (is ∙ sym (batch_length n letters)) ∙ ap (take (length (batch_of n letters))) (batch_append n letters more)
+    ap (λ (j : ℕ). take j (batch_of n (letters ++ more))) (is ∙ sym (batch_length n letters))
+    ∙ ap (take (length (batch_of n letters))) (batch_append n letters more)
     ∙ take-append_seam (batch_of n letters) (batch_of n more)
 
-later_of : (n k : ℕ) (letters more : List LetterValue) → k ≡ length letters → drop k (batch_of n (letters ++ more)) ≡ batch_of n more
+later_of : (n k : ℕ) (letters more : List LetterValue) → k ≡ length letters
+    → drop k (batch_of n (letters ++ more)) ≡ batch_of n more
 later_of n k letters more is =
-    ap (λ (j : ℕ). drop j (batch_of n (letters ++ more))) (is ∙ sym (batch_length n letters)) ∙ ap (drop (length (batch_of n letters))) (batch_append n letters more)
+    ap (λ (j : ℕ). drop j (batch_of n (letters ++ more))) (is ∙ sym (batch_length n letters))
+    ∙ ap (drop (length (batch_of n letters))) (batch_append n letters more)
     ∙ drop-append_seam (batch_of n letters) (batch_of n more)
 
 -- each step takes its own
-pub parts_are : (n : ℕ) (steps : List Step) (said : List StepSaid) → AreStepsOf steps said → parts_of steps (batch_of n (letters_of said)) ≡ said_by_steps n said
+pub parts_are : (n : ℕ) (steps : List Step) (said : List StepSaid) → AreStepsOf steps said
+    → parts_of steps (batch_of n (letters_of said)) ≡ said_by_steps n said
 parts_are n [] said are = ap (said_by_steps n) (sym are)
 parts_are n (s ∷ steps) said are =
     let own = own_of n s.sends are.0 (letters_of are.1) are.3 in
-    let rest = ap (parts_of steps) (later_of n s.sends are.0 (letters_of are.1) are.3) ∙ parts_are n steps are.1 are.4 in
-    let whole : parts_of (s ∷ steps) (batch_of n (letters_of ((s.notes.items, are.0) ∷ are.1))) ≡ said_by_steps n ((s.notes.items, are.0) ∷ are.1) = λ i. (s.notes.items, own i) ∷ rest i in
-    subst (λ (l : List StepSaid). parts_of (s ∷ steps) (batch_of n (letters_of l)) ≡ said_by_steps n l) (sym are.2) whole
+    let rest = ap (parts_of steps) (later_of n s.sends are.0 (letters_of are.1) are.3)
+    ∙ parts_are n steps are.1 are.4 in
+    let whole : parts_of (s ∷ steps) (batch_of n (letters_of ((s.notes.items, are.0) ∷ are.1)))
+    ≡ said_by_steps n ((s.notes.items, are.0) ∷ are.1) = λ i. (s.notes.items, own i) ∷ rest i in
+    subst (λ (l : List StepSaid). parts_of (s ∷ steps) (batch_of n (letters_of l)) ≡ said_by_steps n l)
+    (sym are.2) whole
 
 -- and all of them take all
 pub all_sent : (n : ℕ) (said : List StepSaid) → batch_of n (letters_of said) ≡ sent_of (said_by_steps n said)
 all_sent n [] = refl
-all_sent n (x ∷ xs) = batch_append n x.1 (letters_of xs) ∙ ap (λ (l : List Datagram). batch_of n x.1 ++ l) (all_sent n xs)
+all_sent n (x ∷ xs) =
+    batch_append n x.1 (letters_of xs) ∙ ap (λ (l : List Datagram). batch_of n x.1 ++ l) (all_sent n xs)
 
 -- ---- what was gathered
 
 module _ (m : Meaning) (IsText : List ℕ → Type 0) where
-  gathers_on : (node : NodeValue) (store : StoreValue) (needs_sync : Bool) (done : List Input) (mid : NodeValue) (between : StoreValue) (still : Bool) (steps : List StepSaid) → GathersAll m IsText node store needs_sync done mid between still steps
-      → (i : Input) (new : NodeValue) (later : StoreValue) (one : GroupValue) → IsGathered m IsText ⊤ mid between (record { notes = []; letters = []; needs_sync = still }) i new later one
-      → GathersAll m IsText node store needs_sync (done ++ i ∷ []) new later one.needs_sync (steps ++ (one.notes, one.letters) ∷ [])
+  gathers_on : (node : NodeValue) (store : StoreValue) (needs_sync : Bool) (done : List Input) (mid : NodeValue)
+      (between : StoreValue) (still : Bool) (steps : List StepSaid)
+      → GathersAll m IsText node store needs_sync done mid between still steps
+      → (i : Input) (new : NodeValue) (later : StoreValue) (one : GroupValue)
+      → IsGathered m IsText ⊤ mid between (record { notes = []; letters = []; needs_sync = still }) i new later one
+      → GathersAll m IsText node store needs_sync (done ++ i ∷ []) new later one.needs_sync
+      (steps ++ (one.notes, one.letters) ∷ [])
   gathers_on node store needs_sync [] mid between still steps g i new later one e = (
     new,
     later,
     one,
     [],
     ap (λ (l : List StepSaid). l ++ (one.notes, one.letters) ∷ []) g.3,
-    subst (λ (k : NodeValue). IsGathered m IsText ⊤ k store (record { notes = []; letters = []; needs_sync = needs_sync }) i new later one) g.0
-        (subst (λ (k : StoreValue). IsGathered m IsText ⊤ mid k (record { notes = []; letters = []; needs_sync = needs_sync }) i new later one) g.1
-        (subst (λ (w : Bool). IsGathered m IsText ⊤ mid between (record { notes = []; letters = []; needs_sync = w }) i new later one) g.2 e)),
+    subst (λ (k : NodeValue). IsGathered m IsText ⊤ k store
+        (record { notes = []; letters = []; needs_sync = needs_sync }) i new later one) g.0
+        (subst (λ (k : StoreValue). IsGathered m IsText ⊤ mid k
+        (record { notes = []; letters = []; needs_sync = needs_sync }) i new later one) g.1
+        (subst (λ (w : Bool). IsGathered m IsText ⊤ mid between
+        (record { notes = []; letters = []; needs_sync = w }) i new later one) g.2 e)),
     (refl, refl, refl, refl),
   )
   gathers_on node store needs_sync (x ∷ done) mid between still steps g i new later one e = (
@@ -110,7 +141,8 @@ module _ (m : Meaning) (IsText : List ℕ → Type 0) where
   )
 
 -- what a replica has come to that has taken some of the inputs, of which these are still to come
-pub record TakenSoFar (m : Meaning) (IsText : List ℕ → Type 0) (begun_as : ReplicaValue) (all : List Input) (now : ReplicaValue) (g : GroupValue) (steps : List Step) (rest : List Input) : Type 0 where
+pub record TakenSoFar (m : Meaning) (IsText : List ℕ → Type 0) (begun_as : ReplicaValue) (all : List Input)
+    (now : ReplicaValue) (g : GroupValue) (steps : List Step) (rest : List Input) : Type 0 where
   pub said : List StepSaid
   pub counted : AreStepsOf steps said
   pub letters : letters_of said ≡ g.letters
@@ -118,19 +150,27 @@ pub record TakenSoFar (m : Meaning) (IsText : List ℕ → Type 0) (begun_as : R
   pub done : List Input
   pub joined : done ++ rest ≡ all
   pub gathered : IsGatheredFrom m IsText begun_as done now g.needs_sync said
-  pub recalls : (genesis : Genesis) (n : ℕ) → Remembers begun_as.node begun_as.store genesis n → Recalls now.node now.store g.needs_sync genesis n
-  pub covered : (genesis : Genesis) (n : ℕ) → Remembers begun_as.node begun_as.store genesis n → IsCovered m genesis n g now.store
-  pub covers : (genesis : Genesis) (n : ℕ) (x : NodeMessage) → Remembers begun_as.node begun_as.store genesis n → AllCover m genesis n (disks begun_as.store) x → AllCover m genesis n (disks now.store) x
-  pub stays : (h : History) (n : ℕ) → NodeFits m h n (Stands m begun_as.node begun_as.store h.genesis n) (disks begun_as.store) → AllByRecursion (InputFits h) all
+  pub recalls : (genesis : Genesis) (n : ℕ) → Remembers begun_as.node begun_as.store genesis n
+      → Recalls now.node now.store g.needs_sync genesis n
+  pub covered : (genesis : Genesis) (n : ℕ) → Remembers begun_as.node begun_as.store genesis n
+      → IsCovered m genesis n g now.store
+  pub covers : (genesis : Genesis) (n : ℕ) (x : NodeMessage) → Remembers begun_as.node begun_as.store genesis n
+      → AllCover m genesis n (disks begun_as.store) x → AllCover m genesis n (disks now.store) x
+  pub stays : (h : History) (n : ℕ)
+      → NodeFits m h n (Stands m begun_as.node begun_as.store h.genesis n) (disks begun_as.store)
+      → AllByRecursion (InputFits h) all
       → GroupStays m h n now.node now.store g.needs_sync × AllByRecursion (InputFits h) rest
-  pub goes : (genesis : Genesis) (k : ℕ) → Remembers begun_as.node begun_as.store genesis k → (n : ℕ) (q : ReplicaValue) (more : List StepSaid)
-      → GoesThrough m n (record { node = now.node; store = as_sent g.needs_sync now.store; failed = false }) rest q more → GoesThrough m n begun_as all q (said ++ more)
+  pub goes : (genesis : Genesis) (k : ℕ) → Remembers begun_as.node begun_as.store genesis k
+      → (n : ℕ) (q : ReplicaValue) (more : List StepSaid)
+      → GoesThrough m n (record { node = now.node; store = as_sent g.needs_sync now.store; failed = false }) rest q
+      more → GoesThrough m n begun_as all q (said ++ more)
   pub room : StaysWithin max_after (disks begun_as.store) (disks now.store)
   pub calls : ℕ
   pub passes : Passes begun_as.store.meter now.store.meter calls
 
 -- nothing
-nothing_taken : (m : Meaning) (IsText : List ℕ → Type 0) (r : ReplicaValue) (all : List Input) → TakenSoFar m IsText r all r (record { notes = []; letters = []; needs_sync = false }) [] all
+nothing_taken : (m : Meaning) (IsText : List ℕ → Type 0) (r : ReplicaValue) (all : List Input)
+    → TakenSoFar m IsText r all r (record { notes = []; letters = []; needs_sync = false }) [] all
 nothing_taken m IsText r all = record {
   said = [];
   counted = refl;
@@ -149,23 +189,33 @@ nothing_taken m IsText r all = record {
   passes = start;
 }
   where
-    unfailed : (n : ℕ) (all : List Input) (q : ReplicaValue) (more : List StepSaid) → GoesThrough m n (record { node = r.node; store = r.store; failed = false }) all q more → GoesThrough m n r all q more
+    unfailed : (n : ℕ) (all : List Input) (q : ReplicaValue) (more : List StepSaid)
+        → GoesThrough m n (record { node = r.node; store = r.store; failed = false }) all q more
+        → GoesThrough m n r all q more
     unfailed n [] q more goes = goes
     unfailed n (i ∷ is) q more goes = goes
 
-pub taken_nothing : (m : Meaning) (IsText : List ℕ → Type 0) (r : ReplicaValue) (all rest : List Input) (g : GroupValue) (steps : List Step) → g ≡ record { notes = []; letters = []; needs_sync = false } → steps ≡ [] → rest ≡ all
+pub taken_nothing : (m : Meaning) (IsText : List ℕ → Type 0) (r : ReplicaValue) (all rest : List Input)
+    (g : GroupValue) (steps : List Step) → g ≡ record { notes = []; letters = []; needs_sync = false }
+    → steps ≡ [] → rest ≡ all
     → TakenSoFar m IsText r all r g steps rest
 taken_nothing m IsText r all rest g steps none no_steps same =
     subst (λ (k : GroupValue). TakenSoFar m IsText r all r k steps rest) (sym none)
-    (subst (λ (l : List Step). TakenSoFar m IsText r all r (record { notes = []; letters = []; needs_sync = false }) l rest) (sym no_steps)
-    (subst (λ (l : List Input). TakenSoFar m IsText r all r (record { notes = []; letters = []; needs_sync = false }) [] l) (sym same) (nothing_taken m IsText r all)))
+    (subst (λ (l : List Step). TakenSoFar m IsText r all r
+    (record { notes = []; letters = []; needs_sync = false }) l rest) (sym no_steps)
+    (subst (λ (l : List Input). TakenSoFar m IsText r all r
+    (record { notes = []; letters = []; needs_sync = false }) [] l) (sym same) (nothing_taken m IsText r all)))
 
 -- one more
-module _ (m : Meaning) (IsText : List ℕ → Type 0) (begun_as : ReplicaValue) (all : List Input) (old now : ReplicaValue) (g new : GroupValue) (steps : List Step) (i : Input) (rest : List Input) (step : Step)
+module _ (m : Meaning) (IsText : List ℕ → Type 0) (begun_as : ReplicaValue) (all : List Input) (old now : ReplicaValue)
+    (g new : GroupValue) (steps : List Step) (i : Input) (rest : List Input) (step : Step)
     (s : TakenSoFar m IsText begun_as all old g steps (i ∷ rest))
     (goes : Adds g new (λ notes letters. (genesis : Genesis) (k : ℕ) → Recalls old.node old.store g.needs_sync genesis k
-    → (h : History) (n : ℕ) → NodeFits m h n (Stands m old.node (as_sent g.needs_sync old.store) h.genesis n) (disks (as_sent g.needs_sync old.store)) → InputFits h i
-    → (sent : List LetterValue) → AreOf sent letters → Goes m h n (Stands m now.node (as_sent new.needs_sync now.store) h.genesis n) (disks (as_sent new.needs_sync now.store)) notes (batch_of n sent)))
+    → (h : History) (n : ℕ) → NodeFits m h n (Stands m old.node (as_sent g.needs_sync old.store) h.genesis n)
+    (disks (as_sent g.needs_sync old.store)) → InputFits h i
+    → (sent : List LetterValue) → AreOf sent letters
+    → Goes m h n (Stands m now.node (as_sent new.needs_sync now.store) h.genesis n)
+    (disks (as_sent new.needs_sync now.store)) notes (batch_of n sent)))
     (exact : IsGathered m IsText ⊤ old.node old.store g i now.node now.store new)
     (notes : step.notes.items ≡ new.notes) (sends : step.sends ≡ length new.letters - length g.letters) where
   abbrev one : GroupValue
@@ -183,54 +233,82 @@ module _ (m : Meaning) (IsText : List ℕ → Type 0) (begun_as : ReplicaValue) 
   same_notes : goes.notes ≡ one.notes
   same_notes = append_cancel_left g.notes goes.notes one.notes (sym goes.noted ∙ noted_is)
 
-  fresh : IsGathered m IsText ⊤ old.node old.store (record { notes = []; letters = []; needs_sync = g.needs_sync }) i now.node now.store one
-  fresh = record { mid = exact.mid; between = exact.between; needs_sync = exact.needs_sync; room = exact.room; out = exact.out; steps = exact.steps; adds = refl }
+  fresh : IsGathered m IsText ⊤ old.node old.store
+      (record { notes = []; letters = []; needs_sync = g.needs_sync }) i now.node now.store one
+  fresh = record {
+    mid = exact.mid;
+    between = exact.between;
+    needs_sync = exact.needs_sync;
+    room = exact.room;
+    out = exact.out;
+    steps = exact.steps;
+    adds = refl;
+  }
 
   own_notes : step.notes.items ≡ one.notes
   own_notes = notes ∙ noted_is ∙ ap (λ l. l ++ one.notes) s.no_notes
 
   own_letters : step.sends ≡ length one.letters
-  own_letters = sends ∙ ap (λ l. length l - length g.letters) said_is ∙ ap (λ k. k - length g.letters) (length-append g.letters one.letters) ∙ add-sub_cancel_left (length g.letters) (length one.letters)
+  own_letters = sends ∙ ap (λ l. length l - length g.letters) said_is
+      ∙ ap (λ k. k - length g.letters) (length-append g.letters one.letters)
+      ∙ add-sub_cancel_left (length g.letters) (length one.letters)
 
   letters_more : (xs ys : List StepSaid) → letters_of (xs ++ ys) ≡ letters_of xs ++ letters_of ys
   letters_more [] ys = refl
-  letters_more (x ∷ xs) ys = ap (λ l. x.1 ++ l) (letters_more xs ys) ∙ sym (append_assoc x.1 (letters_of xs) (letters_of ys))
+  letters_more (x ∷ xs) ys =
+      ap (λ l. x.1 ++ l) (letters_more xs ys) ∙ sym (append_assoc x.1 (letters_of xs) (letters_of ys))
 
   -- in each history it goes on by it, as by a call of its own
-  link : (genesis : Genesis) (k : ℕ) → Recalls old.node old.store g.needs_sync genesis k → (n : ℕ) (h : History) → NodeFits m h n (Stands m old.node (as_sent g.needs_sync old.store) h.genesis n) (disks (as_sent g.needs_sync old.store)) → InputFits h i
-      → (sent : List LetterValue) → AreOf sent one.letters → Goes m h n (Stands m now.node (as_sent new.needs_sync now.store) h.genesis n) (disks (as_sent new.needs_sync now.store)) one.notes (batch_of n sent)
+  link : (genesis : Genesis) (k : ℕ) → Recalls old.node old.store g.needs_sync genesis k → (n : ℕ) (h : History)
+      → NodeFits m h n (Stands m old.node (as_sent g.needs_sync old.store) h.genesis n)
+      (disks (as_sent g.needs_sync old.store)) → InputFits h i
+      → (sent : List LetterValue) → AreOf sent one.letters
+      → Goes m h n (Stands m now.node (as_sent new.needs_sync now.store) h.genesis n)
+      (disks (as_sent new.needs_sync now.store)) one.notes (batch_of n sent)
   link genesis k was n h f heard sent among =
-      subst (λ (l : List Note). Goes m h n (Stands m now.node (as_sent new.needs_sync now.store) h.genesis n) (disks (as_sent new.needs_sync now.store)) l (batch_of n sent)) same_notes
-      (goes.are genesis k was h n f heard sent (subst (λ (l : List LetterValue). AreOf sent l) (sym same_letters) among))
+      subst (λ (l : List Note). Goes m h n (Stands m now.node (as_sent new.needs_sync now.store) h.genesis n)
+      (disks (as_sent new.needs_sync now.store)) l (batch_of n sent)) same_notes
+      (goes.are genesis k was h n f heard sent
+      (subst (λ (l : List LetterValue). AreOf sent l) (sym same_letters) among))
 
-  module _ (keeps : KeepsGroup m (λ h. InputFits h i) old.node old.store g now.node now.store new) (leaves : LeavesInGroup m (λ h. InputFits h i) 132704 old.node old.store g.needs_sync (disks now.store)) (alive : now.failed ≡ false) where
+  module _ (keeps : KeepsGroup m (λ h. InputFits h i) old.node old.store g now.node now.store new)
+      (leaves : LeavesInGroup m (λ h. InputFits h i) 132704 old.node old.store g.needs_sync (disks now.store))
+      (alive : now.failed ≡ false) where
     -- the calls of the device by which room was made, and of the step
     abbrev calls : ℕ
     calls = (exact.room.calls tt).0 + gather_calls exact.needs_sync exact.out
 
     passes : Passes old.store.meter now.store.meter calls
-    passes = let k = exact.room.calls tt in passes_on k.0 k.2 (gather_calls exact.needs_sync exact.out) (exact.steps.calls tt)
+    passes = let k = exact.room.calls tt in
+        passes_on k.0 k.2 (gather_calls exact.needs_sync exact.out) (exact.steps.calls tt)
 
     pub one_taken : TakenSoFar m IsText begun_as all now (record new { notes = [] }) (steps ++ step ∷ []) rest
     one_taken = record {
       said = s.said ++ (step.notes.items, one.letters) ∷ [];
       counted = one_step_more steps s.said step one.letters s.counted own_letters;
-      letters = letters_more s.said ((step.notes.items, one.letters) ∷ []) ∙ (λ k. s.letters k ++ append-nil one.letters k) ∙ sym said_is;
+      letters = letters_more s.said ((step.notes.items, one.letters) ∷ [])
+          ∙ (λ k. s.letters k ++ append-nil one.letters k) ∙ sym said_is;
       no_notes = refl;
       done = s.done ++ i ∷ [];
       joined = append_assoc s.done (i ∷ []) rest ∙ s.joined;
       gathered = record {
-        gathers = subst (λ (l : List Note). GathersAll m IsText begun_as.node begun_as.store false (s.done ++ i ∷ []) now.node now.store new.needs_sync (s.said ++ (l, one.letters) ∷ [])) (sym own_notes)
-            (subst (λ (w : Bool). GathersAll m IsText begun_as.node begun_as.store false (s.done ++ i ∷ []) now.node now.store w (s.said ++ (one.notes, one.letters) ∷ [])) (sym (ap (λ (k : GroupValue). k.needs_sync) exact.adds))
-            (gathers_on m IsText begun_as.node begun_as.store false s.done old.node old.store g.needs_sync s.said s.gathered.gathers i now.node now.store one fresh));
+        gathers = subst (λ (l : List Note). GathersAll m IsText begun_as.node begun_as.store false
+            (s.done ++ i ∷ []) now.node now.store new.needs_sync (s.said ++ (l, one.letters) ∷ [])) (sym own_notes)
+            (subst (λ (w : Bool). GathersAll m IsText begun_as.node begun_as.store false
+            (s.done ++ i ∷ []) now.node now.store w (s.said ++ (one.notes, one.letters) ∷ []))
+            (sym (ap (λ (k : GroupValue). k.needs_sync) exact.adds))
+            (gathers_on m IsText begun_as.node begun_as.store false s.done old.node old.store g.needs_sync s.said
+            s.gathered.gathers i now.node now.store one fresh));
         alive = inr alive;
       };
       recalls = λ genesis n r. keeps.recalls genesis n (s.recalls genesis n r);
-      covered = λ genesis n r x d listed spelled. keeps.said genesis n (s.recalls genesis n r) (s.covered genesis n r) x d listed spelled;
+      covered = λ genesis n r x d listed spelled. keeps.said genesis n (s.recalls genesis n r)
+          (s.covered genesis n r) x d listed spelled;
       covers = λ genesis n x r c. leaves.covers genesis n x (s.recalls genesis n r) (s.covers genesis n x r c);
       stays = λ h n f fit. let was = s.stays h n f fit in (keeps.stays h n was.0 was.1.0, was.1.1);
       goes = λ genesis k r n q more through.
-          subst (λ (l : List StepSaid). GoesThrough m n begun_as all q l) (sym (append_assoc s.said ((step.notes.items, one.letters) ∷ []) more))
+          subst (λ (l : List StepSaid). GoesThrough m n begun_as all q l)
+          (sym (append_assoc s.said ((step.notes.items, one.letters) ∷ []) more))
           (subst (λ (l : List Note). GoesThrough m n begun_as all q (s.said ++ (l, one.letters) ∷ more)) (sym own_notes)
           (s.goes genesis k r n q ((one.notes, one.letters) ∷ more) (
             record { node = now.node; store = as_sent new.needs_sync now.store; failed = false },
@@ -257,10 +335,12 @@ module _ (m : Meaning) (n : ℕ) where
   DisksBy r = disks r.store
 
   -- in words of datagrams
-  pub goes_all : (is : List Input) (r q : ReplicaValue) (said : List StepSaid) → GoesThrough m n r is q said → GoesAll ShowsBy DisksBy m n r is q (said_by_steps n said)
+  pub goes_all : (is : List Input) (r q : ReplicaValue) (said : List StepSaid) → GoesThrough m n r is q said
+      → GoesAll ShowsBy DisksBy m n r is q (said_by_steps n said)
   goes_all [] r q said goes = (ap (said_by_steps n) goes.0, λ h f. rests h (goes.1 h f), goes.2)
     where
-      rests : (h : History) → NodeFits m h n (Stands m q.node q.store h.genesis n) (disks q.store) → Goes m h n (Stands m q.node q.store h.genesis n) (disks q.store) [] []
+      rests : (h : History) → NodeFits m h n (Stands m q.node q.store h.genesis n) (disks q.store)
+          → Goes m h n (Stands m q.node q.store h.genesis n) (disks q.store) [] []
       rests h f = record {
         holding = f.holding;
         shown = f.shown;
@@ -268,7 +348,8 @@ module _ (m : Meaning) (n : ℕ) where
         may = λ d c. absurd (omega (arith, c.1));
         noted = λ x c. absurd (omega (arith, c.1));
         left = λ k. subst (λ (l : List Datagram). DisksFit m (later h l) n (disks q.store)) (nothing_in_front k)
-            (subst (λ (l : List Datagram). DisksFit m (record h { sent = l }) n (disks q.store)) (sym (append-nil h.sent)) f.left);
+            (subst (λ (l : List Datagram). DisksFit m (record h { sent = l }) n (disks q.store))
+            (sym (append-nil h.sent)) f.left);
       }
         where
           nothing_in_front : (k : ℕ) → let none : List Datagram = [] in none ≡ take k none
@@ -289,21 +370,34 @@ same_disks : (s : StoreValue) (side : Side) → disks s side ≡ disk_of (device
 same_disks s A = refl
 same_disks s B = refl
 
-pub goes_in_memory : (m : Meaning) (n : ℕ) (is : List Input) (r q : ReplicaValue) (said : List Said) → GoesAll (ShowsBy m n) (DisksBy m n) m n r is q said
-    → GoesAll (λ (r : ReplicaValue) genesis k x. Stands m r.node r.store genesis k x) (λ (r : ReplicaValue). disk_of (device_of r.store)) m n r is q said
-goes_in_memory m n is r q said goes = subst (λ (d : ReplicaValue → Side → Disk). GoesAll (ShowsBy m n) d m n r is q said) (λ i k side. same_disks k.store side i) goes
+pub goes_in_memory : (m : Meaning) (n : ℕ) (is : List Input) (r q : ReplicaValue) (said : List Said)
+    → GoesAll (ShowsBy m n) (DisksBy m n) m n r is q said
+    → GoesAll (λ (r : ReplicaValue) genesis k x. Stands m r.node r.store genesis k x)
+    (λ (r : ReplicaValue). disk_of (device_of r.store)) m n r is q said
+goes_in_memory m n is r q said goes =
+    subst (λ (d : ReplicaValue → Side → Disk). GoesAll (ShowsBy m n) d m n r is q said)
+    (λ i k side. same_disks k.store side i) goes
 
 -- all are taken, and what waits is synced
-pub goes_to_the_end : (m : Meaning) (IsText : List ℕ → Type 0) (begun_as : ReplicaValue) (all : List Input) (now q : ReplicaValue) (g : GroupValue) (steps : List Step) (rest : List Input) (s : TakenSoFar m IsText begun_as all now g steps rest)
+pub goes_to_the_end : (m : Meaning) (IsText : List ℕ → Type 0) (begun_as : ReplicaValue) (all : List Input)
+    (now q : ReplicaValue) (g : GroupValue) (steps : List Step) (rest : List Input)
+    (s : TakenSoFar m IsText begun_as all now g steps rest)
     → rest ≡ [] → IsSettled ⊤ now g.needs_sync q → StaysWithin 0 (disks now.store) (disks q.store)
-    → (genesis : Genesis) (k : ℕ) → Remembers begun_as.node begun_as.store genesis k → (n : ℕ) → GoesThrough m n begun_as all q s.said
+    → (genesis : Genesis) (k : ℕ) → Remembers begun_as.node begun_as.store genesis k → (n : ℕ)
+    → GoesThrough m n begun_as all q s.said
 goes_to_the_end m IsText begun_as all now q g steps rest s none settled room genesis k r n =
     subst (λ (l : List StepSaid). GoesThrough m n begun_as all q l) (append-nil s.said)
     (s.goes genesis k r n q []
-    (subst (λ (l : List Input). GoesThrough m n (record { node = now.node; store = as_sent g.needs_sync now.store; failed = false }) l q []) (sym none)
-    (refl, (λ h f. ended h f), room_as_sent 132704 g.needs_sync false now.store q.store (within_more 132704 (disks now.store) (disks q.store) room))))
+    (subst (λ (l : List Input). GoesThrough m n
+    (record { node = now.node; store = as_sent g.needs_sync now.store; failed = false }) l q []) (sym none) (
+      refl,
+      (λ h f. ended h f),
+      room_as_sent 132704 g.needs_sync false now.store q.store
+          (within_more 132704 (disks now.store) (disks q.store) room),
+    )))
   where
-    ended : (h : History) → NodeFits m h n (Stands m now.node (as_sent g.needs_sync now.store) h.genesis n) (disks (as_sent g.needs_sync now.store)) → NodeFits m h n (Stands m q.node q.store h.genesis n) (disks q.store)
+    ended : (h : History) → NodeFits m h n (Stands m now.node (as_sent g.needs_sync now.store) h.genesis n)
+        (disks (as_sent g.needs_sync now.store)) → NodeFits m h n (Stands m q.node q.store h.genesis n) (disks q.store)
     ended h f = settled_node_fits m ⊤ now g.needs_sync q settled genesis k (s.recalls genesis k r) h n f
 
 -- ---- what a call leaves, where a part of it ended so
@@ -313,12 +407,18 @@ pub given_begins : (done rest all : List Input) → done ++ rest ≡ all → map
 given_begins done rest all joined = ap (map heard_by) joined
 
 -- the calls of the device so far, and of a part that was refused
-pub refused_further : (m : Meaning) (IsText : List ℕ → Type 0) (begun_as : ReplicaValue) (all : List Input) (now new : ReplicaValue) (g : GroupValue) (steps : List Step) (rest : List Input) (number : ℕ) → TakenSoFar m IsText begun_as all now g steps rest
+pub refused_further : (m : Meaning) (IsText : List ℕ → Type 0) (begun_as : ReplicaValue) (all : List Input)
+    (now new : ReplicaValue) (g : GroupValue) (steps : List Step) (rest : List Input) (number : ℕ)
+    → TakenSoFar m IsText begun_as all now g steps rest
     → RefusedAfter number now.store.meter new.store.meter → RefusedAfter number begun_as.store.meter new.store.meter
-refused_further m IsText begun_as all now new g steps rest number s by = refused_on s.calls s.passes new.store.meter number by
+refused_further m IsText begun_as all now new g steps rest number s by =
+    refused_on s.calls s.passes new.store.meter number by
 
-pub refused_in_all : (m : Meaning) (IsText : List ℕ → Type 0) (begun_as : ReplicaValue) (all : List Input) (now new : ReplicaValue) (g : GroupValue) (steps : List Step) (rest : List Input) (number : ℕ) → TakenSoFar m IsText begun_as all now g steps rest
-    → IsRefusedInGroup ⊤ ⊤ now new number ⊎ IsNotKept now new number ⊎ IsNotSent now g.needs_sync new number → IsTogetherRefused m IsText begun_as (map heard_by all) new number
+pub refused_in_all : (m : Meaning) (IsText : List ℕ → Type 0) (begun_as : ReplicaValue) (all : List Input)
+    (now new : ReplicaValue) (g : GroupValue) (steps : List Step) (rest : List Input) (number : ℕ)
+    → TakenSoFar m IsText begun_as all now g steps rest
+    → IsRefusedInGroup ⊤ ⊤ now new number ⊎ IsNotKept now new number ⊎ IsNotSent now g.needs_sync new number
+    → IsTogetherRefused m IsText begun_as (map heard_by all) new number
 refused_in_all m IsText begun_as all now new g steps rest number s why = record {
   inputs = s.done;
   rest = rest;
@@ -331,13 +431,17 @@ refused_in_all m IsText begun_as all now new g steps rest number s why = record 
 }
 
 -- all were taken together
-pub taken_in_all : (m : Meaning) (IsText : List ℕ → Type 0) (begun_as : ReplicaValue) (all : List Input) (now new : ReplicaValue) (g : GroupValue) (steps : List Step) (rest : List Input) (sent : List Datagram) → (s : TakenSoFar m IsText begun_as all now g steps rest) → rest ≡ []
+pub taken_in_all : (m : Meaning) (IsText : List ℕ → Type 0) (begun_as : ReplicaValue) (all : List Input)
+    (now new : ReplicaValue) (g : GroupValue) (steps : List Step) (rest : List Input) (sent : List Datagram)
+    → (s : TakenSoFar m IsText begun_as all now g steps rest) → rest ≡ []
     → IsSettled ⊤ now g.needs_sync new → new.failed ≡ false → sent ≡ batch_of begun_as.node.header.node g.letters
-    → (sent ≡ sent_of (parts_of steps sent)) × IsTakenTogether m IsText begun_as (map heard_by all) new (parts_of steps sent)
+    → (sent ≡ sent_of (parts_of steps sent))
+    × IsTakenTogether m IsText begun_as (map heard_by all) new (parts_of steps sent)
 taken_in_all m IsText begun_as all now new g steps rest sent s none settled alive batch =
     let n : ℕ = begun_as.node.header.node in
     let letters : sent ≡ batch_of n (letters_of s.said) = batch ∙ ap (batch_of n) (sym s.letters) in
-    let parts : parts_of steps sent ≡ said_by_steps n s.said = ap (parts_of steps) letters ∙ parts_are n steps s.said s.counted in (
+    let parts : parts_of steps sent ≡ said_by_steps n s.said = ap (parts_of steps) letters
+    ∙ parts_are n steps s.said s.counted in (
       letters ∙ all_sent n s.said ∙ ap sent_of (sym parts),
       record {
         inputs = s.done;
@@ -353,23 +457,35 @@ taken_in_all m IsText begun_as all now new g steps rest sent s none settled aliv
     )
 
 -- and in each history it has gone on by each of them
-pub gone_in_all : (m : Meaning) (IsText : List ℕ → Type 0) (begun_as : ReplicaValue) (all : List Input) (now new : ReplicaValue) (g : GroupValue) (steps : List Step) (rest : List Input) (sent : List Datagram) → (s : TakenSoFar m IsText begun_as all now g steps rest) → rest ≡ []
-    → IsSettled ⊤ now g.needs_sync new → StaysWithin 0 (disks now.store) (disks new.store) → sent ≡ batch_of begun_as.node.header.node g.letters
+pub gone_in_all : (m : Meaning) (IsText : List ℕ → Type 0) (begun_as : ReplicaValue) (all : List Input)
+    (now new : ReplicaValue) (g : GroupValue) (steps : List Step) (rest : List Input) (sent : List Datagram)
+    → (s : TakenSoFar m IsText begun_as all now g steps rest) → rest ≡ []
+    → IsSettled ⊤ now g.needs_sync new → StaysWithin 0 (disks now.store) (disks new.store)
+    → sent ≡ batch_of begun_as.node.header.node g.letters
     → (genesis : Genesis) (n : ℕ) → Remembers begun_as.node begun_as.store genesis n
-    → GoesAll (λ (r : ReplicaValue) genesis k x. Stands m r.node r.store genesis k x) (λ (r : ReplicaValue). disk_of (device_of r.store)) m n begun_as all new (parts_of steps sent)
+    → GoesAll (λ (r : ReplicaValue) genesis k x. Stands m r.node r.store genesis k x)
+    (λ (r : ReplicaValue). disk_of (device_of r.store)) m n begun_as all new (parts_of steps sent)
 gone_in_all m IsText begun_as all now new g steps rest sent s none settled room batch genesis n r =
     let own : begun_as.node.header.node ≡ n = ap (λ (w : HeaderValue). w.node) r.whose in
-    let letters : sent ≡ batch_of n (letters_of s.said) = batch ∙ ap (λ (k : ℕ). batch_of k g.letters) own ∙ ap (batch_of n) (sym s.letters) in
-    let parts : parts_of steps sent ≡ said_by_steps n s.said = ap (parts_of steps) letters ∙ parts_are n steps s.said s.counted in
-    subst (λ (l : List Said). GoesAll (λ (r : ReplicaValue) genesis k x. Stands m r.node r.store genesis k x) (λ (r : ReplicaValue). disk_of (device_of r.store)) m n begun_as all new l) (sym parts)
+    let letters : sent ≡ batch_of n (letters_of s.said) = batch ∙ ap (λ (k : ℕ). batch_of k g.letters) own
+    ∙ ap (batch_of n) (sym s.letters) in
+    let parts : parts_of steps sent ≡ said_by_steps n s.said = ap (parts_of steps) letters
+    ∙ parts_are n steps s.said s.counted in
+    subst (λ (l : List Said). GoesAll (λ (r : ReplicaValue) genesis k x. Stands m r.node r.store genesis k x)
+    (λ (r : ReplicaValue). disk_of (device_of r.store)) m n begun_as all new l) (sym parts)
     (goes_in_memory m n all begun_as new (said_by_steps n s.said)
-    (goes_all m n all begun_as new s.said (goes_to_the_end m IsText begun_as all now new g steps rest s none settled room genesis n r n)))
+    (goes_all m n all begun_as new s.said
+    (goes_to_the_end m IsText begun_as all now new g steps rest s none settled room genesis n r n)))
 
 -- what was sent every image covers
-pub covered_in_all : (m : Meaning) (IsText : List ℕ → Type 0) (begun_as : ReplicaValue) (all : List Input) (now new : ReplicaValue) (g : GroupValue) (steps : List Step) (rest : List Input) (sent : List Datagram) → TakenSoFar m IsText begun_as all now g steps rest
-    → IsSettled ⊤ now g.needs_sync new → sent ≡ batch_of begun_as.node.header.node g.letters → (genesis : Genesis) (n : ℕ) (x : NodeMessage) → Remembers begun_as.node begun_as.store genesis n
+pub covered_in_all : (m : Meaning) (IsText : List ℕ → Type 0) (begun_as : ReplicaValue) (all : List Input)
+    (now new : ReplicaValue) (g : GroupValue) (steps : List Step) (rest : List Input) (sent : List Datagram)
+    → TakenSoFar m IsText begun_as all now g steps rest
+    → IsSettled ⊤ now g.needs_sync new → sent ≡ batch_of begun_as.node.header.node g.letters
+    → (genesis : Genesis) (n : ℕ) (x : NodeMessage) → Remembers begun_as.node begun_as.store genesis n
     → (d : Datagram) → Contains sent d → Spells (said_by genesis n x) d.bytes → AllCover m genesis n (disks new.store) x
 covered_in_all m IsText begun_as all now new g steps rest sent s settled batch genesis n x r d listed spelled =
     let own : begun_as.node.header.node ≡ n = ap (λ (w : HeaderValue). w.node) r.whose in
     let letters : sent ≡ batch_of n g.letters = batch ∙ ap (λ (k : ℕ). batch_of k g.letters) own in
-    settled_covers m genesis n now.node now.store new.store g.needs_sync settled.settles (s.recalls genesis n r) x (s.covered genesis n r x d (subst (λ (l : List Datagram). Contains l d) letters listed) spelled)
+    settled_covers m genesis n now.node now.store new.store g.needs_sync settled.settles (s.recalls genesis n r) x
+    (s.covered genesis n r x d (subst (λ (l : List Datagram). Contains l d) letters listed) spelled)

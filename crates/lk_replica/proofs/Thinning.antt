@@ -1,5 +1,7 @@
 -- Letters of which some are lost.
-use Rattle.std.proofs.Common.{◌≡◌, ℕ, zero, suc, ◌≢◌, ◌+◌, ◌<◌, inl, inr, Bool, true, false, List, [], ◌∷◌, ◌++◌, length, take, get_or, Contains, refl, sym, ap, ◌∙◌, subst, append_assoc, append-nil, arith}
+use Rattle.std.proofs.Common.{◌≡◌, ℕ, zero, suc, ◌≢◌, ◌+◌, ◌<◌, inl, inr, Bool, true, false, List, [], ◌∷◌, ◌++◌}
+use Rattle.std.proofs.Common.{length, take, get_or, Contains, refl, sym, ap, ◌∙◌, subst, append_assoc, append-nil}
+use Rattle.std.proofs.Common.{arith}
 use Rattle.std.proofs.lemmas.Bool.{false≢true}
 use Rattle.lk_disk.specs.Disk.{one_more}
 use Rattle.lk_agreement.specs.Datagrams.{Datagram}
@@ -11,21 +13,31 @@ nil_push : (l : LetterValue) (kept : List LetterValue) → kept ≡ [] → kept 
 nil_push l kept e = ap (λ (k : List LetterValue). k ++ l ∷ []) e
 
 -- one more that is sent
-pub thins_kept : (letters : List LetterValue) (lost : ℕ) (kept : List LetterValue) (l : LetterValue) → Thins letters lost kept → Thins (letters ++ l ∷ []) lost (kept ++ l ∷ [])
+pub thins_kept : (letters : List LetterValue) (lost : ℕ) (kept : List LetterValue) (l : LetterValue)
+    → Thins letters lost kept → Thins (letters ++ l ∷ []) lost (kept ++ l ∷ [])
 thins_kept [] lost kept l t = inr ([], nil_push l kept t.1, (t.0, refl))
 thins_kept (x ∷ xs) lost kept l (inl gone) = inl (gone.0, gone.1, thins_kept xs gone.0 kept l gone.2)
-thins_kept (x ∷ xs) lost kept l (inr sent) = inr (sent.0 ++ l ∷ [], ap (λ (k : List LetterValue). k ++ l ∷ []) sent.1, thins_kept xs lost sent.0 l sent.2)
+thins_kept (x ∷ xs) lost kept l (inr sent) =
+    inr (sent.0 ++ l ∷ [], ap (λ (k : List LetterValue). k ++ l ∷ []) sent.1, thins_kept xs lost sent.0 l sent.2)
 
 -- one more that is lost
-pub thins_lost : (letters : List LetterValue) (lost : ℕ) (kept : List LetterValue) (l : LetterValue) → Thins letters lost kept → Thins (letters ++ l ∷ []) (lost + 1) kept
+pub thins_lost : (letters : List LetterValue) (lost : ℕ) (kept : List LetterValue) (l : LetterValue)
+    → Thins letters lost kept → Thins (letters ++ l ∷ []) (lost + 1) kept
 thins_lost [] lost kept l t = inl (lost, refl, t)
-thins_lost (x ∷ xs) lost kept l (inl gone) = inl (lost, refl, subst (λ (k : ℕ). Thins (xs ++ l ∷ []) k kept) (sym gone.1) (thins_lost xs gone.0 kept l gone.2))
+thins_lost (x ∷ xs) lost kept l (inl gone) =
+    inl (lost, refl, subst (λ (k : ℕ). Thins (xs ++ l ∷ []) k kept) (sym gone.1) (thins_lost xs gone.0 kept l gone.2))
 thins_lost (x ∷ xs) lost kept l (inr sent) = inr (sent.0, sent.1, thins_lost xs lost sent.0 l sent.2)
 
-pub sends_kept : (lost : ℕ) (letters old new newer : List LetterValue) (l : LetterValue) → SendsBut lost letters old new → newer ≡ new ++ l ∷ [] → SendsBut lost (letters ++ l ∷ []) old newer
-sends_kept lost letters old new newer l s e = (s.0 ++ l ∷ [], thins_kept letters lost s.0 l s.1, e ∙ ap (λ (k : List LetterValue). k ++ l ∷ []) s.2 ∙ append_assoc old s.0 (l ∷ []))
+pub sends_kept : (lost : ℕ) (letters old new newer : List LetterValue) (l : LetterValue)
+    → SendsBut lost letters old new → newer ≡ new ++ l ∷ [] → SendsBut lost (letters ++ l ∷ []) old newer
+sends_kept lost letters old new newer l s e = (
+  s.0 ++ l ∷ [],
+  thins_kept letters lost s.0 l s.1,
+  e ∙ ap (λ (k : List LetterValue). k ++ l ∷ []) s.2 ∙ append_assoc old s.0 (l ∷ []),
+)
 
-pub sends_lost : (lost : ℕ) (letters old new newer : List LetterValue) (l : LetterValue) → SendsBut lost letters old new → newer ≡ new → SendsBut (lost + 1) (letters ++ l ∷ []) old newer
+pub sends_lost : (lost : ℕ) (letters old new newer : List LetterValue) (l : LetterValue)
+    → SendsBut lost letters old new → newer ≡ new → SendsBut (lost + 1) (letters ++ l ∷ []) old newer
 sends_lost lost letters old new newer l s e = (s.0, thins_lost letters lost s.0 l s.1, e ∙ s.2)
 
 -- where none is lost all are sent
@@ -35,29 +47,35 @@ none_lost (x ∷ xs) kept (inl gone) = absurd (omega (arith, gone.1))
 none_lost (x ∷ xs) kept (inr sent) = sent.1 ∙ ap (λ (k : List LetterValue). x ∷ k) (none_lost xs sent.0 sent.2)
 
 -- what is left is of the letters
-pub thins_are_of : (letters : List LetterValue) (lost : ℕ) (kept : List LetterValue) → Thins letters lost kept → AreOf kept letters
+pub thins_are_of : (letters : List LetterValue) (lost : ℕ) (kept : List LetterValue)
+    → Thins letters lost kept → AreOf kept letters
 thins_are_of [] lost kept t l c = subst (λ (k : List LetterValue). Contains k l) t.1 c
 thins_are_of (x ∷ xs) lost kept (inl gone) l c = contains_more x xs l (thins_are_of xs gone.0 kept gone.2 l c)
-thins_are_of (x ∷ xs) lost kept (inr sent) l c = elim (cons_cases x sent.0 l (subst (λ (k : List LetterValue). Contains k l) sent.1 c)) [
-  | inl same ↦ (0, omega arith, same)
-  | inr later ↦ contains_more x xs l (thins_are_of xs lost sent.0 sent.2 l later)
-]
+thins_are_of (x ∷ xs) lost kept (inr sent) l c =
+    elim (cons_cases x sent.0 l (subst (λ (k : List LetterValue). Contains k l) sent.1 c)) [
+      | inl same ↦ (0, omega arith, same)
+      | inr later ↦ contains_more x xs l (thins_are_of xs lost sent.0 sent.2 l later)
+    ]
 
 -- so each datagram of them is one of the batch
-pub batch_among : (n : ℕ) (some letters : List LetterValue) → AreOf some letters → (d : Datagram) → Contains (batch_of n some) d → Contains (batch_of n letters) d
+pub batch_among : (n : ℕ) (some letters : List LetterValue) → AreOf some letters → (d : Datagram)
+    → Contains (batch_of n some) d → Contains (batch_of n letters) d
 batch_among n some letters among d c =
     let l = map_contains (datagram_of n) some d c in
     subst (Contains (batch_of n letters)) l.2 (map_has (datagram_of n) letters l.0 (among l.0 l.1))
 
 -- ---- one letter after another
 
-take_suc : (letters : List LetterValue) (i : ℕ) (x : LetterValue) → i < length letters → x ≡ get_or letters i x → take (suc i) letters ≡ take i letters ++ x ∷ []
+take_suc : (letters : List LetterValue) (i : ℕ) (x : LetterValue) → i < length letters → x ≡ get_or letters i x
+    → take (suc i) letters ≡ take i letters ++ x ∷ []
 take_suc [] i x lt is = absurd (omega (arith, lt))
 take_suc (y ∷ ys) zero x lt is = ap (λ (z : LetterValue). z ∷ []) (sym is)
 take_suc (y ∷ ys) (suc i) x lt is = ap (λ (l : List LetterValue). y ∷ l) (take_suc ys i x (omega (arith, lt)) is)
 
-pub take_one_more : (letters : List LetterValue) (i : ℕ) (x : LetterValue) → i < length letters → x ≡ get_or letters i x → take (i + 1) letters ≡ take i letters ++ x ∷ []
-take_one_more letters i x lt is = let e : i + 1 ≡ suc i = omega arith in ap (λ (k : ℕ). take k letters) e ∙ take_suc letters i x lt is
+pub take_one_more : (letters : List LetterValue) (i : ℕ) (x : LetterValue) → i < length letters
+    → x ≡ get_or letters i x → take (i + 1) letters ≡ take i letters ++ x ∷ []
+take_one_more letters i x lt is = let e : i + 1 ≡ suc i = omega arith in
+    ap (λ (k : ℕ). take k letters) e ∙ take_suc letters i x lt is
 
 -- what stands once the first letters were tried: how many were lost, and whether any was
 pub record Delivers (Telling : Type 0) (front old new : List LetterValue) (before now : ℕ) (lost : Bool) : Type 0 where
@@ -67,7 +85,8 @@ pub record Delivers (Telling : Type 0) (front old new : List LetterValue) (befor
   pub none : lost ≡ false → count ≡ 0
   pub some : lost ≡ true → count ≢ 0
 
-pub delivers_none : (Telling : Type 0) (old : List LetterValue) (before : ℕ) (lost : Bool) → lost ≡ false → Delivers Telling [] old old before before lost
+pub delivers_none : (Telling : Type 0) (old : List LetterValue) (before : ℕ) (lost : Bool) → lost ≡ false
+    → Delivers Telling [] old old before before lost
 delivers_none Telling old before lost is = record {
   count = 0;
   sends = λ telling. ([], (refl, refl), sym (append-nil old));
@@ -76,27 +95,36 @@ delivers_none Telling old before lost is = record {
   some = λ e. absurd (false≢true (sym is ∙ e));
 }
 
-module _ (Telling : Type 0) (letters : List LetterValue) (i : ℕ) (x : LetterValue) (old new newer : List LetterValue) (before mid now : ℕ) (was lost : Bool) (more : take (i + 1) letters ≡ take i letters ++ x ∷ []) where
-  pub after_lost : lost ≡ true → Delivers Telling (take i letters) old new before mid was → (Telling → newer ≡ new) → now ≡ one_more mid → Delivers Telling (take (i + 1) letters) old newer before now lost
+module _ (Telling : Type 0) (letters : List LetterValue) (i : ℕ) (x : LetterValue) (old new newer : List LetterValue)
+    (before mid now : ℕ) (was lost : Bool) (more : take (i + 1) letters ≡ take i letters ++ x ∷ []) where
+  pub after_lost : lost ≡ true → Delivers Telling (take i letters) old new before mid was → (Telling → newer ≡ new)
+      → now ≡ one_more mid → Delivers Telling (take (i + 1) letters) old newer before now lost
   after_lost is d e counted = record {
     count = d.count + 1;
-    sends = λ telling. subst (λ (front : List LetterValue). SendsBut (d.count + 1) front old newer) (sym more) (sends_lost d.count (take i letters) old new newer x (d.sends telling) (e telling));
-    counted = let k : d.count + 1 ≡ suc d.count = omega arith in counted ∙ ap one_more d.counted ∙ ap (λ (j : ℕ). more_by j before) (sym k);
+    sends = λ telling. subst (λ (front : List LetterValue). SendsBut (d.count + 1) front old newer) (sym more)
+        (sends_lost d.count (take i letters) old new newer x (d.sends telling) (e telling));
+    counted = let k : d.count + 1 ≡ suc d.count = omega arith in
+        counted ∙ ap one_more d.counted ∙ ap (λ (j : ℕ). more_by j before) (sym k);
     none = λ none. absurd (false≢true (sym none ∙ is));
     some = λ _ none. omega (arith, none);
   }
 
-  pub after_sent : lost ≡ was → Delivers Telling (take i letters) old new before mid was → (Telling → newer ≡ new ++ x ∷ []) → now ≡ mid → Delivers Telling (take (i + 1) letters) old newer before now lost
+  pub after_sent : lost ≡ was → Delivers Telling (take i letters) old new before mid was
+      → (Telling → newer ≡ new ++ x ∷ []) → now ≡ mid
+      → Delivers Telling (take (i + 1) letters) old newer before now lost
   after_sent is d e counted = record {
     count = d.count;
-    sends = λ telling. subst (λ (front : List LetterValue). SendsBut d.count front old newer) (sym more) (sends_kept d.count (take i letters) old new newer x (d.sends telling) (e telling));
+    sends = λ telling. subst (λ (front : List LetterValue). SendsBut d.count front old newer) (sym more)
+        (sends_kept d.count (take i letters) old new newer x (d.sends telling) (e telling));
     counted = counted ∙ d.counted;
     none = λ none. d.none (sym is ∙ none);
     some = λ some. d.some (sym is ∙ some);
   }
 
 -- all were sent
-pub all_sent : (Telling : Type 0) (letters front old new : List LetterValue) (before now : ℕ) (lost : Bool) → front ≡ letters → lost ≡ false → Delivers Telling front old new before now lost → Telling → new ≡ old ++ letters
+pub all_sent : (Telling : Type 0) (letters front old new : List LetterValue) (before now : ℕ) (lost : Bool)
+    → front ≡ letters → lost ≡ false → Delivers Telling front old new before now lost → Telling → new ≡ old ++ letters
 all_sent Telling letters front old new before now lost whole is d telling =
     let s = d.sends telling in
-    s.2 ∙ ap (λ (k : List LetterValue). old ++ k) (none_lost front s.0 (subst (λ (j : ℕ). Thins front j s.0) (d.none is) s.1) ∙ whole)
+    s.2 ∙ ap (λ (k : List LetterValue). old ++ k)
+    (none_lost front s.0 (subst (λ (j : ℕ). Thins front j s.0) (d.none is) s.1) ∙ whole)

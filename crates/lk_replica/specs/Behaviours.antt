@@ -49,7 +49,8 @@ pub record Behaviour (R : Type 0) : Type 1 where
 
 -- a trap belongs to the device, and changes nothing else of it
 abbrev pub TrapsAlone : {R : Type 0} → Behaviour R → Type 0
-TrapsAlone {R = R} b = (t : Trap) (r : R) → b.memory (b.with_trap t r) ≡ record (b.memory r) { meter = trapped t (b.memory r).meter }
+TrapsAlone {R = R} b =
+    (t : Trap) (r : R) → b.memory (b.with_trap t r) ≡ record (b.memory r) { meter = trapped t (b.memory r).meter }
 
 -- the disks of its device
 abbrev pub disks_by : {R : Type 0} → Behaviour R → R → Side → Disk

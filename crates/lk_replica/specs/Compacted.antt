@@ -44,4 +44,6 @@ pub record IsNotCompacted (Honest Metered : Type 0) (old new : ReplicaValue) (nu
 -- fails with `Failed`, even if it is out of memory
 abbrev pub CompactsTo : Meaning → ReplicaValue → ReplicaValue → Result (Unit {0}) ℕ → Type 0
 CompactsTo m old new (Ok done) = IsCompacted m old new
-CompactsTo m old new (Err number) = IsRefused ⊤ ⊤ old new number × IsStoreFault number × (max_count ≤ old.store.generation → number ≡ 11) × (new.node ≡ old.node) × KeepsItsFile old.store new.store
+CompactsTo m old new (Err number) =
+    IsRefused ⊤ ⊤ old new number × IsStoreFault number × (max_count ≤ old.store.generation → number ≡ 11)
+    × (new.node ≡ old.node) × KeepsItsFile old.store new.store

@@ -54,7 +54,8 @@ needs_sync_after needs_sync out = if out.rebase then false else (needs_sync || o
 
 -- The store is that of this header, and its entries, synced or not, stand for what the acceptor holds. If nothing
 -- waits for a sync, the unsynced ones are decided commands.
-pub record Gathers (whose : HeaderValue) (store : StoreValue) (needs_sync : Bool) (acceptor : AcceptorState) : Type 0 where
+pub record Gathers (whose : HeaderValue) (store : StoreValue) (needs_sync : Bool)
+    (acceptor : AcceptorState) : Type 0 where
   pub entries : List Stored
   pub loose : List Entry
   pub holds : Holds store entries (plain loose)
@@ -66,13 +67,15 @@ pub record Gathers (whose : HeaderValue) (store : StoreValue) (needs_sync : Bool
 
 -- the replica, by its parts, is that of the node in the cluster with this genesis, and its store has what its acceptor
 -- holds
-pub record Recalls (node : NodeValue) (store : StoreValue) (needs_sync : Bool) (genesis : Genesis) (n : ℕ) : Type 0 where
+pub record Recalls (node : NodeValue) (store : StoreValue) (needs_sync : Bool)
+    (genesis : Genesis) (n : ℕ) : Type 0 where
   pub whose : node.header ≡ header_of genesis n
   pub keeps : Gathers (header_of genesis n) store needs_sync node.acceptor.state
 
 -- it is, and holds this; its store tells what the node has executed, and if nothing waits for a sync, all of it lies
 -- near
-pub record Gathered (m : Meaning) (node : NodeValue) (store : StoreValue) (needs_sync : Bool) (genesis : Genesis) (n : ℕ) (x : Holding) : Type 0 where
+pub record Gathered (m : Meaning) (node : NodeValue) (store : StoreValue) (needs_sync : Bool) (genesis : Genesis)
+    (n : ℕ) (x : Holding) : Type 0 where
   pub whose : node.header ≡ header_of genesis n
   pub keeps : Gathers (header_of genesis n) store needs_sync node.acceptor.state
   pub known : needs_sync ≡ false → AllByRecursion (IsKnown x.view) keeps.loose
@@ -83,15 +86,18 @@ pub record Gathered (m : Meaning) (node : NodeValue) (store : StoreValue) (needs
 -- in this history, which contains what the group has said so far, the node fits as if everything that waits were
 -- synced
 abbrev pub GroupFits : Meaning → History → ℕ → NodeValue → StoreValue → Bool → Type 0
-GroupFits m h n node store needs_sync = NodeFits m h n (Gathered m node store needs_sync h.genesis n) (disks (as_sent needs_sync store))
+GroupFits m h n node store needs_sync =
+    NodeFits m h n (Gathered m node store needs_sync h.genesis n) (disks (as_sent needs_sync store))
 
 -- the effect of a step of a group with these letters
 abbrev pub GroupGoes : Meaning → History → ℕ → NodeValue → StoreValue → Bool → List Note → List Datagram → Type 0
-GroupGoes m h n node store needs_sync notes batch = Goes m h n (Gathered m node store needs_sync h.genesis n) (disks (as_sent needs_sync store)) notes batch
+GroupGoes m h n node store needs_sync notes batch =
+    Goes m h n (Gathered m node store needs_sync h.genesis n) (disks (as_sent needs_sync store)) notes batch
 
 -- in this history, which contains nothing of what the group has said, the node fits, what it has written rests on what
 -- was sent and lies near, and whatever a stop may leave of the files as they are fits
-pub record GroupStays (m : Meaning) (h : History) (n : ℕ) (node : NodeValue) (store : StoreValue) (needs_sync : Bool) : Type 0 where
+pub record GroupStays (m : Meaning) (h : History) (n : ℕ) (node : NodeValue) (store : StoreValue)
+    (needs_sync : Bool) : Type 0 where
   pub fits : GroupFits m h n node store needs_sync
   pub rests : AllByRecursion (Rests h) fits.shown.keeps.loose
   pub near : EntriesLieNear h.genesis.alpha fits.shown.keeps.standing fits.shown.keeps.loose
@@ -110,7 +116,12 @@ pub record GroupValue : Type 0 where
 
 -- the group with one more step
 abbrev pub with_step : Bool → OutboxValue → GroupValue → GroupValue
-with_step needs_sync out g = record { notes = g.notes ++ out.notes; letters = g.letters ++ out.letters; needs_sync = needs_sync_after needs_sync out }
+with_step needs_sync out g =
+    record {
+      notes = g.notes ++ out.notes;
+      letters = g.letters ++ out.letters;
+      needs_sync = needs_sync_after needs_sync out;
+    }
 
 -- a step has added these notes and letters
 pub record Adds (old new : GroupValue) (Are : List Note → List LetterValue → Type 0) : Type 0 where
@@ -122,22 +133,30 @@ pub record Adds (old new : GroupValue) (Are : List Note → List LetterValue →
 
 -- once everything that waits is synced, everything that the group has said is covered
 abbrev pub IsCovered : Meaning → Genesis → ℕ → GroupValue → StoreValue → Type 0
-IsCovered m genesis n g s = (x : NodeMessage) (d : Datagram) → Contains (batch_of n g.letters) d → Spells (said_by genesis n x) d.bytes → AllCover m genesis n (disks (as_sent g.needs_sync s)) x
+IsCovered m genesis n g s =
+    (x : NodeMessage) (d : Datagram) → Contains (batch_of n g.letters) d → Spells (said_by genesis n x) d.bytes
+    → AllCover m genesis n (disks (as_sent g.needs_sync s)) x
 
 -- What a call leaves on the disks in the middle of a group, however it ends: where the history has what the call was
 -- given, each image that a stop may leave fits the history as it was, in which nothing of the group is sent; each
 -- covers what every image covered; and neither file is longer than it was, or else than so many bytes.
-pub record LeavesInGroup (m : Meaning) (Hears : History → Type 0) (most : ℕ) (node : NodeValue) (store : StoreValue) (needs_sync : Bool) (after : Side → Disk) : Type 0 where
+pub record LeavesInGroup (m : Meaning) (Hears : History → Type 0) (most : ℕ) (node : NodeValue) (store : StoreValue)
+    (needs_sync : Bool) (after : Side → Disk) : Type 0 where
   pub ends : (h : History) (n : ℕ) → GroupStays m h n node store needs_sync → Hears h → DisksFit m h n after
-  pub covers : (genesis : Genesis) (n : ℕ) (x : NodeMessage) → Recalls node store needs_sync genesis n → AllCover m genesis n (disks store) x → AllCover m genesis n after x
+  pub covers : (genesis : Genesis) (n : ℕ) (x : NodeMessage) → Recalls node store needs_sync genesis n
+      → AllCover m genesis n (disks store) x → AllCover m genesis n after x
   pub room : StaysWithin most (disks store) after
 
 -- What a step keeps of a group: where nothing of it is sent, the node fits as it did; its store has what its acceptor
 -- holds; and once all is synced that waits for it, whatever the group has said is covered.
-pub record KeepsGroup (m : Meaning) (Hears : History → Type 0) (node : NodeValue) (store : StoreValue) (group : GroupValue) (new : NodeValue) (after : StoreValue) (now : GroupValue) : Type 0 where
-  pub stays : (h : History) (n : ℕ) → GroupStays m h n node store group.needs_sync → Hears h → GroupStays m h n new after now.needs_sync
-  pub recalls : (genesis : Genesis) (n : ℕ) → Recalls node store group.needs_sync genesis n → Recalls new after now.needs_sync genesis n
-  pub said : (genesis : Genesis) (n : ℕ) → Recalls node store group.needs_sync genesis n → IsCovered m genesis n group store → IsCovered m genesis n now after
+pub record KeepsGroup (m : Meaning) (Hears : History → Type 0) (node : NodeValue) (store : StoreValue)
+    (group : GroupValue) (new : NodeValue) (after : StoreValue) (now : GroupValue) : Type 0 where
+  pub stays : (h : History) (n : ℕ) → GroupStays m h n node store group.needs_sync → Hears h
+      → GroupStays m h n new after now.needs_sync
+  pub recalls : (genesis : Genesis) (n : ℕ) → Recalls node store group.needs_sync genesis n
+      → Recalls new after now.needs_sync genesis n
+  pub said : (genesis : Genesis) (n : ℕ) → Recalls node store group.needs_sync genesis n
+      → IsCovered m genesis n group store → IsCovered m genesis n now after
 
 -- ---- what the steps of a group have done, and nothing else
 
@@ -152,7 +171,8 @@ pub record CallsOfRoom (node : NodeValue) (store : StoreValue) (needs_sync : Boo
 
 -- Room was made for a step: a rebase was made where that was due, after a sync where something waited for that; after
 -- a rebase nothing waits. A device that counts its calls (`Metered`) has had no others.
-pub record MakesRoom (Metered : Type 0) (node : NodeValue) (store : StoreValue) (needs_sync : Bool) (new : NodeValue) (after : StoreValue) (still : Bool) : Type 0 where
+pub record MakesRoom (Metered : Type 0) (node : NodeValue) (store : StoreValue) (needs_sync : Bool) (new : NodeValue)
+    (after : StoreValue) (still : Bool) : Type 0 where
   pub rebases : RebasesWhereDue node store new after
   pub synced : IsDue node store → still ≡ false
   pub rests : (IsDue node store → ⊥) → still ≡ needs_sync
@@ -168,7 +188,9 @@ Appends old out new = (ks ls : List Stored) → Holds old ks ls → Holds new ks
 
 -- a step was taken, and what its outbox says is written, unsynced, by which neither file grows by more than a step; in
 -- the calls that this takes of a device that counts them (`Metered`)
-pub record StepsToFile (m : Meaning) (IsText : List ℕ → Type 0) (Metered : Type 0) (node : NodeValue) (store : StoreValue) (needs_sync : Bool) (i : Input) (out : OutboxValue) (new : NodeValue) (after : StoreValue) : Type 0 where
+pub record StepsToFile (m : Meaning) (IsText : List ℕ → Type 0) (Metered : Type 0) (node : NodeValue)
+    (store : StoreValue) (needs_sync : Bool) (i : Input) (out : OutboxValue) (new : NodeValue)
+    (after : StoreValue) : Type 0 where
   pub stepped : NodeValue
   pub steps : Steps m IsText node i stepped out
   pub rebases : out.rebase ≡ true → Rebases stepped store new after
@@ -179,7 +201,9 @@ pub record StepsToFile (m : Meaning) (IsText : List ℕ → Type 0) (Metered : T
 -- One more input of a group was taken: room was made for it, a step was taken, and what its outbox says is written,
 -- unsynced; its notes and its letters stand behind those of the steps before it, the group waits for a sync exactly
 -- where something that it has written does, and nothing else was done.
-pub record IsGathered (m : Meaning) (IsText : List ℕ → Type 0) (Metered : Type 0) (node : NodeValue) (store : StoreValue) (before : GroupValue) (i : Input) (new : NodeValue) (after : StoreValue) (now : GroupValue) : Type 0 where
+pub record IsGathered (m : Meaning) (IsText : List ℕ → Type 0) (Metered : Type 0) (node : NodeValue)
+    (store : StoreValue) (before : GroupValue) (i : Input) (new : NodeValue) (after : StoreValue)
+    (now : GroupValue) : Type 0 where
   pub mid : NodeValue
   pub between : StoreValue
   pub needs_sync : Bool
@@ -204,7 +228,8 @@ pub record IsRefusedInGroup (Honest Metered : Type 0) (old new : ReplicaValue) (
   pub failures : new.store.failures ≡ failures_by number old.store.failures
   pub calls : Metered → Honest → RefusedAfter number old.store.meter new.store.meter
   pub earlier : number ≡ 11 → old.failed ≡ false → old.store.failed ≡ false → old.store.generation + 1 < max_count → ⊥
-  pub second : Honest → number ≡ 11 → old.failed ≡ false → old.store.failed ≡ false → old.store.generation < max_count → IsDue old.node old.store
+  pub second : Honest → number ≡ 11 → old.failed ≡ false → old.store.failed ≡ false → old.store.generation < max_count
+      → IsDue old.node old.store
   pub once : old.failed ≡ true → (number ≡ 11) × (new ≡ old)
   pub ends : new.failed ≡ true
   pub halts : number ≡ 14 → new.node.halted ≡ true
@@ -225,10 +250,15 @@ letters_of (x ∷ xs) = x.1 ++ letters_of xs
 -- before, it goes on at each of them, as in a call of `take`, whichever of its letters are sent; and at the end it is
 -- as it would be. Each `mid` is the replica as it will be once everything that it has written is synced.
 abbrev pub GoesThrough : Meaning → ℕ → ReplicaValue → List Input → ReplicaValue → List StepSaid → Type 0
-GoesThrough m n r [] q said = (said ≡ []) × ((h : History) → NodeFits m h n (Stands m r.node r.store h.genesis n) (disks r.store) → NodeFits m h n (Stands m q.node q.store h.genesis n) (disks q.store))
+GoesThrough m n r [] q said =
+    (said ≡ []) × ((h : History) → NodeFits m h n (Stands m r.node r.store h.genesis n) (disks r.store)
+    → NodeFits m h n (Stands m q.node q.store h.genesis n) (disks q.store))
     × StaysWithin max_after (disks r.store) (disks q.store)
-GoesThrough m n r (i ∷ is) q said = (mid : ReplicaValue) × (notes : List Note) × (letters : List LetterValue) × (rest : List StepSaid) × (said ≡ (notes, letters) ∷ rest)
-    × ((h : History) → NodeFits m h n (Stands m r.node r.store h.genesis n) (disks r.store) → InputFits h i → (sent : List LetterValue) → AreOf sent letters
+GoesThrough m n r (i ∷ is) q said =
+    (mid : ReplicaValue) × (notes : List Note) × (letters : List LetterValue) × (rest : List StepSaid)
+    × (said ≡ (notes, letters) ∷ rest)
+    × ((h : History) → NodeFits m h n (Stands m r.node r.store h.genesis n) (disks r.store) → InputFits h i
+    → (sent : List LetterValue) → AreOf sent letters
     → Goes m h n (Stands m mid.node mid.store h.genesis n) (disks mid.store) notes (batch_of n sent))
     × StaysWithin max_after (disks r.store) (disks mid.store)
     × GoesThrough m n mid is q rest

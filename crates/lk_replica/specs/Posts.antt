@@ -1,5 +1,6 @@
 -- What was given to a post, and what it has sent of that.
-use Rattle.std.specs.Prelude.{◌≡◌, ◌≢◌, ℕ, zero, suc, ◌+◌, ◌⊎◌, Bool, true, false, Result, Ok, Err, List, [], ◌∷◌, ◌++◌, Contains}
+use Rattle.std.specs.Prelude.{◌≡◌, ◌≢◌, ℕ, zero, suc, ◌+◌, ◌⊎◌, Bool, true, false, Result, Ok, Err, List, [], ◌∷◌, ◌++◌}
+use Rattle.std.specs.Prelude.{Contains}
 use Rattle.lk_disk.specs.Disk.{one_more}
 use Rattle.lk_node_io.specs.Letters.{LetterValue}
 
@@ -7,10 +8,12 @@ use Rattle.lk_node_io.specs.Letters.{LetterValue}
 -- letter: the post before, the letter, whether that was sent, and the post after
 abbrev pub CarriesAll : {P : Type 0} → (P → LetterValue → Bool → P → Type 0) → P → List LetterValue → P → Type 0
 CarriesAll {P} Carries old [] new = new ≡ old
-CarriesAll {P} Carries old (l ∷ letters) new = (is_sent : Bool) × (mid : P) × Carries old l is_sent mid × CarriesAll Carries mid letters new
+CarriesAll {P} Carries old (l ∷ letters) new =
+    (is_sent : Bool) × (mid : P) × Carries old l is_sent mid × CarriesAll Carries mid letters new
 
 -- letters with this property were given to it
-pub record GivesLetters {P : Type 0} (Carries : P → LetterValue → Bool → P → Type 0) (old new : P) (Holds : List LetterValue → Type 0) : Type 0 where
+pub record GivesLetters {P : Type 0} (Carries : P → LetterValue → Bool → P → Type 0) (old new : P)
+    (Holds : List LetterValue → Type 0) : Type 0 where
   pub letters : List LetterValue
   pub carried : CarriesAll Carries old letters new
   pub holds : Holds letters
@@ -40,7 +43,8 @@ abbrev pub SendsSome : List LetterValue → (old new : List LetterValue) → (be
 SendsSome letters old new before now = (lost : ℕ) × SendsBut lost letters old new × (now ≡ more_by lost before)
 
 -- at Ok all of them were sent in order, and after an error all but as many as sends failed
-abbrev pub SendsAs : {T E : Type 0} → Result T E → List LetterValue → (old new : List LetterValue) → (before now : ℕ) → Type 0
+abbrev pub SendsAs : {T E : Type 0} → Result T E → List LetterValue → (old new : List LetterValue)
+    → (before now : ℕ) → Type 0
 SendsAs (Ok _) letters old new before now = new ≡ old ++ letters
 SendsAs (Err _) letters old new before now = SendsSome letters old new before now
 

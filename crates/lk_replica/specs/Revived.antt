@@ -28,7 +28,8 @@ pub record MayGoOn (header : HeaderValue) (r : ReplicaValue) : Type 0 where
 
 -- it restarts as this replica, with these notes: a file of format 1 was rebased at once, so it had a generation left
 -- for that
-pub record Revives (m : Meaning) (IsText : List ℕ → Type 0) (disks : Side → Disk) (whose : HeaderValue) (r : ReplicaValue) (notes : List Note) : Type 0 where
+pub record Revives (m : Meaning) (IsText : List ℕ → Type 0) (disks : Side → Disk) (whose : HeaderValue)
+    (r : ReplicaValue) (notes : List Note) : Type 0 where
   pub node : NodeValue
   pub store : StoreValue
   pub takes : TakesUp m IsText disks whose node store notes
@@ -38,14 +39,16 @@ pub record Revives (m : Meaning) (IsText : List ℕ → Type 0) (disks : Side �
   pub store_alive : r.store.failed ≡ false
 
 -- the same with a device in memory: 7 exactly if one of its calls has failed, and no other number than 7 to 11
-pub record IsNotRevived (m : Meaning) (IsText : List ℕ → Type 0) (device : Memory) (whose : HeaderValue) (number : ℕ) (left : Memory) : Type 0 where
+pub record IsNotRevived (m : Meaning) (IsText : List ℕ → Type 0) (device : Memory) (whose : HeaderValue) (number : ℕ)
+    (left : Memory) : Type 0 where
   pub failures : left.failures ≡ failures_by number device.failures
   pub calls : RefusedAfter number device.meter left.meter
   pub cause : IsRefusedFor m IsText (disk_of device) whose number (disk_of left)
   pub only : (7 ≤ number) × (number ≤ 11)
 
 -- the result of a restart
-abbrev pub RevivesTo : Meaning → (List ℕ → Type 0) → Memory → HeaderValue → Result (ReplicaValue × List Note) (ℕ × Memory) → Type 0
+abbrev pub RevivesTo : Meaning → (List ℕ → Type 0) → Memory → HeaderValue
+    → Result (ReplicaValue × List Note) (ℕ × Memory) → Type 0
 RevivesTo m IsText device whose (Ok came) =
     Revives m IsText (disk_of device) whose came.0 came.1
     × (came.0.store.failures ≡ device.failures)

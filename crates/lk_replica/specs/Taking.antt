@@ -1,5 +1,6 @@
 -- What a call of a replica has done, and nothing else, and what it leaves, even after an error.
-use Rattle.std.specs.Prelude.{◌≡◌, ℕ, ◌+◌, ◌<◌, ◌≤◌, ⊤, true, false, if◌then◌else◌, Option, Result, Ok, Err, List, [], ◌++◌, length, Contains, Vec}
+use Rattle.std.specs.Prelude.{◌≡◌, ℕ, ◌+◌, ◌<◌, ◌≤◌, ⊤, true, false, if◌then◌else◌, Option, Result, Ok, Err, List, []}
+use Rattle.std.specs.Prelude.{◌++◌, length, Contains, Vec}
 use Rattle.std.specs.Global.{Global}
 use Rattle.lk_disk.specs.Meters.{Passes}
 use Rattle.lk_types.specs.Limits.{max_count}
@@ -26,7 +27,8 @@ use Rattle.lk_node.specs.Leavings.{DisksFit, AllCover}
 use Rattle.lk_recovery.specs.Remembering.{Remembers}
 use Rattle.lk_recovery.specs.Rooms.{GrowsByStep, GrowsFromBase}
 use Rattle.lk_recovery.specs.Compacting.{AreLeft, IsDue, KeepsOrSwitchesFiles, Rebases, RebasesWhereDue, CallsWhereDue}
-use Rattle.lk_node_io.specs.Faults.{fault_number, failures_by, RefusedAfter, IfGoesOn, IfSend, IfSpared, IsOfCalls, IsNumberOfCalls, WantsNoMemory}
+use Rattle.lk_node_io.specs.Faults.{fault_number, failures_by, RefusedAfter, IfGoesOn, IfSend, IfSpared, IsOfCalls}
+use Rattle.lk_node_io.specs.Faults.{IsNumberOfCalls, WantsNoMemory}
 use Rattle.lk_node_io.specs.declared.fault.ReplicaFault.{ReplicaFault}
 use Rattle.lk_node_io.specs.declared.fault.ReplicaFault.TheVariants as fault
 use Rattle.lk_replica.specs.ReplicaValue.{ReplicaValue}
@@ -36,11 +38,13 @@ use Rattle.lk_node.specs.Steps.{Steps}
 -- the outbox's entries follow what the store held, and everything is synced if the outbox says so
 abbrev pub Puts : StoreValue → OutboxValue → StoreValue → Type 0
 Puts old out new = (ks ls : List Stored) → Holds old ks ls
-    → (out.sync ≡ false → Holds new ks (ls ++ plain out.entries)) × (out.sync ≡ true → Holds new (ks ++ (ls ++ plain out.entries)) [])
+    → (out.sync ≡ false → Holds new ks (ls ++ plain out.entries))
+    × (out.sync ≡ true → Holds new (ks ++ (ls ++ plain out.entries)) [])
 
 -- the outbox is written: if it says so, a Base of the node, which then matches it, in place of the entries, and
 -- otherwise these, by which neither file grows by more than a step
-pub record Writes (node : NodeValue) (store : StoreValue) (out : OutboxValue) (new : NodeValue) (after : StoreValue) : Type 0 where
+pub record Writes (node : NodeValue) (store : StoreValue) (out : OutboxValue) (new : NodeValue)
+    (after : StoreValue) : Type 0 where
   pub rebases : out.rebase ≡ true → Rebases node store new after
   pub puts : out.rebase ≡ false → (new ≡ node) × Puts store out after
   pub grows : out.rebase ≡ false → GrowsByStep (disks store) (disks after)
@@ -51,10 +55,12 @@ write_calls out = if out.rebase then rebase_calls else put_calls out.entries out
 
 -- the calls of a metered device in which a step's outbox was written, after a rebase that was due
 abbrev pub CallsOfStep : NodeValue → StoreValue → OutboxValue → StoreValue → Type 0
-CallsOfStep node store out new = (k : ℕ) × CallsWhereDue node store k × Passes store.meter new.meter (k + write_calls out)
+CallsOfStep node store out new =
+    (k : ℕ) × CallsWhereDue node store k × Passes store.meter new.meter (k + write_calls out)
 
 -- a step was taken, and its outbox is written, in the calls that this takes of a device that counts them (`Metered`)
-pub record StepsToDisk (m : Meaning) (IsText : List ℕ → Type 0) (Metered : Type 0) (node : NodeValue) (store : StoreValue) (i : Input) (out : OutboxValue) (new : NodeValue) (after : StoreValue) : Type 0 where
+pub record StepsToDisk (m : Meaning) (IsText : List ℕ → Type 0) (Metered : Type 0) (node : NodeValue)
+    (store : StoreValue) (i : Input) (out : OutboxValue) (new : NodeValue) (after : StoreValue) : Type 0 where
   pub stepped : NodeValue
   pub steps : Steps m IsText node i stepped out
   pub writes : Writes stepped store out new after
@@ -62,7 +68,8 @@ pub record StepsToDisk (m : Meaning) (IsText : List ℕ → Type 0) (Metered : T
 
 -- the replica has rebased if that was due, taken a step, written the outbox, returned its notes, and sent its letters,
 -- and goes on. `Metered` says that its device counts its calls
-pub record IsTaken (m : Meaning) (IsText : List ℕ → Type 0) (Metered : Type 0) (old : ReplicaValue) (i : Input) (new : ReplicaValue) (notes : List Note) (Sends : List LetterValue → Type 0) : Type 0 where
+pub record IsTaken (m : Meaning) (IsText : List ℕ → Type 0) (Metered : Type 0) (old : ReplicaValue) (i : Input)
+    (new : ReplicaValue) (notes : List Note) (Sends : List LetterValue → Type 0) : Type 0 where
   pub mid : NodeValue
   pub between : StoreValue
   pub rebases : RebasesWhereDue old.node old.store mid between
@@ -81,12 +88,17 @@ pub record IsTaken (m : Meaning) (IsText : List ℕ → Type 0) (Metered : Type 
 -- and these are the step's letters; what it holds permits all its notes and letters; and, however it ends, whatever
 -- has happened and whatever it restarted from, each image that a stop may leave covers what they say on behalf of the
 -- node: it was synced before they were given
-pub record GivesBy (m : Meaning) (IsText : List ℕ → Type 0) (Metered : Type 0) (old : ReplicaValue) (i : Input) (new : ReplicaValue) (r : Result (Vec Note Global) ReplicaFault) (letters : List LetterValue) (Sends : List LetterValue → Type 0) : Type 0 where
+pub record GivesBy (m : Meaning) (IsText : List ℕ → Type 0) (Metered : Type 0) (old : ReplicaValue) (i : Input)
+    (new : ReplicaValue) (r : Result (Vec Note Global) ReplicaFault) (letters : List LetterValue)
+    (Sends : List LetterValue → Type 0) : Type 0 where
   pub taken : IfGoesOn r (λ notes. IsTaken m IsText Metered old i new notes (λ all. (all ≡ letters) × Sends all))
-  pub goes : (h : History) (n : ℕ) → NodeFits m h n (Stands m old.node old.store h.genesis n) (disks old.store) → InputFits h i
-      → IfGoesOn r (λ notes. Goes m h n (Stands m new.node new.store h.genesis n) (disks new.store) notes (batch_of n letters))
+  pub goes : (h : History) (n : ℕ)
+      → NodeFits m h n (Stands m old.node old.store h.genesis n) (disks old.store) → InputFits h i
+      → IfGoesOn r (λ notes. Goes m h n (Stands m new.node new.store h.genesis n)
+      (disks new.store) notes (batch_of n letters))
   pub syncs : (genesis : Genesis) (n : ℕ) (x : NodeMessage) → Remembers old.node old.store genesis n
-      → (d : Datagram) → Contains (batch_of n letters) d → Spells (said_by genesis n x) d.bytes → AllCover m genesis n (disks new.store) x
+      → (d : Datagram) → Contains (batch_of n letters) d → Spells (said_by genesis n x) d.bytes
+      → AllCover m genesis n (disks new.store) x
 
 -- a call failed with the fault of this number, for its cause: 7 exactly if the device has failed once more, 11 only
 -- after an earlier error, after which there is no other, or if no generation is left, or only one and a rebase was due
@@ -99,7 +111,8 @@ pub record IsRefused (Honest Metered : Type 0) (old new : ReplicaValue) (number 
   pub failures : new.store.failures ≡ failures_by number old.store.failures
   pub calls : Metered → Honest → RefusedAfter number old.store.meter new.store.meter
   pub earlier : number ≡ 11 → old.failed ≡ false → old.store.failed ≡ false → old.store.generation + 1 < max_count → ⊥
-  pub second : Honest → number ≡ 11 → old.failed ≡ false → old.store.failed ≡ false → old.store.generation < max_count → IsDue old.node old.store
+  pub second : Honest → number ≡ 11 → old.failed ≡ false → old.store.failed ≡ false → old.store.generation < max_count
+      → IsDue old.node old.store
   pub once : old.failed ≡ true → (number ≡ 11) × (new ≡ old)
   pub ends : (number ≡ 15 → ⊥) → new.failed ≡ true
   pub file : Honest → (number ≡ 15 → ⊥) → KeepsOrSwitchesFiles old.node old.store new.store
@@ -114,11 +127,13 @@ pub record StaysUp (Honest : Type 0) (old new : ReplicaValue) : Type 0 where
   pub store_alive : new.store.failed ≡ false
   pub awake : new.node.halted ≡ false
   pub runs : NothingToRun new.node
-  pub remembers : Honest → (genesis : Genesis) (n : ℕ) → Remembers old.node old.store genesis n → Remembers new.node new.store genesis n
+  pub remembers : Honest → (genesis : Genesis) (n : ℕ) → Remembers old.node old.store genesis n
+      → Remembers new.node new.store genesis n
 
 -- a node and its store go on: the store has not failed, the node has not halted, it has executed what it could if it
 -- had before, and if the store kept what the acceptor held, it still does
-pub record StepsOn (Honest : Type 0) (node : NodeValue) (store : StoreValue) (new : NodeValue) (after : StoreValue) : Type 0 where
+pub record StepsOn (Honest : Type 0) (node : NodeValue) (store : StoreValue) (new : NodeValue)
+    (after : StoreValue) : Type 0 where
   pub store_alive : after.failed ≡ false
   pub awake : new.halted ≡ false
   pub runs : NothingToRun node → NothingToRun new
@@ -126,7 +141,8 @@ pub record StepsOn (Honest : Type 0) (node : NodeValue) (store : StoreValue) (ne
 
 -- a part of a call failed with this, which rebases at most this often, and more than once only if a rebase was due; it
 -- leaves the store with such a file, and, if no call of the device has failed, the files like this
-pub record IsCutShort (Honest Metered : Type 0) (most : ℕ) (node : NodeValue) (store : StoreValue) (new : NodeValue) (after : StoreValue) (File Left : Type 0) (e : ReplicaFault) : Type 0 where
+pub record IsCutShort (Honest Metered : Type 0) (most : ℕ) (node : NodeValue) (store : StoreValue) (new : NodeValue)
+    (after : StoreValue) (File Left : Type 0) (e : ReplicaFault) : Type 0 where
   pub told : IsOfCalls e
   pub only : IfSend (λ notes. ⊥) e
   pub calls : Metered → Honest → RefusedAfter (fault_number e) store.meter after.meter
@@ -138,9 +154,12 @@ pub record IsCutShort (Honest Metered : Type 0) (most : ℕ) (node : NodeValue) 
   pub awake : node.halted ≡ false → (fault_number e ≡ 14 → ⊥) → new.halted ≡ false
 
 -- the same of a step alone: the files are no longer than that if the live one was shorter than what makes a rebase due
-pub record StepLeavesDisks (m : Meaning) (Hears : History → Type 0) (most : ℕ) (node : NodeValue) (store : StoreValue) (after : Side → Disk) : Type 0 where
-  pub ends : (h : History) (n : ℕ) → NodeFits m h n (Stands m node store h.genesis n) (disks store) → Hears h → DisksFit m h n after
-  pub covers : (genesis : Genesis) (n : ℕ) (x : NodeMessage) → Remembers node store genesis n → AllCover m genesis n (disks store) x → AllCover m genesis n after x
+pub record StepLeavesDisks (m : Meaning) (Hears : History → Type 0) (most : ℕ) (node : NodeValue) (store : StoreValue)
+    (after : Side → Disk) : Type 0 where
+  pub ends : (h : History) (n : ℕ) → NodeFits m h n (Stands m node store h.genesis n) (disks store)
+      → Hears h → DisksFit m h n after
+  pub covers : (genesis : Genesis) (n : ℕ) (x : NodeMessage) → Remembers node store genesis n
+      → AllCover m genesis n (disks store) x → AllCover m genesis n after x
   pub room : length (contents store.live_disk) < 131072 → StaysWithin most (disks store) after
   pub grows : GrowsFromBase (disks store) after
 
@@ -149,7 +168,8 @@ abbrev pub IsOfLast : ReplicaValue → ℕ → Type 0
 IsOfLast old number = max_count ≤ old.store.generation → IsDue old.node old.store → WantsNoMemory number
 
 -- the replica took this input, and sent these datagrams of its node
-pub record IsTakenAs (m : Meaning) (IsText : List ℕ → Type 0) (old : ReplicaValue) (bytes : Option (List ℕ)) (new : ReplicaValue) (notes : List Note) (sent : List Datagram) : Type 0 where
+pub record IsTakenAs (m : Meaning) (IsText : List ℕ → Type 0) (old : ReplicaValue) (bytes : Option (List ℕ))
+    (new : ReplicaValue) (notes : List Note) (sent : List Datagram) : Type 0 where
   pub input : Input
   pub given : heard_by input ≡ bytes
   pub letters : List LetterValue
@@ -157,6 +177,7 @@ pub record IsTakenAs (m : Meaning) (IsText : List ℕ → Type 0) (old : Replica
   pub taken : IsTaken m IsText ⊤ old input new notes (λ ls. ls ≡ letters)
 
 -- the result of a call
-abbrev pub ComesTo : Meaning → (List ℕ → Type 0) → ReplicaValue → Option (List ℕ) → ReplicaValue → Result (List Note × List Datagram) ℕ → Type 0
+abbrev pub ComesTo : Meaning → (List ℕ → Type 0) → ReplicaValue → Option (List ℕ) → ReplicaValue
+    → Result (List Note × List Datagram) ℕ → Type 0
 ComesTo m IsText old bytes new (Ok told) = IsTakenAs m IsText old bytes new told.0 told.1
 ComesTo m IsText old bytes new (Err number) = IsRefused ⊤ ⊤ old new number × IsOfLast old number

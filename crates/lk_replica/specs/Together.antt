@@ -1,5 +1,6 @@
 -- The result of a group of inputs, step by step, when a replica takes them together.
-use Rattle.std.specs.Prelude.{◌≡◌, ◌⊎◌, ℕ, Bool, true, false, List, [], ◌∷◌, ◌++◌, map, take, drop, Option, Result, Ok, Err, ⊤}
+use Rattle.std.specs.Prelude.{◌≡◌, ◌⊎◌, ℕ, Bool, true, false, List, [], ◌∷◌, ◌++◌, map, take, drop, Option, Result, Ok}
+use Rattle.std.specs.Prelude.{Err, ⊤}
 use Rattle.lk_disk.specs.Disk.{Disk}
 use Rattle.lk_disk.specs.declared.device.Side.{Side}
 use Rattle.lk_log.specs.Rooms.{StaysWithin}
@@ -47,12 +48,15 @@ said_by_steps n (x ∷ xs) = (x.0, batch_of n x.1) ∷ said_by_steps n xs
 -- The replica took these inputs in order: in each history that it fits, and that contains what it said before, it goes
 -- on at each of them as in a call of `take`, and at the end it is as it would be. Each `mid` is the replica as it will
 -- be once everything that it has written is synced.
-abbrev pub GoesAll : {R : Type 0} → (R → Genesis → ℕ → Holding → Type 0) → (R → Side → Disk) → Meaning → ℕ → R → List Input → R → List Said → Type 0
+abbrev pub GoesAll : {R : Type 0} → (R → Genesis → ℕ → Holding → Type 0) → (R → Side → Disk) → Meaning → ℕ → R
+    → List Input → R → List Said → Type 0
 GoesAll Shows disks m n r [] q said = (said ≡ [])
-    × ((h : History) → NodeFits m h n (Shows r h.genesis n) (disks r) → Goes m h n (Shows q h.genesis n) (disks q) [] [])
+    × ((h : History) → NodeFits m h n (Shows r h.genesis n) (disks r)
+    → Goes m h n (Shows q h.genesis n) (disks q) [] [])
     × StaysWithin max_after (disks r) (disks q)
 GoesAll {R} Shows disks m n r (i ∷ is) q said = (mid : R) × (one : Said) × (rest : List Said) × (said ≡ one ∷ rest)
-    × ((h : History) → NodeFits m h n (Shows r h.genesis n) (disks r) → InputFits h i → Goes m h n (Shows mid h.genesis n) (disks mid) one.0 one.1)
+    × ((h : History) → NodeFits m h n (Shows r h.genesis n) (disks r) → InputFits h i
+    → Goes m h n (Shows mid h.genesis n) (disks mid) one.0 one.1)
     × StaysWithin max_after (disks r) (disks mid)
     × GoesAll Shows disks m n mid is q rest
 
@@ -60,20 +64,25 @@ GoesAll {R} Shows disks m n r (i ∷ is) q said = (mid : R) × (one : Said) × (
 
 -- a node with these files, of which something waited for a sync or not, took these inputs, one after another; and the
 -- notes and letters of each step
-abbrev pub GathersAll : Meaning → (List ℕ → Type 0) → NodeValue → StoreValue → Bool → List Input → NodeValue → StoreValue → Bool → List StepSaid → Type 0
-GathersAll m IsText node store needs_sync [] new after still steps = (new ≡ node) × (after ≡ store) × (still ≡ needs_sync) × (steps ≡ [])
+abbrev pub GathersAll : Meaning → (List ℕ → Type 0) → NodeValue → StoreValue → Bool → List Input → NodeValue
+    → StoreValue → Bool → List StepSaid → Type 0
+GathersAll m IsText node store needs_sync [] new after still steps =
+    (new ≡ node) × (after ≡ store) × (still ≡ needs_sync) × (steps ≡ [])
 GathersAll m IsText node store needs_sync (i ∷ is) new after still steps =
-    (mid : NodeValue) × (between : StoreValue) × (one : GroupValue) × (rest : List StepSaid) × (steps ≡ (one.notes, one.letters) ∷ rest)
+    (mid : NodeValue) × (between : StoreValue) × (one : GroupValue) × (rest : List StepSaid)
+    × (steps ≡ (one.notes, one.letters) ∷ rest)
     × IsGathered m IsText ⊤ node store (record { notes = []; letters = []; needs_sync = needs_sync }) i mid between one
     × GathersAll m IsText mid between one.needs_sync is new after still rest
 
 -- the replica took these inputs, after which it was in this state
-pub record IsGatheredFrom (m : Meaning) (IsText : List ℕ → Type 0) (old : ReplicaValue) (inputs : List Input) (mid : ReplicaValue) (needs_sync : Bool) (steps : List StepSaid) : Type 0 where
+pub record IsGatheredFrom (m : Meaning) (IsText : List ℕ → Type 0) (old : ReplicaValue) (inputs : List Input)
+    (mid : ReplicaValue) (needs_sync : Bool) (steps : List StepSaid) : Type 0 where
   pub gathers : GathersAll m IsText old.node old.store false inputs mid.node mid.store needs_sync steps
   pub alive : (mid ≡ old) ⊎ (mid.failed ≡ false)
 
 -- it took all of these, synced once if something waited for that, and then sent the letters of the steps
-pub record IsTakenTogether (m : Meaning) (IsText : List ℕ → Type 0) (old : ReplicaValue) (given : List (Option (List ℕ))) (new : ReplicaValue) (said : List Said) : Type 0 where
+pub record IsTakenTogether (m : Meaning) (IsText : List ℕ → Type 0) (old : ReplicaValue)
+    (given : List (Option (List ℕ))) (new : ReplicaValue) (said : List Said) : Type 0 where
   pub inputs : List Input
   pub are : map heard_by inputs ≡ given
   pub mid : ReplicaValue
@@ -95,7 +104,8 @@ pub record IsNotSent (mid : ReplicaValue) (needs_sync : Bool) (new : ReplicaValu
   pub settled : IsSettled ⊤ mid needs_sync new
 
 -- it took the first of these, and then a call failed with this; nothing was sent
-pub record IsTogetherRefused (m : Meaning) (IsText : List ℕ → Type 0) (old : ReplicaValue) (given : List (Option (List ℕ))) (new : ReplicaValue) (number : ℕ) : Type 0 where
+pub record IsTogetherRefused (m : Meaning) (IsText : List ℕ → Type 0) (old : ReplicaValue)
+    (given : List (Option (List ℕ))) (new : ReplicaValue) (number : ℕ) : Type 0 where
   pub inputs : List Input
   pub rest : List Input
   pub are : map heard_by (inputs ++ rest) ≡ given
@@ -106,6 +116,7 @@ pub record IsTogetherRefused (m : Meaning) (IsText : List ℕ → Type 0) (old :
   pub refused : IsRefusedInGroup ⊤ ⊤ mid new number ⊎ IsNotKept mid new number ⊎ IsNotSent mid needs_sync new number
 
 -- the result of a call
-abbrev pub ComesToAll : Meaning → (List ℕ → Type 0) → ReplicaValue → List (Option (List ℕ)) → ReplicaValue → Result (List (List Note × List Datagram)) ℕ → Type 0
+abbrev pub ComesToAll : Meaning → (List ℕ → Type 0) → ReplicaValue → List (Option (List ℕ)) → ReplicaValue
+    → Result (List (List Note × List Datagram)) ℕ → Type 0
 ComesToAll m IsText old given new (Ok said) = IsTakenTogether m IsText old given new said
 ComesToAll m IsText old given new (Err number) = IsTogetherRefused m IsText old given new number

@@ -20,18 +20,23 @@ impl<M: Machine, D: LogDisk + Drop> Replica<M, D> {
     pub fn compact(&mut self) -> Result<(), ReplicaFault>
         // At Ok it has switched to its Base in four calls of the device: the node goes on, and every image stands for
         // a snapshot of everything executed.
-        ensures done { D.is_honest → OnOk result (HasSwitchedFiles M.meaning D.is_metered self.old.node self.old.store self.new.node self.new.store) }
+        ensures done { D.is_honest
+            → OnOk result (HasSwitchedFiles M.meaning D.is_metered self.old.node self.old.store
+            self.new.node self.new.store) }
         ensures becomes { OnOk result (StandsOnBase self.old.node self.old.store self.new.node self.new.store) }
         ensures alive { OnOk result (self.new.failed ≡ false) }
         // What is on the disks, however it ends: neither file has grown, except up to the size of a Base.
-        ensures disks { D.is_honest → LeavesDisks M.meaning (λ h. ⊤) max_base self.old.node self.old.store (disks self.new.store) }
+        ensures disks { D.is_honest
+            → LeavesDisks M.meaning (λ h. ⊤) max_base self.old.node self.old.store (disks self.new.store) }
         ensures wakes { self.new.node.halted ≡ self.old.node.halted }
         // It fails only with 7, 8 or 11, each for its cause, and each ends it; the node is unchanged, and the same
         // file is live.
-        ensures refused { IfErr result (λ e. IsNotCompacted D.is_honest D.is_metered self.old self.new (fault_number e)) }
+        ensures refused { IfErr result
+            (λ e. IsNotCompacted D.is_honest D.is_metered self.old self.new (fault_number e)) }
         ensures failed { self.old.failed ≡ true → IsErrOf result ReplicaFault.Failed }
         // At generation 2^48 it fails with `Failed`, even if it is out of memory, and leaves its store unchanged.
-        ensures last { max_count ≤ self.old.store.generation → (self.new.store ≡ self.old.store) × IsErrOf result ReplicaFault.Failed }
+        ensures last { max_count ≤ self.old.store.generation
+            → (self.new.store ≡ self.old.store) × IsErrOf result ReplicaFault.Failed }
         // It fails with `Device` exactly if a call of the device has failed.
         ensures cause { RaisesFailures self.old.store.failures self.new.store.failures result }
     {

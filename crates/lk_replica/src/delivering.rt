@@ -23,9 +23,12 @@ fn is_sent<P: Post>(letter: &Letter, post: &mut P) -> bool
 pub fn deliver<P: Post>(letters: &[Letter], post: &mut P) -> Result<(), SendFault>
     ensures carries { CarriesAll P.Carries post.old letters.now post.new }
     ensures all { P.is_telling → OnOk result (P.sent post.new ≡ P.sent post.old ++ letters.now) }
-    ensures some { P.is_telling → OnErr result (SendsSome letters.now (P.sent post.old) (P.sent post.new) (P.failures post.old) (P.failures post.new)) }
+    ensures some { P.is_telling
+        → OnErr result (SendsSome letters.now (P.sent post.old) (P.sent post.new)
+        (P.failures post.old) (P.failures post.new)) }
     ensures cause { OnOk result (P.failures post.new ≡ P.failures post.old) }
-    ensures rises { OnErr result ((lost : ℕ) × (lost ≢ 0) × (P.failures post.new ≡ more_by lost (P.failures post.old))) }
+    ensures rises { OnErr result
+        ((lost : ℕ) × (lost ≢ 0) × (P.failures post.new ≡ more_by lost (P.failures post.old))) }
 {
     let mut lost = false;
     for letter in letters {

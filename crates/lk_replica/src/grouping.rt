@@ -1,5 +1,6 @@
 // Steps of a group: their entries are written unsynced, and synced once before their letters are sent.
-ghost use Rattle.std.specs.Prelude.{◌≡◌, ℕ, ◌-◌, ◌<◌, List, [], length, true, false, Contains, IfOk, IfErr, OnOk, OnErr, IsErrOf, ⊤};
+ghost use Rattle.std.specs.Prelude.{◌≡◌, ℕ, ◌-◌, ◌<◌, List, [], length, true, false, Contains, IfOk, IfErr, OnOk};
+ghost use Rattle.std.specs.Prelude.{OnErr, IsErrOf, ⊤};
 ghost use Rattle.lk_types.specs.Limits.{max_base};
 ghost use Rattle.lk_disk.specs.Disk.{contents};
 ghost use Rattle.lk_disk.specs.Meters.{Passes};
@@ -16,7 +17,10 @@ ghost use Rattle.lk_node.specs.Histories.{History, Genesis};
 ghost use Rattle.lk_node.specs.Keeping.{Stands};
 ghost use Rattle.lk_node.specs.Leavings.{DisksFit, AllCover};
 ghost use Rattle.lk_node_io.specs.Faults.{RaisesFailures, fault_number};
-ghost use Rattle.lk_replica.specs.Groups.{Adds, IsCovered, LeavesInGroup, KeepsGroup, MakesRoom, StepsToFile, IsGathered, IsSettled, IsRefusedInGroup, settle_calls, as_sent, needs_sync_after, with_step, Settles, Recalls, GroupFits, GroupGoes, GroupStays};
+ghost use Rattle.lk_replica.specs.Groups.{Adds, IsCovered, LeavesInGroup, KeepsGroup, MakesRoom, StepsToFile};
+ghost use Rattle.lk_replica.specs.Groups.{IsGathered, IsSettled, IsRefusedInGroup, settle_calls, as_sent};
+ghost use Rattle.lk_replica.specs.Groups.{needs_sync_after, with_step, Settles, Recalls, GroupFits, GroupGoes};
+ghost use Rattle.lk_replica.specs.Groups.{GroupStays};
 ghost use Rattle.lk_replica.specs.Posts.{AreOf, CarriesAll, TellsSends};
 ghost use Rattle.lk_recovery.specs.Rebased.{IsNotWritten, StaysAlive};
 ghost use Rattle.lk_recovery.specs.Rooms.{GrowsFromBase, max_after};
@@ -168,26 +172,44 @@ fn step_to_file<M: Machine, D: LogDisk + Drop>(
 ) -> Result<Outbox, ReplicaFault>
     requires { store.old.format ≡ 2 }
     // In each history that contains what the group has said so far, the step is permitted its notes and letters.
-    ensures goes { D.is_honest → (h : History) (n : ℕ) → GroupFits M.meaning h n node.old store.old needs_sync → InputFits h input.entry
-        → IfOk result (λ o. (sent : List LetterValue) → AreOf sent o.letters → GroupGoes M.meaning h n node.new store.new (needs_sync_after needs_sync o) o.notes (batch_of n sent)) }
+    ensures goes { D.is_honest → (h : History) (n : ℕ) → GroupFits M.meaning h n node.old store.old needs_sync
+        → InputFits h input.entry
+        → IfOk result (λ o. (sent : List LetterValue) → AreOf sent o.letters
+        → GroupGoes M.meaning h n node.new store.new (needs_sync_after needs_sync o) o.notes (batch_of n sent)) }
     // In each history that contains nothing of it, whatever a stop may leave fits, however it ends.
-    ensures ends { D.is_honest → (h : History) (n : ℕ) → GroupStays M.meaning h n node.old store.old needs_sync → InputFits h input.entry → DisksFit M.meaning h n (disks store.new) }
-    ensures stays { D.is_honest → (h : History) (n : ℕ) → GroupStays M.meaning h n node.old store.old needs_sync → InputFits h input.entry
+    ensures ends { D.is_honest → (h : History) (n : ℕ) → GroupStays M.meaning h n node.old store.old needs_sync
+        → InputFits h input.entry → DisksFit M.meaning h n (disks store.new) }
+    ensures stays { D.is_honest → (h : History) (n : ℕ) → GroupStays M.meaning h n node.old store.old needs_sync
+        → InputFits h input.entry
         → IfOk result (λ o. GroupStays M.meaning h n node.new store.new (needs_sync_after needs_sync o)) }
     // Once everything that waits is synced, the step's letters are covered, and whatever was covered still is.
-    ensures syncs { D.is_honest → (genesis : Genesis) (n : ℕ) (x : NodeMessage) → Recalls node.old store.old needs_sync genesis n
-        → IfOk result (λ o. (d : DatagramValue) → Contains (batch_of n o.letters) d → Spells (said_by genesis n x) d.bytes → AllCover M.meaning genesis n (disks (as_sent (needs_sync_after needs_sync o) store.new)) x) }
-    ensures still { D.is_honest → (genesis : Genesis) (n : ℕ) (x : NodeMessage) → Recalls node.old store.old needs_sync genesis n → AllCover M.meaning genesis n (disks (as_sent needs_sync store.old)) x
-        → IfOk result (λ o. AllCover M.meaning genesis n (disks (as_sent (needs_sync_after needs_sync o) store.new)) x) }
+    ensures syncs { D.is_honest → (genesis : Genesis) (n : ℕ) (x : NodeMessage)
+        → Recalls node.old store.old needs_sync genesis n
+        → IfOk result (λ o. (d : DatagramValue) → Contains (batch_of n o.letters) d
+        → Spells (said_by genesis n x) d.bytes
+        → AllCover M.meaning genesis n (disks (as_sent (needs_sync_after needs_sync o) store.new)) x) }
+    ensures still { D.is_honest → (genesis : Genesis) (n : ℕ) (x : NodeMessage)
+        → Recalls node.old store.old needs_sync genesis n
+        → AllCover M.meaning genesis n (disks (as_sent needs_sync store.old)) x
+        → IfOk result (λ o. AllCover M.meaning genesis n
+        (disks (as_sent (needs_sync_after needs_sync o) store.new)) x) }
     // However it ends, whatever was covered still is.
-    ensures covers { D.is_honest → (genesis : Genesis) (n : ℕ) (x : NodeMessage) → Recalls node.old store.old needs_sync genesis n → AllCover M.meaning genesis n (disks store.old) x → AllCover M.meaning genesis n (disks store.new) x }
-    ensures recalls { D.is_honest → (genesis : Genesis) (n : ℕ) → Recalls node.old store.old needs_sync genesis n → IfOk result (λ o. Recalls node.new store.new (needs_sync_after needs_sync o) genesis n) }
+    ensures covers { D.is_honest → (genesis : Genesis) (n : ℕ) (x : NodeMessage)
+        → Recalls node.old store.old needs_sync genesis n → AllCover M.meaning genesis n (disks store.old) x
+        → AllCover M.meaning genesis n (disks store.new) x }
+    ensures recalls { D.is_honest → (genesis : Genesis) (n : ℕ) → Recalls node.old store.old needs_sync genesis n
+        → IfOk result (λ o. Recalls node.new store.new (needs_sync_after needs_sync o) genesis n) }
     ensures runs { NothingToRun node.old → OnOk result (NothingToRun node.new) }
-    ensures room { D.is_honest → length (contents store.old.live_disk) < 131072 → StaysWithin max_after (disks store.old) (disks store.new) }
+    ensures room { D.is_honest → length (contents store.old.live_disk) < 131072
+        → StaysWithin max_after (disks store.old) (disks store.new) }
     ensures grows { D.is_honest → GrowsFromBase (disks store.old) (disks store.new) }
-    ensures exact { D.is_honest → IfOk result (λ o. StepsToFile M.meaning M.IsText D.is_metered node.old store.old needs_sync input.entry o node.new store.new) }
+    ensures exact { D.is_honest
+        → IfOk result (λ o. StepsToFile M.meaning M.IsText D.is_metered node.old store.old needs_sync
+        input.entry o node.new store.new) }
     ensures alive { IfOk result (λ o. (store.new.failed ≡ false) × (node.new.halted ≡ false)) }
-    ensures refused { IfErr result (IsCutShort D.is_honest D.is_metered 1 node.old store.old node.new store.new (KeepsItsFile store.old store.new) ⊤) }
+    ensures refused { IfErr result
+        (IsCutShort D.is_honest D.is_metered 1 node.old store.old node.new store.new
+        (KeepsItsFile store.old store.new) ⊤) }
     ensures format { store.new.format ≡ 2 }
     ensures cause { RaisesFailures store.old.failures store.new.failures result }
 {
@@ -208,17 +230,28 @@ fn make_room<M: Machine, D: LogDisk + Drop>(
     needs_sync: bool,
 ) -> Result<bool, ReplicaFault>
     requires { store.old.format ≡ 2 }
-    ensures fits { D.is_honest → (h : History) (n : ℕ) → GroupFits M.meaning h n node.old store.old needs_sync → IfOk result (λ w. GroupFits M.meaning h n node.new store.new w) }
-    ensures ends { D.is_honest → (h : History) (n : ℕ) → GroupStays M.meaning h n node.old store.old needs_sync → DisksFit M.meaning h n (disks store.new) }
-    ensures stays { D.is_honest → (h : History) (n : ℕ) → GroupStays M.meaning h n node.old store.old needs_sync → IfOk result (λ w. GroupStays M.meaning h n node.new store.new w) }
-    ensures still { D.is_honest → (genesis : Genesis) (n : ℕ) (x : NodeMessage) → Recalls node.old store.old needs_sync genesis n → AllCover M.meaning genesis n (disks (as_sent needs_sync store.old)) x
+    ensures fits { D.is_honest → (h : History) (n : ℕ) → GroupFits M.meaning h n node.old store.old needs_sync
+        → IfOk result (λ w. GroupFits M.meaning h n node.new store.new w) }
+    ensures ends { D.is_honest → (h : History) (n : ℕ) → GroupStays M.meaning h n node.old store.old needs_sync
+        → DisksFit M.meaning h n (disks store.new) }
+    ensures stays { D.is_honest → (h : History) (n : ℕ) → GroupStays M.meaning h n node.old store.old needs_sync
+        → IfOk result (λ w. GroupStays M.meaning h n node.new store.new w) }
+    ensures still { D.is_honest → (genesis : Genesis) (n : ℕ) (x : NodeMessage)
+        → Recalls node.old store.old needs_sync genesis n
+        → AllCover M.meaning genesis n (disks (as_sent needs_sync store.old)) x
         → IfOk result (λ w. AllCover M.meaning genesis n (disks (as_sent w store.new)) x) }
-    ensures covers { D.is_honest → (genesis : Genesis) (n : ℕ) (x : NodeMessage) → Recalls node.old store.old needs_sync genesis n → AllCover M.meaning genesis n (disks store.old) x → AllCover M.meaning genesis n (disks store.new) x }
-    ensures recalls { D.is_honest → (genesis : Genesis) (n : ℕ) → Recalls node.old store.old needs_sync genesis n → IfOk result (λ w. Recalls node.new store.new w genesis n) }
+    ensures covers { D.is_honest → (genesis : Genesis) (n : ℕ) (x : NodeMessage)
+        → Recalls node.old store.old needs_sync genesis n → AllCover M.meaning genesis n (disks store.old) x
+        → AllCover M.meaning genesis n (disks store.new) x }
+    ensures recalls { D.is_honest → (genesis : Genesis) (n : ℕ) → Recalls node.old store.old needs_sync genesis n
+        → IfOk result (λ w. Recalls node.new store.new w genesis n) }
     ensures room { D.is_honest → StaysWithin max_base (disks store.old) (disks store.new) }
-    ensures exact { D.is_honest → IfOk result (MakesRoom D.is_metered node.old store.old needs_sync node.new store.new) }
+    ensures exact { D.is_honest
+        → IfOk result (MakesRoom D.is_metered node.old store.old needs_sync node.new store.new) }
     ensures alive { OnOk result (StaysAlive node.old store.old node.new store.new) }
-    ensures refused { IfErr result (IsCutShort D.is_honest D.is_metered 1 node.old store.old node.new store.new (KeepsItsFile store.old store.new) ⊤) }
+    ensures refused { IfErr result
+        (IsCutShort D.is_honest D.is_metered 1 node.old store.old node.new store.new
+        (KeepsItsFile store.old store.new) ⊤) }
     ensures wakes { node.new.halted ≡ node.old.halted }
     // Then the live file has room for a step.
     ensures small { D.is_honest → OnOk result (length (contents store.new.live_disk) < 131072) }
@@ -242,13 +275,23 @@ fn step_in_group<M: Machine, D: LogDisk + Drop>(
     group: &mut Group,
 ) -> Result<(), ReplicaFault>
     requires { store.old.format ≡ 2 }
-    ensures goes { D.is_honest → OnOk result (Adds group.old group.new (λ notes letters. (h : History) (n : ℕ) → GroupFits M.meaning h n node.old store.old group.old.needs_sync → InputFits h input.entry
-        → (sent : List LetterValue) → AreOf sent letters → GroupGoes M.meaning h n node.new store.new group.new.needs_sync notes (batch_of n sent))) }
-    ensures disks { D.is_honest → LeavesInGroup M.meaning (λ h. InputFits h input.entry) max_after node.old store.old group.old.needs_sync (disks store.new) }
+    ensures goes { D.is_honest
+        → OnOk result (Adds group.old group.new
+        (λ notes letters. (h : History) (n : ℕ) → GroupFits M.meaning h n node.old store.old group.old.needs_sync
+        → InputFits h input.entry
+        → (sent : List LetterValue) → AreOf sent letters
+        → GroupGoes M.meaning h n node.new store.new group.new.needs_sync notes (batch_of n sent))) }
+    ensures disks { D.is_honest
+        → LeavesInGroup M.meaning
+        (λ h. InputFits h input.entry) max_after node.old store.old group.old.needs_sync (disks store.new) }
     ensures grows { D.is_honest → GrowsFromBase (disks store.old) (disks store.new) }
-    ensures keeps { D.is_honest → OnOk result (KeepsGroup M.meaning (λ h. InputFits h input.entry) node.old store.old group.old node.new store.new group.new) }
+    ensures keeps { D.is_honest
+        → OnOk result (KeepsGroup M.meaning
+        (λ h. InputFits h input.entry) node.old store.old group.old node.new store.new group.new) }
     ensures runs { NothingToRun node.old → OnOk result (NothingToRun node.new) }
-    ensures exact { D.is_honest → OnOk result (IsGathered M.meaning M.IsText D.is_metered node.old store.old group.old input.entry node.new store.new group.new) }
+    ensures exact { D.is_honest
+        → OnOk result (IsGathered M.meaning M.IsText D.is_metered node.old store.old group.old input.entry
+        node.new store.new group.new) }
     ensures alive { OnOk result ((store.new.failed ≡ false) × (node.new.halted ≡ false)) }
     ensures refused { IfErr result (IsCutShort D.is_honest D.is_metered 2 node.old store.old node.new store.new ⊤ ⊤) }
     ensures format { store.new.format ≡ 2 }
@@ -268,24 +311,41 @@ impl<M: Machine, D: LogDisk + Drop> Replica<M, D> {
     pub fn gather(&mut self, input: Input, group: &mut Group) -> Result<(), ReplicaFault>
         // In each history that the node will fit once everything that waits is synced, it goes on: it is permitted its
         // notes and letters by what it then holds. So the history may contain everything that the group said before.
-        ensures goes { D.is_honest → OnOk result (Adds group.old group.new (λ notes letters. (genesis : Genesis) (k : ℕ) → Recalls self.old.node self.old.store group.old.needs_sync genesis k
-            → (h : History) (n : ℕ) → NodeFits M.meaning h n (Stands M.meaning self.old.node (as_sent group.old.needs_sync self.old.store) h.genesis n) (disks (as_sent group.old.needs_sync self.old.store)) → InputFits h input.entry
+        ensures goes { D.is_honest
+            → OnOk result (Adds group.old group.new
+            (λ notes letters. (genesis : Genesis) (k : ℕ)
+            → Recalls self.old.node self.old.store group.old.needs_sync genesis k
+            → (h : History) (n : ℕ) → NodeFits M.meaning h n
+            (Stands M.meaning self.old.node (as_sent group.old.needs_sync self.old.store) h.genesis n)
+            (disks (as_sent group.old.needs_sync self.old.store)) → InputFits h input.entry
             → (sent : List LetterValue) → AreOf sent letters
-            → Goes M.meaning h n (Stands M.meaning self.new.node (as_sent group.new.needs_sync self.new.store) h.genesis n) (disks (as_sent group.new.needs_sync self.new.store)) notes (batch_of n sent))) }
+            → Goes M.meaning h n (Stands M.meaning self.new.node
+            (as_sent group.new.needs_sync self.new.store) h.genesis n)
+            (disks (as_sent group.new.needs_sync self.new.store)) notes (batch_of n sent))) }
         // What is on the disks after any exit, where nothing of the group is sent. Each step first writes a Base if one
         // is due. So no file exceeds half of its maximum by more than a step and, except for a Base, none grows by more
         // than a step.
-        ensures disks { D.is_honest → LeavesInGroup M.meaning (λ h. InputFits h input.entry) max_after self.old.node self.old.store group.old.needs_sync (disks self.new.store) }
+        ensures disks { D.is_honest
+            → LeavesInGroup M.meaning
+            (λ h. InputFits h input.entry) max_after self.old.node self.old.store
+            group.old.needs_sync (disks self.new.store) }
         ensures grows { D.is_honest → GrowsFromBase (disks self.old.store) (disks self.new.store) }
         // The group goes on if nothing of it is sent, and its letters are covered once everything that waits for a sync
         // is synced.
-        ensures keeps { D.is_honest → OnOk result (KeepsGroup M.meaning (λ h. InputFits h input.entry) self.old.node self.old.store group.old self.new.node self.new.store group.new) }
+        ensures keeps { D.is_honest
+            → OnOk result (KeepsGroup M.meaning
+            (λ h. InputFits h input.entry) self.old.node self.old.store group.old self.new.node
+            self.new.store group.new) }
         // It has taken a step and written what that told, in the calls that this takes, and nothing else.
-        ensures exact { D.is_honest → OnOk result (IsGathered M.meaning M.IsText D.is_metered self.old.node self.old.store group.old input.entry self.new.node self.new.store group.new) }
+        ensures exact { D.is_honest
+            → OnOk result (IsGathered M.meaning M.IsText D.is_metered self.old.node self.old.store group.old
+            input.entry self.new.node self.new.store group.new) }
         // It fails only with 7, 8, 11 or 14, each for its cause, and each ends it.
-        ensures refused { IfErr result (λ e. IsRefusedInGroup D.is_honest D.is_metered self.old self.new (fault_number e)) }
+        ensures refused { IfErr result
+            (λ e. IsRefusedInGroup D.is_honest D.is_metered self.old self.new (fault_number e)) }
         ensures failed { self.old.failed ≡ true → IsErrOf result ReplicaFault.Failed }
-        ensures alive { OnOk result ((self.new.failed ≡ false) × (self.new.store.failed ≡ false) × (self.new.node.halted ≡ false)) }
+        ensures alive { OnOk result
+            ((self.new.failed ≡ false) × (self.new.store.failed ≡ false) × (self.new.node.halted ≡ false)) }
         ensures cause { RaisesFailures self.old.store.failures self.new.store.failures result }
     {
         if self.failed {
@@ -303,14 +363,23 @@ impl<M: Machine, D: LogDisk + Drop> Replica<M, D> {
     /// It fails with `Device` (7), `NoMemory` (8) and `Failed` (11), and then nothing of the group is sent.
     pub fn release<P: Post>(&mut self, group: &Group, post: &mut P) -> Result<bool, ReplicaFault>
         // The node fits each history that it was to fit once it was synced.
-        ensures fits { D.is_honest → (genesis : Genesis) (k : ℕ) → Recalls self.old.node self.old.store group.now.needs_sync genesis k
-            → (h : History) (n : ℕ) → NodeFits M.meaning h n (Stands M.meaning self.old.node (as_sent group.now.needs_sync self.old.store) h.genesis n) (disks (as_sent group.now.needs_sync self.old.store))
-            → IfOk result (λ all. NodeFits M.meaning h n (Stands M.meaning self.new.node self.new.store h.genesis n) (disks self.new.store)) }
+        ensures fits { D.is_honest → (genesis : Genesis) (k : ℕ)
+            → Recalls self.old.node self.old.store group.now.needs_sync genesis k
+            → (h : History) (n : ℕ) → NodeFits M.meaning h n
+            (Stands M.meaning self.old.node (as_sent group.now.needs_sync self.old.store) h.genesis n)
+            (disks (as_sent group.now.needs_sync self.old.store))
+            → IfOk result (λ all. NodeFits M.meaning h n (Stands M.meaning self.new.node self.new.store h.genesis n)
+            (disks self.new.store)) }
         // What is on the disks after any exit, where nothing of the group is sent: neither file has grown.
-        ensures disks { D.is_honest → LeavesInGroup M.meaning (λ h. ⊤) 0 self.old.node self.old.store group.now.needs_sync (disks self.new.store) }
+        ensures disks { D.is_honest
+            → LeavesInGroup M.meaning
+            (λ h. ⊤) 0 self.old.node self.old.store group.now.needs_sync (disks self.new.store) }
         // Sync before send: every image covers everything that the group says.
-        ensures syncs { D.is_honest → (genesis : Genesis) (n : ℕ) (x : NodeMessage) → Recalls self.old.node self.old.store group.now.needs_sync genesis n → IsCovered M.meaning genesis n group.now self.old.store
-            → IfOk result (λ all. (d : DatagramValue) → Contains (batch_of n group.now.letters) d → Spells (said_by genesis n x) d.bytes → AllCover M.meaning genesis n (disks self.new.store) x) }
+        ensures syncs { D.is_honest → (genesis : Genesis) (n : ℕ) (x : NodeMessage)
+            → Recalls self.old.node self.old.store group.now.needs_sync genesis n
+            → IsCovered M.meaning genesis n group.now self.old.store
+            → IfOk result (λ all. (d : DatagramValue) → Contains (batch_of n group.now.letters) d
+            → Spells (said_by genesis n x) d.bytes → AllCover M.meaning genesis n (disks self.new.store) x) }
         // The letters were given to the post in order, each once, and nothing else; after an error none was.
         ensures gives { IfOk result (λ all. CarriesAll P.Carries post.old group.now.letters post.new) }
         ensures tells { IfOk result (λ all. TellsSends all (P.failures post.old) (P.failures post.new)) }
@@ -318,7 +387,8 @@ impl<M: Machine, D: LogDisk + Drop> Replica<M, D> {
         // It has synced once what waited for that, and has done nothing else.
         ensures exact { D.is_honest → OnOk result (IsSettled D.is_metered self.old group.now.needs_sync self.new) }
         // It fails only with 7, 8 or 11, each for its cause, and each ends it.
-        ensures refused { IfErr result (λ e. IsRefusedInGroup D.is_honest D.is_metered self.old self.new (fault_number e)) }
+        ensures refused { IfErr result
+            (λ e. IsRefusedInGroup D.is_honest D.is_metered self.old self.new (fault_number e)) }
         ensures alive { OnOk result (self.new.failed ≡ false) }
         ensures cause { RaisesFailures self.old.store.failures self.new.store.failures result }
     {

@@ -122,7 +122,12 @@ impl<M: Machine> MemoryReplica for Replica<M, MemoryDisk> {
       keeps = record {
         entries = shown.keeps.entries;
         loose = shown.keeps.loose;
-        holds = record { on = shown.keeps.holds.on; generation_is = shown.keeps.holds.generation_is; format_is = shown.keeps.holds.format_is; header_is = shown.keeps.holds.header_is };
+        holds = record {
+          on = shown.keeps.holds.on;
+          generation_is = shown.keeps.holds.generation_is;
+          format_is = shown.keeps.holds.format_is;
+          header_is = shown.keeps.holds.header_is;
+        };
         decided = shown.keeps.decided;
         header = shown.keeps.header;
         standing = shown.keeps.standing;

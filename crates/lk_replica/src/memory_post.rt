@@ -101,7 +101,11 @@ impl MemoryPost {
 
     // Keeps one more letter.
     fn keep(&mut self, to: To, bytes: &[u8]) -> Result<(), NoMemory>
-        ensures ok { OnOk result (self.new ≡ record { letters = self.old.letters ++ record { to = to; bytes = bytes.now } ∷ []; failures = self.old.failures }) }
+        ensures ok { OnOk result
+            (self.new ≡ record {
+              letters = self.old.letters ++ record { to = to; bytes = bytes.now } ∷ [];
+              failures = self.old.failures;
+            }) }
         ensures err { OnErr result (self.new ≡ self.old) }
     {
         let bytes = bytes.to_vec(self.alloc)?;

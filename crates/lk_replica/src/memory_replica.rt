@@ -64,14 +64,19 @@ pub trait MemoryReplica: Sized + Drop {
         device: MemoryDisk,
         header: &Header,
     ) -> Result<Revived<Self>, ReviveFault<MemoryDisk>>
-        ensures up { (h : History) (n : ℕ) → header.now ≡ header_of h.genesis n → IsLawful meaning h → DisksFit meaning h n (disk_of device)
-            → IfOk result (λ r. Goes meaning h n (Shows r.replica h.genesis n) (disks_by behaves r.replica) r.notes.items []) }
-        ensures down { (h : History) (n : ℕ) → header.now ≡ header_of h.genesis n → IsLawful meaning h → DisksFit meaning h n (disk_of device)
+        ensures up { (h : History) (n : ℕ) → header.now ≡ header_of h.genesis n → IsLawful meaning h
+            → DisksFit meaning h n (disk_of device)
+            → IfOk result (λ r. Goes meaning h n (Shows r.replica h.genesis n)
+            (disks_by behaves r.replica) r.notes.items []) }
+        ensures down { (h : History) (n : ℕ) → header.now ≡ header_of h.genesis n → IsLawful meaning h
+            → DisksFit meaning h n (disk_of device)
             → IfErr result (λ e. IsNumberOfRevival (fault_number e.fault) × DisksFit meaning h n (disk_of e.device)) }
         // Every image covers whatever every image covered before.
-        ensures covers { (genesis : Genesis) (n : ℕ) (x : NodeMessage) → header.now ≡ header_of genesis n → AllCover meaning genesis n (disk_of device) x
+        ensures covers { (genesis : Genesis) (n : ℕ) (x : NodeMessage) → header.now ≡ header_of genesis n
+            → AllCover meaning genesis n (disk_of device) x
             → IfOk result (λ r. AllCover meaning genesis n (disks_by behaves r.replica) x) }
-        ensures covers_err { (genesis : Genesis) (n : ℕ) (x : NodeMessage) → header.now ≡ header_of genesis n → AllCover meaning genesis n (disk_of device) x
+        ensures covers_err { (genesis : Genesis) (n : ℕ) (x : NodeMessage) → header.now ≡ header_of genesis n
+            → AllCover meaning genesis n (disk_of device) x
             → IfErr result (λ e. AllCover meaning genesis n (disk_of e.device) x) }
         // Neither file has grown, except up to the size of a Base.
         ensures room { IfOk result (λ r. StaysWithin max_base (disk_of device) (disks_by behaves r.replica)) }
@@ -79,51 +84,72 @@ pub trait MemoryReplica: Sized + Drop {
         ensures calls { IfOk result (λ r. (k : ℕ) × Passes device.meter (behaves.memory r.replica).meter k) }
         ensures calls_err { IfErr result (λ e. RefusedAfter (fault_number e.fault) device.meter e.device.meter) }
         ensures exact { IfOk result (λ r. behaves.Revives device header.now (Ok (r.replica, r.notes.items))) }
-        ensures refused { IfErr result (λ e. behaves.Revives device header.now (Err (fault_number e.fault, e.device))) };
+        ensures refused { IfErr result
+            (λ e. behaves.Revives device header.now (Err (fault_number e.fault, e.device))) };
 
     /// Takes a tick or a datagram.
     fn take(&mut self, input: Input) -> Result<Taken, ReplicaFault>
-        ensures goes { (h : History) (n : ℕ) → NodeFits meaning h n (Shows self.old h.genesis n) (disks_by behaves self.old) → InputFits h input.entry
-            → IfOk result (λ t. Goes meaning h n (Shows self.new h.genesis n) (disks_by behaves self.new) t.notes.items t.sent.items) }
-        ensures ends { (h : History) (n : ℕ) → NodeFits meaning h n (Shows self.old h.genesis n) (disks_by behaves self.old) → InputFits h input.entry
+        ensures goes { (h : History) (n : ℕ)
+            → NodeFits meaning h n (Shows self.old h.genesis n) (disks_by behaves self.old) → InputFits h input.entry
+            → IfOk result (λ t. Goes meaning h n (Shows self.new h.genesis n)
+            (disks_by behaves self.new) t.notes.items t.sent.items) }
+        ensures ends { (h : History) (n : ℕ)
+            → NodeFits meaning h n (Shows self.old h.genesis n) (disks_by behaves self.old) → InputFits h input.entry
             → OnErr result (DisksFit meaning h n (disks_by behaves self.new)) }
         // Sync before send: every image covers whatever was sent, and whatever every image covered before, even after
         // an error.
         ensures syncs { (genesis : Genesis) (n : ℕ) (held : Holding) (x : NodeMessage) → Shows self.old genesis n held
-            → IfOk result (λ t. (d : DatagramValue) → Contains t.sent.items d → Spells (said_by genesis n x) d.bytes → AllCover meaning genesis n (disks_by behaves self.new) x) }
+            → IfOk result (λ t. (d : DatagramValue) → Contains t.sent.items d → Spells (said_by genesis n x) d.bytes
+            → AllCover meaning genesis n (disks_by behaves self.new) x) }
         ensures covers { (genesis : Genesis) (n : ℕ) (held : Holding) (x : NodeMessage) → Shows self.old genesis n held
-            → AllCover meaning genesis n (disks_by behaves self.old) x → AllCover meaning genesis n (disks_by behaves self.new) x }
+            → AllCover meaning genesis n (disks_by behaves self.old) x
+            → AllCover meaning genesis n (disks_by behaves self.new) x }
         // However it ends, neither file has grown, except up to half of its maximum and one step.
         ensures room { StaysWithin max_after (disks_by behaves self.old) (disks_by behaves self.new) }
         // At Ok its device has made this many changing calls, and all have passed. After error 7 one has failed; after
         // any other error all have passed.
-        ensures calls { IfOk result (λ t. (k : ℕ) × Passes (behaves.memory self.old).meter (behaves.memory self.new).meter k) }
-        ensures calls_err { IfErr result (λ e. RefusedAfter (fault_number e) (behaves.memory self.old).meter (behaves.memory self.new).meter) }
+        ensures calls { IfOk result
+            (λ t. (k : ℕ) × Passes (behaves.memory self.old).meter (behaves.memory self.new).meter k) }
+        ensures calls_err { IfErr result
+            (λ e. RefusedAfter (fault_number e) (behaves.memory self.old).meter (behaves.memory self.new).meter) }
         ensures told { IfErr result (λ e. IsNumberOfCalls (fault_number e)) }
-        ensures exact { IfOk result (λ t. behaves.Takes self.old (heard_by input.entry) self.new (Ok (t.notes.items, t.sent.items))) }
-        ensures refused { IfErr result (λ e. behaves.Takes self.old (heard_by input.entry) self.new (Err (fault_number e))) };
+        ensures exact { IfOk result
+            (λ t. behaves.Takes self.old (heard_by input.entry) self.new (Ok (t.notes.items, t.sent.items))) }
+        ensures refused { IfErr result
+            (λ e. behaves.Takes self.old (heard_by input.entry) self.new (Err (fault_number e))) };
 
     /// Takes ticks and datagrams together: each as `take` does, in order, but their entries are synced once, if
     /// something waits for that, and nothing is sent before. After an error nothing is sent.
     fn take_all(&mut self, inputs: Vec<Input<'_>>) -> Result<TakenAll, ReplicaFault>
         // At Ok it has gone on at each of them, in each history that contains what the steps before it have sent.
         ensures goes { (genesis : Genesis) (n : ℕ) (held : Holding) → Shows self.old genesis n held
-            → IfOk result (λ t. GoesAll Shows (disks_by behaves) meaning n self.old inputs.entry.items self.new (said_in t)) }
+            → IfOk result (λ t. GoesAll Shows
+            (disks_by behaves) meaning n self.old inputs.entry.items self.new (said_in t)) }
         // However it ends, whatever a stop may leave fits if nothing of it is sent.
-        ensures ends { (h : History) (n : ℕ) → NodeFits meaning h n (Shows self.old h.genesis n) (disks_by behaves self.old) → AllByRecursion (InputFits h) inputs.entry.items
+        ensures ends { (h : History) (n : ℕ)
+            → NodeFits meaning h n (Shows self.old h.genesis n) (disks_by behaves self.old)
+            → AllByRecursion (InputFits h) inputs.entry.items
             → DisksFit meaning h n (disks_by behaves self.new) }
         // Sync before send: every image covers whatever was sent, and whatever every image covered before, even after
         // an error.
         ensures syncs { (genesis : Genesis) (n : ℕ) (held : Holding) (x : NodeMessage) → Shows self.old genesis n held
-            → IfOk result (λ t. (d : DatagramValue) → Contains t.sent.items d → Spells (said_by genesis n x) d.bytes → AllCover meaning genesis n (disks_by behaves self.new) x) }
+            → IfOk result (λ t. (d : DatagramValue) → Contains t.sent.items d → Spells (said_by genesis n x) d.bytes
+            → AllCover meaning genesis n (disks_by behaves self.new) x) }
         ensures covers { (genesis : Genesis) (n : ℕ) (held : Holding) (x : NodeMessage) → Shows self.old genesis n held
-            → AllCover meaning genesis n (disks_by behaves self.old) x → AllCover meaning genesis n (disks_by behaves self.new) x }
+            → AllCover meaning genesis n (disks_by behaves self.old) x
+            → AllCover meaning genesis n (disks_by behaves self.new) x }
         ensures room { StaysWithin max_after (disks_by behaves self.old) (disks_by behaves self.new) }
-        ensures calls { IfOk result (λ t. (k : ℕ) × Passes (behaves.memory self.old).meter (behaves.memory self.new).meter k) }
-        ensures calls_err { IfErr result (λ e. RefusedAfter (fault_number e) (behaves.memory self.old).meter (behaves.memory self.new).meter) }
+        ensures calls { IfOk result
+            (λ t. (k : ℕ) × Passes (behaves.memory self.old).meter (behaves.memory self.new).meter k) }
+        ensures calls_err { IfErr result
+            (λ e. RefusedAfter (fault_number e) (behaves.memory self.old).meter (behaves.memory self.new).meter) }
         // It sends the letters of the steps, in order.
-        ensures exact { IfOk result (λ t. (t.sent.items ≡ sent_of (said_in t)) × behaves.TakesAll self.old (map heard_by inputs.entry.items) self.new (Ok (said_in t))) }
-        ensures refused { IfErr result (λ e. IsNumberOfCalls (fault_number e) × behaves.TakesAll self.old (map heard_by inputs.entry.items) self.new (Err (fault_number e))) };
+        ensures exact { IfOk result
+            (λ t. (t.sent.items ≡ sent_of (said_in t))
+            × behaves.TakesAll self.old (map heard_by inputs.entry.items) self.new (Ok (said_in t))) }
+        ensures refused { IfErr result
+            (λ e. IsNumberOfCalls (fault_number e)
+            × behaves.TakesAll self.old (map heard_by inputs.entry.items) self.new (Err (fault_number e))) };
 
     /// Writes a snapshot of everything executed, which replaces the commands and the votes up to there. It notes and
     /// sends nothing.
@@ -131,22 +157,28 @@ pub trait MemoryReplica: Sized + Drop {
     /// It fails with `Device` (7) and `NoMemory` (8), and, after an earlier error or without a further generation,
     /// with `Failed` (11).
     fn compact(&mut self) -> Result<(), ReplicaFault>
-        ensures goes { (h : History) (n : ℕ) → NodeFits meaning h n (Shows self.old h.genesis n) (disks_by behaves self.old)
+        ensures goes { (h : History) (n : ℕ)
+            → NodeFits meaning h n (Shows self.old h.genesis n) (disks_by behaves self.old)
             → OnOk result (Goes meaning h n (Shows self.new h.genesis n) (disks_by behaves self.new) [] []) }
         // However it ends, every image that a stop may leave fits, and covers what every image covered before.
-        ensures ends { (h : History) (n : ℕ) → NodeFits meaning h n (Shows self.old h.genesis n) (disks_by behaves self.old)
+        ensures ends { (h : History) (n : ℕ)
+            → NodeFits meaning h n (Shows self.old h.genesis n) (disks_by behaves self.old)
             → DisksFit meaning h n (disks_by behaves self.new) }
         ensures covers { (genesis : Genesis) (n : ℕ) (held : Holding) (x : NodeMessage) → Shows self.old genesis n held
-            → AllCover meaning genesis n (disks_by behaves self.old) x → AllCover meaning genesis n (disks_by behaves self.new) x }
+            → AllCover meaning genesis n (disks_by behaves self.old) x
+            → AllCover meaning genesis n (disks_by behaves self.new) x }
         // At Ok every image stands for a snapshot of everything executed.
         ensures stands { (genesis : Genesis) (n : ℕ) (held : Holding) → Shows self.old genesis n held
-            → OnOk result (AllStandAt meaning genesis n (disks_by behaves self.new) (whole self.new).roster.executed held.view.done) }
+            → OnOk result (AllStandAt meaning genesis n (disks_by behaves self.new)
+            (whole self.new).roster.executed held.view.done) }
         // However it ends, neither file has grown, except up to the size of a Base.
         ensures room { StaysWithin max_base (disks_by behaves self.old) (disks_by behaves self.new) }
         // At Ok its device has made the changing calls of a rebase, and all have passed. After error 7 one has failed;
         // after any other error all have passed.
-        ensures calls { OnOk result (Passes (behaves.memory self.old).meter (behaves.memory self.new).meter rebase_calls) }
-        ensures calls_err { IfErr result (λ e. RefusedAfter (fault_number e) (behaves.memory self.old).meter (behaves.memory self.new).meter) }
+        ensures calls { OnOk result
+            (Passes (behaves.memory self.old).meter (behaves.memory self.new).meter rebase_calls) }
+        ensures calls_err { IfErr result
+            (λ e. RefusedAfter (fault_number e) (behaves.memory self.old).meter (behaves.memory self.new).meter) }
         ensures told { IfErr result (λ e. IsStoreFault (fault_number e)) }
         ensures exact { OnOk result (behaves.Compacts self.old self.new (Ok tt)) }
         ensures refused { IfErr result (λ e. behaves.Compacts self.old self.new (Err (fault_number e))) };
@@ -164,17 +196,20 @@ pub trait MemoryReplica: Sized + Drop {
         ensures is { result ≡ behaves.memory self };
 
     // Its state sums up the commands that it holds as executed.
-    ghost sums_up: { (r : Self) (genesis : Genesis) (n : ℕ) (x : Holding) → Shows r genesis n x → SumsUp meaning genesis x.view.done (whole r) };
+    ghost sums_up: { (r : Self) (genesis : Genesis) (n : ℕ) (x : Holding) → Shows r genesis n x
+        → SumsUp meaning genesis x.view.done (whole r) };
 
     // After a compaction every image that a stop may leave of its disks stands for the packed text of everything that
     // it has executed.
-    ghost packed: { (old new : Self) (genesis : Genesis) (n : ℕ) (x : Holding) → Shows old genesis n x → behaves.Compacts old new (Ok tt)
+    ghost packed: { (old new : Self) (genesis : Genesis) (n : ℕ) (x : Holding) → Shows old genesis n x
+        → behaves.Compacts old new (Ok tt)
         → AllStandAt meaning genesis n (disks_by behaves new) (whole new).roster.executed x.view.done };
 
     // A trap belongs to its device, and shows nowhere else.
     ghost traps_alone: { TrapsAlone behaves };
 
-    ghost shows_on: { (t : TrapValue) (r : Self) (genesis : Genesis) (n : ℕ) (x : Holding) → Shows r genesis n x → Shows (behaves.with_trap t r) genesis n x };
+    ghost shows_on: { (t : TrapValue) (r : Self) (genesis : Genesis) (n : ℕ) (x : Holding) → Shows r genesis n x
+        → Shows (behaves.with_trap t r) genesis n x };
 
     ghost whole_stays: { (t : TrapValue) (r : Self) → whole (behaves.with_trap t r) ≡ whole r };
 }

@@ -1,5 +1,6 @@
 // The replica: a node and its store.
-ghost use Rattle.std.specs.Prelude.{◌≡◌, ℕ, ◌+◌, ◌<◌, ◌≤◌, ◌++◌, List, true, false, Contains, IfOk, IfErr, OnOk, IsErrAnd, IsErrOf, ◌↔◌};
+ghost use Rattle.std.specs.Prelude.{◌≡◌, ℕ, ◌+◌, ◌<◌, ◌≤◌, ◌++◌, List, true, false, Contains, IfOk, IfErr, OnOk};
+ghost use Rattle.std.specs.Prelude.{IsErrAnd, IsErrOf, ◌↔◌};
 ghost use Rattle.lk_types.specs.Limits.{max_count};
 ghost use Rattle.lk_disk.specs.declared.device.Side.{Side};
 ghost use Rattle.lk_disk.specs.Meters.{trapped};
@@ -17,7 +18,8 @@ ghost use Rattle.lk_node.specs.Keeping.{Stands};
 ghost use Rattle.lk_node.specs.Leavings.{AllCover};
 ghost use Rattle.lk_replica.specs.Posts.{AreOf, GivesLetters, SendsAs, RefusesSends};
 ghost use Rattle.lk_node.specs.Steps.{Steps};
-ghost use Rattle.lk_replica.specs.Taking.{Writes, CallsOfStep, GivesBy, IsRefused, IsCutShort, StaysUp, StepsOn, StepsToDisk, StepLeavesDisks};
+ghost use Rattle.lk_replica.specs.Taking.{Writes, CallsOfStep, GivesBy, IsRefused, IsCutShort, StaysUp, StepsOn};
+ghost use Rattle.lk_replica.specs.Taking.{StepsToDisk, StepLeavesDisks};
 ghost use Rattle.lk_recovery.specs.Rebased.{LeavesDisks};
 ghost use Rattle.lk_node_io.specs.Faults.{fault_number, RaisesFailures, IfGoesOn, WantsNoMemory};
 ghost use Rattle.lk_recovery.specs.Remembering.{Remembers};
@@ -68,22 +70,29 @@ impl<M: Machine, D: LogDisk + Drop> Replica<M, D> {
         // outbox of its step and returned its notes, and these are the step's letters: what it holds permits all of
         // them. Sync before send: whatever the post, every image covers what it was given. Under `Send` the letters
         // whose send failed are lost.
-        ensures gives { GivesLetters P.Carries post.old post.new (λ letters. D.is_honest → GivesBy M.meaning M.IsText D.is_metered self.old input.entry self.new result letters
-            (λ all. P.is_telling → SendsAs result all (P.sent post.old) (P.sent post.new) (P.failures post.old) (P.failures post.new))) }
+        ensures gives { GivesLetters P.Carries post.old post.new
+            (λ letters. D.is_honest → GivesBy M.meaning M.IsText D.is_metered self.old
+            input.entry self.new result letters
+            (λ all. P.is_telling → SendsAs result all (P.sent post.old) (P.sent post.new) (P.failures post.old)
+            (P.failures post.new))) }
         ensures alive { IfGoesOn result (λ notes. StaysUp D.is_honest self.old self.new) }
         // What is on the disks, however it ends: neither file has grown beyond half of its maximum and one step, nor
         // by more than a step except by a Base.
-        ensures disks { D.is_honest → LeavesDisks M.meaning (λ h. InputFits h input.entry) max_after self.old.node self.old.store (disks self.new.store) }
+        ensures disks { D.is_honest
+            → LeavesDisks M.meaning (λ h. InputFits h input.entry) max_after self.old.node
+            self.old.store (disks self.new.store) }
         // It fails only with 7, 8, 11, 14 or 15, each for its cause, and all but 15 end it.
         ensures refused { IfErr result (λ e. IsRefused D.is_honest D.is_metered self.old self.new (fault_number e)) }
         // Under `Send` some sends have failed; under any other error nothing was given to the post.
-        ensures sends { IfErr result (λ e. RefusesSends (fault_number e) post.old post.new (P.failures post.old) (P.failures post.new)) }
+        ensures sends { IfErr result
+            (λ e. RefusesSends (fault_number e) post.old post.new (P.failures post.old) (P.failures post.new)) }
         // It fails with `Device` exactly if a call of the device has failed.
         ensures cause { RaisesFailures self.old.store.failures self.new.store.failures result }
         ensures failed { self.old.failed ≡ true → IsErrOf result ReplicaFault.Failed }
         // If a rebase is due at generation 2^48, it fails with `Failed`, even if it is out of memory, or with `Device`
         // if the device fails.
-        ensures last { D.is_honest → max_count ≤ self.old.store.generation → IsDue self.old.node self.old.store → IsErrAnd result (λ e. WantsNoMemory (fault_number e)) }
+        ensures last { D.is_honest → max_count ≤ self.old.store.generation → IsDue self.old.node self.old.store
+            → IsErrAnd result (λ e. WantsNoMemory (fault_number e)) }
     {
         if self.failed {
             return Err(ReplicaFault::Failed);
@@ -163,7 +172,8 @@ impl<M: Machine, D: Trapped + Drop> Replica<M, D> {
     /// Sets the trap of the device, in place of a pending one. It changes no disk.
     pub fn trap(&mut self, trap: Trap)
         ensures node { self.new.node ≡ self.old.node }
-        ensures store { D.is_honest → D.is_metered → self.new.store ≡ record self.old.store { meter = trapped trap self.old.store.meter } }
+        ensures store { D.is_honest → D.is_metered
+            → self.new.store ≡ record self.old.store { meter = trapped trap self.old.store.meter } }
         ensures failures { self.new.store.failures ≡ self.old.store.failures }
         ensures failed { self.new.failed ≡ self.old.failed }
     {
@@ -180,14 +190,24 @@ fn step_to_disk<M: Machine, D: LogDisk + Drop>(
     input: Input,
 ) -> Result<Outbox, ReplicaFault>
     requires { store.old.format ≡ 2 }
-    ensures goes { D.is_honest → (h : History) (n : ℕ) → NodeFits M.meaning h n (Stands M.meaning node.old store.old h.genesis n) (disks store.old) → InputFits h input.entry
-        → IfOk result (λ o. (sent : List LetterValue) → AreOf sent o.letters → Goes M.meaning h n (Stands M.meaning node.new store.new h.genesis n) (disks store.new) o.notes (batch_of n sent)) }
+    ensures goes { D.is_honest → (h : History) (n : ℕ)
+        → NodeFits M.meaning h n (Stands M.meaning node.old store.old h.genesis n) (disks store.old)
+        → InputFits h input.entry
+        → IfOk result (λ o. (sent : List LetterValue) → AreOf sent o.letters
+        → Goes M.meaning h n (Stands M.meaning node.new store.new h.genesis n)
+        (disks store.new) o.notes (batch_of n sent)) }
     ensures syncs { D.is_honest → (genesis : Genesis) (n : ℕ) (x : NodeMessage) → Remembers node.old store.old genesis n
-        → IfOk result (λ o. (d : DatagramValue) → Contains (batch_of n o.letters) d → Spells (said_by genesis n x) d.bytes → AllCover M.meaning genesis n (disks store.new) x) }
-    ensures exact { D.is_honest → IfOk result (λ o. StepsToDisk M.meaning M.IsText D.is_metered node.old store.old input.entry o node.new store.new) }
+        → IfOk result (λ o. (d : DatagramValue) → Contains (batch_of n o.letters) d
+        → Spells (said_by genesis n x) d.bytes → AllCover M.meaning genesis n (disks store.new) x) }
+    ensures exact { D.is_honest
+        → IfOk result (λ o. StepsToDisk M.meaning M.IsText D.is_metered node.old store.old
+        input.entry o node.new store.new) }
     ensures alive { OnOk result (StepsOn D.is_honest node.old store.old node.new store.new) }
-    ensures disks { D.is_honest → StepLeavesDisks M.meaning (λ h. InputFits h input.entry) max_after node.old store.old (disks store.new) }
-    ensures refused { IfErr result (IsCutShort D.is_honest D.is_metered 1 node.old store.old node.new store.new (KeepsItsFile store.old store.new) (AreSame (disks store.old) (disks store.new))) }
+    ensures disks { D.is_honest
+        → StepLeavesDisks M.meaning (λ h. InputFits h input.entry) max_after node.old store.old (disks store.new) }
+    ensures refused { IfErr result
+        (IsCutShort D.is_honest D.is_metered 1 node.old store.old node.new store.new (KeepsItsFile store.old store.new)
+        (AreSame (disks store.old) (disks store.new))) }
     ensures halts { IsErrOf result ReplicaFault.Halted ↔ (node.new.halted ≡ true) }
     ensures format { store.new.format ≡ 2 }
     // At generation 2^48 it takes no step that has to rebase.
@@ -210,18 +230,29 @@ fn rebase_and_step<M: Machine, D: LogDisk + Drop>(
     input: Input,
 ) -> Result<Outbox, ReplicaFault>
     requires { store.old.format ≡ 2 }
-    ensures goes { D.is_honest → (h : History) (n : ℕ) → NodeFits M.meaning h n (Stands M.meaning node.old store.old h.genesis n) (disks store.old) → InputFits h input.entry
-        → IfOk result (λ o. (sent : List LetterValue) → AreOf sent o.letters → Goes M.meaning h n (Stands M.meaning node.new store.new h.genesis n) (disks store.new) o.notes (batch_of n sent)) }
+    ensures goes { D.is_honest → (h : History) (n : ℕ)
+        → NodeFits M.meaning h n (Stands M.meaning node.old store.old h.genesis n) (disks store.old)
+        → InputFits h input.entry
+        → IfOk result (λ o. (sent : List LetterValue) → AreOf sent o.letters
+        → Goes M.meaning h n (Stands M.meaning node.new store.new h.genesis n)
+        (disks store.new) o.notes (batch_of n sent)) }
     ensures syncs { D.is_honest → (genesis : Genesis) (n : ℕ) (x : NodeMessage) → Remembers node.old store.old genesis n
-        → IfOk result (λ o. (d : DatagramValue) → Contains (batch_of n o.letters) d → Spells (said_by genesis n x) d.bytes → AllCover M.meaning genesis n (disks store.new) x) }
-    ensures exact { D.is_honest → IfOk result (λ o. (mid : NodeValue) × (between : StoreValue) × RebasesWhereDue node.old store.old mid between
-        × (stepped : NodeValue) × Steps M.meaning M.IsText mid input.entry stepped o × Writes stepped between o node.new store.new) }
+        → IfOk result (λ o. (d : DatagramValue) → Contains (batch_of n o.letters) d
+        → Spells (said_by genesis n x) d.bytes → AllCover M.meaning genesis n (disks store.new) x) }
+    ensures exact { D.is_honest
+        → IfOk result (λ o. (mid : NodeValue) × (between : StoreValue) × RebasesWhereDue node.old store.old mid between
+        × (stepped : NodeValue) × Steps M.meaning M.IsText mid input.entry stepped o
+        × Writes stepped between o node.new store.new) }
     ensures calls { D.is_metered → D.is_honest → IfOk result (λ o. CallsOfStep node.old store.old o store.new) }
     ensures alive { OnOk result (StepsOn D.is_honest node.old store.old node.new store.new) }
-    ensures disks { D.is_honest → LeavesDisks M.meaning (λ h. InputFits h input.entry) max_after node.old store.old (disks store.new) }
-    ensures refused { IfErr result (IsCutShort D.is_honest D.is_metered 2 node.old store.old node.new store.new (KeepsOrSwitchesFiles node.old store.old store.new) (AreLeft node.old store.old store.new)) }
+    ensures disks { D.is_honest
+        → LeavesDisks M.meaning (λ h. InputFits h input.entry) max_after node.old store.old (disks store.new) }
+    ensures refused { IfErr result
+        (IsCutShort D.is_honest D.is_metered 2 node.old store.old node.new store.new
+        (KeepsOrSwitchesFiles node.old store.old store.new) (AreLeft node.old store.old store.new)) }
     ensures format { store.new.format ≡ 2 }
-    ensures last { D.is_honest → max_count ≤ store.old.generation → IsDue node.old store.old → IsErrAnd result (λ e. WantsNoMemory (fault_number e)) }
+    ensures last { D.is_honest → max_count ≤ store.old.generation → IsDue node.old store.old
+        → IsErrAnd result (λ e. WantsNoMemory (fault_number e)) }
     ensures cause { RaisesFailures store.old.failures store.new.failures result }
 {
     rebase_if_due(node, store)?;

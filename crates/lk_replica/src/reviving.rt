@@ -38,36 +38,49 @@ impl<M: Machine, D: LogDisk + Drop> Replica<M, D> {
     ) -> Result<Revived<Replica<M, D>>, ReviveFault<D>>
         // If the disks fit a history, the replica goes on in it, and what an error leaves fits it; they are neither
         // damaged nor another's, and so the error is 7, 8 or 11.
-        ensures fits { D.is_honest → (h : History) (n : ℕ) → header.now ≡ header_of h.genesis n → IsLawful M.meaning h → DisksFit M.meaning h n (D.disk device)
+        ensures fits { D.is_honest → (h : History) (n : ℕ) → header.now ≡ header_of h.genesis n → IsLawful M.meaning h
+            → DisksFit M.meaning h n (D.disk device)
             → MatchResult result
-            (λ r. Goes M.meaning h n (Stands M.meaning r.replica.node r.replica.store h.genesis n) (disks r.replica.store) r.notes.items [])
+            (λ r. Goes M.meaning h n (Stands M.meaning r.replica.node r.replica.store h.genesis n)
+            (disks r.replica.store) r.notes.items [])
             (λ e. IsNumberOfRevival (fault_number e.fault) × DisksFit M.meaning h n (D.disk e.device)) }
         // Every image covers whatever every image covered before.
-        ensures covers { D.is_honest → (genesis : GenesisValue) (n : ℕ) (x : NodeMessage) → header.now ≡ header_of genesis n → AllCover M.meaning genesis n (D.disk device) x
-            → MatchResult result (λ r. AllCover M.meaning genesis n (disks r.replica.store) x) (λ e. AllCover M.meaning genesis n (D.disk e.device) x) }
+        ensures covers { D.is_honest → (genesis : GenesisValue) (n : ℕ) (x : NodeMessage)
+            → header.now ≡ header_of genesis n → AllCover M.meaning genesis n (D.disk device) x
+            → MatchResult result (λ r. AllCover M.meaning genesis n (disks r.replica.store) x)
+            (λ e. AllCover M.meaning genesis n (D.disk e.device) x) }
         // Its store keeps what its acceptor holds, whatever has happened to the disks.
-        ensures remembers { D.is_honest → (genesis : GenesisValue) (n : ℕ) → header.now ≡ header_of genesis n → IfOk result (λ r. Remembers r.replica.node r.replica.store genesis n) }
+        ensures remembers { D.is_honest → (genesis : GenesisValue) (n : ℕ) → header.now ≡ header_of genesis n
+            → IfOk result (λ r. Remembers r.replica.node r.replica.store genesis n) }
         // It restarts exactly what the disks stand for, and executes nothing else. A file of format 1 at generation
         // 2^48 never restarts. The store is new exactly if there was no Base.
-        ensures exact { D.is_honest → IfOk result (λ r. Revives M.meaning M.IsText (D.disk device) header.now r.replica r.notes.items × (IsTrue r.is_new ↔ IsEmpty (seen (D.disk device)))) }
+        ensures exact { D.is_honest
+            → IfOk result (λ r. Revives M.meaning M.IsText (D.disk device) header.now r.replica r.notes.items
+            × (IsTrue r.is_new ↔ IsEmpty (seen (D.disk device)))) }
         // Whatever the device does, it can take calls as the node of this header: nothing of it has failed, and it has
         // executed what it can.
         ensures ready { IfOk result (λ r. MayGoOn header.now r.replica) }
         // An error has its cause, and 9 has precedence over 11. A damaged store and another's are unchanged.
-        ensures refused { D.is_honest → IfErr result (λ e. IsRefusedFor M.meaning M.IsText (D.disk device) header.now (fault_number e.fault) (D.disk e.device)) }
+        ensures refused { D.is_honest
+            → IfErr result (λ e. IsRefusedFor M.meaning M.IsText (D.disk device) header.now
+            (fault_number e.fault) (D.disk e.device)) }
         // After an error every image amounts to what an image before it did, or to a new store, or to what a file of
         // format 1 held or the Base that was to replace it.
         ensures stays_err { D.is_honest → (genesis : GenesisValue) → header.now ≡ header_of genesis header.now.node
-            → IfErr result (λ e. NarrowsOrRenews (D.disk device) (D.disk e.device) header.now (text M.meaning genesis [])) }
+            → IfErr result (λ e. NarrowsOrRenews (D.disk device) (D.disk e.device) header.now
+            (text M.meaning genesis [])) }
         // It fails with 7 to 11, and with `Device` exactly if a call of the device has failed.
         ensures cause { MatchResult result
             (λ r. r.replica.store.failures ≡ D.failures device)
-            (λ e. (7 ≤ fault_number e.fault) × (fault_number e.fault ≤ 11) × (D.failures e.device ≡ failures_by (fault_number e.fault) (D.failures device))) }
+            (λ e. (7 ≤ fault_number e.fault) × (fault_number e.fault ≤ 11)
+            × (D.failures e.device ≡ failures_by (fault_number e.fault) (D.failures device))) }
         ensures metered { D.is_metered → D.is_honest → MatchResult result
             (λ r. CallsOfRevival (D.disk device) (D.meter device) r.replica.store.meter)
             (λ e. RefusedAfter (fault_number e.fault) (D.meter device) (D.meter e.device)) }
         // However it ends, neither file has grown, except up to the size of a Base.
-        ensures room { D.is_honest → MatchResult result (λ r. StaysWithin max_base (D.disk device) (disks r.replica.store)) (λ e. StaysWithin max_base (D.disk device) (D.disk e.device)) }
+        ensures room { D.is_honest
+            → MatchResult result (λ r. StaysWithin max_base (D.disk device) (disks r.replica.store))
+            (λ e. StaysWithin max_base (D.disk device) (D.disk e.device)) }
     {
         let mut up: TakenUp<M, D> = match take_up(alloc, device, header) {
             Ok(up) => up,

@@ -32,8 +32,10 @@ impl<M: Machine, D: LogDisk + Drop> Replica<M, D> {
     pub(crate) fn sync_group(&mut self, needs_sync: bool) -> Result<(), ReplicaFault>
         ensures exact { D.is_honest → OnOk result (IsSettled D.is_metered self.old needs_sync self.new) }
         // What is on the disks after any exit, where nothing of the group is sent: neither file has grown.
-        ensures disks { D.is_honest → LeavesInGroup M.meaning (λ h. ⊤) 0 self.old.node self.old.store needs_sync (disks self.new.store) }
-        ensures refused { IfErr result (λ e. IsRefusedInGroup D.is_honest D.is_metered self.old self.new (fault_number e)) }
+        ensures disks { D.is_honest
+            → LeavesInGroup M.meaning (λ h. ⊤) 0 self.old.node self.old.store needs_sync (disks self.new.store) }
+        ensures refused { IfErr result
+            (λ e. IsRefusedInGroup D.is_honest D.is_metered self.old self.new (fault_number e)) }
         ensures alive { OnOk result (self.new.failed ≡ false) }
         ensures cause { RaisesFailures self.old.store.failures self.new.store.failures result }
     {

@@ -11,16 +11,22 @@ use Rattle.lk_world_nodes.specs.declared.refused.Refused.TheVariants.{NotUp}
 use Rattle.lk_schedules.specs.Schedules.{IsPassedBy, PassesBy, Happens}
 
 -- a refusal that is passed by has changed nothing
-pub refused_by : {R : Type 0} (b : Behaviour R) (old new : Scene R) (e : Event) (r : Refused) → IsPassedBy r → IsRefused b old e r new → MayNot old e r × (new ≡ old)
+pub refused_by : {R : Type 0} (b : Behaviour R) (old new : Scene R) (e : Event) (r : Refused) → IsPassedBy r
+    → IsRefused b old e r new → MayNot old e r × (new ≡ old)
 refused_by b old new e r by (inl not_now) = not_now
 refused_by b old new e r by (inr wants) = absurd (subst IsPassedBy wants.0 by)
 
 -- node 1 was down, and has come up again
-pub passes_again : {R : Type 0} (b : Behaviour R) (old mid new : Scene R) (n : ℕ) → n ≡ 1 → MayNot old (Tick n) NotUp → mid ≡ old → Does b mid (Restart n) new → PassesBy b old new
+pub passes_again : {R : Type 0} (b : Behaviour R) (old mid new : Scene R) (n : ℕ) → n ≡ 1 → MayNot old (Tick n) NotUp
+    → mid ≡ old → Does b mid (Restart n) new → PassesBy b old new
 passes_again b old mid new n one not_up same does =
-    inr (subst (λ k. MayNot old (Tick k) NotUp) one not_up, subst (λ w. Does b w (Restart 1) new) same (subst (λ k. Does b mid (Restart k) new) one does))
+    inr (
+      subst (λ k. MayNot old (Tick k) NotUp) one not_up,
+      subst (λ w. Does b w (Restart 1) new) same (subst (λ k. Does b mid (Restart k) new) one does),
+    )
 
 -- it has changed nothing
 pub happens_instead : {R : Type 0} (b : Behaviour R) (old mid new : Scene R) (e : Event) (r : Refused)
     → IsPassedBy r → MayNot old e r → mid ≡ old → PassesBy b mid new → Happens b old e new
-happens_instead b old mid new e r by not_now same passes = inr (r, by, not_now, subst (λ w. PassesBy b w new) same passes)
+happens_instead b old mid new e r by not_now same passes =
+    inr (r, by, not_now, subst (λ w. PassesBy b w new) same passes)

@@ -16,7 +16,8 @@ use Rattle.lk_schedules.specs.declared.plan.Plan.{Plan}
 pub record IsOfThree (g : Genesis) : Type 0 where
   pub cluster : g.cluster ≡ 5
   pub alpha : g.alpha ≡ 2
-  pub members : g.members ≡ record { node = 1; port = 7001 } ∷ record { node = 2; port = 7002 } ∷ record { node = 3; port = 7003 } ∷ []
+  pub members : g.members ≡ record { node = 1; port = 7001 } ∷ record { node = 2; port = 7002 }
+      ∷ record { node = 3; port = 7003 } ∷ []
 
 -- a world of three nodes in which nothing has happened
 pub record IsNew {R : Type 0} (w : Scene R) : Type 0 where

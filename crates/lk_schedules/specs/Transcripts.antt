@@ -14,7 +14,8 @@ kept_lines true events = lines_for events
 
 -- these events happened, one after another, and their lines were added
 abbrev pub Adds : {R : Type 0} → Behaviour R → List Event → Scene R → Transcript → Scene R → Transcript → Type 0
-Adds b events old t new u = Passes b events old new × (u.is_kept ≡ t.is_kept) × (u.text.items ≡ t.text.items ++ kept_lines t.is_kept events)
+Adds b events old t new u =
+    Passes b events old new × (u.is_kept ≡ t.is_kept) × (u.text.items ≡ t.text.items ++ kept_lines t.is_kept events)
 
 -- some events did, and nothing else
 abbrev pub AddsSome : {R : Type 0} → Behaviour R → Scene R → Transcript → Scene R → Transcript → Type 0

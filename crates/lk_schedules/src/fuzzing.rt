@@ -1,6 +1,7 @@
 //! Runs of random schedules, and what they print.
 
-ghost use Rattle.std.specs.Prelude.{◌≡◌, ◌≤◌, ◌+◌, ◌++◌, ◌∷◌, ◌⊎◌, ℕ, List, [], true, Ok, Err, OnOk, IfOk, IfErr, string_bytes};
+ghost use Rattle.std.specs.Prelude.{◌≡◌, ◌≤◌, ◌+◌, ◌++◌, ◌∷◌, ◌⊎◌, ℕ, List, [], true, Ok, Err, OnOk, IfOk, IfErr};
+ghost use Rattle.std.specs.Prelude.{string_bytes};
 ghost use Rattle.std.specs.Fmt.{decimal};
 ghost use Rattle.std.specs.Io.KnownBytes.{Appends};
 ghost use Rattle.lk_script.specs.Worlds.{refused_line};
@@ -222,7 +223,8 @@ fn write_done<W: Write>(
     trace: &[Note],
     out: &mut W,
 ) -> Result<(), ScriptFault>
-    ensures { OnOk result ((p : ℕ) × IsFurthest trace.now p × Appends (W.contents out.old) (W.contents out.new) (done_line count p)) }
+    ensures { OnOk result ((p : ℕ) × IsFurthest trace.now p
+        × Appends (W.contents out.old) (W.contents out.new) (done_line count p)) }
 {
     match done_text(alloc, u64::from(count), furthest(trace)) {
         Ok(text) => write_text(text.as_bytes(), out),
@@ -233,7 +235,8 @@ fn write_done<W: Write>(
 // Writes the line of a run that a rejection ended, and reports the rejection.
 fn write_refusal<W: Write>(alloc: Global, refused: Refused, out: &mut W) -> Result<(), ScriptFault>
     ensures ended { (result ≡ Ok tt) → ⊥ }
-    ensures written { result ≡ Err (ScriptFault.Ended refused) → Appends (W.contents out.old) (W.contents out.new) (refused_line refused) }
+    ensures written { result ≡ Err (ScriptFault.Ended refused)
+        → Appends (W.contents out.old) (W.contents out.new) (refused_line refused) }
 {
     let mut text = Vec::new(alloc);
     if print_refusal(alloc, refused, &mut text).is_err() {
@@ -249,7 +252,8 @@ fn write_run<R: MemoryReplica, W: Write>(
     plan: Plan,
     out: &mut W,
 ) -> Result<(), ScriptFault>
-    ensures { OnOk result ((text : List ℕ) × Reports R.behaves plan text × Appends (W.contents out.old) (W.contents out.new) text) }
+    ensures { OnOk result ((text : List ℕ) × Reports R.behaves plan text
+        × Appends (W.contents out.old) (W.contents out.new) text) }
 {
     let mut world = world_of_three::<R>(alloc);
     match run_schedule(alloc, &mut world, plan, &mut Transcript::new(alloc, false)) {
@@ -274,7 +278,8 @@ fn write_script<R: MemoryReplica, W: Write>(
     plan: Plan,
     out: &mut W,
 ) -> Result<(), ScriptFault>
-    ensures { OnOk result ((text : List ℕ) × IsScript R.behaves plan text × Appends (W.contents out.old) (W.contents out.new) text) }
+    ensures { OnOk result ((text : List ℕ) × IsScript R.behaves plan text
+        × Appends (W.contents out.old) (W.contents out.new) text) }
 {
     let Ok(mut transcript) = begun_script(alloc) else {
         return Err(ScriptFault::ScriptMemory);
@@ -295,7 +300,8 @@ pub fn run_fuzz<R: MemoryReplica, W: Write, E: Write>(
     out: &mut W,
     err: &mut E,
 ) -> u8
-    ensures ok { result ≡ 0 → (text : List ℕ) × Reports R.behaves plan text × Appends (W.contents out.old) (W.contents out.new) text }
+    ensures ok { result ≡ 0 → (text : List ℕ) × Reports R.behaves plan text
+        × Appends (W.contents out.old) (W.contents out.new) text }
     ensures quiet { result ≡ 0 → err.new ≡ err.old }
     ensures status { (result ≡ 0) ⊎ (result ≡ 1) }
 {
@@ -310,7 +316,8 @@ pub fn print_script<R: MemoryReplica, W: Write, E: Write>(
     out: &mut W,
     err: &mut E,
 ) -> u8
-    ensures ok { result ≡ 0 → (text : List ℕ) × IsScript R.behaves plan text × Appends (W.contents out.old) (W.contents out.new) text }
+    ensures ok { result ≡ 0 → (text : List ℕ) × IsScript R.behaves plan text
+        × Appends (W.contents out.old) (W.contents out.new) text }
     ensures quiet { result ≡ 0 → err.new ≡ err.old }
     ensures status { (result ≡ 0) ⊎ (result ≡ 1) }
 {

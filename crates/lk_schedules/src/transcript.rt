@@ -35,7 +35,8 @@ impl Transcript {
     // Adds the line of an event, if lines are kept.
     fn add(&mut self, alloc: Global, event: &Event) -> Result<(), NoMemory>
         ensures kept { self.new.is_kept ≡ self.old.is_kept }
-        ensures text { OnOk result (self.new.text.items ≡ self.old.text.items ++ kept_lines self.old.is_kept (event.now ∷ [])) }
+        ensures text { OnOk result
+            (self.new.text.items ≡ self.old.text.items ++ kept_lines self.old.is_kept (event.now ∷ [])) }
     {
         if self.is_kept {
             print_line(alloc, event, &mut self.text)?;
@@ -52,7 +53,8 @@ impl Transcript {
     ) -> Result<(), Refused>
         ensures does { OnOk result (Does R.behaves world.old event world.new) }
         ensures adds { OnOk result (Adds R.behaves (event ∷ []) world.old self.old world.new self.new) }
-        ensures passed_by { (r : RefusedValue) → result ≡ Err r → IsPassedBy r → MayNot world.old event r × Adds R.behaves [] world.old self.old world.new self.new }
+        ensures passed_by { (r : RefusedValue) → result ≡ Err r → IsPassedBy r
+            → MayNot world.old event r × Adds R.behaves [] world.old self.old world.new self.new }
     {
         let length = self.text.len();
         self.add(alloc, &event)?;

@@ -1,5 +1,6 @@
 -- Events of a line, one after another.
-use Rattle.std.proofs.Common.{◌≡◌, ℕ, ◌+◌, ◌<◌, zero, suc, replicate, List, [], ◌∷◌, take, slice_get, Option, Some, None, Result, Ok, Err, IfOk, refl, sym, ap, subst, ◌∙◌, add-one, arith}
+use Rattle.std.proofs.Common.{◌≡◌, ℕ, ◌+◌, ◌<◌, zero, suc, replicate, List, [], ◌∷◌, take, slice_get, Option, Some}
+use Rattle.std.proofs.Common.{None, Result, Ok, Err, IfOk, refl, sym, ap, subst, ◌∙◌, add-one, arith}
 use Rattle.std.proofs.Math.Seq.{take-length}
 use Rattle.std.proofs.lemmas.List.{take-replicate, length-replicate}
 use Rattle.lk_replica.specs.Behaviours.{Behaviour}
@@ -17,32 +18,41 @@ module _ {R : Type 0} (b : Behaviour R) where
   -- a line was followed
   abbrev pub GoesOn : WorldRun R → List ℕ → Option Refused → WorldRun R → Type 0
   GoesOn old line refused new =
-      (o : Instruction) × (k : ℕ) × SpellsInstruction line o × Follows b old.world (events_of o) k refused new.world × (new.done ≡ old.done + k)
+      (o : Instruction) × (k : ℕ) × SpellsInstruction line o × Follows b old.world (events_of o) k refused new.world
+      × (new.done ≡ old.done + k)
 
   -- where none was refused, all events have happened
-  pub all_passed : (events : List Event) (k : ℕ) (old new : Scene R) → Follows b old events k None new → Passes b events old new
+  pub all_passed : (events : List Event) (k : ℕ) (old new : Scene R) → Follows b old events k None new
+      → Passes b events old new
   all_passed events k old new f =
-      subst (λ w. Passes b events old w) (sym f.stops.1) (subst (λ es. Passes b es old f.last) (ap (λ n. take n events) f.stops.0 ∙ take-length events) f.passes)
+      subst (λ w. Passes b events old w) (sym f.stops.1)
+      (subst (λ es. Passes b es old f.last) (ap (λ n. take n events) f.stops.0 ∙ take-length events) f.passes)
 
   -- ---- one event
 
   pub once : {E : Type 0} (e : Event) (result : Result (Option Refused) E) (old new : Scene R) (before after : ℕ)
-      → (result ≡ Ok None → Does b old e new × (after ≡ before + 1)) → ((r : Refused) → result ≡ Ok (Some r) → IsRefused b old e r new × (after ≡ before))
+      → (result ≡ Ok None → Does b old e new × (after ≡ before + 1))
+      → ((r : Refused) → result ≡ Ok (Some r) → IsRefused b old e r new × (after ≡ before))
       → IfOk result (λ refused. (k : ℕ) × Follows b old (e ∷ []) k refused new × (after ≡ before + k))
-  once e (Ok None) old new before after does refused = let did = does refl in (1, record { last = new; passes = (new, did.0, refl); stops = (refl, refl) }, did.1)
+  once e (Ok None) old new before after does refused = let did = does refl in
+      (1, record { last = new; passes = (new, did.0, refl); stops = (refl, refl) }, did.1)
   once e (Ok (Some r)) old new before after does refused =
-      let cut = refused r refl in (0, record { last = old; passes = refl; stops = (e, refl, cut.0) }, omega (arith, cut.1))
+      let cut = refused r refl in
+      (0, record { last = old; passes = refl; stops = (e, refl, cut.0) }, omega (arith, cut.1))
   once e (Err x) old new before after does refused = tt
 
   -- ---- the same event many times
 
   module _ (e : Event) where
-    more : (n : ℕ) (old mid new : Scene R) → Passes b (replicate n e) old mid → Does b mid e new → Passes b (replicate (suc n) e) old new
+    more : (n : ℕ) (old mid new : Scene R) → Passes b (replicate n e) old mid → Does b mid e new
+        → Passes b (replicate (suc n) e) old new
     more zero old mid new p d = (new, subst (λ w. Does b w e new) p d, refl)
     more (suc n) old mid new p d = (p.0, p.1, more n p.0 mid new p.2 d)
 
-    pub one_more : (n : ℕ) (old mid new : Scene R) → Passes b (replicate n e) old mid → Does b mid e new → Passes b (replicate (n + 1) e) old new
-    one_more n old mid new p d = subst (λ k. Passes b (replicate k e) old new) (sym (add-one n)) (more n old mid new p d)
+    pub one_more : (n : ℕ) (old mid new : Scene R) → Passes b (replicate n e) old mid → Does b mid e new
+        → Passes b (replicate (n + 1) e) old new
+    one_more n old mid new p d =
+        subst (λ k. Passes b (replicate k e) old new) (sym (add-one n)) (more n old mid new p d)
 
     at : (times i : ℕ) → i < times → slice_get (replicate times e) i ≡ Some e
     at zero i below = absurd (omega (arith, below))
@@ -50,7 +60,8 @@ module _ {R : Type 0} (b : Behaviour R) where
     at (suc times) (suc i) below = at times i (omega (arith, below))
 
     -- the next one was refused
-    pub cut_short : (times i : ℕ) (old mid new : Scene R) (r : Refused) → i < times → Passes b (replicate i e) old mid → IsRefused b mid e r new → Follows b old (replicate times e) i (Some r) new
+    pub cut_short : (times i : ℕ) (old mid new : Scene R) (r : Refused) → i < times → Passes b (replicate i e) old mid
+        → IsRefused b mid e r new → Follows b old (replicate times e) i (Some r) new
     cut_short times i old mid new r below p refused = record {
       last = mid;
       passes = subst (λ es. Passes b es old mid) (sym (take-replicate i times e (omega (arith, below)))) p;
@@ -58,7 +69,8 @@ module _ {R : Type 0} (b : Behaviour R) where
     }
 
     -- none was
-    pub done : (times : ℕ) (old new : Scene R) → Passes b (replicate times e) old new → Follows b old (replicate times e) times None new
+    pub done : (times : ℕ) (old new : Scene R) → Passes b (replicate times e) old new
+        → Follows b old (replicate times e) times None new
     done times old new p = record {
       last = new;
       passes = subst (λ es. Passes b es old new) (sym (take-replicate times times e (omega arith))) p;

@@ -23,7 +23,8 @@ pub data Script (R : Type 0) : Type 0 where
 
 -- the line sets up a table, or a world
 abbrev pub IsFirstLine : List ℕ → Type 0
-IsFirstLine line = ((cluster : ℕ) × IsTableLine line cluster) ⊎ ((cluster : ℕ) × (alpha : ℕ) × (members : List Member) × IsGenesisLine line cluster alpha members)
+IsFirstLine line = ((cluster : ℕ) × IsTableLine line cluster)
+    ⊎ ((cluster : ℕ) × (alpha : ℕ) × (members : List Member) × IsGenesisLine line cluster alpha members)
 
 -- the line is valid there: after the first line a datagram in hex, or an instruction
 abbrev pub IsUnderstood : {R : Type 0} → Script R → List ℕ → Type 0
@@ -36,12 +37,15 @@ pub data Takes {R : Type 0} (b : Behaviour R) : Script R → List ℕ → List �
   -- the first line sets up a table
   begins : (line : List ℕ) (cluster : ℕ) → IsTableLine line cluster → Takes b begun line [] (table cluster [])
   -- or a world, in which nothing has happened
-  opens : (line : List ℕ) (genesis : Genesis) → IsGenesisLine line genesis.cluster genesis.alpha genesis.members → Takes b begun line [] (world (new_world genesis) 0)
+  opens : (line : List ℕ) (genesis : Genesis) → IsGenesisLine line genesis.cluster genesis.alpha genesis.members
+      → Takes b begun line [] (world (new_world genesis) 0)
   -- a later line is a datagram in hex
-  prints : (cluster : ℕ) (L : List Command) (line bytes text : List ℕ) (after : List Command) → SpellsBytes line bytes → Prints cluster L bytes text after
+  prints : (cluster : ℕ) (L : List Command) (line bytes text : List ℕ) (after : List Command) → SpellsBytes line bytes
+      → Prints cluster L bytes text after
       → Takes b (table cluster L) line (text ++ 10 ∷ []) (table cluster after)
   -- or an event of the world, or several, which happen in order; nothing is said here of what they print
-  happens : (old new : Scene R) (done : ℕ) (line out : List ℕ) (o : Instruction) → SpellsInstruction line o → Passes b (events_of o) old new
+  happens : (old new : Scene R) (done : ℕ) (line out : List ℕ) (o : Instruction) → SpellsInstruction line o
+      → Passes b (events_of o) old new
       → Takes b (world old done) line out (world new (done + length (events_of o)))
 
 -- a valid line, of which an event is rejected: those before it happen in order, the rejection leaves this world, and
@@ -72,14 +76,18 @@ pub data Runs {R : Type 0} (b : Behaviour R) : Script R → ℕ → List (List �
   -- no line is left
   ends : (s : Script R) (n : ℕ) → Runs b s n [] [] (at_end s)
   -- an empty line
-  skips : (s : Script R) (n : ℕ) (lines : List (List ℕ)) (text : List ℕ) (stop : Stop R) → Runs b s (n + 1) lines text stop → Runs b s n ([] ∷ lines) text stop
+  skips : (s : Script R) (n : ℕ) (lines : List (List ℕ)) (text : List ℕ) (stop : Stop R)
+      → Runs b s (n + 1) lines text stop → Runs b s n ([] ∷ lines) text stop
   -- a valid line
-  takes : (s after : Script R) (n : ℕ) (line out : List ℕ) (lines : List (List ℕ)) (text : List ℕ) (stop : Stop R) → line ≢ [] → Takes b s line out after
+  takes : (s after : Script R) (n : ℕ) (line out : List ℕ) (lines : List (List ℕ)) (text : List ℕ) (stop : Stop R)
+      → line ≢ [] → Takes b s line out after
       → Runs b after (n + 1) lines text stop → Runs b s n (line ∷ lines) (out ++ text) stop
   -- an invalid line: nothing after it is read
-  stops : (s : Script R) (n : ℕ) (line : List ℕ) (lines : List (List ℕ)) → line ≢ [] → (IsUnderstood s line → ⊥) → Runs b s n (line ∷ lines) [] (at_line n)
+  stops : (s : Script R) (n : ℕ) (line : List ℕ) (lines : List (List ℕ)) → line ≢ [] → (IsUnderstood s line → ⊥)
+      → Runs b s n (line ∷ lines) [] (at_line n)
   -- a rejection: nothing after it is read
-  refuses : (s : Script R) (n : ℕ) (line out : List ℕ) (r : Refused) (lines : List (List ℕ)) → line ≢ [] → Refuses b s line out r → Runs b s n (line ∷ lines) out (at_refusal r)
+  refuses : (s : Script R) (n : ℕ) (line out : List ℕ) (r : Refused) (lines : List (List ℕ)) → line ≢ []
+      → Refuses b s line out r → Runs b s n (line ∷ lines) out (at_refusal r)
 
 -- the last line of the output if no line is left
 abbrev pub last_line : {R : Type 0} → Script R → List ℕ
@@ -89,5 +97,6 @@ last_line (world scene done) = done_line done
 
 -- the first line that is not empty begins a world
 pub data OpensWorld : List (List ℕ) → Type 0 where
-  here : (line : List ℕ) (cluster alpha : ℕ) (members : List Member) (lines : List (List ℕ)) → IsGenesisLine line cluster alpha members → OpensWorld (line ∷ lines)
+  here : (line : List ℕ) (cluster alpha : ℕ) (members : List Member) (lines : List (List ℕ))
+      → IsGenesisLine line cluster alpha members → OpensWorld (line ∷ lines)
   later : (lines : List (List ℕ)) → OpensWorld lines → OpensWorld ([] ∷ lines)

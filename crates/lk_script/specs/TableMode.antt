@@ -17,9 +17,11 @@ use Rattle.lk_script.specs.Replies.{IsReply, with_request}
 -- the reply to a request, by the list in which it is if it takes effect
 pub data Replies (L : List Command) (r : RequestValue) : NodeMessage → Type 0 where
   -- the number is the client's last one: the answer that it got
-  answers : (a : AnswerValue) → IsLast L r.client r.number → IsReply L r.client r.number a → Replies L r (Answer (record { client = r.client; number = r.number; answer = a }))
+  answers : (a : AnswerValue) → IsLast L r.client r.number → IsReply L r.client r.number a
+      → Replies L r (Answer (record { client = r.client; number = r.number; answer = a }))
   -- the number is below it: the last one
-  passes : (last : ℕ) → IsLast L r.client last → r.number < last → Replies L r (Passed (record { client = r.client; number = r.number; last = last }))
+  passes : (last : ℕ) → IsLast L r.client last → r.number < last
+      → Replies L r (Passed (record { client = r.client; number = r.number; last = last }))
 
 -- a client's request to the cluster, and a message of node 1 of the cluster
 abbrev pub from_client : ℕ → RequestValue → Message
@@ -48,11 +50,14 @@ pub data Prints (cluster : ℕ) (L : List Command) (bytes : List ℕ) : List ℕ
   -- the bytes are no datagram
   unreadable : ((m : Message) → Spells m bytes → ⊥) → Prints cluster L bytes (codes "bad") L
   -- a datagram of another kind, or a request to another cluster
-  others : (m : Message) → Spells m bytes → is_request_to cluster m ≡ false → Prints cluster L bytes (codes "not a request") L
+  others : (m : Message) → Spells m bytes → is_request_to cluster m ≡ false
+      → Prints cluster L bytes (codes "not a request") L
   -- a request to join or to leave
-  not_here : (r : RequestValue) → Spells (from_client cluster r) bytes → is_for_table r.op ≡ false → Prints cluster L bytes (codes "not here") L
+  not_here : (r : RequestValue) → Spells (from_client cluster r) bytes → is_for_table r.op ≡ false
+      → Prints cluster L bytes (codes "not here") L
   -- a request for the lock table: the reply in hex; it is appended to the list if it takes effect
-  replied : (r : RequestValue) (m : NodeMessage) → Spells (from_client cluster r) bytes → is_for_table r.op ≡ true → Replies (with_request L r) r m
+  replied : (r : RequestValue) (m : NodeMessage) → Spells (from_client cluster r) bytes → is_for_table r.op ≡ true
+      → Replies (with_request L r) r m
       → Prints cluster L bytes (encode_lower (spelling (from_node cluster m))) (with_request L r)
 
 -- the line that begins table mode

@@ -1,12 +1,14 @@
 //! Scripts, line by line.
 
-ghost use Rattle.std.specs.Prelude.{◌≡◌, ◌≢◌, ◌+◌, ◌<◌, ◌≤◌, ◌⊎◌, List, [], ℕ, Some, None, Ok, Err, IfOk, IfErr, IfSome, OnOk, IsErrOf, string_bytes};
+ghost use Rattle.std.specs.Prelude.{◌≡◌, ◌≢◌, ◌+◌, ◌<◌, ◌≤◌, ◌⊎◌, List, [], ℕ, Some, None, Ok, Err, IfOk, IfErr};
+ghost use Rattle.std.specs.Prelude.{IfSome, OnOk, IsErrOf, string_bytes};
 ghost use Rattle.std.specs.Io.KnownBytes.{Appends};
 ghost use Rattle.lk_types.specs.Limits.{max_count};
 ghost use Rattle.lk_world_nodes.specs.declared.refused.Refused.{Refused as RefusedValue};
 ghost use Rattle.lk_script.specs.TableMode.{IsTableLine};
 ghost use Rattle.lk_script.specs.Worlds.{new_world, done_line};
-ghost use Rattle.lk_script.specs.Scripts.{Script, begun, table, world, IsFirstLine, IsUnderstood, Takes, Refuses, last_line};
+ghost use Rattle.lk_script.specs.Scripts.{Script, begun, table, world, IsFirstLine, IsUnderstood, Takes, Refuses};
+ghost use Rattle.lk_script.specs.Scripts.{last_line};
 ghost use Rattle.lk_script.specs.Endings.{PrintsAll, SetsUp, EndsBy};
 ghost use Rattle.lk_script.specs.TableServers.{Fits, done_in};
 
@@ -94,9 +96,12 @@ fn take_line<M: MemoryReplica>(
     buffers: &mut Buffers,
 ) -> Result<Option<Refused>, LineFault>
     requires { done_in mode.old < max_count }
-    ensures ok { result ≡ Ok None → (s : Script M) → Fits s mode.old → (after : Script M) × Takes M.behaves s line.now buffers.new.text.items after × Fits after mode.new }
-    ensures refused { (r : RefusedValue) → result ≡ Ok (Some r) → (s : Script M) → Fits s mode.old → Refuses M.behaves s line.now buffers.new.text.items r }
-    ensures not_understood { IsErrOf result LineFault.NotUnderstood → (s : Script M) → Fits s mode.old → IsUnderstood s line.now → ⊥ }
+    ensures ok { result ≡ Ok None → (s : Script M) → Fits s mode.old
+        → (after : Script M) × Takes M.behaves s line.now buffers.new.text.items after × Fits after mode.new }
+    ensures refused { (r : RefusedValue) → result ≡ Ok (Some r) → (s : Script M) → Fits s mode.old
+        → Refuses M.behaves s line.now buffers.new.text.items r }
+    ensures not_understood { IsErrOf result LineFault.NotUnderstood → (s : Script M) → Fits s mode.old
+        → IsUnderstood s line.now → ⊥ }
     ensures paces { done_in mode.new ≤ done_in mode.old + 65535 }
 {
     match mode {
@@ -137,8 +142,11 @@ fn write_last<M: MemoryReplica, W: Write>(
     mode: &Mode<M>,
     writer: &mut W,
 ) -> Result<(), ScriptFault>
-    ensures ok { OnOk result ((s : Script M) → Fits s mode.now → Appends (W.contents writer.old) (W.contents writer.new) (last_line s)) }
-    ensures err { IfErr result (λ fault. (fault ≡ ScriptFault.Write) ⊎ ((fault ≡ ScriptFault.ScriptMemory) × (W.contents writer.new ≡ W.contents writer.old))) }
+    ensures ok { OnOk result
+        ((s : Script M) → Fits s mode.now → Appends (W.contents writer.old) (W.contents writer.new) (last_line s)) }
+    ensures err { IfErr result
+        (λ fault. (fault ≡ ScriptFault.Write)
+        ⊎ ((fault ≡ ScriptFault.ScriptMemory) × (W.contents writer.new ≡ W.contents writer.old))) }
 {
     let Mode::World(run) = mode else {
         return Ok(());
@@ -156,7 +164,10 @@ fn write_line<W: Write>(
     writer: &mut W,
 ) -> Result<(), ScriptFault>
     ensures ok { OnOk result ((ended ≡ None) × Appends (W.contents writer.old) (W.contents writer.new) text.now) }
-    ensures err { IfErr result (λ fault. (fault ≡ ScriptFault.Write) ⊎ ((r : RefusedValue) × (fault ≡ ScriptFault.Ended r) × (ended ≡ Some r) × Appends (W.contents writer.old) (W.contents writer.new) text.now)) }
+    ensures err { IfErr result
+        (λ fault. (fault ≡ ScriptFault.Write)
+        ⊎ ((r : RefusedValue) × (fault ≡ ScriptFault.Ended r) × (ended ≡ Some r)
+        × Appends (W.contents writer.old) (W.contents writer.new) text.now)) }
 {
     write_text(writer, text)?;
     match ended {
@@ -173,8 +184,15 @@ pub fn run_script<M: MemoryReplica, R: BufRead, W: Write>(
     reader: &mut R,
     writer: &mut W,
 ) -> Result<Mode<M>, ScriptFault>
-    ensures ok { IfOk result (λ mode. IfSome (R.remaining reader.old) (λ script. (text : List ℕ) × SetsUp M.behaves script text mode × Appends (W.contents writer.old) (W.contents writer.new) text)) }
-    ensures err { IfErr result (λ fault. fault ≢ ScriptFault.Write → IfSome (R.remaining reader.old) (λ script. (text : List ℕ) × EndsBy M.behaves fault script text (R.remaining reader.new) × Appends (W.contents writer.old) (W.contents writer.new) text)) }
+    ensures ok { IfOk result
+        (λ mode. IfSome (R.remaining reader.old)
+        (λ script. (text : List ℕ) × SetsUp M.behaves script text mode
+        × Appends (W.contents writer.old) (W.contents writer.new) text)) }
+    ensures err { IfErr result
+        (λ fault. fault ≢ ScriptFault.Write
+        → IfSome (R.remaining reader.old)
+        (λ script. (text : List ℕ) × EndsBy M.behaves fault script text (R.remaining reader.new)
+        × Appends (W.contents writer.old) (W.contents writer.new) text)) }
 {
     let mut line = Vec::new(alloc);
     let mut buffers = Buffers::new(alloc);
@@ -202,7 +220,9 @@ pub fn run_to_end<M: MemoryReplica, R: BufRead, W: Write, E: Write>(
     out: &mut W,
     err: &mut E,
 ) -> u8
-    ensures ok { result ≡ 0 → IfSome (R.remaining reader.old) (λ script. (text : List ℕ) × PrintsAll M.behaves script text × Appends (W.contents out.old) (W.contents out.new) text) }
+    ensures ok { result ≡ 0 → IfSome (R.remaining reader.old)
+        (λ script. (text : List ℕ) × PrintsAll M.behaves script text
+        × Appends (W.contents out.old) (W.contents out.new) text) }
     ensures quiet { result ≡ 0 → err.new ≡ err.old }
     ensures status { (result ≡ 0) ⊎ (result ≡ 1) }
 {

@@ -1,6 +1,7 @@
 //! One unreplicated lock table: a cluster of node 1 alone, which executes each request at once.
 
-ghost use Rattle.std.specs.Prelude.{◌≡◌, ◌+◌, ◌<◌, ◌≤◌, ◌++◌, ◌∷◌, [], List, ℕ, Some, None, true, false, OnOk, IfOk, IfErr, IfSome, IsNone, IsErrOf};
+ghost use Rattle.std.specs.Prelude.{◌≡◌, ◌+◌, ◌<◌, ◌≤◌, ◌++◌, ◌∷◌, [], List, ℕ, Some, None, true, false, OnOk, IfOk};
+ghost use Rattle.std.specs.Prelude.{IfErr, IfSome, IsNone, IsErrOf};
 ghost use Rattle.lk_types.specs.Limits.{max_count};
 ghost use Rattle.lk_members.specs.Effects.{Command as CommandValue};
 ghost use Rattle.lk_messages.specs.Grammar.{Spells};
@@ -32,7 +33,8 @@ fn request_to(cluster: u64, message: &MessageRef<'_>) -> Option<Request>
 // The request that some bytes spell, if they are a datagram and it is a request to the cluster.
 fn read_request(cluster: u64, bytes: &[u8]) -> Result<Option<Request>, Bad>
     ensures request { IfOk result (λ found. IfSome found (λ r. Spells (from_client cluster r) bytes.now)) }
-    ensures other { IfOk result (λ found. IsNone found → (m : MessageValue) × Spells m bytes.now × (is_request_to cluster m ≡ false)) }
+    ensures other { IfOk result
+        (λ found. IsNone found → (m : MessageValue) × Spells m bytes.now × (is_request_to cluster m ≡ false)) }
     ensures bad { IfErr result (λ e. (m : MessageValue) → Spells m bytes.now → ⊥) }
 {
     let message = view(bytes)?;
@@ -82,7 +84,8 @@ impl TableServer {
         requires table { is_for_table request.now.op ≡ true }
         requires new { is_new (session_of request.now.client self.old.whole.sessions) request.now.number ≡ true }
         ensures ok { IfOk result (λ a. (L : List CommandValue) → HasServed L self.old
-            → Replies (with_request L request.now) request.now (reply.Answer (record { client = request.now.client; number = request.now.number; answer = a }))
+            → Replies (with_request L request.now) request.now
+            (reply.Answer (record { client = request.now.client; number = request.now.number; answer = a }))
             × HasServed (with_request L request.now) self.new) }
         ensures cluster { self.new.cluster ≡ self.old.cluster }
         ensures paces { executed_of self.new ≤ executed_of self.old + 1 }
@@ -117,8 +120,11 @@ impl TableServer {
     // Makes the text what a client's request to the cluster prints.
     fn print_request(&mut self, request: &Request, buffers: &mut Buffers) -> Result<(), NoMemory>
         requires { executed_of self.old < max_count }
-        ensures ok { OnOk result ((bytes : List ℕ) (L : List CommandValue) → Spells (from_client self.old.cluster request.now) bytes → HasServed L self.old
-            → (after : List CommandValue) × Prints self.old.cluster L bytes buffers.new.text.items after × HasServed after self.new) }
+        ensures ok { OnOk result
+            ((bytes : List ℕ) (L : List CommandValue)
+            → Spells (from_client self.old.cluster request.now) bytes → HasServed L self.old
+            → (after : List CommandValue) × Prints self.old.cluster L bytes buffers.new.text.items after
+            × HasServed after self.new) }
         ensures cluster { self.new.cluster ≡ self.old.cluster }
         ensures paces { executed_of self.new ≤ executed_of self.old + 1 }
     {
@@ -137,7 +143,9 @@ impl TableServer {
     fn print(&mut self, buffers: &mut Buffers) -> Result<(), NoMemory>
         requires { executed_of self.old < max_count }
         ensures ok { OnOk result ((L : List CommandValue) → HasServed L self.old
-            → (after : List CommandValue) × Prints self.old.cluster L buffers.old.bytes.items buffers.new.text.items after × HasServed after self.new) }
+            → (after : List CommandValue)
+            × Prints self.old.cluster L buffers.old.bytes.items buffers.new.text.items after
+            × HasServed after self.new) }
         ensures cluster { self.new.cluster ≡ self.old.cluster }
         ensures paces { executed_of self.new ≤ executed_of self.old + 1 }
     {
@@ -152,9 +160,11 @@ impl TableServer {
     pub fn print_line(&mut self, line: &[u8], buffers: &mut Buffers) -> Result<(), LineFault>
         requires { executed_of self.old < max_count }
         ensures ok { OnOk result ((L : List CommandValue) → HasServed L self.old
-            → (bytes : List ℕ) × (printed : List ℕ) × (after : List CommandValue) × SpellsBytes line.now bytes × Prints self.old.cluster L bytes printed after
+            → (bytes : List ℕ) × (printed : List ℕ) × (after : List CommandValue) × SpellsBytes line.now bytes
+            × Prints self.old.cluster L bytes printed after
             × (buffers.new.text.items ≡ printed ++ 10 ∷ []) × HasServed after self.new) }
-        ensures not_understood { IsErrOf result LineFault.NotUnderstood → (bytes : List ℕ) → SpellsBytes line.now bytes → ⊥ }
+        ensures not_understood { IsErrOf result LineFault.NotUnderstood → (bytes : List ℕ)
+            → SpellsBytes line.now bytes → ⊥ }
         ensures cluster { self.new.cluster ≡ self.old.cluster }
         ensures paces { executed_of self.new ≤ executed_of self.old + 1 }
     {

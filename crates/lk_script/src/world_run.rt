@@ -54,8 +54,10 @@ impl<R: MemoryReplica> WorldRun<R> {
     // One event happens, and what it prints is appended to the text. It may be rejected.
     fn happen(&mut self, event: Event, text: &mut Vec<u8>) -> Result<Option<Refused>, NoMemory>
         requires { self.old.done < 2 * max_count }
-        ensures does { result ≡ Ok None → Does R.behaves self.old.world event self.new.world × (self.new.done ≡ self.old.done + 1) }
-        ensures refused { (r : RefusedValue) → result ≡ Ok (Some r) → IsRefused R.behaves self.old.world event r self.new.world × (self.new.done ≡ self.old.done) }
+        ensures does { result ≡ Ok None
+            → Does R.behaves self.old.world event self.new.world × (self.new.done ≡ self.old.done + 1) }
+        ensures refused { (r : RefusedValue) → result ≡ Ok (Some r)
+            → IsRefused R.behaves self.old.world event r self.new.world × (self.new.done ≡ self.old.done) }
         ensures paces { self.new.done ≤ self.old.done + 1 }
     {
         let places = (self.world.trace().len(), self.world.datagrams().len());
@@ -76,7 +78,9 @@ impl<R: MemoryReplica> WorldRun<R> {
         text: &mut Vec<u8>,
     ) -> Result<Option<Refused>, NoMemory>
         requires { self.old.done < max_count }
-        ensures follows { IfOk result (λ refused. (k : ℕ) × Follows R.behaves self.old.world (replicate times (Tick node)) k refused self.new.world × (self.new.done ≡ self.old.done + k)) }
+        ensures follows { IfOk result
+            (λ refused. (k : ℕ) × Follows R.behaves self.old.world
+            (replicate times (Tick node)) k refused self.new.world × (self.new.done ≡ self.old.done + k)) }
         ensures paces { self.new.done ≤ self.old.done + times }
     {
         'ticks: for _ in 0..times {
@@ -94,7 +98,9 @@ impl<R: MemoryReplica> WorldRun<R> {
         text: &mut Vec<u8>,
     ) -> Result<Option<Refused>, NoMemory>
         requires { self.old.done < max_count }
-        ensures follows { IfOk result (λ refused. (k : ℕ) × Follows R.behaves self.old.world (events_of instruction) k refused self.new.world × (self.new.done ≡ self.old.done + k)) }
+        ensures follows { IfOk result
+            (λ refused. (k : ℕ) × Follows R.behaves self.old.world (events_of instruction) k refused self.new.world
+            × (self.new.done ≡ self.old.done + k)) }
         ensures paces { self.new.done ≤ self.old.done + 65535 }
     {
         match instruction {
@@ -112,10 +118,14 @@ impl<R: MemoryReplica> WorldRun<R> {
     ) -> Result<Option<Refused>, LineFault>
         requires { self.old.done < max_count }
         // The events of the line happen in the world, in order, up to the first that is rejected; and no others.
-        ensures follows { IfOk result (λ refused. (o : InstructionValue) × (k : ℕ) × SpellsInstruction line.now o × Follows R.behaves self.old.world (events_of o) k refused self.new.world
+        ensures follows { IfOk result
+            (λ refused. (o : InstructionValue) × (k : ℕ) × SpellsInstruction line.now o
+            × Follows R.behaves self.old.world (events_of o) k refused self.new.world
             × (self.new.done ≡ self.old.done + k)) }
-        ensures refused { (r : RefusedValue) → result ≡ Ok (Some r) → (printed : List ℕ) × (text.new.items ≡ printed ++ refused_line r) }
-        ensures not_understood { IsErrOf result LineFault.NotUnderstood → (o : InstructionValue) → SpellsInstruction line.now o → ⊥ }
+        ensures refused { (r : RefusedValue) → result ≡ Ok (Some r)
+            → (printed : List ℕ) × (text.new.items ≡ printed ++ refused_line r) }
+        ensures not_understood { IsErrOf result LineFault.NotUnderstood → (o : InstructionValue)
+            → SpellsInstruction line.now o → ⊥ }
         ensures unchanged { IsErrOf result LineFault.NotUnderstood → self.new ≡ self.old }
         ensures paces { self.new.done ≤ self.old.done + 65535 }
     {

@@ -1,5 +1,6 @@
 -- The lines of a key file, one after another.
-use Rattle.std.proofs.Common.{◌≡◌, ◌≢◌, ℕ, ◌==◌, ◌||◌, true, false, List, [], ◌∷◌, ◌++◌, Option, Some, None, refl, sym, ap, ◌∙◌, append_assoc}
+use Rattle.std.proofs.Common.{◌≡◌, ◌≢◌, ℕ, ◌==◌, ◌||◌, true, false, List, [], ◌∷◌, ◌++◌, Option, Some, None, refl, sym}
+use Rattle.std.proofs.Common.{ap, ◌∙◌, append_assoc}
 use Rattle.std.proofs.lemmas.List.{append-nil}
 use Rattle.std.specs.Io.KnownBytes.{Appends, Keeps}
 use Rattle.std.specs.List.{list_any}
@@ -24,7 +25,8 @@ rest_free b line free = elim (b == 10) as (λ x. (x || list_any (λ c. c == 10) 
 -- a text with a line feed begins with a line
 pub lines_more : (line rest : List ℕ) → IsLine line → lines (line ++ 10 ∷ rest) ≡ line ∷ lines rest
 lines_more [] rest free = refl
-lines_more (b ∷ line) rest free = rw (no_feed b line free) (ap (in_first b) (lines_more line rest (rest_free b line free)))
+lines_more (b ∷ line) rest free =
+    rw (no_feed b line free) (ap (in_first b) (lines_more line rest (rest_free b line free)))
 
 -- and one without is a line
 pub lines_end : (line : List ℕ) → IsLine line → lines line ≡ line ∷ []
@@ -38,28 +40,41 @@ abbrev pub ReadSoFar : List ℕ → List (List ℕ) → List ℕ → Type 0
 ReadSoFar text keys rest = key_file text ≡ one_or_two (joined keys (keys_in (lines rest)))
 
 -- a further line, and what stands after it
-one_line : (text : List ℕ) (keys : List (List ℕ)) (rest line behind : List ℕ) → IsLine line → rest ≡ line ++ 10 ∷ behind → ReadSoFar text keys rest
+one_line : (text : List ℕ) (keys : List (List ℕ)) (rest line behind : List ℕ) → IsLine line
+    → rest ≡ line ++ 10 ∷ behind → ReadSoFar text keys rest
     → key_file text ≡ one_or_two (joined keys (keys_in (line ∷ lines behind)))
-one_line text keys rest line behind free e so_far = so_far ∙ ap (λ (ls : List (List ℕ)). one_or_two (joined keys (keys_in ls))) (ap lines e ∙ lines_more line behind free)
+one_line text keys rest line behind free e so_far =
+    so_far ∙ ap (λ (ls : List (List ℕ)). one_or_two (joined keys (keys_in ls)))
+    (ap lines e ∙ lines_more line behind free)
 
-pub line_read : (text : List ℕ) (keys more : List (List ℕ)) (rest line behind : List ℕ) → IsLine line → rest ≡ line ++ 10 ∷ behind
-    → ((after : List (List ℕ)) → joined keys (keys_in (line ∷ after)) ≡ joined more (keys_in after)) → ReadSoFar text keys rest → ReadSoFar text more behind
-line_read text keys more rest line behind free e read so_far = one_line text keys rest line behind free e so_far ∙ ap one_or_two (read (lines behind))
+pub line_read : (text : List ℕ) (keys more : List (List ℕ)) (rest line behind : List ℕ) → IsLine line
+    → rest ≡ line ++ 10 ∷ behind
+    → ((after : List (List ℕ)) → joined keys (keys_in (line ∷ after)) ≡ joined more (keys_in after))
+    → ReadSoFar text keys rest → ReadSoFar text more behind
+line_read text keys more rest line behind free e read so_far =
+    one_line text keys rest line behind free e so_far ∙ ap one_or_two (read (lines behind))
 
-pub line_refused : (text : List ℕ) (keys : List (List ℕ)) (rest line behind : List ℕ) → IsLine line → rest ≡ line ++ 10 ∷ behind
-    → ((after : List (List ℕ)) → one_or_two (joined keys (keys_in (line ∷ after))) ≡ None) → ReadSoFar text keys rest → key_file text ≡ None
-line_refused text keys rest line behind free e refused so_far = one_line text keys rest line behind free e so_far ∙ refused (lines behind)
+pub line_refused : (text : List ℕ) (keys : List (List ℕ)) (rest line behind : List ℕ) → IsLine line
+    → rest ≡ line ++ 10 ∷ behind
+    → ((after : List (List ℕ)) → one_or_two (joined keys (keys_in (line ∷ after))) ≡ None)
+    → ReadSoFar text keys rest → key_file text ≡ None
+line_refused text keys rest line behind free e refused so_far =
+    one_line text keys rest line behind free e so_far ∙ refused (lines behind)
 
 -- the last line
-last_line : (text : List ℕ) (keys : List (List ℕ)) (rest : List ℕ) → IsLine rest → ReadSoFar text keys rest → key_file text ≡ one_or_two (joined keys (keys_in (rest ∷ [])))
-last_line text keys rest free so_far = so_far ∙ ap (λ (ls : List (List ℕ)). one_or_two (joined keys (keys_in ls))) (lines_end rest free)
+last_line : (text : List ℕ) (keys : List (List ℕ)) (rest : List ℕ) → IsLine rest → ReadSoFar text keys rest
+    → key_file text ≡ one_or_two (joined keys (keys_in (rest ∷ [])))
+last_line text keys rest free so_far =
+    so_far ∙ ap (λ (ls : List (List ℕ)). one_or_two (joined keys (keys_in ls))) (lines_end rest free)
 
 pub last_read : (text : List ℕ) (keys more : List (List ℕ)) (rest : List ℕ) → IsLine rest
-    → ((after : List (List ℕ)) → joined keys (keys_in (rest ∷ after)) ≡ joined more (keys_in after)) → ReadSoFar text keys rest → key_file text ≡ one_or_two (Some (more ++ []))
+    → ((after : List (List ℕ)) → joined keys (keys_in (rest ∷ after)) ≡ joined more (keys_in after))
+    → ReadSoFar text keys rest → key_file text ≡ one_or_two (Some (more ++ []))
 last_read text keys more rest free read so_far = last_line text keys rest free so_far ∙ ap one_or_two (read [])
 
 pub last_refused : (text : List ℕ) (keys : List (List ℕ)) (rest : List ℕ) → IsLine rest
-    → ((after : List (List ℕ)) → one_or_two (joined keys (keys_in (rest ∷ after))) ≡ None) → ReadSoFar text keys rest → key_file text ≡ None
+    → ((after : List (List ℕ)) → one_or_two (joined keys (keys_in (rest ∷ after))) ≡ None)
+    → ReadSoFar text keys rest → key_file text ≡ None
 last_refused text keys rest free refused so_far = last_line text keys rest free so_far ∙ refused []
 
 -- keys are one or two, or none

@@ -6,4 +6,5 @@ use Rattle.lk_seal.specs.declared.keys.Keys.{Keys}
 
 -- each entry has the keys that the masters yield for the client of its number
 pub record IsTable (masters : Keys) (table : List Keys) : Type 0 where
-  pub at : (client : ℕ) (keys : Keys) → slice_get table client ≡ Some keys → key_list keys ≡ client_keys client (key_list masters)
+  pub at : (client : ℕ) (keys : Keys) → slice_get table client ≡ Some keys
+      → key_list keys ≡ client_keys client (key_list masters)

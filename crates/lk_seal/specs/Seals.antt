@@ -1,5 +1,6 @@
 -- How a node opens what arrives at its socket, and seals the datagrams that it sends.
-use Rattle.std.specs.Prelude.{◌≡◌, ◌⊎◌, ℕ, List, [], ◌∷◌, Option, Some, None, if◌then◌else◌, ◌==◌, slice_index, drop, replicate}
+use Rattle.std.specs.Prelude.{◌≡◌, ◌⊎◌, ℕ, List, [], ◌∷◌, Option, Some, None, if◌then◌else◌, ◌==◌, slice_index, drop}
+use Rattle.std.specs.Prelude.{replicate}
 use Rattle.lk_seal.specs.Clients.{client_keys, client_in}
 use Rattle.lk_seal.specs.Frames.{sealed, opened}
 pub use Rattle.lk_seal.specs.KeyLists.{key_list}
@@ -43,7 +44,8 @@ only_request_in (Some datagram) = only_request datagram
 
 -- what that client has sent, under the keys that the masters yield for it
 abbrev pub heard_of : ℕ → List (List ℕ) → ℕ → List ℕ → List ℕ
-heard_of client masters cluster frame = only_request_in (opened_by (client_keys client masters) (asking cluster client) frame)
+heard_of client masters cluster frame =
+    only_request_in (opened_by (client_keys client masters) (asking cluster client) frame)
 
 -- what a client has sent; nothing if it is not a client's kind, or if there are masters and no key that they yield for
 -- the named client opens it
@@ -59,7 +61,8 @@ said_or None other = other
 -- what a node takes from what arrives; everything unchanged if the nodes have no key
 abbrev pub heard_with : List (List ℕ) → Seals → List ℕ → List ℕ
 heard_with [] s frame = frame
-heard_with (key ∷ keys) s frame = said_or (opened_by (key ∷ keys) (to_node s s.node) frame) (heard_of_client (key_list s.clients) s.cluster frame)
+heard_with (key ∷ keys) s frame =
+    said_or (opened_by (key ∷ keys) (to_node s s.node) frame) (heard_of_client (key_list s.clients) s.cluster frame)
 
 abbrev pub heard : Seals → List ℕ → List ℕ
 heard s frame = heard_with (key_list s.nodes) s frame

@@ -32,9 +32,12 @@ IsVouched s frame = IsSealedBy (key_list s.nodes) (to_node s s.node) frame (hear
 
 -- that client of the cluster sealed it, under a key that the masters yield for it
 abbrev pub IsSealedByClient : Seals → ℕ → List ℕ → List ℕ → Type 0
-IsSealedByClient s client frame datagram = IsSealedBy (client_keys client (key_list s.clients)) (asking s.cluster client) frame datagram
+IsSealedByClient s client frame datagram =
+    IsSealedBy (client_keys client (key_list s.clients)) (asking s.cluster client) frame datagram
 
 -- what is taken if nodes and clients have keys: what someone with a key of the nodes has sealed for this node, or
 -- nothing, or what someone with the key of the client that it names has sealed
 abbrev pub IsOfWhoItNames : Seals → List ℕ → Type 0
-IsOfWhoItNames s frame = IsSealedBy (key_list s.nodes) (to_node s s.node) frame (heard s frame) ⊎ (heard s frame ≡ []) ⊎ IsSealedByClient s (client_in (heard s frame)) frame (heard s frame)
+IsOfWhoItNames s frame =
+    IsSealedBy (key_list s.nodes) (to_node s s.node) frame (heard s frame) ⊎ (heard s frame ≡ [])
+    ⊎ IsSealedByClient s (client_in (heard s frame)) frame (heard s frame)

@@ -17,7 +17,12 @@ pub struct AskerSeals {
 impl AskerSeals {
     // What that client asks, or the reply to it.
     fn scope(&self, purpose: Purpose, client: u16) -> Scope
-        ensures { result ≡ record { purpose = purpose; cluster = self.now.cluster; genesis = no_genesis; bound = client } }
+        ensures { result ≡ record {
+          purpose = purpose;
+          cluster = self.now.cluster;
+          genesis = no_genesis;
+          bound = client;
+        } }
     {
         Scope {
             purpose,
@@ -34,7 +39,8 @@ impl AskerSeals {
         request: &'a [u8],
         frame: &'a mut Vec<u8>,
     ) -> Result<&'a [u8], AllocError>
-        ensures ok { IfOk result (λ f. f.now ≡ framed_by (key_list self.now.keys) (asking self.now.cluster client) request.now) }
+        ensures ok { IfOk result
+            (λ f. f.now ≡ framed_by (key_list self.now.keys) (asking self.now.cluster client) request.now) }
         // Only a frame needs memory.
         ensures refused { IsErr result → key_list self.now.keys ≢ [] }
     {

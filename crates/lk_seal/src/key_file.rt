@@ -66,8 +66,11 @@ impl Keys {
     // These keys, and that of the next line. `None` where the line spells none though it says something, and where
     // they were two.
     fn with_line(self, line: &[u8]) -> Option<Keys>
-        ensures some { IfSome result (λ keys. (after : List (List ℕ)) → joined (key_list self) (keys_in (line.now ∷ after)) ≡ joined (key_list keys) (keys_in after)) }
-        ensures none { IsNone result → (after : List (List ℕ)) → one_or_two (joined (key_list self) (keys_in (line.now ∷ after))) ≡ None }
+        ensures some { IfSome result
+            (λ keys. (after : List (List ℕ))
+            → joined (key_list self) (keys_in (line.now ∷ after)) ≡ joined (key_list keys) (keys_in after)) }
+        ensures none { IsNone result → (after : List (List ℕ))
+            → one_or_two (joined (key_list self) (keys_in (line.now ∷ after))) ≡ None }
     {
         if is_idle(line) {
             return Some(self);

@@ -21,10 +21,12 @@ pub fn is_of_who_it_names()
 
 /// What one of the keys seals, they open, to the same datagram.
 pub fn is_opened()
-    ensures { (key : List ℕ) (keys : List (List ℕ)) (s : Scope) (datagram : List ℕ) → IsAmong key keys → opened_by keys s (sealed key s datagram) ≡ Some datagram }
+    ensures { (key : List ℕ) (keys : List (List ℕ)) (s : Scope) (datagram : List ℕ) → IsAmong key keys
+        → opened_by keys s (sealed key s datagram) ≡ Some datagram }
 {}
 
 /// A frame is for one node of one genesis and for one datagram, or two messages collide under the key.
 pub fn is_for_one()
-    ensures { (key : List ℕ) (s t : Scope) (d e : List ℕ) → IsScope s → IsScope t → sealed key s d ≡ sealed key t e → IsForOne s t d e ⊎ Collide key (front s ++ d) (front t ++ e) }
+    ensures { (key : List ℕ) (s t : Scope) (d e : List ℕ) → IsScope s → IsScope t → sealed key s d ≡ sealed key t e
+        → IsForOne s t d e ⊎ Collide key (front s ++ d) (front t ++ e) }
 {}

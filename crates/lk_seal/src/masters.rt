@@ -88,7 +88,8 @@ impl Masters {
 
     /// What the first key of a client that opens a frame opens it to.
     pub fn open<'a>(&self, client: u16, scope: &Scope, frame: &'a [u8]) -> Option<&'a [u8]>
-        ensures some { IfSome result (λ d. opened_by (client_keys client (key_list self.now)) scope.now frame.now ≡ Some d.now) }
+        ensures some { IfSome result
+            (λ d. opened_by (client_keys client (key_list self.now)) scope.now frame.now ≡ Some d.now) }
         ensures none { IsNone result → opened_by (client_keys client (key_list self.now)) scope.now frame.now ≡ None }
     {
         match self.kept(client) {
@@ -106,7 +107,8 @@ impl Masters {
         datagram: &'a [u8],
         frame: &'a mut Vec<u8>,
     ) -> Result<&'a [u8], AllocError>
-        ensures ok { IfOk result (λ f. f.now ≡ framed_by (client_keys client (key_list self.now)) scope.now datagram.now) }
+        ensures ok { IfOk result
+            (λ f. f.now ≡ framed_by (client_keys client (key_list self.now)) scope.now datagram.now) }
         ensures refused { IsErr result → client_keys client (key_list self.now) ≢ [] }
     {
         match self.kept(client) {

@@ -2,7 +2,8 @@
 
 ghost use Rattle.std.specs.Prelude.{◌≡◌, ◌≢◌, [], drop, IfOk, IsErr};
 ghost use Rattle.lk_seal.specs.Clients.{client_keys, client_in};
-ghost use Rattle.lk_seal.specs.Seals.{key_list, heard, heard_of, heard_of_client, only_request, framed_by, to_node, no_genesis, asking, replying};
+ghost use Rattle.lk_seal.specs.Seals.{key_list, heard, heard_of, heard_of_client, only_request, framed_by, to_node};
+ghost use Rattle.lk_seal.specs.Seals.{no_genesis, asking, replying};
 
 use crate::frame::{DIGEST, OVERHEAD, Purpose, Scope};
 use crate::keys::Keys;
@@ -73,7 +74,12 @@ impl Seals {
 
     // What that client asks, or the reply to it.
     fn with_client(&self, purpose: Purpose, client: u16) -> Scope
-        ensures { result ≡ record { purpose = purpose; cluster = self.now.cluster; genesis = no_genesis; bound = client } }
+        ensures { result ≡ record {
+          purpose = purpose;
+          cluster = self.now.cluster;
+          genesis = no_genesis;
+          bound = client;
+        } }
     {
         Scope {
             purpose,
@@ -125,7 +131,8 @@ impl Seals {
         datagram: &'a [u8],
         frame: &'a mut Vec<u8>,
     ) -> Result<&'a [u8], AllocError>
-        ensures ok { IfOk result (λ f. f.now ≡ framed_by (key_list self.now.nodes) (to_node self.now node) datagram.now) }
+        ensures ok { IfOk result
+            (λ f. f.now ≡ framed_by (key_list self.now.nodes) (to_node self.now node) datagram.now) }
         ensures refused { IsErr result → key_list self.now.nodes ≢ [] }
     {
         self.nodes.frame_of(&self.to_node(node), datagram, frame)
@@ -138,7 +145,9 @@ impl Seals {
         datagram: &'a [u8],
         frame: &'a mut Vec<u8>,
     ) -> Result<&'a [u8], AllocError>
-        ensures ok { IfOk result (λ f. f.now ≡ framed_by (client_keys client (key_list self.now.clients)) (replying self.now.cluster client) datagram.now) }
+        ensures ok { IfOk result
+            (λ f. f.now ≡ framed_by (client_keys client (key_list self.now.clients))
+            (replying self.now.cluster client) datagram.now) }
         ensures refused { IsErr result → client_keys client (key_list self.now.clients) ≢ [] }
     {
         let scope = self.with_client(Purpose::Replying, client);

@@ -14,9 +14,12 @@ Gatherings R = R → List (Option (List ℕ)) → GroupValue → R → Type 0
 module _ {R : Type 0} (Gathers : Gatherings R) where
   -- whatever input this group had before, it now has this input too, and nothing is synced or sent for it
   abbrev pub GathersMore : List (Option (List ℕ)) → GroupValue → GroupValue → R → R → Type 0
-  GathersMore more group now old new = (start : R) (given : List (Option (List ℕ))) → Gathers start given group old → Gathers start (given ++ more) now new
+  GathersMore more group now old new =
+      (start : R) (given : List (Option (List ℕ))) → Gathers start given group old
+      → Gathers start (given ++ more) now new
 
 module _ {R : Type 0} (Says : Sayings R) (Gathers : Gatherings R) where
   -- whatever input the group had, this input has ended the replica, and nothing of the group is sent
   abbrev pub SaysNoMore : List (Option (List ℕ)) → GroupValue → R → R → Type 0
-  SaysNoMore more group old new = (start : R) (given : List (Option (List ℕ))) → Gathers start given group old → Says start (given ++ more) [] new
+  SaysNoMore more group old new =
+      (start : R) (given : List (Option (List ℕ))) → Gathers start given group old → Says start (given ++ more) [] new

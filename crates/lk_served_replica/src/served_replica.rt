@@ -49,8 +49,10 @@ pub trait ServedReplica: Sized + Drop {
     /// Takes a tick or a datagram into a group, as `Replica::gather` does. Nothing is sent before `release`, and
     /// nothing of a rejected group ever is. Any error ends the replica.
     fn gather(&mut self, input: Input, group: &mut Group) -> Result<(), ReplicaFault>
-        ensures gathers { OnOk result (GathersMore Gathers (heard_by input.entry ∷ []) group.old group.new self.old self.new) }
-        ensures silent { OnErr result (SaysNoMore Says Gathers (heard_by input.entry ∷ []) group.old self.old self.new) }
+        ensures gathers { OnOk result
+            (GathersMore Gathers (heard_by input.entry ∷ []) group.old group.new self.old self.new) }
+        ensures silent { OnErr result
+            (SaysNoMore Says Gathers (heard_by input.entry ∷ []) group.old self.old self.new) }
         ensures broken { OnErr result (failed self.new ≡ true) }
         ensures told { IfErr result IsOfGroups };
 
@@ -58,9 +60,14 @@ pub trait ServedReplica: Sized + Drop {
     /// replica.
     fn release<P: Post>(&mut self, group: &Group, post: &mut P) -> Result<bool, ReplicaFault>
         // It gives its letters to the post in order, each once, and nothing else.
-        ensures hands { OnOk result (GivesLetters P.Carries post.old post.new (λ letters. (start : Self) (given : List (Option (List ℕ))) → Gathers start given group.now self.old → Says start given letters self.new)) }
+        ensures hands { OnOk result
+            (GivesLetters P.Carries post.old post.new
+            (λ letters. (start : Self) (given : List (Option (List ℕ))) → Gathers start given group.now self.old
+            → Says start given letters self.new)) }
         // After an error it produces nothing, and gives the post nothing.
-        ensures silent { OnErr result ((start : Self) (given : List (Option (List ℕ))) → Gathers start given group.now self.old → Says start given [] self.new) }
+        ensures silent { OnErr result
+            ((start : Self) (given : List (Option (List ℕ))) → Gathers start given group.now self.old
+            → Says start given [] self.new) }
         ensures unsent { OnErr result (post.new ≡ post.old) }
         ensures tells { IfOk result (λ all. TellsSends all (P.failures post.old) (P.failures post.new)) }
         ensures alive { OnOk result (failed self.new ≡ false) }
@@ -82,9 +89,11 @@ pub trait ServedReplica: Sized + Drop {
 impl<M: Machine, D: LogDisk + Drop> ServedReplica for Replica<M, D> {
     ghost failed = { λ r. r.failed };
 
-    ghost Says = { λ old given letters new. D.is_honest → SaysOf M.meaning M.IsText D.is_metered old given letters new };
+    ghost Says = { λ old given letters new. D.is_honest
+        → SaysOf M.meaning M.IsText D.is_metered old given letters new };
 
-    ghost Gathers = { λ start given group now. D.is_honest → GathersOf M.meaning M.IsText D.is_metered start given group now };
+    ghost Gathers = { λ start given group now. D.is_honest
+        → GathersOf M.meaning M.IsText D.is_metered start given group now };
 
     ghost Shows = { IsShown };
 

@@ -1,5 +1,5 @@
-//! The version of a node's lock table. A machine does not show it: a copy is raised, and its answer tells. That is dear,
-//! so a server remembers what it has read, and reads again only after a Raise or another node's snapshot.
+//! The version of a node's lock table. A machine does not show it: a copy is raised, and its answer tells. That is
+//! dear, so a server remembers what it has read, and reads again only after a Raise or another node's snapshot.
 
 ghost use Rattle.std.specs.Prelude.{◌≡◌, ◌↔◌, IfSome, IsTrue};
 ghost use Rattle.lk_state.specs.Packed.{packed, Packs};

@@ -11,28 +11,56 @@ use Rattle.lk_server.specs.Servers.{ServerValue, tray_at}
 use Rattle.lk_served_replica.specs.declared.probed_state.ProbedState.{ProbedState}
 
 -- an answer leaves what is to come
-answer_still : {R : Type 0} (Shows : R → ProbedState → Type 0) (tells : Type 0) (asked : Option ReceivedProbe) (old new : ServerValue R) → AnswersKept Shows tells asked old new → tells → new.coming ≡ old.coming
+answer_still : {R : Type 0} (Shows : R → ProbedState → Type 0) (tells : Type 0) (asked : Option ReceivedProbe)
+    (old new : ServerValue R) → AnswersKept Shows tells asked old new → tells → new.coming ≡ old.coming
 answer_still {R} Shows tells None old new same t = ap (λ (s : ServerValue R). s.coming) same
 answer_still Shows tells (Some a) old new one t = one.still t
 
-module _ {R : Type 0} (Shows : R → ProbedState → Type 0) (tells : Type 0) (asked : Option ReceivedProbe) (reported : Option Reported) (now : ℕ) (old answered readmitted learned new : ServerValue R) where
+module _ {R : Type 0} (Shows : R → ProbedState → Type 0) (tells : Type 0) (asked : Option ReceivedProbe)
+    (reported : Option Reported) (now : ℕ) (old answered readmitted learned new : ServerValue R) where
   -- it answers, readmits, learns and asks
-  pub acted : AnswersKept Shows tells asked old answered → answered ≡ record old { sent = answered.sent; socket_failures = answered.socket_failures; coming = answered.coming }
-      → ReadmitsKept asked answered.addresses readmitted.addresses → IsSameNetwork answered.addresses readmitted.addresses → readmitted ≡ record answered { addresses = readmitted.addresses }
-      → LearnsKept reported readmitted.addresses learned.addresses → IsSameNetwork readmitted.addresses learned.addresses → learned ≡ record readmitted { addresses = learned.addresses }
-      → now ≡ learned.ticks → AsksOne tells now learned.node learned.addresses new.addresses (tray_at learned.own learned) (tray_at new.own new) → IsSameNetwork learned.addresses new.addresses → (tells → new.coming ≡ learned.coming)
-      → new ≡ record learned { addresses = new.addresses; sent = new.sent; socket_failures = new.socket_failures; coming = new.coming }
+  pub acted : AnswersKept Shows tells asked old answered
+      → answered ≡ record old {
+        sent = answered.sent;
+        socket_failures = answered.socket_failures;
+        coming = answered.coming;
+      }
+      → ReadmitsKept asked answered.addresses readmitted.addresses
+      → IsSameNetwork answered.addresses readmitted.addresses
+      → readmitted ≡ record answered { addresses = readmitted.addresses }
+      → LearnsKept reported readmitted.addresses learned.addresses
+      → IsSameNetwork readmitted.addresses learned.addresses
+      → learned ≡ record readmitted { addresses = learned.addresses }
+      → now ≡ learned.ticks → AsksOne tells now learned.node learned.addresses new.addresses
+      (tray_at learned.own learned) (tray_at new.own new) → IsSameNetwork learned.addresses new.addresses
+      → (tells → new.coming ≡ learned.coming)
+      → new ≡ record learned {
+        addresses = new.addresses;
+        sent = new.sent;
+        socket_failures = new.socket_failures;
+        coming = new.coming;
+      }
       → HandlesProbes Shows tells asked reported old new
   acted answers answered_so readmits heard readmitted_so learns known learned_so own asks kept still new_so =
       let book : answered.addresses ≡ old.addresses = ap (λ (s : ServerValue R). s.addresses) answered_so in
-      let again : learned ≡ record answered { addresses = learned.addresses } = learned_so ∙ ap (λ (s : ServerValue R). record s { addresses = learned.addresses }) readmitted_so in
-      let node : learned.node ≡ old.node = ap (λ (s : ServerValue R). s.node) again ∙ ap (λ (s : ServerValue R). s.node) answered_so in
-      let tray : tray_at learned.own learned ≡ tray_at answered.own answered = ap (λ (s : ServerValue R). tray_at s.own s) again in
-      let since : learned ≡ record old { addresses = learned.addresses; sent = answered.sent; socket_failures = answered.socket_failures; coming = answered.coming } =
+      let again : learned ≡ record answered { addresses = learned.addresses } = learned_so
+      ∙ ap (λ (s : ServerValue R). record s { addresses = learned.addresses }) readmitted_so in
+      let node : learned.node ≡ old.node = ap (λ (s : ServerValue R). s.node) again
+      ∙ ap (λ (s : ServerValue R). s.node) answered_so in
+      let tray : tray_at learned.own learned ≡ tray_at answered.own answered =
+      ap (λ (s : ServerValue R). tray_at s.own s) again in
+      let since : learned ≡ record old {
+        addresses = learned.addresses;
+        sent = answered.sent;
+        socket_failures = answered.socket_failures;
+        coming = answered.coming;
+      } =
       again ∙ ap (λ (s : ServerValue R). record s { addresses = learned.addresses }) answered_so in
       let time : now ≡ old.ticks = own ∙ ap (λ (s : ServerValue R). s.ticks) since in
-      let asked_at : AsksOne tells old.ticks learned.node learned.addresses new.addresses (tray_at learned.own learned) (tray_at new.own new) =
-      subst (λ (n : ℕ). AsksOne tells n learned.node learned.addresses new.addresses (tray_at learned.own learned) (tray_at new.own new)) time asks in
+      let asked_at : AsksOne tells old.ticks learned.node learned.addresses new.addresses
+      (tray_at learned.own learned) (tray_at new.own new) =
+      subst (λ (n : ℕ). AsksOne tells n learned.node learned.addresses new.addresses (tray_at learned.own learned)
+      (tray_at new.own new)) time asks in
       record {
         answered = answered;
         answers = answers;
@@ -40,8 +68,18 @@ module _ {R : Type 0} (Shows : R → ProbedState → Type 0) (tells : Type 0) (a
         readmits = subst (λ (b : AddressBook). ReadmitsKept asked b readmitted.addresses) book readmits;
         learned = learned.addresses;
         learns = learns;
-        asks = subst₂ (λ (n : ℕ) (t : Tray). AsksOne tells old.ticks n learned.addresses new.addresses t (tray_at new.own new)) node tray asked_at;
-        network = (kept.0 ∙ known.0 ∙ heard.0 ∙ ap (λ (b : AddressBook). b.hosts) book, kept.1 ∙ known.1 ∙ heard.1 ∙ ap (λ (b : AddressBook). b.seals) book);
-        still = λ t. still t ∙ ap (λ (s : ServerValue R). s.coming) again ∙ answer_still Shows tells asked old answered answers t;
-        same = new_so ∙ ap (λ (s : ServerValue R). record s { addresses = new.addresses; sent = new.sent; socket_failures = new.socket_failures; coming = new.coming }) since;
+        asks = subst₂ (λ (n : ℕ) (t : Tray). AsksOne tells old.ticks n learned.addresses new.addresses t
+            (tray_at new.own new)) node tray asked_at;
+        network = (
+          kept.0 ∙ known.0 ∙ heard.0 ∙ ap (λ (b : AddressBook). b.hosts) book,
+          kept.1 ∙ known.1 ∙ heard.1 ∙ ap (λ (b : AddressBook). b.seals) book,
+        );
+        still = λ t. still t ∙ ap (λ (s : ServerValue R). s.coming) again
+            ∙ answer_still Shows tells asked old answered answers t;
+        same = new_so ∙ ap (λ (s : ServerValue R). record s {
+          addresses = new.addresses;
+          sent = new.sent;
+          socket_failures = new.socket_failures;
+          coming = new.coming;
+        }) since;
       }

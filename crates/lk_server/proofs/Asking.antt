@@ -1,5 +1,6 @@
 -- What is kept of the frames that came: the first probe and the first report.
-use Rattle.std.proofs.Common.{◌≡◌, true, false, List, [], ◌∷◌, ◌++◌, ℕ, Option, Some, None, refl, ap, sym, ◌∙◌, subst, subst₂, append_assoc}
+use Rattle.std.proofs.Common.{◌≡◌, true, false, List, [], ◌∷◌, ◌++◌, ℕ, Option, Some, None, refl, ap, sym, ◌∙◌, subst}
+use Rattle.std.proofs.Common.{subst₂, append_assoc}
 use Rattle.std.specs.declared.net.socket_addr.SocketAddr.{SocketAddr}
 use Rattle.lk_probe.specs.Grammar.{padded, SpellsProbe, SpellsReport}
 use Rattle.lk_probe.specs.declared.probe.Probe.{Probe}
@@ -32,7 +33,8 @@ asks_nothing : (s : Seals) (d : SocketAddr × List ℕ) → is_beside (heard s d
 asks_nothing s d apart p asks = let both : false ≡ true = sym apart ∙ is_aside p (heard s d.1) asks.spelled in cc both
 
 tells_nothing : (n : ℕ) (s : Seals) (d : SocketAddr × List ℕ) → is_beside (heard s d.1) ≡ false → IsToldBy n s d None
-tells_nothing n s d apart r spelled answers = let both : false ≡ true = sym apart ∙ tells_aside r (heard s d.1) spelled in cc both
+tells_nothing n s d apart r spelled answers =
+    let both : false ≡ true = sym apart ∙ tells_aside r (heard s d.1) spelled in cc both
 
 module _ {K : Type 0} (Brings : SocketAddr × List ℕ → Option K → Type 0) where
   -- of one that brings nothing
@@ -44,7 +46,8 @@ module _ {K : Type 0} (Brings : SocketAddr × List ℕ → Option K → Type 0) 
   first_still None d none = none
   first_still (Some k) d none = refl
 
-  first_one : (old new : Option K) (d : SocketAddr × List ℕ) → KeepsFirst Brings (Some d) old new → KeepsFirstOf Brings old (d ∷ []) new
+  first_one : (old new : Option K) (d : SocketAddr × List ℕ) → KeepsFirst Brings (Some d) old new
+      → KeepsFirstOf Brings old (d ∷ []) new
   first_one (Some k) new d kept = kept
   first_one None None d kept = (kept, tt)
   first_one None (Some k) d kept = record { before = []; frame = d; after = []; are = refl; none = tt; brings = kept }
@@ -56,7 +59,8 @@ module _ {K : Type 0} (Brings : SocketAddr × List ℕ → Option K → Type 0) 
   first_none None = tt
   first_none (Some k) = refl
 
-  none_more : (xs ys : List (SocketAddr × List ℕ)) → BringNothing Brings xs → BringNothing Brings ys → BringNothing Brings (xs ++ ys)
+  none_more : (xs ys : List (SocketAddr × List ℕ)) → BringNothing Brings xs → BringNothing Brings ys
+      → BringNothing Brings (xs ++ ys)
   none_more [] ys a b = b
   none_more (x ∷ xs) ys a b = (a.0, none_more xs ys a.1 b)
 
@@ -70,7 +74,8 @@ module _ {K : Type 0} (Brings : SocketAddr × List ℕ → Option K → Type 0) 
     brings = f.brings;
   }
 
-  then_first : (xs ys : List (SocketAddr × List ℕ)) (k : K) → BringNothing Brings xs → BringsFirst Brings ys k → BringsFirst Brings (xs ++ ys) k
+  then_first : (xs ys : List (SocketAddr × List ℕ)) (k : K) → BringNothing Brings xs → BringsFirst Brings ys k
+      → BringsFirst Brings (xs ++ ys) k
   then_first xs ys k none f = record {
     before = xs ++ f.before;
     frame = f.frame;
@@ -81,16 +86,19 @@ module _ {K : Type 0} (Brings : SocketAddr × List ℕ → Option K → Type 0) 
   }
 
   -- of more of them
-  first_more : (xs ys : List (SocketAddr × List ℕ)) (old mid new : Option K) → KeepsFirstOf Brings old xs mid → KeepsFirstOf Brings mid ys new → KeepsFirstOf Brings old (xs ++ ys) new
+  first_more : (xs ys : List (SocketAddr × List ℕ)) (old mid new : Option K) → KeepsFirstOf Brings old xs mid
+      → KeepsFirstOf Brings mid ys new → KeepsFirstOf Brings old (xs ++ ys) new
   first_more xs ys (Some k) mid new one two = subst (λ (o : Option K). KeepsFirstOf Brings o ys new) one two
-  first_more xs ys None (Some k) new one two = subst (λ (o : Option K). IsFirstOf Brings (xs ++ ys) o) (sym two) (first_then xs ys k one)
+  first_more xs ys None (Some k) new one two =
+      subst (λ (o : Option K). IsFirstOf Brings (xs ++ ys) o) (sym two) (first_then xs ys k one)
   first_more xs ys None None None one two = none_more xs ys one two
   first_more xs ys None None (Some k) one two = then_first xs ys k one two
 
 -- ---- what a buffer keeps
 
 -- more frames, of the same node by the same seals
-pub keeps_more : (n m : ℕ) (s t : Seals) (xs ys : List (SocketAddr × List ℕ)) (old mid new : BufferValue) → m ≡ n → t ≡ s → KeepsOf n s xs old mid → KeepsOf m t ys mid new → KeepsOf n s (xs ++ ys) old new
+pub keeps_more : (n m : ℕ) (s t : Seals) (xs ys : List (SocketAddr × List ℕ)) (old mid new : BufferValue) → m ≡ n
+    → t ≡ s → KeepsOf n s xs old mid → KeepsOf m t ys mid new → KeepsOf n s (xs ++ ys) old new
 keeps_more n m s t xs ys old mid new node seals one two =
     let next : KeepsOf n s ys mid new = subst₂ (λ (k : ℕ) (z : Seals). KeepsOf k z ys mid new) node seals two in
     record {
@@ -99,49 +107,69 @@ keeps_more n m s t xs ys old mid new node seals one two =
     }
 
 -- no frame more
-pub keeps_on : (n : ℕ) (s : Seals) (xs : List (SocketAddr × List ℕ)) (old mid new : BufferValue) → KeepsOf n s xs old mid → new.asked ≡ mid.asked → new.reported ≡ mid.reported → KeepsOf n s xs old new
+pub keeps_on : (n : ℕ) (s : Seals) (xs : List (SocketAddr × List ℕ)) (old mid new : BufferValue)
+    → KeepsOf n s xs old mid → new.asked ≡ mid.asked → new.reported ≡ mid.reported → KeepsOf n s xs old new
 keeps_on n s xs old mid new kept asked reported = record {
   asked = subst (λ (a : Option ReceivedProbe). KeepsFirstOf (BringsProbe s) old.asked xs a) (sym asked) kept.asked;
-  reported = subst (λ (r : Option Reported). KeepsFirstOf (IsToldBy n s) old.reported xs r) (sym reported) kept.reported;
+  reported =
+      subst (λ (r : Option Reported). KeepsFirstOf (IsToldBy n s) old.reported xs r) (sym reported) kept.reported;
 }
 
 -- as it did
-pub keeps_still : (n : ℕ) (s : Seals) (old new : BufferValue) → new.asked ≡ old.asked → new.reported ≡ old.reported → KeepsOf n s [] old new
-keeps_still n s old new asked reported = keeps_on n s [] old old new (record { asked = first_none (BringsProbe s) old.asked; reported = first_none (IsToldBy n s) old.reported }) asked reported
+pub keeps_still : (n : ℕ) (s : Seals) (old new : BufferValue) → new.asked ≡ old.asked
+    → new.reported ≡ old.reported → KeepsOf n s [] old new
+keeps_still n s old new asked reported =
+    keeps_on n s [] old old new
+    (record { asked = first_none (BringsProbe s) old.asked; reported = first_none (IsToldBy n s) old.reported }) asked
+    reported
 
 -- of a frame that a replica is given
-pub keeps_given : (n : ℕ) (s : Seals) (d : SocketAddr × List ℕ) (old new : BufferValue) → is_beside (heard s d.1) ≡ false → new.asked ≡ old.asked → new.reported ≡ old.reported → KeepsOf n s (d ∷ []) old new
+pub keeps_given : (n : ℕ) (s : Seals) (d : SocketAddr × List ℕ) (old new : BufferValue)
+    → is_beside (heard s d.1) ≡ false → new.asked ≡ old.asked → new.reported ≡ old.reported
+    → KeepsOf n s (d ∷ []) old new
 keeps_given n s d old new apart asked reported = keeps_on n s (d ∷ []) old old new (record {
   asked = first_apart (BringsProbe s) old.asked d (asks_nothing s d apart);
   reported = first_apart (IsToldBy n s) old.reported d (tells_nothing n s d apart);
 }) asked reported
 
 -- of one that stands beside the protocol
-pub keeps_beside : (n m : ℕ) (s t : Seals) (d : SocketAddr × List ℕ) (old mid new : BufferValue) → m ≡ n → t ≡ s → mid.asked ≡ old.asked → mid.reported ≡ old.reported → mid.last ≡ Some d → Keeps m t mid new
+pub keeps_beside : (n m : ℕ) (s t : Seals) (d : SocketAddr × List ℕ) (old mid new : BufferValue) → m ≡ n → t ≡ s
+    → mid.asked ≡ old.asked → mid.reported ≡ old.reported → mid.last ≡ Some d → Keeps m t mid new
     → KeepsOf n s (d ∷ []) old new
 keeps_beside n m s t d old mid new node seals asked reported is keeps =
     let kept : Keeps n s mid new = subst₂ (λ (k : ℕ) (z : Seals). Keeps k z mid new) node seals keeps in
     record {
-      asked = first_one (BringsProbe s) old.asked new.asked d (subst₂ (λ (l : Option (SocketAddr × List ℕ)) (a : Option ReceivedProbe). KeepsFirst (BringsProbe s) l a new.asked) is asked kept.asked);
-      reported = first_one (IsToldBy n s) old.reported new.reported d (subst₂ (λ (l : Option (SocketAddr × List ℕ)) (r : Option Reported). KeepsFirst (IsToldBy n s) l r new.reported) is reported kept.reported);
+      asked = first_one (BringsProbe s) old.asked new.asked d
+          (subst₂ (λ (l : Option (SocketAddr × List ℕ)) (a : Option ReceivedProbe). KeepsFirst
+          (BringsProbe s) l a new.asked) is asked kept.asked);
+      reported = first_one (IsToldBy n s) old.reported new.reported d
+          (subst₂ (λ (l : Option (SocketAddr × List ℕ)) (r : Option Reported). KeepsFirst
+          (IsToldBy n s) l r new.reported) is reported kept.reported);
     }
 
 -- of one that is neither a probe nor a report
-pub keeps_strange : (n : ℕ) (s : Seals) (d : SocketAddr × List ℕ) (old : BufferValue) → old.last ≡ Some d → is_beside (heard s d.1) ≡ false → Keeps n s old old
+pub keeps_strange : (n : ℕ) (s : Seals) (d : SocketAddr × List ℕ) (old : BufferValue) → old.last ≡ Some d
+    → is_beside (heard s d.1) ≡ false → Keeps n s old old
 keeps_strange n s d old is apart = record {
   last = refl;
-  asked = subst (λ (l : Option (SocketAddr × List ℕ)). KeepsFirst (BringsProbe s) l old.asked old.asked) (sym is) (first_still (BringsProbe s) old.asked d (asks_nothing s d apart));
-  reported = subst (λ (l : Option (SocketAddr × List ℕ)). KeepsFirst (IsToldBy n s) l old.reported old.reported) (sym is) (first_still (IsToldBy n s) old.reported d (tells_nothing n s d apart));
+  asked = subst (λ (l : Option (SocketAddr × List ℕ)). KeepsFirst (BringsProbe s) l old.asked old.asked) (sym is)
+      (first_still (BringsProbe s) old.asked d (asks_nothing s d apart));
+  reported = subst (λ (l : Option (SocketAddr × List ℕ)). KeepsFirst (IsToldBy n s) l old.reported old.reported)
+      (sym is) (first_still (IsToldBy n s) old.reported d (tells_nothing n s d apart));
 }
 
 -- of what came last, where a replica is given nothing of it
-pub keeps_found : (n m : ℕ) (s t : Seals) (found : TurnInput) (old mid new : BufferValue) → m ≡ n → t ≡ s → mid.asked ≡ old.asked → mid.reported ≡ old.reported → (found ≡ Nothing → mid.last ≡ None)
-    → (found ≡ Beside → (d : SocketAddr × List ℕ) × (mid.last ≡ Some d)) → (found ≡ Beside → Keeps m t mid new) → ((found ≡ Beside → ⊥) → new ≡ mid) → (found ≡ Something → ⊥) → KeepsOf n s (listed mid.last) old new
+pub keeps_found : (n m : ℕ) (s t : Seals) (found : TurnInput) (old mid new : BufferValue) → m ≡ n → t ≡ s
+    → mid.asked ≡ old.asked → mid.reported ≡ old.reported → (found ≡ Nothing → mid.last ≡ None)
+    → (found ≡ Beside → (d : SocketAddr × List ℕ) × (mid.last ≡ Some d)) → (found ≡ Beside → Keeps m t mid new)
+    → ((found ≡ Beside → ⊥) → new ≡ mid) → (found ≡ Something → ⊥) → KeepsOf n s (listed mid.last) old new
 keeps_found n m s t Nothing old mid new node seals asked reported nothing beside kept rest apart =
     let same = rest (λ is. cc is) in
     subst (λ (l : List (SocketAddr × List ℕ)). KeepsOf n s l old new) (sym (ap listed (nothing refl)))
-    (keeps_still n s old new (ap (λ (b : BufferValue). b.asked) same ∙ asked) (ap (λ (b : BufferValue). b.reported) same ∙ reported))
+    (keeps_still n s old new (ap (λ (b : BufferValue). b.asked) same ∙ asked)
+    (ap (λ (b : BufferValue). b.reported) same ∙ reported))
 keeps_found n m s t Beside old mid new node seals asked reported nothing beside kept rest apart =
     let b = beside refl in
-    subst (λ (l : List (SocketAddr × List ℕ)). KeepsOf n s l old new) (sym (ap listed b.1)) (keeps_beside n m s t b.0 old mid new node seals asked reported b.1 (kept refl))
+    subst (λ (l : List (SocketAddr × List ℕ)). KeepsOf n s l old new) (sym (ap listed b.1))
+    (keeps_beside n m s t b.0 old mid new node seals asked reported b.1 (kept refl))
 keeps_found n m s t Something old mid new node seals asked reported nothing beside kept rest apart = absurd (apart refl)

@@ -22,7 +22,8 @@ first_false true b is = is
 first_false false b is = refl
 
 -- it stands beside the protocol
-pub beside_is_out : (s : Filter) (d : SocketAddr × List ℕ) → is_beside (heard s.seals d.1) ≡ true → is_filtered_out s d ≡ true
+pub beside_is_out : (s : Filter) (d : SocketAddr × List ℕ) → is_beside (heard s.seals d.1) ≡ true
+    → is_filtered_out s d ≡ true
 beside_is_out s d is = first_true (is_beside (heard s.seals d.1)) (s.strangers d.0) is
 
 -- it came from a node of another genesis
@@ -30,8 +31,10 @@ pub stranger_is_out : (s : Filter) (d : SocketAddr × List ℕ) → s.strangers 
 stranger_is_out s d is = second_true (is_beside (heard s.seals d.1)) (s.strangers d.0) is
 
 -- neither
-pub is_not_out : (s : Filter) (d : SocketAddr × List ℕ) → is_beside (heard s.seals d.1) ≡ false → s.strangers d.0 ≡ false → is_filtered_out s d ≡ false
+pub is_not_out : (s : Filter) (d : SocketAddr × List ℕ) → is_beside (heard s.seals d.1) ≡ false
+    → s.strangers d.0 ≡ false → is_filtered_out s d ≡ false
 is_not_out s d beside known = none_true (is_beside (heard s.seals d.1)) (s.strangers d.0) beside known
 
-pub not_beside : (s : Filter) (d : SocketAddr × List ℕ) → is_filtered_out s d ≡ false → is_beside (heard s.seals d.1) ≡ false
+pub not_beside : (s : Filter) (d : SocketAddr × List ℕ) → is_filtered_out s d ≡ false
+    → is_beside (heard s.seals d.1) ≡ false
 not_beside s d apart = first_false (is_beside (heard s.seals d.1)) (s.strangers d.0) apart

@@ -45,24 +45,30 @@ told_by_a_node s frame some = elim (is_vouched s frame some) [
 ]
 
 -- the client that stands in the bytes of a request
-request_names : (m : Message) (r : Request) → m.content ≡ content.Request r → IsClient r.client → client_in (spelling m) ≡ r.client
+request_names : (m : Message) (r : Request) → m.content ≡ content.Request r → IsClient r.client
+    → client_in (spelling m) ≡ r.client
 unfolding two four eight
 request_names m r is fits =
-    ap (λ (c : Content). client_in (header (kind c) m.cluster (sender c) ++ fields c)) is ∙ from_be_bytes-to_be_bytes_2 r.client (omega (arith, fits.1))
+    ap (λ (c : Content). client_in (header (kind c) m.cluster (sender c) ++ fields c)) is
+    ∙ from_be_bytes-to_be_bytes_2 r.client (omega (arith, fits.1))
 
 -- what spells a request, and was sealed by the client that it names
-asked : (s : Seals) (frame bytes : List ℕ) → IsFree bytes → (bytes ≡ []) ⊎ IsSealedByClient s (client_in bytes) frame bytes
-    → (m : Message) → Spells m bytes → (r : Request) × (m.content ≡ content.Request r) × IsSealedByClient s r.client frame bytes
+asked : (s : Seals) (frame bytes : List ℕ) → IsFree bytes
+    → (bytes ≡ []) ⊎ IsSealedByClient s (client_in bytes) frame bytes
+    → (m : Message) → Spells m bytes
+    → (r : Request) × (m.content ≡ content.Request r) × IsSealedByClient s r.client frame bytes
 asked s frame bytes free (inl none) m spells =
     let empty : [] ≡ spelling m = sym none ∙ spells.1 in
     absurd cc
 asked s frame bytes free (inr own) m spells =
     let request = free m spells in
     let fits = subst IsContent request.1 spells.0.1 in
-    let names : client_in bytes ≡ request.0.client = ap client_in spells.1 ∙ request_names m request.0 request.1 fits.0 in
+    let names : client_in bytes ≡ request.0.client = ap client_in spells.1
+    ∙ request_names m request.0 request.1 fits.0 in
     (request.0, request.1, subst (λ (n : ℕ). IsSealedByClient s n frame bytes) names own)
 
-pub told_or_asked : (s : Seals) (frame : List ℕ) → key_list s.nodes ≢ [] → key_list s.clients ≢ [] → IsToldOrAsked s frame
+pub told_or_asked : (s : Seals) (frame : List ℕ) → key_list s.nodes ≢ []
+    → key_list s.clients ≢ [] → IsToldOrAsked s frame
 told_or_asked s frame some masters = elim (told_by_a_node s frame some) [
   | inl told ↦ inl told
   | inr none_says ↦ elim (is_of_who_it_names s frame some masters) [

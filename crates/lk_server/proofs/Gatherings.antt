@@ -1,5 +1,7 @@
 -- What a server has taken into a group, one datagram after another.
-use Rattle.std.proofs.Common.{◌≡◌, ◌≢◌, ℕ, zero, suc, ◌+◌, ◌≤◌, true, false, List, [], ◌∷◌, ◌++◌, length, map, take, drop, Option, Some, None, refl, sym, ap, ◌∙◌, subst, subst₂, append_assoc, append-nil, length-append, inl, inr, arith}
+use Rattle.std.proofs.Common.{◌≡◌, ◌≢◌, ℕ, zero, suc, ◌+◌, ◌≤◌, true, false, List, [], ◌∷◌, ◌++◌, length, map, take}
+use Rattle.std.proofs.Common.{drop, Option, Some, None, refl, sym, ap, ◌∙◌, subst, subst₂, append_assoc, append-nil}
+use Rattle.std.proofs.Common.{length-append, inl, inr, arith}
 use Rattle.std.proofs.lemmas.Bool.{cases_Bool}
 use Rattle.std.proofs.lemmas.List.{map-append, take_all}
 use Rattle.std.specs.declared.net.socket_addr.SocketAddr.{SocketAddr}
@@ -7,42 +9,55 @@ use Rattle.lk_node_io.specs.Letters.{LetterValue}
 use Rattle.lk_replica.specs.Groups.{GroupValue}
 use Rattle.lk_transport.specs.Addresses.{AddressBook, Filter, filter_of, IsSameFilter}
 use Rattle.lk_served_replica.specs.Groups.{Sayings, Gatherings, GathersMore, SaysNoMore}
-use Rattle.lk_server.specs.Gatherings.{TakesAll, EndsWithin, TakesOwn, EndsOwn, TakesHeard, EndsHeard, TakesSocket, EndsSocket, AreFound, Finds}
+use Rattle.lk_server.specs.Gatherings.{TakesAll, EndsWithin, TakesOwn, EndsOwn, TakesHeard, EndsHeard, TakesSocket}
+use Rattle.lk_server.specs.Gatherings.{EndsSocket, AreFound, Finds}
 use Rattle.lk_pace.specs.declared.turn_input.TurnInput.{TurnInput}
 use Rattle.lk_pace.specs.declared.turn_input.TurnInput.TheVariants.{Nothing, Beside, Something}
 use Rattle.lk_transport.specs.Hearing.{listed}
 use Rattle.lk_transport.specs.Posts.{Hears, HearsAll, is_filtered_out, opened_as, filtered, all_filtered}
 use Rattle.lk_pace.specs.Paces.{ticks_after}
 use Rattle.lk_pace.specs.declared.pace.Pace.{Pace}
-use Rattle.lk_server.specs.Servers.{ServerValue, one_more, one_more_tick, ticks_behind, inputs, all_inputs, all_ticks, counted, datagrams_in}
+use Rattle.lk_server.specs.Servers.{ServerValue, one_more, one_more_tick, ticks_behind, inputs, all_inputs, all_ticks}
+use Rattle.lk_server.specs.Servers.{counted, datagrams_in}
 
 -- ---- lists
 
-pub all_more : (pace : Pace) (received : ℕ) (xs ys : List (List ℕ)) → all_inputs pace received (xs ++ ys) ≡ all_inputs pace received xs ++ all_inputs pace (counted received xs) ys
+pub all_more : (pace : Pace) (received : ℕ) (xs ys : List (List ℕ))
+    → all_inputs pace received (xs ++ ys) ≡ all_inputs pace received xs ++ all_inputs pace (counted received xs) ys
 all_more pace received [] ys = refl
 all_more pace received (x ∷ xs) ys =
-    ap (λ (l : List (Option (List ℕ))). inputs pace (one_more received) x ++ l) (all_more pace (one_more received) xs ys)
-    ∙ sym (append_assoc (inputs pace (one_more received) x) (all_inputs pace (one_more received) xs) (all_inputs pace (counted (one_more received) xs) ys))
+    ap (λ (l : List (Option (List ℕ))). inputs pace (one_more received) x ++ l)
+    (all_more pace (one_more received) xs ys)
+    ∙ sym (append_assoc (inputs pace (one_more received) x) (all_inputs pace (one_more received) xs)
+    (all_inputs pace (counted (one_more received) xs) ys))
 
-pub counted_more : (received : ℕ) (xs ys : List (List ℕ)) → counted received (xs ++ ys) ≡ counted (counted received xs) ys
+pub counted_more : (received : ℕ) (xs ys : List (List ℕ))
+    → counted received (xs ++ ys) ≡ counted (counted received xs) ys
 counted_more received [] ys = refl
 counted_more received (x ∷ xs) ys = counted_more (one_more received) xs ys
 
-pub ticks_more : (ticks : ℕ) (xs ys : List (Option (List ℕ))) → all_ticks ticks (xs ++ ys) ≡ all_ticks (all_ticks ticks xs) ys
+pub ticks_more : (ticks : ℕ) (xs ys : List (Option (List ℕ)))
+    → all_ticks ticks (xs ++ ys) ≡ all_ticks (all_ticks ticks xs) ys
 ticks_more ticks [] ys = refl
 ticks_more ticks (x ∷ xs) ys = ticks_more (ticks_behind ticks x) xs ys
 
-alone : (pace : Pace) (n : ℕ) (bytes : List ℕ) → ticks_after pace n ≡ false → inputs pace n bytes ++ [] ≡ Some bytes ∷ []
+alone : (pace : Pace) (n : ℕ) (bytes : List ℕ) → ticks_after pace n ≡ false
+    → inputs pace n bytes ++ [] ≡ Some bytes ∷ []
 alone pace n bytes e = rw e refl
 
-with_tick : (pace : Pace) (n : ℕ) (bytes : List ℕ) → ticks_after pace n ≡ true → inputs pace n bytes ++ [] ≡ Some bytes ∷ None ∷ []
+with_tick : (pace : Pace) (n : ℕ) (bytes : List ℕ) → ticks_after pace n ≡ true
+    → inputs pace n bytes ++ [] ≡ Some bytes ∷ None ∷ []
 with_tick pace n bytes e = rw e refl
 
 -- the first of what is given at a datagram is its bytes
-bytes_first : (pace : Pace) (n : ℕ) (bytes : List ℕ) → (rest : List (Option (List ℕ))) × (inputs pace n bytes ++ [] ≡ (Some bytes ∷ []) ++ rest)
-bytes_first pace n bytes = elim (cases_Bool (ticks_after pace n)) [ inl e ↦ (None ∷ [], with_tick pace n bytes e) | inr e ↦ ([], alone pace n bytes e) ]
+bytes_first : (pace : Pace) (n : ℕ) (bytes : List ℕ)
+    → (rest : List (Option (List ℕ))) × (inputs pace n bytes ++ [] ≡ (Some bytes ∷ []) ++ rest)
+bytes_first pace n bytes =
+    elim (cases_Bool (ticks_after pace n))
+    [ inl e ↦ (None ∷ [], with_tick pace n bytes e) | inr e ↦ ([], alone pace n bytes e) ]
 
-pub taken_more : (s : Filter) (xs ys : List (SocketAddr × List ℕ)) → all_filtered s (xs ++ ys) ≡ all_filtered s xs ++ all_filtered s ys
+pub taken_more : (s : Filter) (xs ys : List (SocketAddr × List ℕ))
+    → all_filtered s (xs ++ ys) ≡ all_filtered s xs ++ all_filtered s ys
 taken_more s [] ys = refl
 taken_more s (x ∷ xs) ys =
     ap (λ (l : List (SocketAddr × List ℕ)). filtered s x ++ l) (taken_more s xs ys)
@@ -63,25 +78,33 @@ set_aside : (s : Filter) (x : SocketAddr × List ℕ) → is_filtered_out s x �
 set_aside s x e = rw e refl
 
 -- what is taken of a frame alone
-pub taken_one : (s : Filter) (d x : SocketAddr × List ℕ) → opened_as s d ≡ x → is_filtered_out s d ≡ false → all_filtered s (d ∷ []) ≡ x ∷ []
-taken_one s d x is apart = ap (λ (l : List (SocketAddr × List ℕ)). l ++ []) (kept_whole s d apart) ∙ ap (λ (c : SocketAddr × List ℕ). c ∷ []) is
+pub taken_one : (s : Filter) (d x : SocketAddr × List ℕ) → opened_as s d ≡ x → is_filtered_out s d ≡ false
+    → all_filtered s (d ∷ []) ≡ x ∷ []
+taken_one s d x is apart =
+    ap (λ (l : List (SocketAddr × List ℕ)). l ++ []) (kept_whole s d apart)
+    ∙ ap (λ (c : SocketAddr × List ℕ). c ∷ []) is
 
 pub taken_none : (s : Filter) (d : SocketAddr × List ℕ) → is_filtered_out s d ≡ true → all_filtered s (d ∷ []) ≡ []
 taken_none s d is = ap (λ (l : List (SocketAddr × List ℕ)). l ++ []) (set_aside s d is)
 
-pub taken_first : (s : Filter) (d : SocketAddr × List ℕ) (more : List (SocketAddr × List ℕ)) → is_filtered_out s d ≡ false → all_filtered s (d ∷ more) ≡ opened_as s d ∷ all_filtered s more
+pub taken_first : (s : Filter) (d : SocketAddr × List ℕ) (more : List (SocketAddr × List ℕ))
+    → is_filtered_out s d ≡ false → all_filtered s (d ∷ more) ≡ opened_as s d ∷ all_filtered s more
 taken_first s d more is = ap (λ (l : List (SocketAddr × List ℕ)). l ++ all_filtered s more) (kept_whole s d is)
 
 abbrev bytes_of : LetterValue → List ℕ
 bytes_of l = l.bytes
 
 -- one more letter
-pub own_more : (taken : List LetterValue) (l : LetterValue) → datagrams_in taken [] ++ l.bytes ∷ [] ≡ datagrams_in (taken ++ l ∷ []) []
+pub own_more : (taken : List LetterValue) (l : LetterValue)
+    → datagrams_in taken [] ++ l.bytes ∷ [] ≡ datagrams_in (taken ++ l ∷ []) []
 own_more taken l =
-    ap (λ (ds : List (List ℕ)). ds ++ l.bytes ∷ []) (append-nil (map bytes_of taken)) ∙ sym (map-append bytes_of taken (l ∷ [])) ∙ sym (append-nil (map bytes_of (taken ++ l ∷ [])))
+    ap (λ (ds : List (List ℕ)). ds ++ l.bytes ∷ []) (append-nil (map bytes_of taken))
+    ∙ sym (map-append bytes_of taken (l ∷ [])) ∙ sym (append-nil (map bytes_of (taken ++ l ∷ [])))
 
 -- more frames
-pub heard_more : (s : Filter) (xs ys : List (SocketAddr × List ℕ)) → datagrams_in [] (all_filtered s xs) ++ datagrams_in [] (all_filtered s ys) ≡ datagrams_in [] (all_filtered s (xs ++ ys))
+pub heard_more : (s : Filter) (xs ys : List (SocketAddr × List ℕ))
+    → datagrams_in [] (all_filtered s xs) ++ datagrams_in [] (all_filtered s ys)
+    ≡ datagrams_in [] (all_filtered s (xs ++ ys))
 heard_more s xs ys =
     sym (map-append (λ (c : SocketAddr × List ℕ). c.1) (all_filtered s xs) (all_filtered s ys))
     ∙ ap (λ (cs : List (SocketAddr × List ℕ)). map (λ (c : SocketAddr × List ℕ). c.1) cs) (sym (taken_more s xs ys))
@@ -109,14 +132,16 @@ drop_all (suc n) [] le = refl
 drop_all (suc n) (x ∷ xs) le = drop_all n xs (omega (arith, le))
 
 -- so many letters were taken
-pub own_full : (own taken left : List LetterValue) (n : ℕ) → own ≡ taken ++ left → length taken ≡ n → (take n own ≡ taken) × (drop n own ≡ left)
+pub own_full : (own taken left : List LetterValue) (n : ℕ) → own ≡ taken ++ left → length taken ≡ n
+    → (take n own ≡ taken) × (drop n own ≡ left)
 own_full own taken left n parts long = (
   subst₂ (λ (k : ℕ) (o : List LetterValue). take k o ≡ taken) long (sym parts) (take_front taken left),
   subst₂ (λ (k : ℕ) (o : List LetterValue). drop k o ≡ left) long (sym parts) (drop_front taken left),
 )
 
 -- all of them were
-pub own_all : (own taken left : List LetterValue) (n : ℕ) → own ≡ taken ++ left → left ≡ [] → length taken ≤ n → (take n own ≡ taken) × (drop n own ≡ left)
+pub own_all : (own taken left : List LetterValue) (n : ℕ) → own ≡ taken ++ left → left ≡ [] → length taken ≤ n
+    → (take n own ≡ taken) × (drop n own ≡ left)
 own_all own taken left n parts none short =
     let is : own ≡ taken = parts ∙ ap (λ (l : List LetterValue). taken ++ l) none ∙ append-nil taken in (
       subst (λ (o : List LetterValue). take n o ≡ taken) (sym is) (take_all n taken short),
@@ -124,10 +149,12 @@ own_all own taken left n parts none short =
     )
 
 pub some_own : (own taken left : List LetterValue) (l : LetterValue) → own ≡ (taken ++ l ∷ []) ++ left → own ≢ []
-some_own own taken left l parts none = omega (arith, ap length (sym none ∙ parts), length-append (taken ++ l ∷ []) left, length-append taken (l ∷ []))
+some_own own taken left l parts none =
+    omega (arith, ap length (sym none ∙ parts), length-append (taken ++ l ∷ []) left, length-append taken (l ∷ []))
 
 -- what was heard, one datagram after another
-pub hears_more : (cluster : ℕ) (xs ys : List (SocketAddr × List ℕ)) (old mid new : AddressBook) → HearsAll cluster xs old mid → HearsAll cluster ys mid new → HearsAll cluster (xs ++ ys) old new
+pub hears_more : (cluster : ℕ) (xs ys : List (SocketAddr × List ℕ)) (old mid new : AddressBook)
+    → HearsAll cluster xs old mid → HearsAll cluster ys mid new → HearsAll cluster (xs ++ ys) old new
 hears_more cluster [] ys old mid new a b = subst (λ (k : AddressBook). HearsAll cluster ys k new) a b
 hears_more cluster (x ∷ xs) ys old mid new a b = (a.0, a.1, hears_more cluster xs ys a.0 mid new a.2 b)
 
@@ -135,44 +162,61 @@ pub same_network : (old mid new : AddressBook) → IsSameFilter old mid → IsSa
 same_network old mid new a b = (b.0 ∙ a.0, b.1 ∙ a.1)
 
 -- no frame came
-pub none_came : {R : Type 0} (tells : Type 0) (e : Option (SocketAddr × List ℕ)) (old mid new : ServerValue R) → e ≡ None → (tells → old.coming ≡ listed e ++ mid.coming)
-    → mid ≡ record old { coming = mid.coming } → new ≡ mid → (tells → new.coming ≡ old.coming) × (record new { coming = old.coming } ≡ old)
+pub none_came : {R : Type 0} (tells : Type 0) (e : Option (SocketAddr × List ℕ)) (old mid new : ServerValue R)
+    → e ≡ None → (tells → old.coming ≡ listed e ++ mid.coming)
+    → mid ≡ record old { coming = mid.coming } → new ≡ mid
+    → (tells → new.coming ≡ old.coming) × (record new { coming = old.coming } ≡ old)
 none_came {R} tells e old mid new is comes others same = (
-  λ t. ap (λ (s : ServerValue R). s.coming) same ∙ sym (comes t ∙ ap (λ (o : Option (SocketAddr × List ℕ)). listed o ++ mid.coming) is),
+  λ t. ap (λ (s : ServerValue R). s.coming) same
+      ∙ sym (comes t ∙ ap (λ (o : Option (SocketAddr × List ℕ)). listed o ++ mid.coming) is),
   ap (λ (s : ServerValue R). record s { coming = old.coming }) (same ∙ others),
 )
 
 -- what is given by a server that was the same
-inputs_from : {R : Type 0} (old begun : ServerValue R) (xs : List (List ℕ)) → begun.pace ≡ old.pace → begun.received ≡ old.received → all_inputs begun.pace begun.received xs ≡ all_inputs old.pace old.received xs
+inputs_from : {R : Type 0} (old begun : ServerValue R) (xs : List (List ℕ)) → begun.pace ≡ old.pace
+    → begun.received ≡ old.received → all_inputs begun.pace begun.received xs ≡ all_inputs old.pace old.received xs
 inputs_from old begun xs pace received = λ i. all_inputs (pace i) (received i) xs
 
 -- what is given after some datagrams
-later : {R : Type 0} (old mid : ServerValue R) (xs ys : List (List ℕ)) → mid.pace ≡ old.pace → mid.received ≡ counted old.received xs
-    → all_inputs old.pace old.received xs ++ all_inputs mid.pace mid.received ys ≡ all_inputs old.pace old.received (xs ++ ys)
-later old mid xs ys pace count = (λ i. all_inputs old.pace old.received xs ++ all_inputs (pace i) (count i) ys) ∙ sym (all_more old.pace old.received xs ys)
+later : {R : Type 0} (old mid : ServerValue R) (xs ys : List (List ℕ)) → mid.pace ≡ old.pace
+    → mid.received ≡ counted old.received xs
+    → all_inputs old.pace old.received xs ++ all_inputs mid.pace mid.received ys
+    ≡ all_inputs old.pace old.received (xs ++ ys)
+later old mid xs ys pace count =
+    (λ i. all_inputs old.pace old.received xs ++ all_inputs (pace i) (count i) ys)
+    ∙ sym (all_more old.pace old.received xs ys)
 
 -- what was taken of a frame stood beside the protocol no more when only what was to come has changed
-pub still_not_out : {R : Type 0} (old mid : ServerValue R) (frame : SocketAddr × List ℕ) → mid ≡ record old { coming = mid.coming } → is_filtered_out (filter_of mid.addresses) frame ≡ false
+pub still_not_out : {R : Type 0} (old mid : ServerValue R) (frame : SocketAddr × List ℕ)
+    → mid ≡ record old { coming = mid.coming } → is_filtered_out (filter_of mid.addresses) frame ≡ false
     → is_filtered_out (filter_of old.addresses) frame ≡ false
-still_not_out {R} old mid frame others apart = subst (λ (s : Filter). is_filtered_out s frame ≡ false) (ap (λ (s : ServerValue R). filter_of s.addresses) others) apart
+still_not_out {R} old mid frame others apart =
+    subst (λ (s : Filter). is_filtered_out s frame ≡ false)
+    (ap (λ (s : ServerValue R). filter_of s.addresses) others) apart
 
 -- a replica is given nothing of what was found
-pub found_none : (s : Filter) (found : TurnInput) (frames : List (SocketAddr × List ℕ)) → AreFound s found frames → all_filtered s frames ≡ []
+pub found_none : (s : Filter) (found : TurnInput) (frames : List (SocketAddr × List ℕ)) → AreFound s found frames
+    → all_filtered s frames ≡ []
 found_none s Nothing frames none = ap (λ (l : List (SocketAddr × List ℕ)). all_filtered s l) none
-found_none s Beside frames one = ap (λ (l : List (SocketAddr × List ℕ)). all_filtered s l) one.1 ∙ taken_none s one.0 one.2
+found_none s Beside frames one =
+    ap (λ (l : List (SocketAddr × List ℕ)). all_filtered s l) one.1 ∙ taken_none s one.0 one.2
 found_none s Something frames never = absurd never
 
 -- it is one frame at most
-pub found_few : (s : Filter) (found : TurnInput) (frames : List (SocketAddr × List ℕ)) → AreFound s found frames → length frames ≤ 64
+pub found_few : (s : Filter) (found : TurnInput) (frames : List (SocketAddr × List ℕ))
+    → AreFound s found frames → length frames ≤ 64
 found_few s Nothing frames none = omega (arith, ap length none)
 found_few s Beside frames one = omega (arith, ap length one.1)
 found_few s Something frames never = absurd never
 
 -- what was found at the socket, where a replica is given nothing of it
-pub finds : {R : Type 0} (tells : Type 0) (found : TurnInput) (e : Option (SocketAddr × List ℕ)) (group now : GroupValue) (old mid new : ServerValue R)
-    → (tells → old.coming ≡ listed e ++ mid.coming) → (tells → e ≡ None → old.coming ≡ []) → mid ≡ record old { coming = mid.coming }
+pub finds : {R : Type 0} (tells : Type 0) (found : TurnInput) (e : Option (SocketAddr × List ℕ))
+    (group now : GroupValue) (old mid new : ServerValue R)
+    → (tells → old.coming ≡ listed e ++ mid.coming) → (tells → e ≡ None → old.coming ≡ [])
+    → mid ≡ record old { coming = mid.coming }
     → (found ≡ Nothing → (e ≡ None) × (new ≡ mid) × (now ≡ group))
-    → (found ≡ Beside → (frame : SocketAddr × List ℕ) × (e ≡ Some frame) × (is_filtered_out (filter_of mid.addresses) frame ≡ true) × (new ≡ mid) × (now ≡ group))
+    → (found ≡ Beside → (frame : SocketAddr × List ℕ) × (e ≡ Some frame)
+    × (is_filtered_out (filter_of mid.addresses) frame ≡ true) × (new ≡ mid) × (now ≡ group))
     → (found ≡ Something → ⊥) → Finds tells found (listed e) old new × (now ≡ group)
 finds {R} tells Nothing e group now old mid new comes none others nothing beside apart =
     let n = nothing refl in (
@@ -186,7 +230,9 @@ finds {R} tells Nothing e group now old mid new comes none others nothing beside
     )
 finds {R} tells Beside e group now old mid new comes none others nothing beside apart =
     let b = beside refl in
-    let is : is_filtered_out (filter_of old.addresses) b.0 ≡ true = subst (λ (s : Filter). is_filtered_out s b.0 ≡ true) (ap (λ (s : ServerValue R). filter_of s.addresses) others) b.2 in (
+    let is : is_filtered_out (filter_of old.addresses) b.0 ≡ true =
+    subst (λ (s : Filter). is_filtered_out s b.0 ≡ true)
+    (ap (λ (s : ServerValue R). filter_of s.addresses) others) b.2 in (
       record {
         are = (b.0, ap listed b.1, is);
         none = λ t empty. absurd (let both : b.0 ∷ [] ≡ [] = sym (ap listed b.1) ∙ empty in cc both);
@@ -201,11 +247,14 @@ finds tells Something e group now old mid new comes none others nothing beside a
 
 module _ {R : Type 0} (G : Gatherings R) where
   -- given to a replica that is the same
-  pub gathers_from : (more : List (Option (List ℕ))) (group now : GroupValue) (old begun new : R) → begun ≡ old → GathersMore G more group now begun new → GathersMore G more group now old new
-  gathers_from more group now old begun new same gathers = subst (λ (r : R). GathersMore G more group now r new) same gathers
+  pub gathers_from : (more : List (Option (List ℕ))) (group now : GroupValue) (old begun new : R) → begun ≡ old
+      → GathersMore G more group now begun new → GathersMore G more group now old new
+  gathers_from more group now old begun new same gathers =
+      subst (λ (r : R). GathersMore G more group now r new) same gathers
 
   -- nothing is taken
-  pub takes_nothing : (group now : GroupValue) (old new : ServerValue R) → now ≡ group → new ≡ old → TakesAll G [] group now old new
+  pub takes_nothing : (group now : GroupValue) (old new : ServerValue R) → now ≡ group → new ≡ old
+      → TakesAll G [] group now old new
   takes_nothing group now old new is same = record {
     gathers = λ first given was.
         subst (λ (l : List (Option (List ℕ))). G first l now new.replica) (sym (append-nil given))
@@ -216,36 +265,46 @@ module _ {R : Type 0} (G : Gatherings R) where
   }
 
   -- a datagram
-  pub takes_one : (bytes : List ℕ) (group now : GroupValue) (old new : ServerValue R) → GathersMore G (Some bytes ∷ []) group now old.replica new.replica
-      → new.received ≡ one_more old.received → new.pace ≡ old.pace → ticks_after new.pace new.received ≡ false → new.ticks ≡ old.ticks
+  pub takes_one : (bytes : List ℕ) (group now : GroupValue) (old new : ServerValue R)
+      → GathersMore G (Some bytes ∷ []) group now old.replica new.replica
+      → new.received ≡ one_more old.received → new.pace ≡ old.pace
+      → ticks_after new.pace new.received ≡ false → new.ticks ≡ old.ticks
       → TakesAll G (bytes ∷ []) group now old new
   takes_one bytes group now old new gathers count pace is untimed = record {
     gathers = subst (λ (l : List (Option (List ℕ))). GathersMore G l group now old.replica new.replica)
-        (sym (alone old.pace (one_more old.received) bytes (subst₂ (λ (p : Pace) (n : ℕ). ticks_after p n ≡ false) pace count is))) gathers;
+        (sym (alone old.pace (one_more old.received) bytes
+        (subst₂ (λ (p : Pace) (n : ℕ). ticks_after p n ≡ false) pace count is))) gathers;
     counted = count;
     ticks = untimed
         ∙ sym (ap (λ (l : List (Option (List ℕ))). all_ticks old.ticks l)
-        (alone old.pace (one_more old.received) bytes (subst₂ (λ (p : Pace) (n : ℕ). ticks_after p n ≡ false) pace count is)));
+        (alone old.pace (one_more old.received) bytes
+        (subst₂ (λ (p : Pace) (n : ℕ). ticks_after p n ≡ false) pace count is)));
     pace = pace;
   }
 
   -- and a tick after it
-  pub takes_tick : (bytes : List ℕ) (group one now : GroupValue) (old new : ServerValue R) (mid : R) → GathersMore G (Some bytes ∷ []) group one old.replica mid → GathersMore G (None ∷ []) one now mid new.replica
+  pub takes_tick : (bytes : List ℕ) (group one now : GroupValue) (old new : ServerValue R) (mid : R)
+      → GathersMore G (Some bytes ∷ []) group one old.replica mid → GathersMore G (None ∷ []) one now mid new.replica
       → new.received ≡ one_more old.received → new.pace ≡ old.pace → ticks_after new.pace new.received ≡ true
       → (before : ℕ) → before ≡ old.ticks → new.ticks ≡ one_more_tick before → TakesAll G (bytes ∷ []) group now old new
   takes_tick bytes group one now old new mid gathers ticks count pace is before untimed timed = record {
     gathers = subst (λ (l : List (Option (List ℕ))). GathersMore G l group now old.replica new.replica)
-        (sym (with_tick old.pace (one_more old.received) bytes (subst₂ (λ (p : Pace) (n : ℕ). ticks_after p n ≡ true) pace count is)))
-        (λ first given was. subst (λ (l : List (Option (List ℕ))). G first l now new.replica) (append_assoc given (Some bytes ∷ []) (None ∷ [])) (ticks first (given ++ Some bytes ∷ []) (gathers first given was)));
+        (sym (with_tick old.pace (one_more old.received) bytes
+        (subst₂ (λ (p : Pace) (n : ℕ). ticks_after p n ≡ true) pace count is)))
+        (λ first given was. subst (λ (l : List (Option (List ℕ))). G first l now new.replica)
+        (append_assoc given (Some bytes ∷ []) (None ∷ []))
+        (ticks first (given ++ Some bytes ∷ []) (gathers first given was)));
     counted = count;
     ticks = timed ∙ ap (λ (n : ℕ). one_more_tick n) untimed
         ∙ sym (ap (λ (l : List (Option (List ℕ))). all_ticks old.ticks l)
-        (with_tick old.pace (one_more old.received) bytes (subst₂ (λ (p : Pace) (n : ℕ). ticks_after p n ≡ true) pace count is)));
+        (with_tick old.pace (one_more old.received) bytes
+        (subst₂ (λ (p : Pace) (n : ℕ). ticks_after p n ≡ true) pace count is)));
     pace = pace;
   }
 
   -- datagrams, and more
-  pub takes_more : (xs ys : List (List ℕ)) (group one now : GroupValue) (old mid new : ServerValue R) → TakesAll G xs group one old mid → TakesAll G ys one now mid new → TakesAll G (xs ++ ys) group now old new
+  pub takes_more : (xs ys : List (List ℕ)) (group one now : GroupValue) (old mid new : ServerValue R)
+      → TakesAll G xs group one old mid → TakesAll G ys one now mid new → TakesAll G (xs ++ ys) group now old new
   takes_more xs ys group one now old mid new a b = record {
     gathers = λ first given was.
         subst (λ (l : List (Option (List ℕ))). G first l now new.replica)
@@ -260,57 +319,81 @@ module _ {R : Type 0} (G : Gatherings R) where
   }
 
   -- of a server that was the same
-  pub takes_from : (xs : List (List ℕ)) (group now : GroupValue) (old begun new : ServerValue R) → begun.replica ≡ old.replica → begun.received ≡ old.received → begun.pace ≡ old.pace → begun.ticks ≡ old.ticks
+  pub takes_from : (xs : List (List ℕ)) (group now : GroupValue) (old begun new : ServerValue R)
+      → begun.replica ≡ old.replica → begun.received ≡ old.received → begun.pace ≡ old.pace → begun.ticks ≡ old.ticks
       → TakesAll G xs group now begun new → TakesAll G xs group now old new
   takes_from xs group now old begun new replica received pace time t = record {
-    gathers = subst₂ (λ (r : R) (l : List (Option (List ℕ))). GathersMore G l group now r new.replica) replica (inputs_from old begun xs pace received) t.gathers;
+    gathers = subst₂ (λ (r : R) (l : List (Option (List ℕ))). GathersMore G l group now r new.replica) replica
+        (inputs_from old begun xs pace received) t.gathers;
     counted = t.counted ∙ ap (λ (n : ℕ). counted n xs) received;
     ticks = t.ticks ∙ (λ i. all_ticks (time i) (inputs_from old begun xs pace received i));
     pace = t.pace ∙ pace;
   }
 
-  pub socket_more : (tells : Type 0) (xs ys : List (SocketAddr × List ℕ)) (group one now : GroupValue) (old mid new : ServerValue R) → mid.cluster ≡ old.cluster
-      → TakesSocket G tells xs group one old mid → TakesSocket G tells ys one now mid new → TakesSocket G tells (xs ++ ys) group now old new
+  pub socket_more : (tells : Type 0) (xs ys : List (SocketAddr × List ℕ)) (group one now : GroupValue)
+      (old mid new : ServerValue R) → mid.cluster ≡ old.cluster
+      → TakesSocket G tells xs group one old mid → TakesSocket G tells ys one now mid new
+      → TakesSocket G tells (xs ++ ys) group now old new
   socket_more tells xs ys group one now old mid new cluster a b =
       let filter = a.takes.network.1 in
       record {
         takes = record {
-          takes = subst (λ (ds : List (List ℕ)). TakesAll G ds group now old new) (heard_more (filter_of old.addresses) xs ys)
-              (takes_more (datagrams_in [] (all_filtered (filter_of old.addresses) xs)) (datagrams_in [] (all_filtered (filter_of old.addresses) ys)) group one now old mid new a.takes.takes
-              (subst (λ (s : Filter). TakesAll G (datagrams_in [] (all_filtered s ys)) one now mid new) filter b.takes.takes));
-          heard = subst (λ (cs : List (SocketAddr × List ℕ)). HearsAll old.cluster cs old.addresses new.addresses) (sym (taken_more (filter_of old.addresses) xs ys))
-              (hears_more old.cluster (all_filtered (filter_of old.addresses) xs) (all_filtered (filter_of old.addresses) ys) old.addresses mid.addresses new.addresses a.takes.heard
-              (subst₂ (λ (n : ℕ) (s : Filter). HearsAll n (all_filtered s ys) mid.addresses new.addresses) cluster filter b.takes.heard));
+          takes = subst (λ (ds : List (List ℕ)). TakesAll G ds group now old new)
+              (heard_more (filter_of old.addresses) xs ys)
+              (takes_more (datagrams_in [] (all_filtered (filter_of old.addresses) xs))
+              (datagrams_in [] (all_filtered (filter_of old.addresses) ys)) group one now old mid new a.takes.takes
+              (subst (λ (s : Filter). TakesAll G (datagrams_in [] (all_filtered s ys)) one now mid new) filter
+              b.takes.takes));
+          heard = subst (λ (cs : List (SocketAddr × List ℕ)). HearsAll old.cluster cs old.addresses new.addresses)
+              (sym (taken_more (filter_of old.addresses) xs ys))
+              (hears_more old.cluster (all_filtered (filter_of old.addresses) xs)
+              (all_filtered (filter_of old.addresses) ys) old.addresses mid.addresses new.addresses a.takes.heard
+              (subst₂ (λ (n : ℕ) (s : Filter). HearsAll n (all_filtered s ys) mid.addresses new.addresses)
+              cluster filter b.takes.heard));
           network = same_network old.addresses mid.addresses new.addresses a.takes.network b.takes.network;
         };
-        comes = λ t. a.comes t ∙ ap (λ (l : List (SocketAddr × List ℕ)). xs ++ l) (b.comes t) ∙ sym (append_assoc xs ys new.coming);
+        comes = λ t. a.comes t ∙ ap (λ (l : List (SocketAddr × List ℕ)). xs ++ l) (b.comes t)
+            ∙ sym (append_assoc xs ys new.coming);
       }
 
   -- a frame of which this was taken
-  pub heard_one : (frame x : SocketAddr × List ℕ) (group now : GroupValue) (old mid new : ServerValue R) → opened_as (filter_of old.addresses) frame ≡ x → is_filtered_out (filter_of old.addresses) frame ≡ false
-      → Hears old.cluster x.1 x.0 old.addresses mid.addresses → IsSameFilter old.addresses mid.addresses → new.addresses ≡ mid.addresses → mid.replica ≡ old.replica → mid.received ≡ old.received → mid.pace ≡ old.pace → mid.ticks ≡ old.ticks
+  pub heard_one : (frame x : SocketAddr × List ℕ) (group now : GroupValue) (old mid new : ServerValue R)
+      → opened_as (filter_of old.addresses) frame ≡ x → is_filtered_out (filter_of old.addresses) frame ≡ false
+      → Hears old.cluster x.1 x.0 old.addresses mid.addresses → IsSameFilter old.addresses mid.addresses
+      → new.addresses ≡ mid.addresses → mid.replica ≡ old.replica → mid.received ≡ old.received
+      → mid.pace ≡ old.pace → mid.ticks ≡ old.ticks
       → TakesAll G (x.1 ∷ []) group now mid new → TakesHeard G (frame ∷ []) group now old new
   heard_one frame x group now old mid new is apart hears network book replica received pace time takes = record {
-    takes = subst (λ (cs : List (SocketAddr × List ℕ)). TakesAll G (datagrams_in [] cs) group now old new) (sym (taken_one (filter_of old.addresses) frame x is apart))
+    takes = subst (λ (cs : List (SocketAddr × List ℕ)). TakesAll G (datagrams_in [] cs) group now old new)
+        (sym (taken_one (filter_of old.addresses) frame x is apart))
         (takes_from (x.1 ∷ []) group now old mid new replica received pace time takes);
-    heard = subst (λ (cs : List (SocketAddr × List ℕ)). HearsAll old.cluster cs old.addresses new.addresses) (sym (taken_one (filter_of old.addresses) frame x is apart)) (mid.addresses, hears, book);
+    heard = subst (λ (cs : List (SocketAddr × List ℕ)). HearsAll old.cluster cs old.addresses new.addresses)
+        (sym (taken_one (filter_of old.addresses) frame x is apart)) (mid.addresses, hears, book);
     network = subst (λ (b : AddressBook). IsSameFilter old.addresses b) (sym book) network;
   }
 
   -- nothing is taken of a frame that stands beside the protocol
-  pub socket_beside : (tells : Type 0) (e : Option (SocketAddr × List ℕ)) (frame : SocketAddr × List ℕ) (group now : GroupValue) (old mid new : ServerValue R) → e ≡ Some frame
-      → (tells → old.coming ≡ listed e ++ mid.coming) → mid ≡ record old { coming = mid.coming } → is_filtered_out (filter_of mid.addresses) frame ≡ true
+  pub socket_beside : (tells : Type 0) (e : Option (SocketAddr × List ℕ)) (frame : SocketAddr × List ℕ)
+      (group now : GroupValue) (old mid new : ServerValue R) → e ≡ Some frame
+      → (tells → old.coming ≡ listed e ++ mid.coming) → mid ≡ record old { coming = mid.coming }
+      → is_filtered_out (filter_of mid.addresses) frame ≡ true
       → new ≡ mid → now ≡ group → TakesSocket G tells (frame ∷ []) group now old new
   socket_beside tells e frame group now old mid new is comes others beside same still =
       let as_was : new ≡ record old { coming = mid.coming } = same ∙ others in
-      let aside : is_filtered_out (filter_of old.addresses) frame ≡ true = subst (λ (s : Filter). is_filtered_out s frame ≡ true) (ap (λ (s : ServerValue R). filter_of s.addresses) others) beside in
+      let aside : is_filtered_out (filter_of old.addresses) frame ≡ true =
+      subst (λ (s : Filter). is_filtered_out s frame ≡ true)
+      (ap (λ (s : ServerValue R). filter_of s.addresses) others) beside in
       let gone = taken_none (filter_of old.addresses) frame aside in
       let book : new.addresses ≡ old.addresses = ap (λ (s : ServerValue R). s.addresses) as_was in
       record {
         takes = record {
-          takes = subst (λ (cs : List (SocketAddr × List ℕ)). TakesAll G (datagrams_in [] cs) group now old new) (sym gone)
-              (takes_from [] group now old mid new (ap (λ (s : ServerValue R). s.replica) others) (ap (λ (s : ServerValue R). s.received) others) (ap (λ (s : ServerValue R). s.pace) others) (ap (λ (s : ServerValue R). s.ticks) others) (takes_nothing group now mid new still same));
-          heard = subst (λ (cs : List (SocketAddr × List ℕ)). HearsAll old.cluster cs old.addresses new.addresses) (sym gone) book;
+          takes =
+              subst (λ (cs : List (SocketAddr × List ℕ)). TakesAll G (datagrams_in [] cs) group now old new) (sym gone)
+              (takes_from [] group now old mid new (ap (λ (s : ServerValue R). s.replica) others)
+              (ap (λ (s : ServerValue R). s.received) others) (ap (λ (s : ServerValue R). s.pace) others)
+              (ap (λ (s : ServerValue R). s.ticks) others) (takes_nothing group now mid new still same));
+          heard = subst (λ (cs : List (SocketAddr × List ℕ)). HearsAll old.cluster cs old.addresses new.addresses)
+              (sym gone) book;
           network = (ap (λ (b : AddressBook). b.hosts) book, ap (λ (b : AddressBook). filter_of b) book);
         };
         comes = λ t.
@@ -319,108 +402,160 @@ module _ {R : Type 0} (G : Gatherings R) where
       }
 
   -- it came from the socket
-  pub socket_one : (tells : Type 0) (e : Option (SocketAddr × List ℕ)) (frame : SocketAddr × List ℕ) (group now : GroupValue) (old mid new : ServerValue R) → e ≡ Some frame
-      → (tells → old.coming ≡ listed e ++ mid.coming) → mid ≡ record old { coming = mid.coming } → new.coming ≡ mid.coming
+  pub socket_one : (tells : Type 0) (e : Option (SocketAddr × List ℕ)) (frame : SocketAddr × List ℕ)
+      (group now : GroupValue) (old mid new : ServerValue R) → e ≡ Some frame
+      → (tells → old.coming ≡ listed e ++ mid.coming) → mid ≡ record old { coming = mid.coming }
+      → new.coming ≡ mid.coming
       → TakesHeard G (frame ∷ []) group now mid new → TakesSocket G tells (frame ∷ []) group now old new
   socket_one tells e frame group now old mid new is comes others coming heard =
       let h = subst (λ (s : ServerValue R). TakesHeard G (frame ∷ []) group now s new) others heard in
       record {
-        takes = record { takes = record { gathers = h.takes.gathers; counted = h.takes.counted; ticks = h.takes.ticks; pace = h.takes.pace }; heard = h.heard; network = h.network };
+        takes = record {
+          takes =
+              record {
+                gathers = h.takes.gathers;
+                counted = h.takes.counted;
+                ticks = h.takes.ticks;
+                pace = h.takes.pace;
+              };
+          heard = h.heard;
+          network = h.network;
+        };
         comes = λ t.
-            comes t ∙ ap (λ (o : Option (SocketAddr × List ℕ)). listed o ++ mid.coming) is ∙ ap (λ (l : List (SocketAddr × List ℕ)). frame ∷ l) (sym coming);
+            comes t ∙ ap (λ (o : Option (SocketAddr × List ℕ)). listed o ++ mid.coming) is
+            ∙ ap (λ (l : List (SocketAddr × List ℕ)). frame ∷ l) (sym coming);
       }
 
   -- no frame
-  pub socket_nothing : (tells : Type 0) (group now : GroupValue) (old new : ServerValue R) → now ≡ group → new ≡ old → TakesSocket G tells [] group now old new
+  pub socket_nothing : (tells : Type 0) (group now : GroupValue) (old new : ServerValue R) → now ≡ group → new ≡ old
+      → TakesSocket G tells [] group now old new
   socket_nothing tells group now old new is same = record {
     takes = record {
       takes = takes_nothing group now old new is same;
       heard = ap (λ (s : ServerValue R). s.addresses) same;
-      network = (ap (λ (s : ServerValue R). s.addresses.hosts) same, ap (λ (s : ServerValue R). filter_of s.addresses) same);
+      network =
+          (ap (λ (s : ServerValue R). s.addresses.hosts) same, ap (λ (s : ServerValue R). filter_of s.addresses) same);
     };
     comes = λ t. sym (ap (λ (s : ServerValue R). s.coming) same);
   }
 
   -- and no further one
-  pub socket_still : (tells : Type 0) (xs : List (SocketAddr × List ℕ)) (group one now : GroupValue) (old mid new : ServerValue R) → TakesSocket G tells xs group one old mid → now ≡ one
-      → record new { coming = mid.coming } ≡ mid → (tells → new.coming ≡ mid.coming) → TakesSocket G tells xs group now old new
+  pub socket_still : (tells : Type 0) (xs : List (SocketAddr × List ℕ)) (group one now : GroupValue)
+      (old mid new : ServerValue R) → TakesSocket G tells xs group one old mid → now ≡ one
+      → record new { coming = mid.coming } ≡ mid → (tells → new.coming ≡ mid.coming)
+      → TakesSocket G tells xs group now old new
   socket_still tells xs group one now old mid new a is same none =
       let book : new.addresses ≡ mid.addresses = ap (λ (s : ServerValue R). s.addresses) same in
       record {
         takes = record {
           takes = record {
-            gathers = subst₂ (λ (x : GroupValue) (r : R). GathersMore G (all_inputs old.pace old.received (datagrams_in [] (all_filtered (filter_of old.addresses) xs))) group x old.replica r) (sym is) (sym (ap (λ (s : ServerValue R). s.replica) same)) a.takes.takes.gathers;
+            gathers = subst₂ (λ (x : GroupValue) (r : R). GathersMore G
+                (all_inputs old.pace old.received (datagrams_in [] (all_filtered (filter_of old.addresses) xs))) group
+                x old.replica r) (sym is) (sym (ap (λ (s : ServerValue R). s.replica) same)) a.takes.takes.gathers;
             counted = ap (λ (s : ServerValue R). s.received) same ∙ a.takes.takes.counted;
             ticks = ap (λ (s : ServerValue R). s.ticks) same ∙ a.takes.takes.ticks;
             pace = ap (λ (s : ServerValue R). s.pace) same ∙ a.takes.takes.pace;
           };
-          heard = subst (λ (b : AddressBook). HearsAll old.cluster (all_filtered (filter_of old.addresses) xs) old.addresses b) (sym book) a.takes.heard;
+          heard = subst (λ (b : AddressBook). HearsAll old.cluster
+              (all_filtered (filter_of old.addresses) xs) old.addresses b) (sym book) a.takes.heard;
           network = subst (λ (b : AddressBook). IsSameFilter old.addresses b) (sym book) a.takes.network;
         };
         comes = λ t. a.comes t ∙ ap (λ (l : List (SocketAddr × List ℕ)). xs ++ l) (sym (none t));
       }
 
   -- all letters that waited were taken
-  pub own_stops : (taken : List LetterValue) (group one now : GroupValue) (old mid new : ServerValue R) → old.own ≡ taken ++ mid.own → length taken ≤ 63 → TakesAll G (datagrams_in taken []) group one old mid
+  pub own_stops : (taken : List LetterValue) (group one now : GroupValue) (old mid new : ServerValue R)
+      → old.own ≡ taken ++ mid.own → length taken ≤ 63 → TakesAll G (datagrams_in taken []) group one old mid
       → mid.own ≡ [] → new ≡ mid → now ≡ one → TakesOwn G 63 group now old new
   own_stops taken group one now old mid new parts few t none same is =
       let all = own_all old.own taken mid.own 63 parts none few in
       record {
         takes = subst (λ (ls : List LetterValue). TakesAll G (datagrams_in ls []) group now old new) (sym all.0)
-            (subst₂ (λ (x : GroupValue) (s : ServerValue R). TakesAll G (datagrams_in taken []) group x old s) (sym is) (sym same) t);
+            (subst₂ (λ (x : GroupValue) (s : ServerValue R). TakesAll G (datagrams_in taken []) group x old s) (sym is)
+            (sym same) t);
         left = ap (λ (s : ServerValue R). s.own) same ∙ sym all.1;
       }
 
   -- so many were
-  pub own_fills : (taken : List LetterValue) (group now : GroupValue) (old new : ServerValue R) → old.own ≡ taken ++ new.own → length taken ≡ 63 → TakesAll G (datagrams_in taken []) group now old new → TakesOwn G 63 group now old new
+  pub own_fills : (taken : List LetterValue) (group now : GroupValue) (old new : ServerValue R)
+      → old.own ≡ taken ++ new.own → length taken ≡ 63 → TakesAll G (datagrams_in taken []) group now old new
+      → TakesOwn G 63 group now old new
   own_fills taken group now old new parts many t =
       let all = own_full old.own taken new.own 63 parts many in
-      record { takes = subst (λ (ls : List LetterValue). TakesAll G (datagrams_in ls []) group now old new) (sym all.0) t; left = sym all.1 }
+      record {
+        takes = subst (λ (ls : List LetterValue). TakesAll G (datagrams_in ls []) group now old new)
+            (sym all.0) t;
+        left = sym all.1;
+      }
 
   -- one more
-  pub own_goes : (taken : List LetterValue) (l : LetterValue) (group one now : GroupValue) (old mid new : ServerValue R) → TakesAll G (datagrams_in taken []) group one old mid → TakesAll G (l.bytes ∷ []) one now mid new
+  pub own_goes : (taken : List LetterValue) (l : LetterValue) (group one now : GroupValue)
+      (old mid new : ServerValue R) → TakesAll G (datagrams_in taken []) group one old mid
+      → TakesAll G (l.bytes ∷ []) one now mid new
       → TakesAll G (datagrams_in (taken ++ l ∷ []) []) group now old new
   own_goes taken l group one now old mid new a b =
-      subst (λ (ds : List (List ℕ)). TakesAll G ds group now old new) (own_more taken l) (takes_more (datagrams_in taken []) (l.bytes ∷ []) group one now old mid new a b)
+      subst (λ (ds : List (List ℕ)). TakesAll G ds group now old new) (own_more taken l)
+      (takes_more (datagrams_in taken []) (l.bytes ∷ []) group one now old mid new a b)
 
 -- ---- what ends it
 
 module _ {R : Type 0} (S : Sayings R) (G : Gatherings R) where
   -- said by a replica that was the same
-  pub silent_from : (more : List (Option (List ℕ))) (group : GroupValue) (old begun new : R) → begun ≡ old → SaysNoMore S G more group begun new → SaysNoMore S G more group old new
+  pub silent_from : (more : List (Option (List ℕ))) (group : GroupValue) (old begun new : R) → begun ≡ old
+      → SaysNoMore S G more group begun new → SaysNoMore S G more group old new
   silent_from more group old begun new same silent = subst (λ (r : R). SaysNoMore S G more group r new) same silent
 
   -- a datagram has ended it, whether a tick was to follow or not
-  pub ends_one : (bytes : List ℕ) (group : GroupValue) (old new : ServerValue R) → SaysNoMore S G (Some bytes ∷ []) group old.replica new.replica → new.ticks ≡ old.ticks
+  pub ends_one : (bytes : List ℕ) (group : GroupValue) (old new : ServerValue R)
+      → SaysNoMore S G (Some bytes ∷ []) group old.replica new.replica → new.ticks ≡ old.ticks
       → EndsWithin S G (bytes ∷ []) group old new
-  ends_one bytes group old new silent untimed = record { given = Some bytes ∷ []; front = bytes_first old.pace (one_more old.received) bytes; silent = silent; ticks = untimed }
+  ends_one bytes group old new silent untimed =
+      record {
+        given = Some bytes ∷ [];
+        front = bytes_first old.pace (one_more old.received) bytes;
+        silent = silent;
+        ticks = untimed;
+      }
 
   -- the tick after it
-  pub ends_tick : (bytes : List ℕ) (group one : GroupValue) (old new : ServerValue R) (mid : R) (received : ℕ) (pace : Pace) → GathersMore G (Some bytes ∷ []) group one old.replica mid → SaysNoMore S G (None ∷ []) one mid new.replica
+  pub ends_tick : (bytes : List ℕ) (group one : GroupValue) (old new : ServerValue R) (mid : R) (received : ℕ)
+      (pace : Pace) → GathersMore G (Some bytes ∷ []) group one old.replica mid
+      → SaysNoMore S G (None ∷ []) one mid new.replica
       → received ≡ one_more old.received → pace ≡ old.pace → ticks_after pace received ≡ true
       → (before : ℕ) → before ≡ old.ticks → new.ticks ≡ one_more_tick before → EndsWithin S G (bytes ∷ []) group old new
   ends_tick bytes group one old new mid received pace gathers silent count same is before untimed timed = record {
     given = Some bytes ∷ None ∷ [];
-    front = ([], with_tick old.pace (one_more old.received) bytes (subst₂ (λ (p : Pace) (n : ℕ). ticks_after p n ≡ true) same count is));
-    silent = λ first given was. subst (λ (l : List (Option (List ℕ))). S first l [] new.replica) (append_assoc given (Some bytes ∷ []) (None ∷ [])) (silent first (given ++ Some bytes ∷ []) (gathers first given was));
+    front = (
+      [],
+      with_tick old.pace (one_more old.received) bytes
+          (subst₂ (λ (p : Pace) (n : ℕ). ticks_after p n ≡ true) same count is),
+    );
+    silent = λ first given was. subst (λ (l : List (Option (List ℕ))). S first l [] new.replica)
+        (append_assoc given (Some bytes ∷ []) (None ∷ []))
+        (silent first (given ++ Some bytes ∷ []) (gathers first given was));
     ticks = timed ∙ ap (λ (n : ℕ). one_more_tick n) untimed;
   }
 
-  pub ends_more : (xs ys : List (List ℕ)) (group one : GroupValue) (old mid new : ServerValue R) → TakesAll G xs group one old mid → EndsWithin S G ys one mid new → EndsWithin S G (xs ++ ys) group old new
+  pub ends_more : (xs ys : List (List ℕ)) (group one : GroupValue) (old mid new : ServerValue R)
+      → TakesAll G xs group one old mid → EndsWithin S G ys one mid new → EndsWithin S G (xs ++ ys) group old new
   ends_more xs ys group one old mid new a e = record {
     given = all_inputs old.pace old.received xs ++ e.given;
     front = (
       e.front.0,
-      sym (later old mid xs ys a.pace a.counted) ∙ ap (λ (l : List (Option (List ℕ))). all_inputs old.pace old.received xs ++ l) e.front.1
+      sym (later old mid xs ys a.pace a.counted)
+          ∙ ap (λ (l : List (Option (List ℕ))). all_inputs old.pace old.received xs ++ l) e.front.1
           ∙ sym (append_assoc (all_inputs old.pace old.received xs) e.given e.front.0),
     );
     silent = λ first given was.
-        subst (λ (l : List (Option (List ℕ))). S first l [] new.replica) (append_assoc given (all_inputs old.pace old.received xs) e.given)
+        subst (λ (l : List (Option (List ℕ))). S first l [] new.replica)
+        (append_assoc given (all_inputs old.pace old.received xs) e.given)
         (e.silent first (given ++ all_inputs old.pace old.received xs) (a.gathers first given was));
-    ticks = e.ticks ∙ ap (λ (n : ℕ). all_ticks n e.given) a.ticks ∙ sym (ticks_more old.ticks (all_inputs old.pace old.received xs) e.given);
+    ticks = e.ticks ∙ ap (λ (n : ℕ). all_ticks n e.given) a.ticks
+        ∙ sym (ticks_more old.ticks (all_inputs old.pace old.received xs) e.given);
   }
 
-  pub ends_from : (xs : List (List ℕ)) (group : GroupValue) (old begun new : ServerValue R) → begun.replica ≡ old.replica → begun.received ≡ old.received → begun.pace ≡ old.pace → begun.ticks ≡ old.ticks
+  pub ends_from : (xs : List (List ℕ)) (group : GroupValue) (old begun new : ServerValue R)
+      → begun.replica ≡ old.replica → begun.received ≡ old.received → begun.pace ≡ old.pace → begun.ticks ≡ old.ticks
       → EndsWithin S G xs group begun new → EndsWithin S G xs group old new
   ends_from xs group old begun new replica received pace time e = record {
     given = e.given;
@@ -429,49 +564,78 @@ module _ {R : Type 0} (S : Sayings R) (G : Gatherings R) where
     ticks = e.ticks ∙ ap (λ (n : ℕ). all_ticks n e.given) time;
   }
 
-  pub ends_heard : (frame x : SocketAddr × List ℕ) (group : GroupValue) (old mid new : ServerValue R) → opened_as (filter_of old.addresses) frame ≡ x → is_filtered_out (filter_of old.addresses) frame ≡ false
-      → Hears old.cluster x.1 x.0 old.addresses mid.addresses → IsSameFilter old.addresses mid.addresses → new.addresses ≡ mid.addresses → mid.replica ≡ old.replica → mid.received ≡ old.received → mid.pace ≡ old.pace → mid.ticks ≡ old.ticks
+  pub ends_heard : (frame x : SocketAddr × List ℕ) (group : GroupValue) (old mid new : ServerValue R)
+      → opened_as (filter_of old.addresses) frame ≡ x → is_filtered_out (filter_of old.addresses) frame ≡ false
+      → Hears old.cluster x.1 x.0 old.addresses mid.addresses → IsSameFilter old.addresses mid.addresses
+      → new.addresses ≡ mid.addresses → mid.replica ≡ old.replica → mid.received ≡ old.received
+      → mid.pace ≡ old.pace → mid.ticks ≡ old.ticks
       → EndsWithin S G (x.1 ∷ []) group mid new → EndsHeard S G (frame ∷ []) group old new
   ends_heard frame x group old mid new is apart hears network book replica received pace time ends = record {
-    ends = subst (λ (cs : List (SocketAddr × List ℕ)). EndsWithin S G (datagrams_in [] cs) group old new) (sym (taken_one (filter_of old.addresses) frame x is apart))
+    ends = subst (λ (cs : List (SocketAddr × List ℕ)). EndsWithin S G (datagrams_in [] cs) group old new)
+        (sym (taken_one (filter_of old.addresses) frame x is apart))
         (ends_from (x.1 ∷ []) group old mid new replica received pace time ends);
-    heard = subst (λ (cs : List (SocketAddr × List ℕ)). HearsAll old.cluster cs old.addresses new.addresses) (sym (taken_one (filter_of old.addresses) frame x is apart)) (mid.addresses, hears, book);
+    heard = subst (λ (cs : List (SocketAddr × List ℕ)). HearsAll old.cluster cs old.addresses new.addresses)
+        (sym (taken_one (filter_of old.addresses) frame x is apart)) (mid.addresses, hears, book);
     network = subst (λ (b : AddressBook). IsSameFilter old.addresses b) (sym book) network;
   }
 
-  pub ends_socket : (tells : Type 0) (e : Option (SocketAddr × List ℕ)) (frame : SocketAddr × List ℕ) (group : GroupValue) (old mid new : ServerValue R) → e ≡ Some frame
-      → (tells → old.coming ≡ listed e ++ mid.coming) → mid ≡ record old { coming = mid.coming } → new.coming ≡ mid.coming
+  pub ends_socket : (tells : Type 0) (e : Option (SocketAddr × List ℕ)) (frame : SocketAddr × List ℕ)
+      (group : GroupValue) (old mid new : ServerValue R) → e ≡ Some frame
+      → (tells → old.coming ≡ listed e ++ mid.coming) → mid ≡ record old { coming = mid.coming }
+      → new.coming ≡ mid.coming
       → EndsHeard S G (frame ∷ []) group mid new → EndsSocket S G tells (frame ∷ []) group old new
   ends_socket tells e frame group old mid new is comes others coming ends =
       let h = subst (λ (s : ServerValue R). EndsHeard S G (frame ∷ []) group s new) others ends in
       record {
-        ends = record { ends = record { given = h.ends.given; front = h.ends.front; silent = h.ends.silent; ticks = h.ends.ticks }; heard = h.heard; network = h.network };
+        ends = record {
+          ends = record {
+            given = h.ends.given;
+            front = h.ends.front;
+            silent = h.ends.silent;
+            ticks = h.ends.ticks;
+          };
+          heard = h.heard;
+          network = h.network;
+        };
         comes = λ t.
-            comes t ∙ ap (λ (o : Option (SocketAddr × List ℕ)). listed o ++ mid.coming) is ∙ ap (λ (l : List (SocketAddr × List ℕ)). frame ∷ l) (sym coming);
+            comes t ∙ ap (λ (o : Option (SocketAddr × List ℕ)). listed o ++ mid.coming) is
+            ∙ ap (λ (l : List (SocketAddr × List ℕ)). frame ∷ l) (sym coming);
       }
 
-  pub ends_further : (tells : Type 0) (xs ys : List (SocketAddr × List ℕ)) (group one : GroupValue) (old mid new : ServerValue R) → mid.cluster ≡ old.cluster
-      → TakesSocket G tells xs group one old mid → EndsSocket S G tells ys one mid new → EndsSocket S G tells (xs ++ ys) group old new
+  pub ends_further : (tells : Type 0) (xs ys : List (SocketAddr × List ℕ)) (group one : GroupValue)
+      (old mid new : ServerValue R) → mid.cluster ≡ old.cluster
+      → TakesSocket G tells xs group one old mid → EndsSocket S G tells ys one mid new
+      → EndsSocket S G tells (xs ++ ys) group old new
   ends_further tells xs ys group one old mid new cluster a b =
       let filter = a.takes.network.1 in
       record {
         ends = record {
-          ends = subst (λ (ds : List (List ℕ)). EndsWithin S G ds group old new) (heard_more (filter_of old.addresses) xs ys)
-              (ends_more (datagrams_in [] (all_filtered (filter_of old.addresses) xs)) (datagrams_in [] (all_filtered (filter_of old.addresses) ys)) group one old mid new a.takes.takes
-              (subst (λ (s : Filter). EndsWithin S G (datagrams_in [] (all_filtered s ys)) one mid new) filter b.ends.ends));
-          heard = subst (λ (cs : List (SocketAddr × List ℕ)). HearsAll old.cluster cs old.addresses new.addresses) (sym (taken_more (filter_of old.addresses) xs ys))
-              (hears_more old.cluster (all_filtered (filter_of old.addresses) xs) (all_filtered (filter_of old.addresses) ys) old.addresses mid.addresses new.addresses a.takes.heard
-              (subst₂ (λ (n : ℕ) (s : Filter). HearsAll n (all_filtered s ys) mid.addresses new.addresses) cluster filter b.ends.heard));
+          ends = subst (λ (ds : List (List ℕ)). EndsWithin S G ds group old new)
+              (heard_more (filter_of old.addresses) xs ys)
+              (ends_more (datagrams_in [] (all_filtered (filter_of old.addresses) xs))
+              (datagrams_in [] (all_filtered (filter_of old.addresses) ys)) group one old mid new a.takes.takes
+              (subst (λ (s : Filter). EndsWithin S G (datagrams_in [] (all_filtered s ys)) one mid new) filter
+              b.ends.ends));
+          heard = subst (λ (cs : List (SocketAddr × List ℕ)). HearsAll old.cluster cs old.addresses new.addresses)
+              (sym (taken_more (filter_of old.addresses) xs ys))
+              (hears_more old.cluster (all_filtered (filter_of old.addresses) xs)
+              (all_filtered (filter_of old.addresses) ys) old.addresses mid.addresses new.addresses a.takes.heard
+              (subst₂ (λ (n : ℕ) (s : Filter). HearsAll n (all_filtered s ys) mid.addresses new.addresses)
+              cluster filter b.ends.heard));
           network = same_network old.addresses mid.addresses new.addresses a.takes.network b.ends.network;
         };
-        comes = λ t. a.comes t ∙ ap (λ (l : List (SocketAddr × List ℕ)). xs ++ l) (b.comes t) ∙ sym (append_assoc xs ys new.coming);
+        comes = λ t. a.comes t ∙ ap (λ (l : List (SocketAddr × List ℕ)). xs ++ l) (b.comes t)
+            ∙ sym (append_assoc xs ys new.coming);
       }
 
   -- a letter has ended it
-  pub own_breaks : (taken : List LetterValue) (l : LetterValue) (group one : GroupValue) (old mid new : ServerValue R) → old.own ≡ taken ++ mid.own → length taken + 1 ≤ 63 → mid.own ≡ l ∷ new.own
-      → TakesAll G (datagrams_in taken []) group one old mid → EndsWithin S G (l.bytes ∷ []) one mid new → EndsOwn S G 63 group old new
+  pub own_breaks : (taken : List LetterValue) (l : LetterValue) (group one : GroupValue) (old mid new : ServerValue R)
+      → old.own ≡ taken ++ mid.own → length taken + 1 ≤ 63 → mid.own ≡ l ∷ new.own
+      → TakesAll G (datagrams_in taken []) group one old mid → EndsWithin S G (l.bytes ∷ []) one mid new
+      → EndsOwn S G 63 group old new
   own_breaks taken l group one old mid new parts few first a e =
-      let all_parts : old.own ≡ (taken ++ l ∷ []) ++ new.own = parts ∙ ap (λ (o : List LetterValue). taken ++ o) first ∙ sym (append_assoc taken (l ∷ []) new.own) in
+      let all_parts : old.own ≡ (taken ++ l ∷ []) ++ new.own = parts ∙ ap (λ (o : List LetterValue). taken ++ o) first
+      ∙ sym (append_assoc taken (l ∷ []) new.own) in
       let all = own_full old.own (taken ++ l ∷ []) new.own (length (taken ++ l ∷ [])) all_parts refl in
       record {
         count = length (taken ++ l ∷ []);
@@ -479,6 +643,7 @@ module _ {R : Type 0} (S : Sayings R) (G : Gatherings R) where
         some = λ is. absurd (omega (arith, is, length-append taken (l ∷ [])));
         waited = some_own old.own taken new.own l all_parts;
         ends = subst (λ (ls : List LetterValue). EndsWithin S G (datagrams_in ls []) group old new) (sym all.0)
-            (subst (λ (ds : List (List ℕ)). EndsWithin S G ds group old new) (own_more taken l) (ends_more (datagrams_in taken []) (l.bytes ∷ []) group one old mid new a e));
+            (subst (λ (ds : List (List ℕ)). EndsWithin S G ds group old new) (own_more taken l)
+            (ends_more (datagrams_in taken []) (l.bytes ∷ []) group one old mid new a e));
         left = sym all.1;
       }

@@ -1,21 +1,27 @@
 -- A turn, by what was taken in it.
-use Rattle.std.proofs.Common.{◌≡◌, ◌≢◌, ◌++◌, ℕ, zero, suc, ◌≤◌, Bool, true, false, List, [], ◌∷◌, length, map, take, drop, Option, None, inl, inr, refl, ap, sym, ◌∙◌, subst, subst₂, append-nil, append_assoc, arith}
+use Rattle.std.proofs.Common.{◌≡◌, ◌≢◌, ◌++◌, ℕ, zero, suc, ◌≤◌, Bool, true, false, List, [], ◌∷◌, length, map, take}
+use Rattle.std.proofs.Common.{drop, Option, None, inl, inr, refl, ap, sym, ◌∙◌, subst, subst₂, append-nil, append_assoc}
+use Rattle.std.proofs.Common.{arith}
 use Rattle.std.specs.Prelude.{Result, Ok, Err, OnOk, OnErr}
 use Rattle.std.specs.declared.net.socket_addr.SocketAddr.{SocketAddr}
 use Rattle.lk_node_io.specs.Letters.{LetterValue}
 use Rattle.lk_replica.specs.Groups.{GroupValue}
 use Rattle.lk_transport.specs.Addresses.{AddressBook, Filter, filter_of, IsSameFilter}
 use Rattle.lk_served_replica.specs.Groups.{Sayings, Gatherings, GathersMore, SaysNoMore}
-use Rattle.lk_server.specs.Gatherings.{AreFound, Finds, TakesAll, EndsWithin, TakesOwn, EndsOwn, TakesSocket, EndsSocket, TakesWaiting, TakesGroup, EndsGroup, HandsOnAll, SaysNothing}
+use Rattle.lk_server.specs.Gatherings.{AreFound, Finds, TakesAll, EndsWithin, TakesOwn, EndsOwn, TakesSocket}
+use Rattle.lk_server.specs.Gatherings.{EndsSocket, TakesWaiting, TakesGroup, EndsGroup, HandsOnAll, SaysNothing}
 use Rattle.lk_pace.specs.Paces.{MayFollow}
 use Rattle.lk_seal.specs.Seals.{heard}
 use Rattle.lk_transport.specs.Posts.{HearsAll, is_filtered_out, all_filtered}
-use Rattle.lk_server.specs.Servers.{ServerValue, HandsOn, HandsNothing, HasReceived, IsSameServer, Turn, LastTurn, IsIdle, Given, GivenFirst, TakesFirst, all_inputs, all_ticks, counted, datagrams_in, one_more_tick}
+use Rattle.lk_server.specs.Servers.{ServerValue, HandsOn, HandsNothing, HasReceived, IsSameServer, Turn, LastTurn}
+use Rattle.lk_server.specs.Servers.{IsIdle, Given, GivenFirst, TakesFirst, all_inputs, all_ticks, counted, datagrams_in}
+use Rattle.lk_server.specs.Servers.{one_more_tick}
 use Rattle.lk_pace.specs.declared.turn_input.TurnInput.{TurnInput}
 use Rattle.lk_pace.specs.declared.turn_input.TurnInput.TheVariants.{Nothing, Beside, Something}
 use Rattle.lk_pace.specs.declared.pace.Pace.{Pace}
 use Rattle.lk_pace.specs.declared.pace.Pace.TheVariants.{Datagrams, Clock}
-use Rattle.lk_server.proofs.Gatherings.{takes_more, ends_more, ticks_more, long_as, taken_more, taken_first, found_none, found_few}
+use Rattle.lk_server.proofs.Gatherings.{takes_more, ends_more, ticks_more, long_as, taken_more, taken_first, found_none}
+use Rattle.lk_server.proofs.Gatherings.{found_few}
 
 -- no tick may follow, however they go
 no_tick : (pace : Pace) → MayFollow pace []
@@ -27,16 +33,20 @@ one_tick : (pace : Pace) → pace ≡ Clock → MayFollow pace (None ∷ [])
 one_tick pace is = subst (λ (p : Pace). MayFollow p (None ∷ [])) (sym is) (inr refl)
 
 -- where something was taken, that may be given, and then ticks that may follow
-given_then : (pace : Pace) (received : ℕ) (ds : List (List ℕ)) (ticks : List (Option (List ℕ))) → MayFollow pace ticks → ds ≢ [] → Given pace received ds (all_inputs pace received ds ++ ticks)
+given_then : (pace : Pace) (received : ℕ) (ds : List (List ℕ)) (ticks : List (Option (List ℕ))) → MayFollow pace ticks
+    → ds ≢ [] → Given pace received ds (all_inputs pace received ds ++ ticks)
 given_then pace received [] ticks may some = absurd (some refl)
 given_then pace received (d ∷ ds) ticks may some = (ticks, may, refl)
 
-given_some : (pace : Pace) (received : ℕ) (ds : List (List ℕ)) → ds ≢ [] → Given pace received ds (all_inputs pace received ds)
+given_some : (pace : Pace) (received : ℕ) (ds : List (List ℕ)) → ds ≢ []
+    → Given pace received ds (all_inputs pace received ds)
 given_some pace received ds some =
-    subst (λ (g : List (Option (List ℕ))). Given pace received ds g) (append-nil (all_inputs pace received ds)) (given_then pace received ds [] (no_tick pace) some)
+    subst (λ (g : List (Option (List ℕ))). Given pace received ds g) (append-nil (all_inputs pace received ds))
+    (given_then pace received ds [] (no_tick pace) some)
 
 -- all of what may be given is a beginning of it
-given_all : (pace : Pace) (received : ℕ) (ds : List (List ℕ)) (given : List (Option (List ℕ))) → Given pace received ds given → GivenFirst pace received ds given
+given_all : (pace : Pace) (received : ℕ) (ds : List (List ℕ)) (given : List (Option (List ℕ)))
+    → Given pace received ds given → GivenFirst pace received ds given
 given_all pace received ds given may = record { whole = given; may = may; front = ([], sym (append-nil given)) }
 
 -- where nothing is taken a tick may be given
@@ -44,10 +54,13 @@ given_none : (pace : Pace) (received : ℕ) (ds : List (List ℕ)) → ds ≡ []
 given_none pace received ds none = subst (λ (l : List (List ℕ)). Given pace received l (None ∷ [])) (sym none) refl
 
 -- what comes after a first one is something
-pub some_datagrams : (s : Filter) (own : List LetterValue) (d : SocketAddr × List ℕ) (more : List (SocketAddr × List ℕ)) → own ≡ [] → is_filtered_out s d ≡ false → datagrams_in own (all_filtered s (d ∷ more)) ≢ []
+pub some_datagrams : (s : Filter) (own : List LetterValue) (d : SocketAddr × List ℕ)
+    (more : List (SocketAddr × List ℕ)) → own ≡ [] → is_filtered_out s d ≡ false
+    → datagrams_in own (all_filtered s (d ∷ more)) ≢ []
 some_datagrams s own d more none apart is =
     let both : heard s.seals d.1 ∷ map (λ (x : SocketAddr × List ℕ). x.1) (all_filtered s more) ≡ [] =
-    sym (ap (λ (o : List LetterValue). datagrams_in o (all_filtered s (d ∷ more))) none ∙ ap (λ (cs : List (SocketAddr × List ℕ)). datagrams_in [] cs) (taken_first s d more apart)) ∙ is in
+    sym (ap (λ (o : List LetterValue). datagrams_in o (all_filtered s (d ∷ more))) none
+    ∙ ap (λ (cs : List (SocketAddr × List ℕ)). datagrams_in [] cs) (taken_first s d more apart)) ∙ is in
     cc both
 
 -- of no letters none are taken
@@ -58,7 +71,15 @@ take_none n (l ∷ own) none = absurd (cc none)
 
 -- it is the same server of which nothing else has changed
 pub same_by : {R : Type 0} (old new : ServerValue R)
-    → new ≡ record old { replica = new.replica; failed = new.failed; received = new.received; ticks = new.ticks; own = new.own; addresses = new.addresses; coming = new.coming } → IsSameServer old new
+    → new ≡ record old {
+      replica = new.replica;
+      failed = new.failed;
+      received = new.received;
+      ticks = new.ticks;
+      own = new.own;
+      addresses = new.addresses;
+      coming = new.coming;
+    } → IsSameServer old new
 same_by old new others = record {
   cluster = ap (λ (s : ServerValue _). s.cluster) others;
   node = ap (λ (s : ServerValue _). s.node) others;
@@ -66,18 +87,25 @@ same_by old new others = record {
 }
 
 -- what is taken of the frames that came is what may be taken
-received_first : {R : Type 0} (tells : Type 0) (frames : List (SocketAddr × List ℕ)) (old new : ServerValue R) → HasReceived tells frames old new → TakesFirst tells (all_filtered (filter_of old.addresses) frames) old
+received_first : {R : Type 0} (tells : Type 0) (frames : List (SocketAddr × List ℕ)) (old new : ServerValue R)
+    → HasReceived tells frames old new → TakesFirst tells (all_filtered (filter_of old.addresses) frames) old
 received_first tells frames old new r = record {
-  alone = elim r.alone [ inl none ↦ inl none | inr none ↦ inr (ap (λ (l : List (SocketAddr × List ℕ)). all_filtered (filter_of old.addresses) l) none) ];
+  alone = elim r.alone [
+    | inl none ↦ inl none
+    | inr none ↦
+        inr (ap (λ (l : List (SocketAddr × List ℕ)). all_filtered (filter_of old.addresses) l) none)
+  ];
   few = omega (arith, r.few, long_as (filter_of old.addresses) frames);
   comes = λ telling empty. (
     all_filtered (filter_of old.addresses) new.coming,
-    ap (λ (l : List (SocketAddr × List ℕ)). all_filtered (filter_of old.addresses) l) (r.comes telling) ∙ taken_more (filter_of old.addresses) frames new.coming,
+    ap (λ (l : List (SocketAddr × List ℕ)). all_filtered (filter_of old.addresses) l) (r.comes telling)
+        ∙ taken_more (filter_of old.addresses) frames new.coming,
   );
 }
 
 -- and what is to come is the same behind it
-pub received_on : {R : Type 0} (tells : Type 0) (frames : List (SocketAddr × List ℕ)) (old mid new : ServerValue R) → (tells → new.coming ≡ mid.coming) → HasReceived tells frames old mid → HasReceived tells frames old new
+pub received_on : {R : Type 0} (tells : Type 0) (frames : List (SocketAddr × List ℕ)) (old mid new : ServerValue R)
+    → (tells → new.coming ≡ mid.coming) → HasReceived tells frames old mid → HasReceived tells frames old new
 received_on tells frames old mid new still r = record {
   alone = r.alone;
   few = r.few;
@@ -89,30 +117,52 @@ module _ {R : Type 0} (S : Sayings R) (G : Gatherings R) (tells : Type 0) where
   -- ---- what is taken
 
   -- frames of the socket, where no letter of the node to itself waits
-  pub socket_group : (frame : SocketAddr × List ℕ) (frames : List (SocketAddr × List ℕ)) (group now : GroupValue) (old new : ServerValue R) → old.own ≡ [] → new.own ≡ old.own → length frames ≤ 63
-      → is_filtered_out (filter_of old.addresses) frame ≡ false → TakesSocket G tells (frame ∷ frames) group now old new → TakesWaiting G tells (frame ∷ frames) group now old new
+  pub socket_group : (frame : SocketAddr × List ℕ) (frames : List (SocketAddr × List ℕ)) (group now : GroupValue)
+      (old new : ServerValue R) → old.own ≡ [] → new.own ≡ old.own → length frames ≤ 63
+      → is_filtered_out (filter_of old.addresses) frame ≡ false
+      → TakesSocket G tells (frame ∷ frames) group now old new → TakesWaiting G tells (frame ∷ frames) group now old new
   socket_group frame frames group now old new none own few apart t = record {
-    received = record { alone = inl none; few = omega (arith, few); comes = t.comes; waited = λ telling empty is. absurd (cc is) };
-    takes = subst (λ (o : List LetterValue). TakesAll G (datagrams_in (take 64 o) (all_filtered (filter_of old.addresses) (frame ∷ frames))) group now old new) (sym none) t.takes.takes;
-    some = some_datagrams (filter_of old.addresses) (take 64 old.own) frame frames (ap (λ (o : List LetterValue). take 64 o) none) apart;
+    received = record {
+      alone = inl none;
+      few = omega (arith, few);
+      comes = t.comes;
+      waited = λ telling empty is. absurd (cc is);
+    };
+    takes = subst (λ (o : List LetterValue). TakesAll G
+        (datagrams_in (take 64 o) (all_filtered (filter_of old.addresses) (frame ∷ frames))) group now old new)
+        (sym none) t.takes.takes;
+    some = some_datagrams (filter_of old.addresses) (take 64 old.own) frame frames
+        (ap (λ (o : List LetterValue). take 64 o) none) apart;
     left = own ∙ none ∙ sym (ap (λ (o : List LetterValue). drop 64 o) none);
     heard = t.takes.heard;
     network = t.takes.network;
   }
 
-  pub socket_ends : (frame : SocketAddr × List ℕ) (frames : List (SocketAddr × List ℕ)) (group : GroupValue) (old new : ServerValue R) → old.own ≡ [] → new.own ≡ old.own → length frames ≤ 63
-      → is_filtered_out (filter_of old.addresses) frame ≡ false → EndsSocket S G tells (frame ∷ frames) group old new → EndsGroup S G tells (frame ∷ frames) group old new
+  pub socket_ends : (frame : SocketAddr × List ℕ) (frames : List (SocketAddr × List ℕ)) (group : GroupValue)
+      (old new : ServerValue R) → old.own ≡ [] → new.own ≡ old.own → length frames ≤ 63
+      → is_filtered_out (filter_of old.addresses) frame ≡ false → EndsSocket S G tells (frame ∷ frames) group old new
+      → EndsGroup S G tells (frame ∷ frames) group old new
   socket_ends frame frames group old new none own few apart t =
-      let e = subst (λ (o : List LetterValue). EndsWithin S G (datagrams_in (take 0 o) (all_filtered (filter_of old.addresses) (frame ∷ frames))) group old new) (sym none) t.ends.ends in
+      let e = subst (λ (o : List LetterValue). EndsWithin S G
+      (datagrams_in (take 0 o) (all_filtered (filter_of old.addresses) (frame ∷ frames))) group old new)
+      (sym none) t.ends.ends in
       record {
-        received = record { alone = inl none; few = omega (arith, few); comes = t.comes; waited = λ telling empty is. absurd (cc is) };
+        received = record {
+          alone = inl none;
+          few = omega (arith, few);
+          comes = t.comes;
+          waited = λ telling empty is. absurd (cc is);
+        };
         count = 0;
         letters = record { at_most = omega arith; some = λ is. none };
         given = e.given;
         first = record {
-          whole = all_inputs old.pace old.received (datagrams_in (take 0 old.own) (all_filtered (filter_of old.addresses) (frame ∷ frames)));
-          may = given_some old.pace old.received (datagrams_in (take 0 old.own) (all_filtered (filter_of old.addresses) (frame ∷ frames)))
-              (some_datagrams (filter_of old.addresses) (take 0 old.own) frame frames (ap (λ (o : List LetterValue). take 0 o) none) apart);
+          whole = all_inputs old.pace old.received
+              (datagrams_in (take 0 old.own) (all_filtered (filter_of old.addresses) (frame ∷ frames)));
+          may = given_some old.pace old.received
+              (datagrams_in (take 0 old.own) (all_filtered (filter_of old.addresses) (frame ∷ frames)))
+              (some_datagrams (filter_of old.addresses) (take 0 old.own) frame frames
+              (ap (λ (o : List LetterValue). take 0 o) none) apart);
           front = e.front;
         };
         silent = e.silent;
@@ -123,7 +173,8 @@ module _ {R : Type 0} (S : Sayings R) (G : Gatherings R) (tells : Type 0) where
       }
 
   -- letters of the node to itself: a first one, and further ones
-  own_received : (l : LetterValue) (rest : List LetterValue) (old new : ServerValue R) → old.own ≡ l ∷ rest → new.coming ≡ old.coming → HasReceived tells [] old new
+  own_received : (l : LetterValue) (rest : List LetterValue) (old new : ServerValue R) → old.own ≡ l ∷ rest
+      → new.coming ≡ old.coming → HasReceived tells [] old new
   own_received l rest old new own still = record {
     alone = inr refl;
     few = omega arith;
@@ -131,23 +182,29 @@ module _ {R : Type 0} (S : Sayings R) (G : Gatherings R) (tells : Type 0) where
     waited = λ telling empty is. absurd (let both : l ∷ rest ≡ [] = sym own ∙ empty in cc both);
   }
 
-  pub own_group : (l : LetterValue) (group one now : GroupValue) (old mid new : ServerValue R) → old.own ≡ l ∷ mid.own → new.addresses ≡ old.addresses → new.coming ≡ old.coming
-      → TakesAll G (l.bytes ∷ []) group one old mid → TakesOwn G 63 one now mid new → TakesWaiting G tells [] group now old new
+  pub own_group : (l : LetterValue) (group one now : GroupValue) (old mid new : ServerValue R) → old.own ≡ l ∷ mid.own
+      → new.addresses ≡ old.addresses → new.coming ≡ old.coming
+      → TakesAll G (l.bytes ∷ []) group one old mid → TakesOwn G 63 one now mid new
+      → TakesWaiting G tells [] group now old new
   own_group l group one now old mid new own book still first further = record {
     received = own_received l mid.own old new own still;
     takes = subst (λ (o : List LetterValue). TakesAll G (datagrams_in (take 64 o) []) group now old new) (sym own)
         (takes_more G (l.bytes ∷ []) (datagrams_in (take 63 mid.own) []) group one now old mid new first further.takes);
-    some = λ is. let both : l.bytes ∷ datagrams_in (take 63 mid.own) [] ≡ [] = sym (ap (λ (o : List LetterValue). datagrams_in (take 64 o) []) own) ∙ is in cc both;
+    some = λ is. let both : l.bytes ∷ datagrams_in (take 63 mid.own) [] ≡ [] =
+        sym (ap (λ (o : List LetterValue). datagrams_in (take 64 o) []) own) ∙ is in cc both;
     left = further.left ∙ sym (ap (λ (o : List LetterValue). drop 64 o) own);
     heard = book;
     network = (ap (λ (b : AddressBook). b.hosts) book, ap (λ (b : AddressBook). filter_of b) book);
   }
 
   -- so many of them have ended it
-  own_ends_at : (count : ℕ) (l : LetterValue) (rest : List LetterValue) (group : GroupValue) (old new : ServerValue R) → old.own ≡ l ∷ rest → new.addresses ≡ old.addresses → new.coming ≡ old.coming → suc count ≤ 64
-      → EndsWithin S G (datagrams_in (take (suc count) (l ∷ rest)) []) group old new → new.own ≡ drop (suc count) (l ∷ rest) → EndsGroup S G tells [] group old new
+  own_ends_at : (count : ℕ) (l : LetterValue) (rest : List LetterValue) (group : GroupValue) (old new : ServerValue R)
+      → old.own ≡ l ∷ rest → new.addresses ≡ old.addresses → new.coming ≡ old.coming → suc count ≤ 64
+      → EndsWithin S G (datagrams_in (take (suc count) (l ∷ rest)) []) group old new
+      → new.own ≡ drop (suc count) (l ∷ rest) → EndsGroup S G tells [] group old new
   own_ends_at count l rest group old new own book still few ends left =
-      let e = subst (λ (o : List LetterValue). EndsWithin S G (datagrams_in (take (suc count) o) []) group old new) (sym own) ends in
+      let e = subst (λ (o : List LetterValue). EndsWithin S G (datagrams_in (take (suc count) o) []) group old new)
+      (sym own) ends in
       record {
         received = own_received l rest old new own still;
         count = suc count;
@@ -156,7 +213,8 @@ module _ {R : Type 0} (S : Sayings R) (G : Gatherings R) (tells : Type 0) where
         first = record {
           whole = all_inputs old.pace old.received (datagrams_in (take (suc count) old.own) []);
           may = given_some old.pace old.received (datagrams_in (take (suc count) old.own) [])
-              (λ is. let both : l.bytes ∷ datagrams_in (take count rest) [] ≡ [] = sym (ap (λ (o : List LetterValue). datagrams_in (take (suc count) o) []) own) ∙ is in cc both);
+              (λ is. let both : l.bytes ∷ datagrams_in (take count rest) [] ≡ [] =
+              sym (ap (λ (o : List LetterValue). datagrams_in (take (suc count) o) []) own) ∙ is in cc both);
           front = e.front;
         };
         silent = e.silent;
@@ -167,10 +225,13 @@ module _ {R : Type 0} (S : Sayings R) (G : Gatherings R) (tells : Type 0) where
       }
 
   -- the first has
-  pub own_ends_first : (l : LetterValue) (group : GroupValue) (old new : ServerValue R) → old.own ≡ l ∷ new.own → new.addresses ≡ old.addresses → new.coming ≡ old.coming
+  pub own_ends_first : (l : LetterValue) (group : GroupValue) (old new : ServerValue R) → old.own ≡ l ∷ new.own
+      → new.addresses ≡ old.addresses → new.coming ≡ old.coming
       → EndsWithin S G (l.bytes ∷ []) group old new → EndsGroup S G tells [] group old new
   own_ends_first l group old new own book still ends =
-      own_ends_at 0 l new.own group old new own book still (omega arith) (subst (λ (o : List LetterValue). EndsWithin S G (datagrams_in (l ∷ o) []) group old new) (sym (none new.own)) ends) (sym (all new.own))
+      own_ends_at 0 l new.own group old new own book still (omega arith)
+      (subst (λ (o : List LetterValue). EndsWithin S G (datagrams_in (l ∷ o) []) group old new)
+      (sym (none new.own)) ends) (sym (all new.own))
     where
       none : (o : List LetterValue) → take 0 o ≡ []
       none [] = refl
@@ -181,16 +242,19 @@ module _ {R : Type 0} (S : Sayings R) (G : Gatherings R) (tells : Type 0) where
       all (x ∷ o) = refl
 
   -- a further one has
-  pub own_ends : (l : LetterValue) (group one : GroupValue) (old mid new : ServerValue R) → old.own ≡ l ∷ mid.own → new.addresses ≡ old.addresses → new.coming ≡ old.coming
+  pub own_ends : (l : LetterValue) (group one : GroupValue) (old mid new : ServerValue R) → old.own ≡ l ∷ mid.own
+      → new.addresses ≡ old.addresses → new.coming ≡ old.coming
       → TakesAll G (l.bytes ∷ []) group one old mid → EndsOwn S G 63 one mid new → EndsGroup S G tells [] group old new
   own_ends l group one old mid new own book still first further =
       own_ends_at further.count l mid.own group old new own book still (omega (arith, further.at_most))
-      (ends_more S G (l.bytes ∷ []) (datagrams_in (take further.count mid.own) []) group one old mid new first further.ends) further.left
+      (ends_more S G (l.bytes ∷ [])
+      (datagrams_in (take further.count mid.own) []) group one old mid new first further.ends) further.left
 
   -- ---- the tick of a turn
 
   -- none is due: what waits is all
-  pub without_tick : (frames : List (SocketAddr × List ℕ)) (group now : GroupValue) (old new : ServerValue R) → TakesWaiting G tells frames group now old new → TakesGroup G tells frames group now old new
+  pub without_tick : (frames : List (SocketAddr × List ℕ)) (group now : GroupValue) (old new : ServerValue R)
+      → TakesWaiting G tells frames group now old new → TakesGroup G tells frames group now old new
   without_tick frames group now old new t =
       let ds = datagrams_in (take 64 old.own) (all_filtered (filter_of old.addresses) frames) in
       record {
@@ -206,7 +270,8 @@ module _ {R : Type 0} (S : Sayings R) (G : Gatherings R) (tells : Type 0) where
       }
 
   -- one is, behind what waits
-  module _ (frames : List (SocketAddr × List ℕ)) (group one : GroupValue) (old mid new : ServerValue R) (clock : old.pace ≡ Clock) (t : TakesWaiting G tells frames group one old mid)
+  module _ (frames : List (SocketAddr × List ℕ)) (group one : GroupValue) (old mid new : ServerValue R)
+      (clock : old.pace ≡ Clock) (t : TakesWaiting G tells frames group one old mid)
       (same : new ≡ record mid { replica = new.replica; failed = new.failed; ticks = new.ticks }) where
     abbrev waited : List (List ℕ)
     waited = datagrams_in (take 64 old.own) (all_filtered (filter_of old.addresses) frames)
@@ -218,27 +283,34 @@ module _ {R : Type 0} (S : Sayings R) (G : Gatherings R) (tells : Type 0) where
     may_tick = given_then old.pace old.received waited (None ∷ []) (one_tick old.pace clock) t.some
 
     tick_received : HasReceived tells frames old new
-    tick_received = received_on tells frames old mid new (λ telling. ap (λ (s : ServerValue R). s.coming) same) t.received
+    tick_received =
+        received_on tells frames old mid new (λ telling. ap (λ (s : ServerValue R). s.coming) same) t.received
 
     tick_left : new.own ≡ drop 64 old.own
     tick_left = ap (λ (s : ServerValue R). s.own) same ∙ t.left
 
     tick_heard : HearsAll old.cluster (all_filtered (filter_of old.addresses) frames) old.addresses new.addresses
-    tick_heard = subst (λ (b : AddressBook). HearsAll old.cluster (all_filtered (filter_of old.addresses) frames) old.addresses b) (sym (ap (λ (s : ServerValue R). s.addresses) same)) t.heard
+    tick_heard = subst (λ (b : AddressBook). HearsAll old.cluster
+        (all_filtered (filter_of old.addresses) frames) old.addresses b)
+        (sym (ap (λ (s : ServerValue R). s.addresses) same)) t.heard
 
     tick_outside : IsSameFilter old.addresses new.addresses
-    tick_outside = subst (λ (b : AddressBook). IsSameFilter old.addresses b) (sym (ap (λ (s : ServerValue R). s.addresses) same)) t.network
+    tick_outside = subst (λ (b : AddressBook). IsSameFilter old.addresses b)
+        (sym (ap (λ (s : ServerValue R). s.addresses) same)) t.network
 
     tick_counted : new.ticks ≡ one_more_tick mid.ticks → new.ticks ≡ all_ticks old.ticks ticked
-    tick_counted timed = timed ∙ ap (λ (n : ℕ). one_more_tick n) t.takes.ticks ∙ sym (ticks_more old.ticks (all_inputs old.pace old.received waited) (None ∷ []))
+    tick_counted timed = timed ∙ ap (λ (n : ℕ). one_more_tick n) t.takes.ticks
+        ∙ sym (ticks_more old.ticks (all_inputs old.pace old.received waited) (None ∷ []))
 
-    pub tick_behind : (now : GroupValue) → new.ticks ≡ one_more_tick mid.ticks → GathersMore G (None ∷ []) one now mid.replica new.replica → TakesGroup G tells frames group now old new
+    pub tick_behind : (now : GroupValue) → new.ticks ≡ one_more_tick mid.ticks
+        → GathersMore G (None ∷ []) one now mid.replica new.replica → TakesGroup G tells frames group now old new
     tick_behind now timed ticks = record {
       received = tick_received;
       given = ticked;
       may = may_tick;
       gathers = λ first given was.
-          subst (λ (l : List (Option (List ℕ))). G first l now new.replica) (append_assoc given (all_inputs old.pace old.received waited) (None ∷ []))
+          subst (λ (l : List (Option (List ℕ))). G first l now new.replica)
+          (append_assoc given (all_inputs old.pace old.received waited) (None ∷ []))
           (ticks first (given ++ all_inputs old.pace old.received waited) (t.takes.gathers first given was));
       counted = ap (λ (s : ServerValue R). s.received) same ∙ t.takes.counted;
       ticks = tick_counted timed;
@@ -248,7 +320,8 @@ module _ {R : Type 0} (S : Sayings R) (G : Gatherings R) (tells : Type 0) where
     }
 
     -- it has ended it
-    pub tick_ends_behind : new.ticks ≡ one_more_tick mid.ticks → SaysNoMore S G (None ∷ []) one mid.replica new.replica → EndsGroup S G tells frames group old new
+    pub tick_ends_behind : new.ticks ≡ one_more_tick mid.ticks → SaysNoMore S G (None ∷ []) one mid.replica new.replica
+        → EndsGroup S G tells frames group old new
     tick_ends_behind timed silent = record {
       received = tick_received;
       count = 64;
@@ -256,7 +329,8 @@ module _ {R : Type 0} (S : Sayings R) (G : Gatherings R) (tells : Type 0) where
       given = ticked;
       first = given_all old.pace old.received waited ticked may_tick;
       silent = λ first given was.
-          subst (λ (l : List (Option (List ℕ))). S first l [] new.replica) (append_assoc given (all_inputs old.pace old.received waited) (None ∷ []))
+          subst (λ (l : List (Option (List ℕ))). S first l [] new.replica)
+          (append_assoc given (all_inputs old.pace old.received waited) (None ∷ []))
           (silent first (given ++ all_inputs old.pace old.received waited) (t.takes.gathers first given was));
       ticks = tick_counted timed;
       left = tick_left;
@@ -265,7 +339,8 @@ module _ {R : Type 0} (S : Sayings R) (G : Gatherings R) (tells : Type 0) where
     }
 
   -- it is alone: a replica is given nothing of what came in these frames
-  module _ (found : TurnInput) (frames : List (SocketAddr × List ℕ)) (group one : GroupValue) (old mid new : ServerValue R) (own : old.own ≡ []) (f : Finds tells found frames old mid) (begun : one ≡ group)
+  module _ (found : TurnInput) (frames : List (SocketAddr × List ℕ)) (group one : GroupValue)
+      (old mid new : ServerValue R) (own : old.own ≡ []) (f : Finds tells found frames old mid) (begun : one ≡ group)
       (same : new ≡ record mid { replica = new.replica; failed = new.failed; ticks = new.ticks }) where
     none_taken : all_filtered (filter_of old.addresses) frames ≡ []
     none_taken = found_none (filter_of old.addresses) found frames f.are
@@ -277,13 +352,15 @@ module _ {R : Type 0} (S : Sayings R) (G : Gatherings R) (tells : Type 0) where
     own_is n = take_none n old.own own
 
     no_datagrams : (n : ℕ) → datagrams_in (take n old.own) (all_filtered (filter_of old.addresses) frames) ≡ []
-    no_datagrams n = ap (λ (cs : List (SocketAddr × List ℕ)). datagrams_in (take n old.own) cs) none_taken ∙ ap (λ (o : List LetterValue). datagrams_in o []) (own_is n)
+    no_datagrams n = ap (λ (cs : List (SocketAddr × List ℕ)). datagrams_in (take n old.own) cs) none_taken
+        ∙ ap (λ (o : List LetterValue). datagrams_in o []) (own_is n)
 
     alone_received : HasReceived tells frames old new
     alone_received = record {
       alone = inl own;
       few = found_few (filter_of old.addresses) found frames f.are;
-      comes = λ telling. f.comes telling ∙ ap (λ (l : List (SocketAddr × List ℕ)). frames ++ l) (sym (ap (λ (s : ServerValue R). s.coming) same));
+      comes = λ telling. f.comes telling
+          ∙ ap (λ (l : List (SocketAddr × List ℕ)). frames ++ l) (sym (ap (λ (s : ServerValue R). s.coming) same));
       waited = λ telling empty is. f.none telling is;
     }
 
@@ -291,7 +368,8 @@ module _ {R : Type 0} (S : Sayings R) (G : Gatherings R) (tells : Type 0) where
     alone_book = ap (λ (s : ServerValue R). s.addresses) same ∙ ap (λ (s : ServerValue R). s.addresses) f.same
 
     alone_heard : HearsAll old.cluster (all_filtered (filter_of old.addresses) frames) old.addresses new.addresses
-    alone_heard = subst (λ (cs : List (SocketAddr × List ℕ)). HearsAll old.cluster cs old.addresses new.addresses) (sym none_taken) alone_book
+    alone_heard = subst (λ (cs : List (SocketAddr × List ℕ)). HearsAll old.cluster cs old.addresses new.addresses)
+        (sym none_taken) alone_book
 
     alone_outside : IsSameFilter old.addresses new.addresses
     alone_outside = (ap (λ (b : AddressBook). b.hosts) alone_book, ap (λ (b : AddressBook). filter_of b) alone_book)
@@ -302,27 +380,33 @@ module _ {R : Type 0} (S : Sayings R) (G : Gatherings R) (tells : Type 0) where
     alone_counted : new.ticks ≡ one_more_tick mid.ticks → new.ticks ≡ all_ticks old.ticks (None ∷ [])
     alone_counted timed = timed ∙ ap (λ (n : ℕ). one_more_tick n) (ap (λ (s : ServerValue R). s.ticks) f.same)
 
-    pub tick_alone : (now : GroupValue) → new.ticks ≡ one_more_tick mid.ticks → GathersMore G (None ∷ []) one now mid.replica new.replica → TakesGroup G tells frames group now old new
+    pub tick_alone : (now : GroupValue) → new.ticks ≡ one_more_tick mid.ticks
+        → GathersMore G (None ∷ []) one now mid.replica new.replica → TakesGroup G tells frames group now old new
     tick_alone now timed ticks = record {
       received = alone_received;
       given = None ∷ [];
-      may = given_none old.pace old.received (datagrams_in (take 64 old.own) (all_filtered (filter_of old.addresses) frames)) (no_datagrams 64);
+      may = given_none old.pace old.received
+          (datagrams_in (take 64 old.own) (all_filtered (filter_of old.addresses) frames)) (no_datagrams 64);
       gathers = subst₂ (λ (x : GroupValue) (r : R). GathersMore G (None ∷ []) x now r new.replica) begun mine ticks;
-      counted = ap (λ (s : ServerValue R). s.received) same ∙ ap (λ (s : ServerValue R). s.received) f.same ∙ sym (ap (λ (ds : List (List ℕ)). counted old.received ds) (no_datagrams 64));
+      counted = ap (λ (s : ServerValue R). s.received) same ∙ ap (λ (s : ServerValue R). s.received) f.same
+          ∙ sym (ap (λ (ds : List (List ℕ)). counted old.received ds) (no_datagrams 64));
       ticks = alone_counted timed;
       left = alone_own ∙ sym (ap (λ (o : List LetterValue). drop 64 o) own);
       heard = alone_heard;
       network = alone_outside;
     }
 
-    pub tick_ends_alone : new.ticks ≡ one_more_tick mid.ticks → SaysNoMore S G (None ∷ []) one mid.replica new.replica → EndsGroup S G tells frames group old new
+    pub tick_ends_alone : new.ticks ≡ one_more_tick mid.ticks → SaysNoMore S G (None ∷ []) one mid.replica new.replica
+        → EndsGroup S G tells frames group old new
     tick_ends_alone timed silent = record {
       received = alone_received;
       count = 64;
       letters = record { at_most = omega arith; some = λ is. absurd (omega (arith, is)) };
       given = None ∷ [];
-      first = given_all old.pace old.received (datagrams_in (take 64 old.own) (all_filtered (filter_of old.addresses) frames)) (None ∷ [])
-          (given_none old.pace old.received (datagrams_in (take 64 old.own) (all_filtered (filter_of old.addresses) frames)) (no_datagrams 64));
+      first = given_all old.pace old.received
+          (datagrams_in (take 64 old.own) (all_filtered (filter_of old.addresses) frames)) (None ∷ [])
+          (given_none old.pace old.received
+          (datagrams_in (take 64 old.own) (all_filtered (filter_of old.addresses) frames)) (no_datagrams 64));
       silent = subst₂ (λ (x : GroupValue) (r : R). SaysNoMore S G (None ∷ []) x r new.replica) begun mine silent;
       ticks = alone_counted timed;
       left = alone_own ∙ sym (ap (λ (o : List LetterValue). drop 64 o) own);
@@ -331,10 +415,13 @@ module _ {R : Type 0} (S : Sayings R) (G : Gatherings R) (tells : Type 0) where
     }
 
   -- no tick is due, and nothing waits that a replica is given
-  by_clock : (s : Filter) (pace : Pace) (found : TurnInput) (frames : List (SocketAddr × List ℕ)) (due : Bool) → due ≡ false → (pace ≡ Datagrams → found ≡ Nothing → due ≡ true) → AreFound s found frames → frames ≡ [] → pace ≡ Clock
+  by_clock : (s : Filter) (pace : Pace) (found : TurnInput) (frames : List (SocketAddr × List ℕ)) (due : Bool)
+      → due ≡ false → (pace ≡ Datagrams → found ≡ Nothing → due ≡ true) → AreFound s found frames
+      → frames ≡ [] → pace ≡ Clock
   by_clock s Clock found frames due isnt nothing are empty = refl
   by_clock s Datagrams Nothing frames due isnt nothing are empty = absurd (cc (isnt, nothing refl refl))
-  by_clock s Datagrams Beside frames due isnt nothing are empty = absurd (let both : are.0 ∷ [] ≡ [] = sym are.1 ∙ empty in cc both)
+  by_clock s Datagrams Beside frames due isnt nothing are empty =
+      absurd (let both : are.0 ∷ [] ≡ [] = sym are.1 ∙ empty in cc both)
   by_clock s Datagrams Something frames due isnt nothing are empty = absurd are
 
   -- a tick is due behind what waits by the clock alone
@@ -346,29 +433,38 @@ module _ {R : Type 0} (S : Sayings R) (G : Gatherings R) (tells : Type 0) where
   module _ (Keeps : List (SocketAddr × List ℕ) → Type 0) where
     -- this was found, and nothing of it was taken
     abbrev pub HasFound : TurnInput → GroupValue → GroupValue → ServerValue R → ServerValue R → Type 0
-    HasFound found group one old mid = (old.own ≡ []) × (frames : List (SocketAddr × List ℕ)) × Finds tells found frames old mid × (one ≡ group) × Keeps frames
+    HasFound found group one old mid =
+        (old.own ≡ []) × (frames : List (SocketAddr × List ℕ)) × Finds tells found frames old mid
+        × (one ≡ group) × Keeps frames
 
     -- this waited, and was taken
     abbrev pub HasWaiting : GroupValue → GroupValue → ServerValue R → ServerValue R → Type 0
-    HasWaiting group one old mid = (frames : List (SocketAddr × List ℕ)) × TakesWaiting G tells frames group one old mid × Keeps frames
+    HasWaiting group one old mid =
+        (frames : List (SocketAddr × List ℕ)) × TakesWaiting G tells frames group one old mid × Keeps frames
 
     -- this was taken in a turn
     abbrev pub HasTaken : GroupValue → GroupValue → ServerValue R → ServerValue R → Type 0
-    HasTaken group now old new = (frames : List (SocketAddr × List ℕ)) × TakesGroup G tells frames group now old new × Keeps frames
+    HasTaken group now old new =
+        (frames : List (SocketAddr × List ℕ)) × TakesGroup G tells frames group now old new × Keeps frames
 
     -- no tick is due
-    pub untimely_takes : (group one : GroupValue) (old mid : ServerValue R) → HasWaiting group one old mid → HasTaken group one old mid
+    pub untimely_takes : (group one : GroupValue) (old mid : ServerValue R) → HasWaiting group one old mid
+        → HasTaken group one old mid
     untimely_takes group one old mid t = (t.0, without_tick t.0 group one old mid t.1, t.2)
 
-    pub untimely_rests : (found : TurnInput) (due : Bool) (group one : GroupValue) (old mid : ServerValue R) → mid.pace ≡ old.pace → due ≡ false → (mid.pace ≡ Datagrams → found ≡ Nothing → due ≡ true)
-        → HasFound found group one old mid → (frames : List (SocketAddr × List ℕ)) × HasReceived tells frames old mid × IsIdle tells frames old mid × Keeps frames
+    pub untimely_rests : (found : TurnInput) (due : Bool) (group one : GroupValue) (old mid : ServerValue R)
+        → mid.pace ≡ old.pace → due ≡ false → (mid.pace ≡ Datagrams → found ≡ Nothing → due ≡ true)
+        → HasFound found group one old mid
+        → (frames : List (SocketAddr × List ℕ)) × HasReceived tells frames old mid
+        × IsIdle tells frames old mid × Keeps frames
     untimely_rests found due group one old mid pace isnt nothing n = (
       n.1,
       alone_received found n.1 group one old mid mid n.0 n.2 n.3 refl,
       record {
         own = n.0;
         none = found_none (filter_of old.addresses) found n.1 n.2.are;
-        clock = λ empty. sym pace ∙ by_clock (filter_of old.addresses) mid.pace found n.1 due isnt nothing n.2.are empty;
+        clock =
+            λ empty. sym pace ∙ by_clock (filter_of old.addresses) mid.pace found n.1 due isnt nothing n.2.are empty;
         comes = n.2.comes;
         same = n.2.same;
       },
@@ -376,26 +472,46 @@ module _ {R : Type 0} (S : Sayings R) (G : Gatherings R) (tells : Type 0) where
     )
 
     -- one is
-    module _ (due : Bool) (group one : GroupValue) (old mid new : ServerValue R) (pace : mid.pace ≡ old.pace) (is_so : due ≡ true) (same : new ≡ record mid { replica = new.replica; failed = new.failed; ticks = new.ticks })
+    module _ (due : Bool) (group one : GroupValue) (old mid new : ServerValue R) (pace : mid.pace ≡ old.pace)
+        (is_so : due ≡ true) (same : new ≡ record mid { replica = new.replica; failed = new.failed; ticks = new.ticks })
         (timed : new.ticks ≡ one_more_tick mid.ticks) where
-      pub tick_turn : (found : TurnInput) (now : GroupValue) → (found ≡ Something → HasWaiting group one old mid) → ((found ≡ Something → ⊥) → HasFound found group one old mid)
-          → (mid.pace ≡ Datagrams → found ≡ Something → due ≡ false) → GathersMore G (None ∷ []) one now mid.replica new.replica → HasTaken group now old new
+      pub tick_turn : (found : TurnInput) (now : GroupValue) → (found ≡ Something → HasWaiting group one old mid)
+          → ((found ≡ Something → ⊥) → HasFound found group one old mid)
+          → (mid.pace ≡ Datagrams → found ≡ Something → due ≡ false)
+          → GathersMore G (None ∷ []) one now mid.replica new.replica → HasTaken group now old new
       tick_turn Something now takes none given ticks =
-          let t = takes refl in (t.0, tick_behind t.0 group one old mid new (sym pace ∙ clock_of mid.pace due is_so (λ is. given is refl)) t.1 same now timed ticks, t.2)
-      tick_turn Nothing now takes none given ticks = let n = none (λ is. cc is) in (n.1, tick_alone Nothing n.1 group one old mid new n.0 n.2 n.3 same now timed ticks, n.4)
-      tick_turn Beside now takes none given ticks = let n = none (λ is. cc is) in (n.1, tick_alone Beside n.1 group one old mid new n.0 n.2 n.3 same now timed ticks, n.4)
+          let t = takes refl in (
+            t.0,
+            tick_behind t.0 group one old mid new
+                (sym pace ∙ clock_of mid.pace due is_so (λ is. given is refl)) t.1 same now timed ticks,
+            t.2,
+          )
+      tick_turn Nothing now takes none given ticks = let n = none (λ is. cc is) in
+          (n.1, tick_alone Nothing n.1 group one old mid new n.0 n.2 n.3 same now timed ticks, n.4)
+      tick_turn Beside now takes none given ticks = let n = none (λ is. cc is) in
+          (n.1, tick_alone Beside n.1 group one old mid new n.0 n.2 n.3 same now timed ticks, n.4)
 
-      pub tick_turn_ends : (found : TurnInput) → (found ≡ Something → HasWaiting group one old mid) → ((found ≡ Something → ⊥) → HasFound found group one old mid)
-          → (mid.pace ≡ Datagrams → found ≡ Something → due ≡ false) → SaysNoMore S G (None ∷ []) one mid.replica new.replica → (frames : List (SocketAddr × List ℕ)) × EndsGroup S G tells frames group old new
+      pub tick_turn_ends : (found : TurnInput) → (found ≡ Something → HasWaiting group one old mid)
+          → ((found ≡ Something → ⊥) → HasFound found group one old mid)
+          → (mid.pace ≡ Datagrams → found ≡ Something → due ≡ false)
+          → SaysNoMore S G (None ∷ []) one mid.replica new.replica
+          → (frames : List (SocketAddr × List ℕ)) × EndsGroup S G tells frames group old new
       tick_turn_ends Something takes none given silent =
-          let t = takes refl in (t.0, tick_ends_behind t.0 group one old mid new (sym pace ∙ clock_of mid.pace due is_so (λ is. given is refl)) t.1 same timed silent)
-      tick_turn_ends Nothing takes none given silent = let n = none (λ is. cc is) in (n.1, tick_ends_alone Nothing n.1 group one old mid new n.0 n.2 n.3 same timed silent)
-      tick_turn_ends Beside takes none given silent = let n = none (λ is. cc is) in (n.1, tick_ends_alone Beside n.1 group one old mid new n.0 n.2 n.3 same timed silent)
+          let t = takes refl in (
+            t.0,
+            tick_ends_behind t.0 group one old mid new
+                (sym pace ∙ clock_of mid.pace due is_so (λ is. given is refl)) t.1 same timed silent,
+          )
+      tick_turn_ends Nothing takes none given silent = let n = none (λ is. cc is) in
+          (n.1, tick_ends_alone Nothing n.1 group one old mid new n.0 n.2 n.3 same timed silent)
+      tick_turn_ends Beside takes none given silent = let n = none (λ is. cc is) in
+          (n.1, tick_ends_alone Beside n.1 group one old mid new n.0 n.2 n.3 same timed silent)
 
   -- ---- what is handed on
 
   -- a replica that says nothing more
-  abbrev pub hands_none : (given : List (Option (List ℕ))) (own : List LetterValue) (old new : ServerValue R) → HandsNothing S given own old new → HandsOn S tells given own old new
+  abbrev pub hands_none : (given : List (Option (List ℕ))) (own : List LetterValue) (old new : ServerValue R)
+      → HandsNothing S given own old new → HandsOn S tells given own old new
   hands_none given own old new h = record {
     letters = [];
     says = h.says;
@@ -406,35 +522,45 @@ module _ {R : Type 0} (S : Sayings R) (G : Gatherings R) (tells : Type 0) where
   -- ---- a turn
 
   -- it is the same server, a step further
-  same_further : (old mid new : ServerValue R) → mid.cluster ≡ old.cluster → mid.node ≡ old.node → mid.pace ≡ old.pace → IsSameServer mid new → IsSameServer old new
-  same_further old mid new cluster node pace same = record { cluster = same.cluster ∙ cluster; node = same.node ∙ node; pace = same.pace ∙ pace }
+  same_further : (old mid new : ServerValue R) → mid.cluster ≡ old.cluster → mid.node ≡ old.node → mid.pace ≡ old.pace
+      → IsSameServer mid new → IsSameServer old new
+  same_further old mid new cluster node pace same =
+      record { cluster = same.cluster ∙ cluster; node = same.node ∙ node; pace = same.pace ∙ pace }
 
-  pub turn_of : (frames : List (SocketAddr × List ℕ)) (group now : GroupValue) (old mid new : ServerValue R) → G old.replica [] group old.replica → TakesGroup G tells frames group now old mid → HandsOnAll S G tells now mid new
+  pub turn_of : (frames : List (SocketAddr × List ℕ)) (group now : GroupValue) (old mid new : ServerValue R)
+      → G old.replica [] group old.replica → TakesGroup G tells frames group now old mid
+      → HandsOnAll S G tells now mid new
       → mid.sent ≡ old.sent → mid.socket_failures ≡ old.socket_failures → IsSameServer old mid
-      → new.addresses ≡ mid.addresses → new.received ≡ mid.received → new.ticks ≡ mid.ticks → IsSameServer mid new → new.failed ≡ false
+      → new.addresses ≡ mid.addresses → new.received ≡ mid.received → new.ticks ≡ mid.ticks
+      → IsSameServer mid new → new.failed ≡ false
       → Turn S tells (all_filtered (filter_of old.addresses) frames) old new
   turn_of frames group now old mid new begins t hands sent failures first book received untimed then lives = record {
     takes = received_first tells frames old mid t.received;
     given = t.given;
     may = t.may;
-    hands_on = subst (λ (own : List LetterValue). HandsOn S tells t.given own old new) t.left (hands old t.given (t.gathers old.replica [] begins) (sym sent) (sym failures));
+    hands_on = subst (λ (own : List LetterValue). HandsOn S tells t.given own old new) t.left
+        (hands old t.given (t.gathers old.replica [] begins) (sym sent) (sym failures));
     counted = received ∙ t.counted;
     ticks = untimed ∙ t.ticks;
-    heard = subst (λ (b : AddressBook). HearsAll old.cluster (all_filtered (filter_of old.addresses) frames) old.addresses b) (sym book) t.heard;
+    heard = subst (λ (b : AddressBook). HearsAll old.cluster
+        (all_filtered (filter_of old.addresses) frames) old.addresses b) (sym book) t.heard;
     same = same_further old mid new first.cluster first.node first.pace then;
     alive = lives;
   }
 
   -- the end of the group has ended it
-  pub last_of : (frames : List (SocketAddr × List ℕ)) (group now : GroupValue) (old mid new : ServerValue R) → G old.replica [] group old.replica → TakesGroup G tells frames group now old mid → SaysNothing S G now mid new
+  pub last_of : (frames : List (SocketAddr × List ℕ)) (group now : GroupValue) (old mid new : ServerValue R)
+      → G old.replica [] group old.replica → TakesGroup G tells frames group now old mid → SaysNothing S G now mid new
       → mid.sent ≡ old.sent → mid.socket_failures ≡ old.socket_failures → IsSameServer old mid
-      → new.addresses ≡ mid.addresses → new.ticks ≡ mid.ticks → IsSameServer mid new → new.failed ≡ true → LastTurn S tells (all_filtered (filter_of old.addresses) frames) old new
+      → new.addresses ≡ mid.addresses → new.ticks ≡ mid.ticks → IsSameServer mid new → new.failed ≡ true
+      → LastTurn S tells (all_filtered (filter_of old.addresses) frames) old new
   last_of frames group now old mid new begins t none sent failures first book untimed then ended = record {
     takes = received_first tells frames old mid t.received;
     count = 64;
     letters = record { at_most = omega arith; some = λ is. absurd (omega (arith, is)) };
     given = t.given;
-    first = given_all old.pace old.received (datagrams_in (take 64 old.own) (all_filtered (filter_of old.addresses) frames)) t.given t.may;
+    first = given_all old.pace old.received
+        (datagrams_in (take 64 old.own) (all_filtered (filter_of old.addresses) frames)) t.given t.may;
     hands_on = hands_none t.given (drop 64 old.own) old new (record {
       says = none.silent old.replica t.given (t.gathers old.replica [] begins);
       own = none.own ∙ t.left;
@@ -443,21 +569,25 @@ module _ {R : Type 0} (S : Sayings R) (G : Gatherings R) (tells : Type 0) where
     });
     silent = refl;
     ticks = untimed ∙ t.ticks;
-    heard = subst (λ (b : AddressBook). HearsAll old.cluster (all_filtered (filter_of old.addresses) frames) old.addresses b) (sym book) t.heard;
+    heard = subst (λ (b : AddressBook). HearsAll old.cluster
+        (all_filtered (filter_of old.addresses) frames) old.addresses b) (sym book) t.heard;
     same = same_further old mid new first.cluster first.node first.pace then;
     ended = ended;
   }
 
   -- one of its inputs has
-  pub last_within : (frames : List (SocketAddr × List ℕ)) (group : GroupValue) (old new : ServerValue R) → G old.replica [] group old.replica → EndsGroup S G tells frames group old new
-      → new.sent ≡ old.sent → new.socket_failures ≡ old.socket_failures → IsSameServer old new → new.failed ≡ true → LastTurn S tells (all_filtered (filter_of old.addresses) frames) old new
+  pub last_within : (frames : List (SocketAddr × List ℕ)) (group : GroupValue) (old new : ServerValue R)
+      → G old.replica [] group old.replica → EndsGroup S G tells frames group old new
+      → new.sent ≡ old.sent → new.socket_failures ≡ old.socket_failures → IsSameServer old new → new.failed ≡ true
+      → LastTurn S tells (all_filtered (filter_of old.addresses) frames) old new
   last_within frames group old new begins e sent failures same ended = record {
     takes = received_first tells frames old new e.received;
     count = e.count;
     letters = e.letters;
     given = e.given;
     first = e.first;
-    hands_on = hands_none e.given (drop e.count old.own) old new (record { says = e.silent old.replica [] begins; own = e.left; sent = sent; failures = failures });
+    hands_on = hands_none e.given (drop e.count old.own) old new
+        (record { says = e.silent old.replica [] begins; own = e.left; sent = sent; failures = failures });
     silent = refl;
     ticks = e.ticks;
     heard = e.heard;
@@ -467,14 +597,19 @@ module _ {R : Type 0} (S : Sayings R) (G : Gatherings R) (tells : Type 0) where
 
   -- ---- a tick
 
-  pub tick_of : {T E : Type 0} (r : Result T E) (group now : GroupValue) (old mid new : ServerValue R) → G old.replica [] group old.replica → GathersMore G (None ∷ []) group now old.replica mid.replica
-      → mid.own ≡ old.own → mid.sent ≡ old.sent → mid.socket_failures ≡ old.socket_failures → OnOk r (HandsOnAll S G tells now mid new) → OnOk r (HandsOn S tells (None ∷ []) old.own old new)
+  pub tick_of : {T E : Type 0} (r : Result T E) (group now : GroupValue) (old mid new : ServerValue R)
+      → G old.replica [] group old.replica → GathersMore G (None ∷ []) group now old.replica mid.replica
+      → mid.own ≡ old.own → mid.sent ≡ old.sent → mid.socket_failures ≡ old.socket_failures
+      → OnOk r (HandsOnAll S G tells now mid new) → OnOk r (HandsOn S tells (None ∷ []) old.own old new)
   tick_of (Ok x) group now old mid new begins gathers own sent failures hands =
-      subst (λ (o : List LetterValue). HandsOn S tells (None ∷ []) o old new) own (hands old (None ∷ []) (gathers old.replica [] begins) (sym sent) (sym failures))
+      subst (λ (o : List LetterValue). HandsOn S tells (None ∷ []) o old new) own
+      (hands old (None ∷ []) (gathers old.replica [] begins) (sym sent) (sym failures))
   tick_of (Err e) group now old mid new begins gathers own sent failures hands = tt
 
-  pub tick_ends : {T E : Type 0} (r : Result T E) (group now : GroupValue) (old mid new : ServerValue R) → G old.replica [] group old.replica → GathersMore G (None ∷ []) group now old.replica mid.replica
-      → mid.own ≡ old.own → mid.sent ≡ old.sent → mid.socket_failures ≡ old.socket_failures → OnErr r (SaysNothing S G now mid new) → OnErr r (HandsNothing S (None ∷ []) old.own old new)
+  pub tick_ends : {T E : Type 0} (r : Result T E) (group now : GroupValue) (old mid new : ServerValue R)
+      → G old.replica [] group old.replica → GathersMore G (None ∷ []) group now old.replica mid.replica
+      → mid.own ≡ old.own → mid.sent ≡ old.sent → mid.socket_failures ≡ old.socket_failures
+      → OnErr r (SaysNothing S G now mid new) → OnErr r (HandsNothing S (None ∷ []) old.own old new)
   tick_ends (Ok x) group now old mid new begins gathers own sent failures none = tt
   tick_ends (Err e) group now old mid new begins gathers own sent failures none = record {
     says = none.silent old.replica (None ∷ []) (gathers old.replica [] begins);
@@ -484,6 +619,9 @@ module _ {R : Type 0} (S : Sayings R) (G : Gatherings R) (tells : Type 0) where
   }
 
   -- the tick itself has ended it
-  pub tick_silent : (group : GroupValue) (old new : ServerValue R) → G old.replica [] group old.replica → SaysNoMore S G (None ∷ []) group old.replica new.replica
-      → new.own ≡ old.own → new.sent ≡ old.sent → new.socket_failures ≡ old.socket_failures → HandsNothing S (None ∷ []) old.own old new
-  tick_silent group old new begins silent own sent failures = record { says = silent old.replica [] begins; own = own; sent = sent; failures = failures }
+  pub tick_silent : (group : GroupValue) (old new : ServerValue R) → G old.replica [] group old.replica
+      → SaysNoMore S G (None ∷ []) group old.replica new.replica
+      → new.own ≡ old.own → new.sent ≡ old.sent → new.socket_failures ≡ old.socket_failures
+      → HandsNothing S (None ∷ []) old.own old new
+  tick_silent group old new begins silent own sent failures =
+      record { says = silent old.replica [] begins; own = own; sent = sent; failures = failures }

@@ -7,7 +7,8 @@ use Rattle.lk_pace.specs.declared.turn_input.TurnInput.{TurnInput}
 use Rattle.lk_pace.specs.declared.turn_input.TurnInput.TheVariants.{Nothing, Beside, Something}
 use Rattle.lk_transport.specs.Addresses.{Filter, filter_of, IsSameFilter}
 use Rattle.lk_transport.specs.Posts.{HearsAll, is_filtered_out, all_filtered}
-use Rattle.lk_server.specs.Servers.{ServerValue, all_inputs, all_ticks, counted, datagrams_in, Given, GivenFirst, HasReceived, IsFront, TakesLetters, HandsOn}
+use Rattle.lk_server.specs.Servers.{ServerValue, all_inputs, all_ticks, counted, datagrams_in, Given, GivenFirst}
+use Rattle.lk_server.specs.Servers.{HasReceived, IsFront, TakesLetters, HandsOn}
 
 -- a replica is given nothing of these frames: there is none, or one, which stands beside the protocol or came from a
 -- node of another genesis
@@ -18,7 +19,8 @@ AreFound s Something frames = ⊥
 
 -- these frames were found at the socket, and a replica is given nothing of them; where there is none, nothing was to
 -- come, if the socket tells that; and nothing else is changed
-pub record Finds {R : Type 0} (tells : Type 0) (found : TurnInput) (frames : List (SocketAddr × List ℕ)) (old new : ServerValue R) : Type 0 where
+pub record Finds {R : Type 0} (tells : Type 0) (found : TurnInput) (frames : List (SocketAddr × List ℕ))
+    (old new : ServerValue R) : Type 0 where
   pub are : AreFound (filter_of old.addresses) found frames
   pub none : tells → frames ≡ [] → old.coming ≡ []
   pub comes : tells → old.coming ≡ frames ++ new.coming
@@ -39,32 +41,39 @@ module _ {R : Type 0} (Gathers : Gatherings R) where
     pub left : new.own ≡ drop most old.own
 
   -- the content of these frames, and their senders' addresses were recorded
-  pub record TakesHeard (frames : List (SocketAddr × List ℕ)) (group now : GroupValue) (old new : ServerValue R) : Type 0 where
+  pub record TakesHeard (frames : List (SocketAddr × List ℕ)) (group now : GroupValue)
+      (old new : ServerValue R) : Type 0 where
     pub takes : TakesAll (datagrams_in [] (all_filtered (filter_of old.addresses) frames)) group now old new
     pub heard : HearsAll old.cluster (all_filtered (filter_of old.addresses) frames) old.addresses new.addresses
     pub network : IsSameFilter old.addresses new.addresses
 
   -- exactly these frames came from the socket, in order
-  pub record TakesSocket (tells : Type 0) (frames : List (SocketAddr × List ℕ)) (group now : GroupValue) (old new : ServerValue R) : Type 0 where
+  pub record TakesSocket (tells : Type 0) (frames : List (SocketAddr × List ℕ)) (group now : GroupValue)
+      (old new : ServerValue R) : Type 0 where
     pub takes : TakesHeard frames group now old new
     pub comes : tells → old.coming ≡ frames ++ new.coming
 
   -- what waits is taken: letters of the node to itself, or these frames of the socket
-  pub record TakesWaiting (tells : Type 0) (frames : List (SocketAddr × List ℕ)) (group now : GroupValue) (old new : ServerValue R) : Type 0 where
+  pub record TakesWaiting (tells : Type 0) (frames : List (SocketAddr × List ℕ)) (group now : GroupValue)
+      (old new : ServerValue R) : Type 0 where
     pub received : HasReceived tells frames old new
-    pub takes : TakesAll (datagrams_in (take 64 old.own) (all_filtered (filter_of old.addresses) frames)) group now old new
+    pub takes : TakesAll (datagrams_in (take 64 old.own) (all_filtered (filter_of old.addresses) frames)) group now old
+        new
     pub some : datagrams_in (take 64 old.own) (all_filtered (filter_of old.addresses) frames) ≢ []
     pub left : new.own ≡ drop 64 old.own
     pub heard : HearsAll old.cluster (all_filtered (filter_of old.addresses) frames) old.addresses new.addresses
     pub network : IsSameFilter old.addresses new.addresses
 
   -- what is taken in a turn: what waits, and a tick where one is due
-  pub record TakesGroup (tells : Type 0) (frames : List (SocketAddr × List ℕ)) (group now : GroupValue) (old new : ServerValue R) : Type 0 where
+  pub record TakesGroup (tells : Type 0) (frames : List (SocketAddr × List ℕ)) (group now : GroupValue)
+      (old new : ServerValue R) : Type 0 where
     pub received : HasReceived tells frames old new
     pub given : List (Option (List ℕ))
-    pub may : Given old.pace old.received (datagrams_in (take 64 old.own) (all_filtered (filter_of old.addresses) frames)) given
+    pub may : Given old.pace old.received
+        (datagrams_in (take 64 old.own) (all_filtered (filter_of old.addresses) frames)) given
     pub gathers : GathersMore Gathers given group now old.replica new.replica
-    pub counted : new.received ≡ counted old.received (datagrams_in (take 64 old.own) (all_filtered (filter_of old.addresses) frames))
+    pub counted : new.received
+        ≡ counted old.received (datagrams_in (take 64 old.own) (all_filtered (filter_of old.addresses) frames))
     pub ticks : new.ticks ≡ all_ticks old.ticks given
     pub left : new.own ≡ drop 64 old.own
     pub heard : HearsAll old.cluster (all_filtered (filter_of old.addresses) frames) old.addresses new.addresses
@@ -88,22 +97,26 @@ module _ {R : Type 0} (Says : Sayings R) (Gathers : Gatherings R) where
     pub left : new.own ≡ drop count old.own
 
   -- at the content of these frames
-  pub record EndsHeard (frames : List (SocketAddr × List ℕ)) (group : GroupValue) (old new : ServerValue R) : Type 0 where
+  pub record EndsHeard (frames : List (SocketAddr × List ℕ)) (group : GroupValue)
+      (old new : ServerValue R) : Type 0 where
     pub ends : EndsWithin (datagrams_in [] (all_filtered (filter_of old.addresses) frames)) group old new
     pub heard : HearsAll old.cluster (all_filtered (filter_of old.addresses) frames) old.addresses new.addresses
     pub network : IsSameFilter old.addresses new.addresses
 
-  pub record EndsSocket (tells : Type 0) (frames : List (SocketAddr × List ℕ)) (group : GroupValue) (old new : ServerValue R) : Type 0 where
+  pub record EndsSocket (tells : Type 0) (frames : List (SocketAddr × List ℕ)) (group : GroupValue)
+      (old new : ServerValue R) : Type 0 where
     pub ends : EndsHeard frames group old new
     pub comes : tells → old.coming ≡ frames ++ new.coming
 
   -- at the input of a turn
-  pub record EndsGroup (tells : Type 0) (frames : List (SocketAddr × List ℕ)) (group : GroupValue) (old new : ServerValue R) : Type 0 where
+  pub record EndsGroup (tells : Type 0) (frames : List (SocketAddr × List ℕ)) (group : GroupValue)
+      (old new : ServerValue R) : Type 0 where
     pub received : HasReceived tells frames old new
     pub count : ℕ
     pub letters : TakesLetters count old.own
     pub given : List (Option (List ℕ))
-    pub first : GivenFirst old.pace old.received (datagrams_in (take count old.own) (all_filtered (filter_of old.addresses) frames)) given
+    pub first : GivenFirst old.pace old.received
+        (datagrams_in (take count old.own) (all_filtered (filter_of old.addresses) frames)) given
     pub silent : SaysNoMore Says Gathers given group old.replica new.replica
     pub ticks : new.ticks ≡ all_ticks old.ticks given
     pub left : new.own ≡ drop count old.own
@@ -114,7 +127,8 @@ module _ {R : Type 0} (Says : Sayings R) (Gathers : Gatherings R) where
 
   -- nothing of the group leaves: no letter is kept or sent
   pub record SaysNothing (group : GroupValue) (old new : ServerValue R) : Type 0 where
-    pub silent : (start : R) (given : List (Option (List ℕ))) → Gathers start given group old.replica → Says start given [] new.replica
+    pub silent : (start : R) (given : List (Option (List ℕ))) → Gathers start given group old.replica
+        → Says start given [] new.replica
     pub own : new.own ≡ old.own
     pub sent : new.sent ≡ old.sent
     pub failures : new.socket_failures ≡ old.socket_failures
@@ -122,5 +136,6 @@ module _ {R : Type 0} (Says : Sayings R) (Gathers : Gatherings R) where
   -- whatever input the group had since the server was in this state, with nothing of it sent, the server has handed on
   -- the replica's letters
   abbrev pub HandsOnAll : Type 0 → GroupValue → ServerValue R → ServerValue R → Type 0
-  HandsOnAll tells group old new = (start : ServerValue R) (given : List (Option (List ℕ))) → Gathers start.replica given group old.replica
+  HandsOnAll tells group old new =
+      (start : ServerValue R) (given : List (Option (List ℕ))) → Gathers start.replica given group old.replica
       → start.sent ≡ old.sent → start.socket_failures ≡ old.socket_failures → HandsOn Says tells given old.own start new

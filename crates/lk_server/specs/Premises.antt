@@ -21,11 +21,14 @@ IsToldByANode s frame = IsSealedBy (key_list s.nodes) (to_node s s.node) frame (
 
 -- what is taken from a frame is a request of the client under whose key it was sealed, or it spells nothing
 abbrev pub IsAskedByItsClient : Seals → List ℕ → Type 0
-IsAskedByItsClient s frame = (m : Message) → Spells m (heard s frame) → (r : Request) × (m.content ≡ content.Request r) × IsSealedByClient s r.client frame (heard s frame)
+IsAskedByItsClient s frame =
+    (m : Message) → Spells m (heard s frame)
+    → (r : Request) × (m.content ≡ content.Request r) × IsSealedByClient s r.client frame (heard s frame)
 
 -- what is taken from a frame was sealed for this node by someone who has a key of the nodes, or its client asks it
 abbrev pub IsToldOrAsked : Seals → List ℕ → Type 0
-IsToldOrAsked s frame = IsSealedBy (key_list s.nodes) (to_node s s.node) frame (heard s frame) ⊎ IsAskedByItsClient s frame
+IsToldOrAsked s frame =
+    IsSealedBy (key_list s.nodes) (to_node s s.node) frame (heard s frame) ⊎ IsAskedByItsClient s frame
 
 -- someone who has a key of the nodes sealed a probe for this node
 abbrev pub IsProbedByANode : Seals → List ℕ → Type 0

@@ -9,17 +9,24 @@ use Rattle.lk_server.specs.Servers.{ServerValue, tray_at}
 use Rattle.lk_served_replica.specs.declared.probed_state.ProbedState.{ProbedState}
 
 -- the probe that was kept is answered, and a node of the same genesis that asks by it is heard again; what the report
--- tells that was kept is learned; and then one question is sent where one is due at the server's count of ticks. Nothing
--- else is sent, and nothing else changes; nor does what is to come, if the socket tells that. `Shows` is what a replica
--- shows
-pub record HandlesProbes {R : Type 0} (Shows : R → ProbedState → Type 0) (tells : Type 0) (asked : Option ReceivedProbe) (reported : Option Reported) (old new : ServerValue R) : Type 0 where
+-- tells that was kept is learned; and then one question is sent where one is due at the server's count of ticks.
+-- Nothing else is sent, and nothing else changes; nor does what is to come, if the socket tells that. `Shows` is what a
+-- replica shows
+pub record HandlesProbes {R : Type 0} (Shows : R → ProbedState → Type 0) (tells : Type 0)
+    (asked : Option ReceivedProbe) (reported : Option Reported) (old new : ServerValue R) : Type 0 where
   pub answered : ServerValue R
   pub answers : AnswersKept Shows tells asked old answered
   pub readmitted : AddressBook
   pub readmits : ReadmitsKept asked old.addresses readmitted
   pub learned : AddressBook
   pub learns : LearnsKept reported readmitted learned
-  pub asks : AsksOne tells old.ticks old.node learned new.addresses (tray_at answered.own answered) (tray_at new.own new)
+  pub asks : AsksOne tells old.ticks old.node learned new.addresses
+      (tray_at answered.own answered) (tray_at new.own new)
   pub network : IsSameNetwork old.addresses new.addresses
   pub still : tells → new.coming ≡ old.coming
-  pub same : new ≡ record old { addresses = new.addresses; sent = new.sent; socket_failures = new.socket_failures; coming = new.coming }
+  pub same : new ≡ record old {
+    addresses = new.addresses;
+    sent = new.sent;
+    socket_failures = new.socket_failures;
+    coming = new.coming;
+  }

@@ -26,7 +26,8 @@ pub record Tells (digest : List ℕ) (count : ℕ) (shown : ProbedState) (s : St
 
 -- these bytes are a report of that node that answers the probe, and tells what the replica shows and that count of
 -- ticks. By the laws of lk_probe it is as long as the probe
-pub record IsAnswer (node : ℕ) (genesis : List ℕ) (count : ℕ) (shown : ProbedState) (p : Probe) (bytes : List ℕ) : Type 0 where
+pub record IsAnswer (node : ℕ) (genesis : List ℕ) (count : ℕ) (shown : ProbedState) (p : Probe)
+    (bytes : List ℕ) : Type 0 where
   pub report : Report
   pub spelled : SpellsReport report bytes
   pub answers : Answers p report
@@ -35,7 +36,8 @@ pub record IsAnswer (node : ℕ) (genesis : List ℕ) (count : ℕ) (shown : Pro
 
 -- the probe was answered, by the server's own count of ticks, and nothing else is sent or changed; nor is what is to
 -- come, if the socket tells that. `Shows` is what a replica shows
-pub record AnswersOne {R : Type 0} (Shows : R → ProbedState → Type 0) (tells : Type 0) (a : ReceivedProbe) (old new : ServerValue R) : Type 0 where
+pub record AnswersOne {R : Type 0} (Shows : R → ProbedState → Type 0) (tells : Type 0) (a : ReceivedProbe)
+    (old new : ServerValue R) : Type 0 where
   pub shown : ProbedState
   pub shows : Shows old.replica shown
   pub bytes : List ℕ
@@ -45,6 +47,7 @@ pub record AnswersOne {R : Type 0} (Shows : R → ProbedState → Type 0) (tells
   pub same : new ≡ record old { sent = new.sent; socket_failures = new.socket_failures; coming = new.coming }
 
 -- the probe that is kept was answered, if one is; else nothing is sent or changed
-abbrev pub AnswersKept : {R : Type 0} → (R → ProbedState → Type 0) → Type 0 → Option ReceivedProbe → ServerValue R → ServerValue R → Type 0
+abbrev pub AnswersKept : {R : Type 0} → (R → ProbedState → Type 0) → Type 0 → Option ReceivedProbe
+    → ServerValue R → ServerValue R → Type 0
 AnswersKept Shows tells None old new = new ≡ old
 AnswersKept Shows tells (Some a) old new = AnswersOne Shows tells a old new

@@ -1,5 +1,6 @@
 -- The input that a server gives to its replica, and the fate of the letters.
-use Rattle.std.specs.Prelude.{◌≡◌, ◌⊎◌, ◌≤◌, Bool, true, false, ◌+◌, ◌%◌, ◌^◌, ℕ, List, [], ◌∷◌, ◌++◌, length, map, min, take, drop, Option, Some, None, if◌then◌else◌}
+use Rattle.std.specs.Prelude.{◌≡◌, ◌⊎◌, ◌≤◌, Bool, true, false, ◌+◌, ◌%◌, ◌^◌, ℕ, List, [], ◌∷◌, ◌++◌, length, map, min}
+use Rattle.std.specs.Prelude.{take, drop, Option, Some, None, if◌then◌else◌}
 use Rattle.std.specs.declared.net.socket_addr.SocketAddr.{SocketAddr}
 use Rattle.lk_types.specs.Ranges.{IsClient}
 use Rattle.lk_node_io.specs.Letters.{LetterValue}
@@ -51,7 +52,8 @@ pub record Runs {R : Type 0} (r : R) (ended : Bool) (s : ServerValue R) : Type 0
   pub failed : s.failed ≡ ended
 
 -- it serves on a socket that has sent these datagrams, with this many failed sends and these datagrams to come
-pub record ServesOn {R : Type 0} (datagrams : List (SocketAddr × List ℕ)) (count : ℕ) (next : List (SocketAddr × List ℕ)) (s : ServerValue R) : Type 0 where
+pub record ServesOn {R : Type 0} (datagrams : List (SocketAddr × List ℕ)) (count : ℕ)
+    (next : List (SocketAddr × List ℕ)) (s : ServerValue R) : Type 0 where
   pub sent : s.sent ≡ datagrams
   pub failures : s.socket_failures ≡ count
   pub coming : s.coming ≡ next
@@ -69,7 +71,8 @@ inputs pace number bytes = if ticks_after pace number then Some bytes ∷ None �
 -- the same at these datagrams, one after another, after this many
 abbrev pub all_inputs : Pace → ℕ → List (List ℕ) → List (Option (List ℕ))
 all_inputs pace received [] = []
-all_inputs pace received (bytes ∷ more) = inputs pace (one_more received) bytes ++ all_inputs pace (one_more received) more
+all_inputs pace received (bytes ∷ more) =
+    inputs pace (one_more received) bytes ++ all_inputs pace (one_more received) more
 
 -- the count of datagrams after these
 abbrev pub counted : ℕ → List (List ℕ) → ℕ
@@ -93,7 +96,8 @@ all_ticks ticks (one ∷ more) = all_ticks (ticks_behind ticks one) more
 -- are none a tick
 abbrev pub Given : Pace → ℕ → List (List ℕ) → List (Option (List ℕ)) → Type 0
 Given pace received [] given = given ≡ None ∷ []
-Given pace received (bytes ∷ more) given = (ticks : List (Option (List ℕ))) × MayFollow pace ticks × (given ≡ all_inputs pace received (bytes ∷ more) ++ ticks)
+Given pace received (bytes ∷ more) given =
+    (ticks : List (Option (List ℕ))) × MayFollow pace ticks × (given ≡ all_inputs pace received (bytes ∷ more) ++ ticks)
 
 -- the datagrams that a turn takes: letters of the node to itself, and what came from the socket
 abbrev pub datagrams_in : List LetterValue → List (SocketAddr × List ℕ) → List (List ℕ)
@@ -104,7 +108,8 @@ abbrev pub IsFront : {X : Type 0} → List X → List X → Type 0
 IsFront {X} front whole = (rest : List X) × (whole ≡ front ++ rest)
 
 -- a beginning of what a replica may be given in a turn
-pub record GivenFirst (pace : Pace) (received : ℕ) (datagrams : List (List ℕ)) (given : List (Option (List ℕ))) : Type 0 where
+pub record GivenFirst (pace : Pace) (received : ℕ) (datagrams : List (List ℕ))
+    (given : List (Option (List ℕ))) : Type 0 where
   pub whole : List (Option (List ℕ))
   pub may : Given pace received datagrams whole
   pub front : IsFront given whole
@@ -123,7 +128,8 @@ tray_at own s = record { own = own; sent = s.sent; failures = s.socket_failures 
 -- the replica took exactly this input as one group and produced these letters; each was kept, sent to its destination,
 -- or lost by a failed send, in order, and nothing else was sent or kept. `own` are the earlier letters of the node to
 -- itself, without those that were taken
-pub record HandsOn {R : Type 0} (Says : R → List (Option (List ℕ)) → List LetterValue → R → Type 0) (tells : Type 0) (given : List (Option (List ℕ))) (own : List LetterValue) (old new : ServerValue R) : Type 0 where
+pub record HandsOn {R : Type 0} (Says : R → List (Option (List ℕ)) → List LetterValue → R → Type 0) (tells : Type 0)
+    (given : List (Option (List ℕ))) (own : List LetterValue) (old new : ServerValue R) : Type 0 where
   pub letters : List LetterValue
   pub says : Says old.replica given letters new.replica
   pub kept : Grows own new.own
@@ -131,7 +137,8 @@ pub record HandsOn {R : Type 0} (Says : R → List (Option (List ℕ)) → List 
 
 -- the replica took exactly this input and produced nothing: no letter was kept or sent. `stood` are the earlier
 -- letters of the node to itself
-pub record HandsNothing {R : Type 0} (Says : R → List (Option (List ℕ)) → List LetterValue → R → Type 0) (given : List (Option (List ℕ))) (stood : List LetterValue) (old new : ServerValue R) : Type 0 where
+pub record HandsNothing {R : Type 0} (Says : R → List (Option (List ℕ)) → List LetterValue → R → Type 0)
+    (given : List (Option (List ℕ))) (stood : List LetterValue) (old new : ServerValue R) : Type 0 where
   pub says : Says old.replica given [] new.replica
   pub own : new.own ≡ stood
   pub sent : new.sent ≡ old.sent
@@ -143,7 +150,8 @@ pub record HandsNothing {R : Type 0} (Says : R → List (Option (List ℕ)) → 
 -- these frames came: none where letters of the node to itself wait, and at most 64. They are the first of those that
 -- were to come, the others are still to come, and where the server looked at the socket and none came, none was to
 -- come, if the socket tells that
-pub record HasReceived {R : Type 0} (tells : Type 0) (frames : List (SocketAddr × List ℕ)) (old new : ServerValue R) : Type 0 where
+pub record HasReceived {R : Type 0} (tells : Type 0) (frames : List (SocketAddr × List ℕ))
+    (old new : ServerValue R) : Type 0 where
   pub alone : (old.own ≡ []) ⊎ (frames ≡ [])
   pub few : length frames ≤ 64
   pub comes : tells → old.coming ≡ frames ++ new.coming
@@ -151,7 +159,8 @@ pub record HasReceived {R : Type 0} (tells : Type 0) (frames : List (SocketAddr 
 
 -- what may be taken of the socket: nothing where letters of the node to itself wait, at most 64 datagrams, and the
 -- first of what is to come if the socket tells that
-pub record TakesFirst {R : Type 0} (tells : Type 0) (came : List (SocketAddr × List ℕ)) (old : ServerValue R) : Type 0 where
+pub record TakesFirst {R : Type 0} (tells : Type 0) (came : List (SocketAddr × List ℕ))
+    (old : ServerValue R) : Type 0 where
   pub alone : (old.own ≡ []) ⊎ (came ≡ [])
   pub few : length came ≤ 64
   pub comes : tells → old.own ≡ [] → IsFront came (all_filtered (filter_of old.addresses) old.coming)
@@ -170,7 +179,8 @@ pub record IsSameServer {R : Type 0} (old new : ServerValue R) : Type 0 where
 -- Where letters of the node to itself wait, it takes the first 64 of them, in order, and nothing of the socket; else
 -- what came. Its replica was given just that as one group, and a tick where one was due, and each tick was counted;
 -- whoever sent what came was heard, and it goes on
-pub record Turn {R : Type 0} (Says : R → List (Option (List ℕ)) → List LetterValue → R → Type 0) (tells : Type 0) (came : List (SocketAddr × List ℕ)) (old new : ServerValue R) : Type 0 where
+pub record Turn {R : Type 0} (Says : R → List (Option (List ℕ)) → List LetterValue → R → Type 0) (tells : Type 0)
+    (came : List (SocketAddr × List ℕ)) (old new : ServerValue R) : Type 0 where
   pub takes : TakesFirst tells came old
   pub given : List (Option (List ℕ))
   pub may : Given old.pace old.received (datagrams_in (take 64 old.own) came) given
@@ -183,7 +193,8 @@ pub record Turn {R : Type 0} (Says : R → List (Option (List ℕ)) → List Let
 
 -- A turn has ended the replica, after a prefix of its input or at the sync after all of it: this many letters of the
 -- node to itself were taken, and the last datagram that arrived has ended it; nothing of the group is sent
-pub record LastTurn {R : Type 0} (Says : R → List (Option (List ℕ)) → List LetterValue → R → Type 0) (tells : Type 0) (came : List (SocketAddr × List ℕ)) (old new : ServerValue R) : Type 0 where
+pub record LastTurn {R : Type 0} (Says : R → List (Option (List ℕ)) → List LetterValue → R → Type 0) (tells : Type 0)
+    (came : List (SocketAddr × List ℕ)) (old new : ServerValue R) : Type 0 where
   pub takes : TakesFirst tells came old
   pub count : ℕ
   pub letters : TakesLetters count old.own
@@ -199,7 +210,8 @@ pub record LastTurn {R : Type 0} (Says : R → List (Option (List ℕ)) → List
 -- An idle turn: no letter of the node to itself waited, these frames came, and none of them says anything to the
 -- replica. It was given nothing, nothing was sent, and nothing is changed but what is to come: that is now what follows
 -- these frames. By datagrams a turn in which no frame comes is never idle: it is a tick
-pub record IsIdle {R : Type 0} (tells : Type 0) (frames : List (SocketAddr × List ℕ)) (old new : ServerValue R) : Type 0 where
+pub record IsIdle {R : Type 0} (tells : Type 0) (frames : List (SocketAddr × List ℕ))
+    (old new : ServerValue R) : Type 0 where
   pub own : old.own ≡ []
   pub none : all_filtered (filter_of old.addresses) frames ≡ []
   pub clock : frames ≡ [] → old.pace ≡ Clock
@@ -208,5 +220,7 @@ pub record IsIdle {R : Type 0} (tells : Type 0) (frames : List (SocketAddr × Li
 
 -- a turn in which these frames came: its replica was given what was taken of them, or what waited, or a tick; or the
 -- turn is idle
-abbrev pub TakesTurn : {R : Type 0} (Says : R → List (Option (List ℕ)) → List LetterValue → R → Type 0) (tells : Type 0) → List (SocketAddr × List ℕ) → ServerValue R → ServerValue R → Type 0
-TakesTurn Says tells frames old new = Turn Says tells (all_filtered (filter_of old.addresses) frames) old new ⊎ IsIdle tells frames old new
+abbrev pub TakesTurn : {R : Type 0} (Says : R → List (Option (List ℕ)) → List LetterValue → R → Type 0)
+    (tells : Type 0) → List (SocketAddr × List ℕ) → ServerValue R → ServerValue R → Type 0
+TakesTurn Says tells frames old new =
+    Turn Says tells (all_filtered (filter_of old.addresses) frames) old new ⊎ IsIdle tells frames old new

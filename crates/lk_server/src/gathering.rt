@@ -9,7 +9,8 @@ ghost use Rattle.std.specs.declared.net.socket_addr.SocketAddr.{SocketAddr as Ad
 ghost use Rattle.lk_node_io.specs.Letters.{LetterValue};
 ghost use Rattle.lk_node.specs.Calls.{heard_by};
 ghost use Rattle.lk_served_replica.specs.Groups.{GathersMore, SaysNoMore};
-ghost use Rattle.lk_server.specs.Gatherings.{Finds, TakesAll, EndsWithin, TakesOwn, EndsOwn, TakesWaiting, TakesGroup, EndsGroup};
+ghost use Rattle.lk_server.specs.Gatherings.{Finds, TakesAll, EndsWithin, TakesOwn, EndsOwn, TakesWaiting, TakesGroup};
+ghost use Rattle.lk_server.specs.Gatherings.{EndsGroup};
 ghost use Rattle.lk_transport.specs.Kept.{KeepsOf};
 ghost use Rattle.lk_server.specs.Servers.{HasReceived, IsIdle, one_more_tick};
 
@@ -56,8 +57,10 @@ impl<R: ServedReplica, S: DatagramSocket + Drop> Server<R, S> {
         group: &mut Group,
         log: &L,
     ) -> Result<(), GroupFault>
-        ensures gathers { OnOk result (GathersMore R.Gathers (heard_by input.entry ∷ []) group.old group.new self.old.replica self.new.replica) }
-        ensures silent { OnErr result (SaysNoMore R.Says R.Gathers (heard_by input.entry ∷ []) group.old self.old.replica self.new.replica) }
+        ensures gathers { OnOk result
+            (GathersMore R.Gathers (heard_by input.entry ∷ []) group.old group.new self.old.replica self.new.replica) }
+        ensures silent { OnErr result
+            (SaysNoMore R.Says R.Gathers (heard_by input.entry ∷ []) group.old self.old.replica self.new.replica) }
         ensures others { self.new ≡ record self.old { replica = self.new.replica; failed = self.new.failed } }
         ensures broken { OnErr result (self.new.failed ≡ true) }
     {
@@ -77,11 +80,14 @@ impl<R: ServedReplica, S: DatagramSocket + Drop> Server<R, S> {
 
     // Adds a tick to the group, and counts it: some time has passed.
     pub(crate) fn add_tick<L: Log>(&mut self, group: &mut Group, log: &L) -> Result<(), GroupFault>
-        ensures gathers { OnOk result (GathersMore R.Gathers (None ∷ []) group.old group.new self.old.replica self.new.replica) }
-        ensures silent { OnErr result (SaysNoMore R.Says R.Gathers (None ∷ []) group.old self.old.replica self.new.replica) }
+        ensures gathers { OnOk result
+            (GathersMore R.Gathers (None ∷ []) group.old group.new self.old.replica self.new.replica) }
+        ensures silent { OnErr result
+            (SaysNoMore R.Says R.Gathers (None ∷ []) group.old self.old.replica self.new.replica) }
         // However it ends, the tick is counted.
         ensures ticks { self.new.ticks ≡ one_more_tick self.old.ticks }
-        ensures others { self.new ≡ record self.old { replica = self.new.replica; failed = self.new.failed; ticks = self.new.ticks } }
+        ensures others { self.new
+            ≡ record self.old { replica = self.new.replica; failed = self.new.failed; ticks = self.new.ticks } }
         ensures broken { OnErr result (self.new.failed ≡ true) }
     {
         self.ticks = self.ticks.saturating_add(1);
@@ -98,7 +104,13 @@ impl<R: ServedReplica, S: DatagramSocket + Drop> Server<R, S> {
     ) -> Result<(), GroupFault>
         ensures takes { OnOk result (TakesAll R.Gathers (datagram.entry ∷ []) group.old group.new self.old self.new) }
         ensures ends { OnErr result (EndsWithin R.Says R.Gathers (datagram.entry ∷ []) group.old self.old self.new) }
-        ensures others { self.new ≡ record self.old { replica = self.new.replica; failed = self.new.failed; received = self.new.received; ticks = self.new.ticks } }
+        ensures others { self.new
+            ≡ record self.old {
+              replica = self.new.replica;
+              failed = self.new.failed;
+              received = self.new.received;
+              ticks = self.new.ticks;
+            } }
         ensures broken { OnErr result (self.new.failed ≡ true) }
     {
         self.received = self.received.wrapping_add(1);
@@ -111,10 +123,22 @@ impl<R: ServedReplica, S: DatagramSocket + Drop> Server<R, S> {
 
     // Adds the first letter of the node to itself to the group. Returns whether one was waiting.
     fn add_own_letter<L: Log>(&mut self, group: &mut Group, log: &L) -> Result<bool, GroupFault>
-        ensures takes { IfOk result (λ some. some ≡ true → (l : LetterValue) × (self.old.own ≡ l ∷ self.new.own) × TakesAll R.Gathers (l.bytes ∷ []) group.old group.new self.old self.new) }
-        ensures none { IfOk result (λ some. some ≡ false → (self.old.own ≡ []) × (self.new ≡ self.old) × (group.new ≡ group.old)) }
-        ensures ends { OnErr result ((l : LetterValue) × (self.old.own ≡ l ∷ self.new.own) × EndsWithin R.Says R.Gathers (l.bytes ∷ []) group.old self.old self.new) }
-        ensures others { self.new ≡ record self.old { replica = self.new.replica; failed = self.new.failed; received = self.new.received; ticks = self.new.ticks; own = self.new.own } }
+        ensures takes { IfOk result
+            (λ some. some ≡ true → (l : LetterValue) × (self.old.own ≡ l ∷ self.new.own)
+            × TakesAll R.Gathers (l.bytes ∷ []) group.old group.new self.old self.new) }
+        ensures none { IfOk result
+            (λ some. some ≡ false → (self.old.own ≡ []) × (self.new ≡ self.old) × (group.new ≡ group.old)) }
+        ensures ends { OnErr result
+            ((l : LetterValue) × (self.old.own ≡ l ∷ self.new.own)
+            × EndsWithin R.Says R.Gathers (l.bytes ∷ []) group.old self.old self.new) }
+        ensures others { self.new
+            ≡ record self.old {
+              replica = self.new.replica;
+              failed = self.new.failed;
+              received = self.new.received;
+              ticks = self.new.ticks;
+              own = self.new.own;
+            } }
         ensures broken { OnErr result (self.new.failed ≡ true) }
     {
         let Some(letter) = self.next_letter() else {
@@ -130,7 +154,14 @@ impl<R: ServedReplica, S: DatagramSocket + Drop> Server<R, S> {
     fn add_own_letters<L: Log>(&mut self, group: &mut Group, log: &L) -> Result<(), GroupFault>
         ensures takes { OnOk result (TakesOwn R.Gathers 63 group.old group.new self.old self.new) }
         ensures ends { OnErr result (EndsOwn R.Says R.Gathers 63 group.old self.old self.new) }
-        ensures others { self.new ≡ record self.old { replica = self.new.replica; failed = self.new.failed; received = self.new.received; ticks = self.new.ticks; own = self.new.own } }
+        ensures others { self.new
+            ≡ record self.old {
+              replica = self.new.replica;
+              failed = self.new.failed;
+              received = self.new.received;
+              ticks = self.new.ticks;
+              own = self.new.own;
+            } }
         ensures broken { OnErr result (self.new.failed ≡ true) }
     {
         'letters: for _ in 0..FURTHER {
@@ -151,10 +182,29 @@ impl<R: ServedReplica, S: DatagramSocket + Drop> Server<R, S> {
         group: &mut Group,
         log: &L,
     ) -> Result<TurnInput, GroupFault>
-        ensures takes { IfOk result (λ found. found ≡ TurnInput.Something → (frames : List (Address × List ℕ)) × TakesWaiting R.Gathers S.is_telling frames group.old group.new self.old self.new × KeepsOf self.old.node self.old.addresses.seals frames buffer.old buffer.new) }
-        ensures none { IfOk result (λ found. (found ≡ TurnInput.Something → ⊥) → (self.old.own ≡ []) × (frames : List (Address × List ℕ)) × Finds S.is_telling found frames self.old self.new × (group.new ≡ group.old) × KeepsOf self.old.node self.old.addresses.seals frames buffer.old buffer.new) }
-        ensures ends { OnErr result ((frames : List (Address × List ℕ)) × EndsGroup R.Says R.Gathers S.is_telling frames group.old self.old self.new) }
-        ensures others { self.new ≡ record self.old { replica = self.new.replica; failed = self.new.failed; received = self.new.received; ticks = self.new.ticks; own = self.new.own; addresses = self.new.addresses; coming = self.new.coming } }
+        ensures takes { IfOk result
+            (λ found. found ≡ TurnInput.Something
+            → (frames : List (Address × List ℕ))
+            × TakesWaiting R.Gathers S.is_telling frames group.old group.new self.old self.new
+            × KeepsOf self.old.node self.old.addresses.seals frames buffer.old buffer.new) }
+        ensures none { IfOk result
+            (λ found. (found ≡ TurnInput.Something → ⊥)
+            → (self.old.own ≡ []) × (frames : List (Address × List ℕ))
+            × Finds S.is_telling found frames self.old self.new × (group.new ≡ group.old)
+            × KeepsOf self.old.node self.old.addresses.seals frames buffer.old buffer.new) }
+        ensures ends { OnErr result
+            ((frames : List (Address × List ℕ))
+            × EndsGroup R.Says R.Gathers S.is_telling frames group.old self.old self.new) }
+        ensures others { self.new
+            ≡ record self.old {
+              replica = self.new.replica;
+              failed = self.new.failed;
+              received = self.new.received;
+              ticks = self.new.ticks;
+              own = self.new.own;
+              addresses = self.new.addresses;
+              coming = self.new.coming;
+            } }
         ensures broken { OnErr result (self.new.failed ≡ true) }
     {
         if !self.add_own_letter(group, log)? {
@@ -172,10 +222,27 @@ impl<R: ServedReplica, S: DatagramSocket + Drop> Server<R, S> {
         group: &mut Group,
         log: &L,
     ) -> Result<bool, GroupFault>
-        ensures takes { IfOk result (λ some. some ≡ true → (frames : List (Address × List ℕ)) × TakesGroup R.Gathers S.is_telling frames group.old group.new self.old self.new × KeepsOf self.old.node self.old.addresses.seals frames buffer.old buffer.new) }
-        ensures idle { IfOk result (λ some. some ≡ false → (frames : List (Address × List ℕ)) × HasReceived S.is_telling frames self.old self.new × IsIdle S.is_telling frames self.old self.new × KeepsOf self.old.node self.old.addresses.seals frames buffer.old buffer.new) }
-        ensures ends { OnErr result ((frames : List (Address × List ℕ)) × EndsGroup R.Says R.Gathers S.is_telling frames group.old self.old self.new) }
-        ensures others { self.new ≡ record self.old { replica = self.new.replica; failed = self.new.failed; received = self.new.received; ticks = self.new.ticks; own = self.new.own; addresses = self.new.addresses; coming = self.new.coming } }
+        ensures takes { IfOk result
+            (λ some. some ≡ true → (frames : List (Address × List ℕ))
+            × TakesGroup R.Gathers S.is_telling frames group.old group.new self.old self.new
+            × KeepsOf self.old.node self.old.addresses.seals frames buffer.old buffer.new) }
+        ensures idle { IfOk result
+            (λ some. some ≡ false → (frames : List (Address × List ℕ))
+            × HasReceived S.is_telling frames self.old self.new × IsIdle S.is_telling frames self.old self.new
+            × KeepsOf self.old.node self.old.addresses.seals frames buffer.old buffer.new) }
+        ensures ends { OnErr result
+            ((frames : List (Address × List ℕ))
+            × EndsGroup R.Says R.Gathers S.is_telling frames group.old self.old self.new) }
+        ensures others { self.new
+            ≡ record self.old {
+              replica = self.new.replica;
+              failed = self.new.failed;
+              received = self.new.received;
+              ticks = self.new.ticks;
+              own = self.new.own;
+              addresses = self.new.addresses;
+              coming = self.new.coming;
+            } }
         ensures broken { OnErr result (self.new.failed ≡ true) }
     {
         self.set_timeout(metronome.left());

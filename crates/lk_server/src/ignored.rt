@@ -44,10 +44,12 @@ impl IgnoredCounts {
     /// a count of datagrams of another cluster.
     pub fn count<L: Log>(&mut self, came: &Arrival, log: &L) -> Option<u64>
         ensures bad { came.now ≡ Arrival.Bad → self.new ≡ record self.old { bad = one_more self.old.bad } }
-        ensures foreign { came.now ≡ Arrival.Foreign → self.new ≡ record self.old { foreign = one_more self.old.foreign } }
+        ensures foreign { came.now ≡ Arrival.Foreign
+            → self.new ≡ record self.old { foreign = one_more self.old.foreign } }
         ensures others { came.now ≢ Arrival.Bad → came.now ≢ Arrival.Foreign → self.new ≡ self.old }
         // A count of datagrams of another cluster is returned exactly if it is a power of two.
-        ensures told { came.now ≡ Arrival.Foreign → result ≡ (if is_power_of_two self.new.foreign then Some self.new.foreign else None) }
+        ensures told { came.now ≡ Arrival.Foreign
+            → result ≡ (if is_power_of_two self.new.foreign then Some self.new.foreign else None) }
         ensures untold { came.now ≢ Arrival.Foreign → result ≡ None }
     {
         match came {

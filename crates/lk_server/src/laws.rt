@@ -24,6 +24,8 @@ pub fn is_told_or_asked()
 /// of the nodes' keys, or the key of the client that it names. If the nodes alone have a key, no client is known, but a
 /// probe that names a node was sealed by one.
 pub fn is_probed_by_whom_it_names()
-    ensures keys { (s : Seals) (d : SocketAddr × List ℕ) (a : ReceivedProbe) → key_list s.nodes ≢ [] → key_list s.clients ≢ [] → BringsProbe s d (Some a) → IsProbedByWhomItNames s d.1 a.probe }
-    ensures node { (s : Seals) (d : SocketAddr × List ℕ) (a : ReceivedProbe) → key_list s.nodes ≢ [] → key_list s.clients ≡ [] → IsSome a.probe.origin → BringsProbe s d (Some a) → IsProbedByANode s d.1 }
+    ensures keys { (s : Seals) (d : SocketAddr × List ℕ) (a : ReceivedProbe) → key_list s.nodes ≢ []
+        → key_list s.clients ≢ [] → BringsProbe s d (Some a) → IsProbedByWhomItNames s d.1 a.probe }
+    ensures node { (s : Seals) (d : SocketAddr × List ℕ) (a : ReceivedProbe) → key_list s.nodes ≢ []
+        → key_list s.clients ≡ [] → IsSome a.probe.origin → BringsProbe s d (Some a) → IsProbedByANode s d.1 }
 {}

@@ -85,10 +85,17 @@ impl<R: ServedReplica, S: DatagramSocket + Drop> Server<R, S> {
 
     // Asks which genesis the node at an address was started with, where that is due at this count of ticks.
     pub(crate) fn probe_next(&mut self, now: u64)
-        ensures asks { AsksOne S.is_telling now self.old.node self.old.addresses self.new.addresses (tray_at self.old.own self.old) (tray_at self.new.own self.new) }
+        ensures asks { AsksOne S.is_telling now self.old.node self.old.addresses self.new.addresses
+            (tray_at self.old.own self.old) (tray_at self.new.own self.new) }
         ensures network { IsSameNetwork self.old.addresses self.new.addresses }
         ensures still { S.is_telling → self.new.coming ≡ self.old.coming }
-        ensures others { self.new ≡ record self.old { addresses = self.new.addresses; sent = self.new.sent; socket_failures = self.new.socket_failures; coming = self.new.coming } }
+        ensures others { self.new
+            ≡ record self.old {
+              addresses = self.new.addresses;
+              sent = self.new.sent;
+              socket_failures = self.new.socket_failures;
+              coming = self.new.coming;
+            } }
     {
         if self.post.probe_next(now).is_err() {
             self.unsent = self.unsent.saturating_add(1);

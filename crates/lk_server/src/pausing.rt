@@ -40,7 +40,8 @@ fn receive_after_pause<S: DatagramSocket + Drop, C: Clock>(
     group: &Group,
 )
     // What has come in the pause is in the buffer.
-    ensures comes { S.is_telling → buffer.old.last ≡ None → post.old.coming ≡ listed buffer.new.last ++ post.new.coming }
+    ensures comes { S.is_telling → buffer.old.last ≡ None
+        → post.old.coming ≡ listed buffer.new.last ++ post.new.coming }
     ensures none { S.is_telling → IsPauseDue pause.old group.now → buffer.new.last ≡ None → post.old.coming ≡ [] }
     ensures pauses { IsPauseDue pause.old group.now → pause.new.left + 1 ≡ pause.old.left }
     ensures asked { buffer.new.asked ≡ buffer.old.asked }
@@ -64,7 +65,8 @@ pub(crate) fn receive_or_pause<S: DatagramSocket + Drop, C: Clock>(
     ensures comes { S.is_telling → post.old.coming ≡ listed buffer.new.last ++ post.new.coming }
     ensures none { S.is_telling → buffer.new.last ≡ None → post.old.coming ≡ [] }
     // Where none is waiting it pauses if that is due.
-    ensures pauses { S.is_telling → post.old.coming ≡ [] → IsPauseDue pause.old group.now → pause.new.left + 1 ≡ pause.old.left }
+    ensures pauses { S.is_telling → post.old.coming ≡ [] → IsPauseDue pause.old group.now
+        → pause.new.left + 1 ≡ pause.old.left }
     ensures asked { buffer.new.asked ≡ buffer.old.asked }
     ensures reported { buffer.new.reported ≡ buffer.old.reported }
     ensures others { post.new ≡ record post.old { coming = post.new.coming } }

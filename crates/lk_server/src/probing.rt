@@ -14,7 +14,8 @@ impl<R: ServedReplica, S: DatagramSocket + Drop> Server<R, S> {
     /// What it reports of its node: what the replica shows, the digest of the genesis, its count of ticks and what else
     /// it has counted itself, and the version of the lock table, as it was last read.
     pub fn status(&self) -> Status
-        ensures { (shown : ProbedStateValue) × R.Shows self.now.replica shown × Tells self.now.addresses.seals.genesis self.now.ticks shown result }
+        ensures { (shown : ProbedStateValue) × R.Shows self.now.replica shown
+            × Tells self.now.addresses.seals.genesis self.now.ticks shown result }
     {
         let shown = self.replica.show();
         Status {
@@ -46,7 +47,8 @@ impl<R: ServedReplica, S: DatagramSocket + Drop> Server<R, S> {
 
     // The report that answers a probe.
     fn report(&self, asked: &ReceivedProbe) -> [u8; LENGTH]
-        ensures { (shown : ProbedStateValue) × R.Shows self.now.replica shown × IsAnswer self.now.node self.now.addresses.seals.genesis self.now.ticks shown asked.now.probe result }
+        ensures { (shown : ProbedStateValue) × R.Shows self.now.replica shown
+            × IsAnswer self.now.node self.now.addresses.seals.genesis self.now.ticks shown asked.now.probe result }
     {
         asked
             .probe
@@ -57,7 +59,12 @@ impl<R: ServedReplica, S: DatagramSocket + Drop> Server<R, S> {
     /// Answers a probe, if there is one, by a report to where it came from.
     pub fn answer(&mut self, asked: &Option<ReceivedProbe>)
         ensures answers { AnswersKept R.Shows S.is_telling asked.now self.old self.new }
-        ensures others { self.new ≡ record self.old { sent = self.new.sent; socket_failures = self.new.socket_failures; coming = self.new.coming } }
+        ensures others { self.new
+            ≡ record self.old {
+              sent = self.new.sent;
+              socket_failures = self.new.socket_failures;
+              coming = self.new.coming;
+            } }
     {
         let Some(asked) = asked else {
             return;

@@ -7,7 +7,8 @@ ghost use Rattle.lk_server.specs.Gatherings.{Finds, HandsOnAll, SaysNothing};
 ghost use Rattle.lk_transport.specs.Posts.{all_filtered};
 ghost use Rattle.lk_transport.specs.Kept.{KeepsOf};
 ghost use Rattle.lk_served_replica.specs.Refusals.{IsOfGroups};
-ghost use Rattle.lk_server.specs.Servers.{HandsOn, HandsNothing, HasHeardNobody, HasReceived, IsSameServer, LastTurn, Runs, ServesAs, ServesOn, TakesTurn, Turn, one_more_tick};
+ghost use Rattle.lk_server.specs.Servers.{HandsOn, HandsNothing, HasHeardNobody, HasReceived, IsSameServer, LastTurn};
+ghost use Rattle.lk_server.specs.Servers.{Runs, ServesAs, ServesOn, TakesTurn, Turn, one_more_tick};
 
 use crate::group_fault::GroupFault;
 use crate::ignored::IgnoredCounts;
@@ -62,7 +63,20 @@ impl<R: ServedReplica, S: DatagramSocket + Drop> Model for Server<R, S> {
 
     ghost Value = { ServerValue R };
 
-    ghost view = { λ s. record { cluster = s.cluster; node = s.post.node; pace = s.pace; replica = s.replica; own = s.post.own; addresses = s.post.addresses; received = s.received; ticks = s.ticks; failed = R.failed s.replica; sent = s.post.sent; socket_failures = s.post.socket_failures; coming = s.post.coming } };
+    ghost view = { λ s. record {
+      cluster = s.cluster;
+      node = s.post.node;
+      pace = s.pace;
+      replica = s.replica;
+      own = s.post.own;
+      addresses = s.post.addresses;
+      received = s.received;
+      ticks = s.ticks;
+      failed = R.failed s.replica;
+      sent = s.post.sent;
+      socket_failures = s.post.socket_failures;
+      coming = s.post.coming;
+    } };
 }
 
 impl<R: ServedReplica, S: DatagramSocket + Drop> Server<R, S> {
@@ -221,9 +235,18 @@ impl<R: ServedReplica, S: DatagramSocket + Drop> Server<R, S> {
         buffer: &mut ReceiveBuffer,
         log: &L,
     ) -> Result<bool, GroupFault>
-        ensures turn { IfOk result (λ came. came ≡ true → (frames : List (Address × List ℕ)) × HasReceived S.is_telling frames self.old self.new × Turn R.Says S.is_telling (all_filtered (filter_of self.old.addresses) frames) self.old self.new × KeepsOf self.old.node self.old.addresses.seals frames buffer.old buffer.new) }
-        ensures ends { OnErr result ((frames : List (Address × List ℕ)) × HasReceived S.is_telling frames self.old self.new × LastTurn R.Says S.is_telling (all_filtered (filter_of self.old.addresses) frames) self.old self.new) }
-        ensures none { IfOk result (λ came. came ≡ false → (self.old.own ≡ []) × (found : TurnInput) × (frames : List (Address × List ℕ)) × Finds S.is_telling found frames self.old self.new × KeepsOf self.old.node self.old.addresses.seals frames buffer.old buffer.new) }
+        ensures turn { IfOk result
+            (λ came. came ≡ true → (frames : List (Address × List ℕ))
+            × HasReceived S.is_telling frames self.old self.new
+            × Turn R.Says S.is_telling (all_filtered (filter_of self.old.addresses) frames) self.old self.new
+            × KeepsOf self.old.node self.old.addresses.seals frames buffer.old buffer.new) }
+        ensures ends { OnErr result
+            ((frames : List (Address × List ℕ)) × HasReceived S.is_telling frames self.old self.new
+            × LastTurn R.Says S.is_telling (all_filtered (filter_of self.old.addresses) frames) self.old self.new) }
+        ensures none { IfOk result
+            (λ came. came ≡ false → (self.old.own ≡ []) × (found : TurnInput) × (frames : List (Address × List ℕ))
+            × Finds S.is_telling found frames self.old self.new
+            × KeepsOf self.old.node self.old.addresses.seals frames buffer.old buffer.new) }
         // Where nodes live and the keys do not change.
         ensures network { IsSameNetwork self.old.addresses self.new.addresses }
     {
@@ -251,9 +274,14 @@ pub fn node_turn<R: ServedReplica, S: DatagramSocket + Drop, C: Clock, L: Log>(
     // where one was due. Its letters were each sent, kept for the node itself, lost by a failed send, or dropped since
     // no address is known, in order, and nothing else was sent. A turn in which it was given nothing is idle. Of the
     // probes in these frames the first is kept, unless one was kept before.
-    ensures turn { OnOk result ((frames : List (Address × List ℕ)) × HasReceived S.is_telling frames server.old server.new × TakesTurn R.Says S.is_telling frames server.old server.new × KeepsOf server.old.node server.old.addresses.seals frames buffer.old buffer.new) }
+    ensures turn { OnOk result
+        ((frames : List (Address × List ℕ)) × HasReceived S.is_telling frames server.old server.new
+        × TakesTurn R.Says S.is_telling frames server.old server.new
+        × KeepsOf server.old.node server.old.addresses.seals frames buffer.old buffer.new) }
     // After an error nothing of the group is sent.
-    ensures ends { OnErr result ((frames : List (Address × List ℕ)) × HasReceived S.is_telling frames server.old server.new × LastTurn R.Says S.is_telling (all_filtered (filter_of server.old.addresses) frames) server.old server.new) }
+    ensures ends { OnErr result
+        ((frames : List (Address × List ℕ)) × HasReceived S.is_telling frames server.old server.new
+        × LastTurn R.Says S.is_telling (all_filtered (filter_of server.old.addresses) frames) server.old server.new) }
     // Where nodes live and the keys do not change.
     ensures network { IsSameNetwork server.old.addresses server.new.addresses }
 {

@@ -3,10 +3,12 @@
 //! `add_from_socket` takes the first datagram (`add_first_datagram`) and then up to 63 that wait behind it
 //! (`add_next_datagram`). `add_received` filters each.
 
-ghost use Rattle.std.specs.Prelude.{◌≡◌, ◌≤◌, ◌++◌, ℕ, List, ◌∷◌, [], length, Some, None, true, false, OnOk, OnErr, IfOk};
+ghost use Rattle.std.specs.Prelude.{◌≡◌, ◌≤◌, ◌++◌, ℕ, List, ◌∷◌, [], length, Some, None, true, false, OnOk, OnErr};
+ghost use Rattle.std.specs.Prelude.{IfOk};
 ghost use Rattle.std.specs.declared.net.socket_addr.SocketAddr.{SocketAddr as Address};
 ghost use Rattle.lk_transport.specs.Addresses.{filter_of, IsSameFilter};
-ghost use Rattle.lk_server.specs.Gatherings.{Finds, TakesHeard, EndsHeard, TakesSocket, EndsSocket, TakesWaiting, EndsGroup};
+ghost use Rattle.lk_server.specs.Gatherings.{Finds, TakesHeard, EndsHeard, TakesSocket, EndsSocket, TakesWaiting};
+ghost use Rattle.lk_server.specs.Gatherings.{EndsGroup};
 ghost use Rattle.lk_transport.specs.Hearing.{listed};
 ghost use Rattle.lk_transport.specs.Posts.{Hears, is_filtered_out};
 ghost use Rattle.lk_transport.specs.Kept.{Keeps, KeepsOf};
@@ -40,8 +42,8 @@ impl<R: ServedReplica, S: DatagramSocket + Drop> Server<R, S> {
         self.post.receive(buffer);
     }
 
-    // Receives a datagram that is already waiting, and where none is, one that comes in a pause, if one is due before the
-    // group's sync.
+    // Receives a datagram that is already waiting, and where none is, one that comes in a pause, if one is due before
+    // the group's sync.
     fn receive_or_pause<C: Clock>(
         &mut self,
         buffer: &mut ReceiveBuffer,
@@ -90,14 +92,35 @@ impl<R: ServedReplica, S: DatagramSocket + Drop> Server<R, S> {
         group: &mut Group,
         log: &L,
     ) -> Result<TurnInput, GroupFault>
-        ensures takes { IfOk result (λ found. found ≡ TurnInput.Something → (frame : Address × List ℕ) × (buffer.old.last ≡ Some frame) × (is_filtered_out (filter_of self.old.addresses) frame ≡ false) × TakesHeard R.Gathers (frame ∷ []) group.old group.new self.old self.new) }
-        ensures beside { IfOk result (λ found. found ≡ TurnInput.Beside → (frame : Address × List ℕ) × (buffer.old.last ≡ Some frame) × (is_filtered_out (filter_of self.old.addresses) frame ≡ true) × (self.new ≡ self.old) × (group.new ≡ group.old)) }
-        ensures none { IfOk result (λ found. found ≡ TurnInput.Nothing → (buffer.old.last ≡ None) × (self.new ≡ self.old) × (group.new ≡ group.old)) }
-        ensures ends { OnErr result ((frame : Address × List ℕ) × (buffer.old.last ≡ Some frame) × (is_filtered_out (filter_of self.old.addresses) frame ≡ false) × EndsHeard R.Says R.Gathers (frame ∷ []) group.old self.old self.new) }
-        ensures kept { IfOk result (λ found. found ≡ TurnInput.Beside → Keeps self.old.node self.old.addresses.seals buffer.old buffer.new) }
+        ensures takes { IfOk result
+            (λ found. found ≡ TurnInput.Something
+            → (frame : Address × List ℕ) × (buffer.old.last ≡ Some frame)
+            × (is_filtered_out (filter_of self.old.addresses) frame ≡ false)
+            × TakesHeard R.Gathers (frame ∷ []) group.old group.new self.old self.new) }
+        ensures beside { IfOk result
+            (λ found. found ≡ TurnInput.Beside
+            → (frame : Address × List ℕ) × (buffer.old.last ≡ Some frame)
+            × (is_filtered_out (filter_of self.old.addresses) frame ≡ true) × (self.new ≡ self.old)
+            × (group.new ≡ group.old)) }
+        ensures none { IfOk result
+            (λ found. found ≡ TurnInput.Nothing
+            → (buffer.old.last ≡ None) × (self.new ≡ self.old) × (group.new ≡ group.old)) }
+        ensures ends { OnErr result
+            ((frame : Address × List ℕ) × (buffer.old.last ≡ Some frame)
+            × (is_filtered_out (filter_of self.old.addresses) frame ≡ false)
+            × EndsHeard R.Says R.Gathers (frame ∷ []) group.old self.old self.new) }
+        ensures kept { IfOk result
+            (λ found. found ≡ TurnInput.Beside → Keeps self.old.node self.old.addresses.seals buffer.old buffer.new) }
         ensures rest { IfOk result (λ found. (found ≡ TurnInput.Beside → ⊥) → buffer.new ≡ buffer.old) }
         ensures spares { OnErr result (buffer.new ≡ buffer.old) }
-        ensures others { self.new ≡ record self.old { replica = self.new.replica; failed = self.new.failed; received = self.new.received; ticks = self.new.ticks; addresses = self.new.addresses } }
+        ensures others { self.new
+            ≡ record self.old {
+              replica = self.new.replica;
+              failed = self.new.failed;
+              received = self.new.received;
+              ticks = self.new.ticks;
+              addresses = self.new.addresses;
+            } }
         ensures broken { OnErr result (self.new.failed ≡ true) }
     {
         let Some((frame, from)) = buffer.latest() else {
@@ -128,10 +151,27 @@ impl<R: ServedReplica, S: DatagramSocket + Drop> Server<R, S> {
         group: &mut Group,
         log: &L,
     ) -> Result<TurnInput, GroupFault>
-        ensures takes { IfOk result (λ found. found ≡ TurnInput.Something → (frame : Address × List ℕ) × (is_filtered_out (filter_of self.old.addresses) frame ≡ false) × TakesSocket R.Gathers S.is_telling (frame ∷ []) group.old group.new self.old self.new × KeepsOf self.old.node self.old.addresses.seals (frame ∷ []) buffer.old buffer.new) }
-        ensures none { IfOk result (λ found. (found ≡ TurnInput.Something → ⊥) → (frames : List (Address × List ℕ)) × Finds S.is_telling found frames self.old self.new × (group.new ≡ group.old) × KeepsOf self.old.node self.old.addresses.seals frames buffer.old buffer.new) }
-        ensures ends { OnErr result ((frame : Address × List ℕ) × (is_filtered_out (filter_of self.old.addresses) frame ≡ false) × EndsSocket R.Says R.Gathers S.is_telling (frame ∷ []) group.old self.old self.new) }
-        ensures others { self.new ≡ record self.old { replica = self.new.replica; failed = self.new.failed; received = self.new.received; ticks = self.new.ticks; addresses = self.new.addresses; coming = self.new.coming } }
+        ensures takes { IfOk result
+            (λ found. found ≡ TurnInput.Something
+            → (frame : Address × List ℕ) × (is_filtered_out (filter_of self.old.addresses) frame ≡ false)
+            × TakesSocket R.Gathers S.is_telling (frame ∷ []) group.old group.new self.old self.new
+            × KeepsOf self.old.node self.old.addresses.seals (frame ∷ []) buffer.old buffer.new) }
+        ensures none { IfOk result
+            (λ found. (found ≡ TurnInput.Something → ⊥)
+            → (frames : List (Address × List ℕ)) × Finds S.is_telling found frames self.old self.new
+            × (group.new ≡ group.old) × KeepsOf self.old.node self.old.addresses.seals frames buffer.old buffer.new) }
+        ensures ends { OnErr result
+            ((frame : Address × List ℕ) × (is_filtered_out (filter_of self.old.addresses) frame ≡ false)
+            × EndsSocket R.Says R.Gathers S.is_telling (frame ∷ []) group.old self.old self.new) }
+        ensures others { self.new
+            ≡ record self.old {
+              replica = self.new.replica;
+              failed = self.new.failed;
+              received = self.new.received;
+              ticks = self.new.ticks;
+              addresses = self.new.addresses;
+              coming = self.new.coming;
+            } }
         ensures broken { OnErr result (self.new.failed ≡ true) }
     {
         self.receive(buffer);
@@ -147,10 +187,26 @@ impl<R: ServedReplica, S: DatagramSocket + Drop> Server<R, S> {
         group: &mut Group,
         log: &L,
     ) -> Result<bool, GroupFault>
-        ensures takes { IfOk result (λ came. came ≡ true → (frame : Address × List ℕ) × TakesSocket R.Gathers S.is_telling (frame ∷ []) group.old group.new self.old self.new × KeepsOf self.old.node self.old.addresses.seals (frame ∷ []) buffer.old buffer.new) }
-        ensures none { IfOk result (λ came. came ≡ false → (S.is_telling → self.new.coming ≡ self.old.coming) × (record self.new { coming = self.old.coming } ≡ self.old) × (group.new ≡ group.old) × (buffer.new.asked ≡ buffer.old.asked) × (buffer.new.reported ≡ buffer.old.reported)) }
-        ensures ends { OnErr result ((frame : Address × List ℕ) × EndsSocket R.Says R.Gathers S.is_telling (frame ∷ []) group.old self.old self.new) }
-        ensures others { self.new ≡ record self.old { replica = self.new.replica; failed = self.new.failed; received = self.new.received; ticks = self.new.ticks; addresses = self.new.addresses; coming = self.new.coming } }
+        ensures takes { IfOk result
+            (λ came. came ≡ true → (frame : Address × List ℕ)
+            × TakesSocket R.Gathers S.is_telling (frame ∷ []) group.old group.new self.old self.new
+            × KeepsOf self.old.node self.old.addresses.seals (frame ∷ []) buffer.old buffer.new) }
+        ensures none { IfOk result
+            (λ came. came ≡ false → (S.is_telling → self.new.coming ≡ self.old.coming)
+            × (record self.new { coming = self.old.coming } ≡ self.old) × (group.new ≡ group.old)
+            × (buffer.new.asked ≡ buffer.old.asked) × (buffer.new.reported ≡ buffer.old.reported)) }
+        ensures ends { OnErr result
+            ((frame : Address × List ℕ)
+            × EndsSocket R.Says R.Gathers S.is_telling (frame ∷ []) group.old self.old self.new) }
+        ensures others { self.new
+            ≡ record self.old {
+              replica = self.new.replica;
+              failed = self.new.failed;
+              received = self.new.received;
+              ticks = self.new.ticks;
+              addresses = self.new.addresses;
+              coming = self.new.coming;
+            } }
         ensures broken { OnErr result (self.new.failed ≡ true) }
     {
         if group.letters().is_empty() {
@@ -173,9 +229,22 @@ impl<R: ServedReplica, S: DatagramSocket + Drop> Server<R, S> {
         group: &mut Group,
         log: &L,
     ) -> Result<(), GroupFault>
-        ensures takes { OnOk result ((frames : List (Address × List ℕ)) × (length frames ≤ 63) × TakesSocket R.Gathers S.is_telling frames group.old group.new self.old self.new × KeepsOf self.old.node self.old.addresses.seals frames buffer.old buffer.new) }
-        ensures ends { OnErr result ((frames : List (Address × List ℕ)) × (length frames ≤ 63) × EndsSocket R.Says R.Gathers S.is_telling frames group.old self.old self.new) }
-        ensures others { self.new ≡ record self.old { replica = self.new.replica; failed = self.new.failed; received = self.new.received; ticks = self.new.ticks; addresses = self.new.addresses; coming = self.new.coming } }
+        ensures takes { OnOk result
+            ((frames : List (Address × List ℕ)) × (length frames ≤ 63)
+            × TakesSocket R.Gathers S.is_telling frames group.old group.new self.old self.new
+            × KeepsOf self.old.node self.old.addresses.seals frames buffer.old buffer.new) }
+        ensures ends { OnErr result
+            ((frames : List (Address × List ℕ)) × (length frames ≤ 63)
+            × EndsSocket R.Says R.Gathers S.is_telling frames group.old self.old self.new) }
+        ensures others { self.new
+            ≡ record self.old {
+              replica = self.new.replica;
+              failed = self.new.failed;
+              received = self.new.received;
+              ticks = self.new.ticks;
+              addresses = self.new.addresses;
+              coming = self.new.coming;
+            } }
         ensures broken { OnErr result (self.new.failed ≡ true) }
     {
         'datagrams: for _ in 0..FURTHER {
@@ -195,10 +264,28 @@ impl<R: ServedReplica, S: DatagramSocket + Drop> Server<R, S> {
         log: &L,
     ) -> Result<TurnInput, GroupFault>
         requires { self.old.own ≡ [] }
-        ensures takes { IfOk result (λ found. found ≡ TurnInput.Something → (frames : List (Address × List ℕ)) × TakesWaiting R.Gathers S.is_telling frames group.old group.new self.old self.new × KeepsOf self.old.node self.old.addresses.seals frames buffer.old buffer.new) }
-        ensures none { IfOk result (λ found. (found ≡ TurnInput.Something → ⊥) → (self.old.own ≡ []) × (frames : List (Address × List ℕ)) × Finds S.is_telling found frames self.old self.new × (group.new ≡ group.old) × KeepsOf self.old.node self.old.addresses.seals frames buffer.old buffer.new) }
-        ensures ends { OnErr result ((frames : List (Address × List ℕ)) × EndsGroup R.Says R.Gathers S.is_telling frames group.old self.old self.new) }
-        ensures others { self.new ≡ record self.old { replica = self.new.replica; failed = self.new.failed; received = self.new.received; ticks = self.new.ticks; addresses = self.new.addresses; coming = self.new.coming } }
+        ensures takes { IfOk result
+            (λ found. found ≡ TurnInput.Something
+            → (frames : List (Address × List ℕ))
+            × TakesWaiting R.Gathers S.is_telling frames group.old group.new self.old self.new
+            × KeepsOf self.old.node self.old.addresses.seals frames buffer.old buffer.new) }
+        ensures none { IfOk result
+            (λ found. (found ≡ TurnInput.Something → ⊥)
+            → (self.old.own ≡ []) × (frames : List (Address × List ℕ))
+            × Finds S.is_telling found frames self.old self.new × (group.new ≡ group.old)
+            × KeepsOf self.old.node self.old.addresses.seals frames buffer.old buffer.new) }
+        ensures ends { OnErr result
+            ((frames : List (Address × List ℕ))
+            × EndsGroup R.Says R.Gathers S.is_telling frames group.old self.old self.new) }
+        ensures others { self.new
+            ≡ record self.old {
+              replica = self.new.replica;
+              failed = self.new.failed;
+              received = self.new.received;
+              ticks = self.new.ticks;
+              addresses = self.new.addresses;
+              coming = self.new.coming;
+            } }
         ensures broken { OnErr result (self.new.failed ≡ true) }
     {
         let found = self.add_first_datagram(buffer, group, log)?;

@@ -34,7 +34,8 @@ impl TurnEvents {
     pub fn note_installed(&mut self, came: &Arrival, before: &ReplicaStatus, after: &ReplicaStatus)
         // A snapshot of more positions than were executed before was installed, and the node that sent what came sent
         // the last part of it.
-        ensures installed { (n : ℕ) → sender came.now ≡ Some n → before.now.executed < after.now.snapshot → self.new ≡ record self.old { installed = Some (after.now.snapshot, n) } }
+        ensures installed { (n : ℕ) → sender came.now ≡ Some n → before.now.executed < after.now.snapshot
+            → self.new ≡ record self.old { installed = Some (after.now.snapshot, n) } }
         ensures no_more { after.now.snapshot ≤ before.now.executed → self.new ≡ self.old }
         ensures no_node { sender came.now ≡ None → self.new ≡ self.old }
     {

@@ -17,7 +17,8 @@ use Rattle.lk_transport.specs.Chains.{Repeats}
 use Rattle.lk_service.specs.Turns.{TakesTurn, TakesTurnWith, TakesLeave, EndsTurn, BreaksOff, Leaves, TellsFailure}
 
 -- what a replica on a device says, where that is honest
-abbrev pub SaysOn : Type 0 → Type 0 → Meaning → (List ℕ → Type 0) → ReplicaValue → List (Option (List ℕ)) → List LetterValue → ReplicaValue → Type 0
+abbrev pub SaysOn : Type 0 → Type 0 → Meaning → (List ℕ → Type 0) → ReplicaValue → List (Option (List ℕ))
+    → List LetterValue → ReplicaValue → Type 0
 SaysOn honest metered m IsText old given letters new = honest → SaysOf m IsText metered old given letters new
 
 -- what stands whatever became of a call stands after a refusal
@@ -25,21 +26,42 @@ pub on_err : {T E P : Type 0} (r : Result T E) → P → OnErr r P
 on_err (Ok x) p = tt
 on_err (Err e) p = p
 
-module _ {Says : ReplicaValue → List (Option (List ℕ)) → List LetterValue → ReplicaValue → Type 0} {tells : Type 0} {count : ℕ} {first last new : ServerValue ReplicaValue} where
+module _ {Says : ReplicaValue → List (Option (List ℕ)) → List LetterValue → ReplicaValue → Type 0} {tells : Type 0}
+    {count : ℕ} {first last new : ServerValue ReplicaValue} where
   -- one ended the replica, or was the last
-  pub turns_end : (most : ℕ) → count < most → Repeats (TakesTurn Says tells) count first last → EndsTurn Says tells last new ⊎ TakesLeave Says tells last new → BreaksOff Says tells most first new ⊎ Leaves Says tells most first new
-  turns_end most fewer so_far (inl ends) = inl (record { count = count; fewer = fewer; last = last; turns = so_far; ends = ends })
-  turns_end most fewer so_far (inr leave) = inr (record { count = count; fewer = fewer; last = last; turns = so_far; leave = leave })
+  pub turns_end : (most : ℕ) → count < most → Repeats (TakesTurn Says tells) count first last
+      → EndsTurn Says tells last new ⊎ TakesLeave Says tells last new
+      → BreaksOff Says tells most first new ⊎ Leaves Says tells most first new
+  turns_end most fewer so_far (inl ends) =
+      inl (record { count = count; fewer = fewer; last = last; turns = so_far; ends = ends })
+  turns_end most fewer so_far (inr leave) =
+      inr (record { count = count; fewer = fewer; last = last; turns = so_far; leave = leave })
 
 -- a turn that ended the replica
-pub turn_ended : {Says : ReplicaValue → List (Option (List ℕ)) → List LetterValue → ReplicaValue → Type 0} {tells : Type 0} (frames : List (SocketAddr × List ℕ)) (old new : ServerValue ReplicaValue)
-    → HasReceived tells frames old new → LastTurn Says tells (all_filtered (filter_of old.addresses) frames) old new → IsSameNetwork old.addresses new.addresses → TellsFailure new → EndsTurn Says tells old new
-turn_ended frames old new received turn network failure = record { frames = frames; came = all_filtered (filter_of old.addresses) frames; opened = refl; received = received; turn = turn; network = network; failure = failure }
+pub turn_ended : {Says : ReplicaValue → List (Option (List ℕ)) → List LetterValue → ReplicaValue → Type 0}
+    {tells : Type 0} (frames : List (SocketAddr × List ℕ)) (old new : ServerValue ReplicaValue)
+    → HasReceived tells frames old new → LastTurn Says tells (all_filtered (filter_of old.addresses) frames) old new
+    → IsSameNetwork old.addresses new.addresses → TellsFailure new → EndsTurn Says tells old new
+turn_ended frames old new received turn network failure =
+    record {
+      frames = frames;
+      came = all_filtered (filter_of old.addresses) frames;
+      opened = refl;
+      received = received;
+      turn = turn;
+      network = network;
+      failure = failure;
+    }
 
 -- a turn, and what the server does beside the protocol after it
-pub turn_taken : {Says : ReplicaValue → List (Option (List ℕ)) → List LetterValue → ReplicaValue → Type 0} {tells : Type 0} (After : ServerValue ReplicaValue → Type 0) (frames : List (SocketAddr × List ℕ)) (kept left : BufferValue)
-    (old mid new : ServerValue ReplicaValue) → HasReceived tells frames old mid → ServerTurn Says tells frames old mid → KeepsOf old.node old.addresses.seals frames kept left → HandlesProbes IsShown tells left.asked left.reported mid new
-    → IsSameNetwork old.addresses mid.addresses → TellsFailure new → After new → TakesTurnWith Says tells kept.asked kept.reported After old new
+pub turn_taken : {Says : ReplicaValue → List (Option (List ℕ)) → List LetterValue → ReplicaValue → Type 0}
+    {tells : Type 0} (After : ServerValue ReplicaValue → Type 0) (frames : List (SocketAddr × List ℕ))
+    (kept left : BufferValue)
+    (old mid new : ServerValue ReplicaValue) → HasReceived tells frames old mid → ServerTurn Says tells frames old mid
+    → KeepsOf old.node old.addresses.seals frames kept left
+    → HandlesProbes IsShown tells left.asked left.reported mid new
+    → IsSameNetwork old.addresses mid.addresses → TellsFailure new → After new
+    → TakesTurnWith Says tells kept.asked kept.reported After old new
 turn_taken After frames kept left old mid new received turn keeps acts network failure becomes = record {
   frames = frames;
   came = all_filtered (filter_of old.addresses) frames;

@@ -1,5 +1,6 @@
 -- The probe that a node at another port than the genesis names sends to itself.
-use Rattle.std.specs.Prelude.{◌≡◌, ◌≢◌, ◌⊎◌, ◌<◌, ℕ, Bool, true, false, if◌then◌else◌, List, [], ◌∷◌, ◌++◌, length, Option, Some, None, MatchOption}
+use Rattle.std.specs.Prelude.{◌≡◌, ◌≢◌, ◌⊎◌, ◌<◌, ℕ, Bool, true, false, if◌then◌else◌, List, [], ◌∷◌, ◌++◌, length}
+use Rattle.std.specs.Prelude.{Option, Some, None, MatchOption}
 use Rattle.std.specs.List.{AllByRecursion}
 use Rattle.std.specs.Net.Socket.{socket_ip, socket_port}
 use Rattle.std.specs.declared.net.ip_addr.IpAddr.{IpAddr}
@@ -19,7 +20,8 @@ pub record SocketValue : Type 0 where
   pub failures : ℕ
   pub coming : List (SocketAddr × List ℕ)
 
-abbrev pub socket_value : {S : Type 0} → (S → List (SocketAddr × List ℕ)) → (S → ℕ) → (S → List (SocketAddr × List ℕ)) → S → SocketValue
+abbrev pub socket_value : {S : Type 0} → (S → List (SocketAddr × List ℕ)) → (S → ℕ)
+    → (S → List (SocketAddr × List ℕ)) → S → SocketValue
 socket_value sent failures coming s = record { sent = sent s; failures = failures s; coming = coming s }
 
 -- ---- what comes
@@ -27,7 +29,8 @@ socket_value sent failures coming s = record { sent = sent s; failures = failure
 -- these bytes come next, from wherever; or others do, or nothing
 abbrev pub ComesNext : List ℕ → Bool → List (SocketAddr × List ℕ) → List (SocketAddr × List ℕ) → Type 0
 ComesNext frame true old new = (from : SocketAddr) × (old ≡ (from, frame) ∷ new)
-ComesNext frame false old new = ((d : SocketAddr × List ℕ) × (d.1 ≢ frame) × (old ≡ d ∷ new)) ⊎ ((old ≡ []) × (new ≡ []))
+ComesNext frame false old new =
+    ((d : SocketAddr × List ℕ) × (d.1 ≢ frame) × (old ≡ d ∷ new)) ⊎ ((old ≡ []) × (new ≡ []))
 
 -- these bytes are in none of these datagrams
 abbrev pub AreOthers : List ℕ → List (SocketAddr × List ℕ) → Type 0
@@ -67,14 +70,19 @@ pub record CannotSend (is_back : Bool) (old new : SocketValue) : Type 0 where
 
 -- the bytes of the probe of a header's node to itself: in a frame of the nodes' key, if they have one
 abbrev pub IsOwnProbe : HeaderValue → Seals → List ℕ → Type 0
-IsOwnProbe header s frame = (bytes : List ℕ) × SpellsProbe (question header.cluster (record { node = header.node; genesis = s.genesis })) bytes × (frame ≡ framed_by (key_list s.nodes) (to_node s header.node) bytes)
+IsOwnProbe header s frame =
+    (bytes : List ℕ) × SpellsProbe (question header.cluster (record { node = header.node; genesis = s.genesis })) bytes
+    × (frame ≡ framed_by (key_list s.nodes) (to_node s header.node) bytes)
 
 -- the node sends that probe there, once, and tells whether it came back
 abbrev pub ProbesItself : HeaderValue → Seals → SocketAddr → Bool → SocketValue → SocketValue → Type 0
-ProbesItself header s place is_back old new = (frame : List ℕ) × IsOwnProbe header s frame × (SendsAndHears place frame is_back old new ⊎ CannotSend is_back old new)
+ProbesItself header s place is_back old new =
+    (frame : List ℕ) × IsOwnProbe header s frame
+    × (SendsAndHears place frame is_back old new ⊎ CannotSend is_back old new)
 
 -- so at that port of that address, which is not heard where it does not come back
-pub record ProbesAt (header : HeaderValue) (s : Seals) (host : IpAddr) (port : ℕ) (unheard : Option ℕ) (old new : SocketValue) : Type 0 where
+pub record ProbesAt (header : HeaderValue) (s : Seals) (host : IpAddr) (port : ℕ) (unheard : Option ℕ)
+    (old new : SocketValue) : Type 0 where
   pub place : SocketAddr
   pub at_host : socket_ip place ≡ host
   pub at_port : socket_port place ≡ port

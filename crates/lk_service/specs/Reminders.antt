@@ -30,7 +30,8 @@ having_warned r s = record r { due = min (s.traffic.ticks + 600) 184467440737095
 unfoldable pub reminder_line : ℕ → ℕ → ℕ → List ℕ
 reminder_line node own named =
     codes "warning: node "
-    ++ (decimal node ++ (codes " has heard of no leader, and listens at port " ++ (decimal own ++ (codes "; the genesis names port " ++ (decimal named ++ 10 ∷ [])))))
+    ++ (decimal node ++ (codes " has heard of no leader, and listens at port "
+    ++ (decimal own ++ (codes "; the genesis names port " ++ (decimal named ++ 10 ∷ [])))))
 
 -- after a turn the line is written if a warning is due, and else nothing is. `before` and `after` are what was written
 -- so far

@@ -25,13 +25,15 @@ use Rattle.lk_transport.specs.declared.fault.ServiceFault.{ServiceFault}
 -- files have not grown, except up to the size of a Base
 pub record ComesUp (m : Meaning) (header : HeaderValue) (old : Side → Disk) (r : ReplicaValue) : Type 0 where
   pub notes : List Note
-  pub goes : (h : History) (n : ℕ) → header ≡ header_of h.genesis n → IsLawful m h → DisksFit m h n old → Goes m h n (Stands m r.node r.store h.genesis n) (disks r.store) notes []
+  pub goes : (h : History) (n : ℕ) → header ≡ header_of h.genesis n → IsLawful m h → DisksFit m h n old
+      → Goes m h n (Stands m r.node r.store h.genesis n) (disks r.store) notes []
   pub room : StaysWithin max_base old (disks r.store)
 
 -- none restarts from what these disks had, and they are left like this: whatever a stop may leave of them fits each
 -- history that they fitted, and the files have not grown, except up to the size of a Base
 pub record StaysDown (m : Meaning) (header : HeaderValue) (old left : Side → Disk) : Type 0 where
-  pub fits : (h : History) (n : ℕ) → header ≡ header_of h.genesis n → IsLawful m h → DisksFit m h n old → DisksFit m h n left
+  pub fits : (h : History) (n : ℕ) → header ≡ header_of h.genesis n → IsLawful m h
+      → DisksFit m h n old → DisksFit m h n left
   pub room : StaysWithin max_base old left
 
 -- `honest` says that the device that had these disks is honest
@@ -55,7 +57,8 @@ module _ (m : Meaning) (IsText : List ℕ → Type 0) (honest : Type 0) (old : S
     pub among : (7 ≤ number) × (number ≤ 11)
     pub cause : honest → IsRefusedFor m IsText old header number left
     pub stays_down : honest → StaysDown m header old left
-    pub comes_back : honest → (h : History) (n : ℕ) → header ≡ header_of h.genesis n → IsLawful m h → DisksFit m h n old → IsNumberOfRevival number
+    pub comes_back : honest → (h : History) (n : ℕ) → header ≡ header_of h.genesis n → IsLawful m h
+        → DisksFit m h n old → IsNumberOfRevival number
 
   -- the restart failed, and this fault reports it
   pub record IsRefusedWith (told : ServiceFault) : Type 0 where

@@ -34,14 +34,16 @@ LeavesOff s = IsSome (bound_in s.addresses.neighbours)
 
 -- `Says` relates a replica's input to its letters, and `tells` says that the socket reveals what it sends and what
 -- arrives
-module _ (Says : ReplicaValue → List (Option (List ℕ)) → List LetterValue → ReplicaValue → Type 0) (tells : Type 0) where
+module _ (Says : ReplicaValue → List (Option (List ℕ)) → List LetterValue → ReplicaValue → Type 0)
+    (tells : Type 0) where
   -- a turn: the replica was given the first letters of the node to itself as one group, or where none waited what was
   -- taken of the frames that came, and a tick where one was due, and goes on; or it is idle, and given nothing. After
-  -- that the probe kept from before, or else the first in those frames, is answered, and a node of the same genesis that
-  -- asks by it is heard again; what the report kept from before told, or else the first in those frames that answers the
-  -- node's question, is learned; one question is sent where one is due; and nothing else is sent. Where nodes live, and
-  -- the keys, are the same. `After` holds of the server then
-  pub record TakesTurnWith (kept : Option ReceivedProbe) (told : Option Reported) (After : ServerValue ReplicaValue → Type 0) (old new : ServerValue ReplicaValue) : Type 0 where
+  -- that the probe kept from before, or else the first in those frames, is answered, and a node of the same genesis
+  -- that asks by it is heard again; what the report kept from before told, or else the first in those frames that
+  -- answers the node's question, is learned; one question is sent where one is due; and nothing else is sent. Where
+  -- nodes live, and the keys, are the same. `After` holds of the server then
+  pub record TakesTurnWith (kept : Option ReceivedProbe) (told : Option Reported)
+      (After : ServerValue ReplicaValue → Type 0) (old new : ServerValue ReplicaValue) : Type 0 where
     pub frames : List (SocketAddr × List ℕ)
     pub came : List (SocketAddr × List ℕ)
     pub opened : came ≡ all_filtered (filter_of old.addresses) frames
@@ -77,7 +79,8 @@ module _ (Says : ReplicaValue → List (Option (List ℕ)) → List LetterValue 
     pub failure : TellsFailure new
 
   -- the letters that it gave to be sent in a turn; none in an idle one
-  abbrev pub letters_in : {came frames : List (SocketAddr × List ℕ)} {old new : ServerValue ReplicaValue} → Turn Says tells came old new ⊎ IsIdle tells frames old new → List LetterValue
+  abbrev pub letters_in : {came frames : List (SocketAddr × List ℕ)} {old new : ServerValue ReplicaValue}
+      → Turn Says tells came old new ⊎ IsIdle tells frames old new → List LetterValue
   letters_in (inl turn) = turn.hands_on.letters
   letters_in (inr idle) = []
 
@@ -109,7 +112,8 @@ pub record HasSeals (header : HeaderValue) (seals : Seals) (s : ServerValue Repl
   pub whose : AreSealsOf header seals
 
 -- `Begins` says how the server of a node starts
-module _ (Begins : ServerValue ReplicaValue → Type 0) (header : HeaderValue) (seals : Seals) (Says : ReplicaValue → List (Option (List ℕ)) → List LetterValue → ReplicaValue → Type 0) (tells : Type 0) where
+module _ (Begins : ServerValue ReplicaValue → Type 0) (header : HeaderValue) (seals : Seals)
+    (Says : ReplicaValue → List (Option (List ℕ)) → List LetterValue → ReplicaValue → Type 0) (tells : Type 0) where
   -- it started in this way, with these seals of the node of this header, and has taken this many turns
   pub record Serves (count : ℕ) : Type 0 where
     pub begun : ServerValue ReplicaValue

@@ -23,16 +23,20 @@ reminded s r bytes = record { server = s; reminder = r; written = bytes }
 
 -- this status tells what the server's replica shows, and the server's own count of ticks
 abbrev pub IsStatusOf : ServerValue ReplicaValue → Status → Type 0
-IsStatusOf s status = (shown : ProbedState) × IsShown s.replica shown × Tells s.addresses.seals.genesis s.ticks shown status
+IsStatusOf s status =
+    (shown : ProbedState) × IsShown s.replica shown × Tells s.addresses.seals.genesis s.ticks shown status
 
 -- by the server's own status, the line of the node of that number, which listens at that port, is written if a warning
 -- is due, and else nothing is; the next one is due a minute later, also where the line could not be written
-pub record Warns (node port : ℕ) (s : ServerValue ReplicaValue) (old new : PortReminder) (before after : Option (List ℕ)) : Type 0 where
+pub record Warns (node port : ℕ) (s : ServerValue ReplicaValue) (old new : PortReminder)
+    (before after : Option (List ℕ)) : Type 0 where
   pub status : Status
   pub told : IsStatusOf s status
-  pub reminds : Reminds node port status old new before after ⊎ ((named : ℕ) × IsDue old status named × (new ≡ having_warned old status))
+  pub reminds : Reminds node port status old new before after
+      ⊎ ((named : ℕ) × IsDue old status named × (new ≡ having_warned old status))
 
-module _ (Says : ReplicaValue → List (Option (List ℕ)) → List LetterValue → ReplicaValue → Type 0) (tells : Type 0) (node port : ℕ) where
+module _ (Says : ReplicaValue → List (Option (List ℕ)) → List LetterValue → ReplicaValue → Type 0)
+    (tells : Type 0) (node port : ℕ) where
   -- a turn, and then the warning by what the server reports after it
   pub record TakesTurnAndWarns (old new : Reminded) : Type 0 where
     pub turn : TakesTurn Says tells old.server new.server

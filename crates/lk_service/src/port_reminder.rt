@@ -33,7 +33,8 @@ fn write_line<E: Write>(node: u32, own: u16, named: u16, err: &mut E) -> io::Res
 
 // Warns that the node has heard of no leader since its start.
 fn write_reminder<E: Write>(plan: &NodePlan<'_>, named: Port, err: &mut E) -> io::Result<()>
-    ensures { OnOk result (Appends (E.contents err.old) (E.contents err.new) (reminder_line plan.now.header.node plan.now.port named)) }
+    ensures { OnOk result (Appends (E.contents err.old) (E.contents err.new)
+        (reminder_line plan.now.header.node plan.now.port named)) }
 {
     let (node, own) = (plan.header.node().get(), plan.port.get());
     write_line(node, own, named.get(), err)
@@ -59,7 +60,8 @@ impl PortReminder {
 
     // The port of which a warning is due. The next one is then a minute away.
     fn take_due(&mut self, status: &Status) -> Option<Port>
-        ensures some { IfSome result (λ port. IsDue self.old status.now port × (self.new ≡ having_warned self.old status.now)) }
+        ensures some { IfSome result
+            (λ port. IsDue self.old status.now port × (self.new ≡ having_warned self.old status.now)) }
         ensures none { IsNone result → IsNoneDue self.old status.now × (self.new ≡ self.old) }
     {
         let Some(named) = self.unheard else {
@@ -80,9 +82,12 @@ impl PortReminder {
         err: &mut E,
     ) -> io::Result<()>
         // Its line is written exactly if a warning is due, and the next one is due a minute later.
-        ensures reminds { OnOk result (Reminds plan.now.header.node plan.now.port status.now self.old self.new (E.contents err.old) (E.contents err.new)) }
+        ensures reminds { OnOk result
+            (Reminds plan.now.header.node plan.now.port status.now self.old self.new
+            (E.contents err.old) (E.contents err.new)) }
         // A warning that fails was due, and the next one is due a minute later all the same.
-        ensures fails { OnErr result ((port : ℕ) × IsDue self.old status.now port × (self.new ≡ having_warned self.old status.now)) }
+        ensures fails { OnErr result
+            ((port : ℕ) × IsDue self.old status.now port × (self.new ≡ having_warned self.old status.now)) }
         // A node that is heard at the port that the genesis names is never warned of.
         ensures heard { self.old.unheard ≡ None → (self.new ≡ self.old) × (err.new ≡ err.old) }
     {

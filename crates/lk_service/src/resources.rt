@@ -91,11 +91,14 @@ fn warn_of_port<S: DatagramSocket, E: Write>(
     socket: &mut S,
     err: &mut E,
 ) -> Result<Option<Port>, ServiceFault>
-    ensures finds { S.is_telling → IfOk result (λ unheard. FindsUnheard plan.now.header network.now (misnamed plan.now.header plan.now.port) unheard
+    ensures finds { S.is_telling
+        → IfOk result (λ unheard. FindsUnheard plan.now.header network.now
+        (misnamed plan.now.header plan.now.port) unheard
         (socket_value S.sent S.failures S.coming socket.old) (socket_value S.sent S.failures S.coming socket.new)) }
     // Where the ports agree nothing is sent and nothing received.
     ensures alike { misnamed plan.now.header plan.now.port ≡ None → socket.new ≡ socket.old }
-    ensures some { IfOk result (λ unheard. IfSome unheard (λ port. misnamed plan.now.header plan.now.port ≡ Some port)) }
+    ensures some { IfOk result
+        (λ unheard. IfSome unheard (λ port. misnamed plan.now.header plan.now.port ≡ Some port)) }
     // Where it is heard nothing is warned.
     ensures quiet { IfOk result (λ unheard. unheard ≡ None → err.new ≡ err.old) }
     ensures err { OnErr result (socket.new ≡ socket.old) }
@@ -165,7 +168,8 @@ pub fn open_resources<R: Files<File = File> + Net, E: Write>(
     // Where the nodes have a key, ticks go by the clock.
     ensures pace { IfOk result (λ r. key_list r.0.network.seals.nodes ≢ [] → r.0.pace ≡ Pace.Clock) }
     // Only the port that the genesis names, where the node listens at another one, may be one at which it is not heard.
-    ensures unheard { IfOk result (λ r. IfSome r.0.unheard (λ port. misnamed plan.now.header plan.now.port ≡ Some port)) }
+    ensures unheard { IfOk result
+        (λ r. IfSome r.0.unheard (λ port. misnamed plan.now.header plan.now.port ≡ Some port)) }
 {
     warn_of_members(plan, err);
     let (network, place) = network_of(rt, alloc, &plan.header, plan.port, &plan.options, err)?;

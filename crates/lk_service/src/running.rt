@@ -9,7 +9,8 @@ ghost use Rattle.lk_served_replica.specs.Showing.{IsShown};
 ghost use Rattle.lk_server.specs.Servers.{ServerValue, ServesAs, ServesOn};
 ghost use Rattle.lk_transport.specs.Chains.{Repeats};
 ghost use Rattle.lk_service.specs.Revivals.{ComesUp, IsBegun, IsNotTakenUp, IsRefusedWith};
-ghost use Rattle.lk_service.specs.Turns.{TakesTurn, TakesTurnWith, GoesOn, LeavesOff, EndsTurn, BreaksOff, Leaves, AreSealsOf, Serves, EndsEarly, LeavesEarly, TellsFailure};
+ghost use Rattle.lk_service.specs.Turns.{TakesTurn, TakesTurnWith, GoesOn, LeavesOff, EndsTurn, BreaksOff, Leaves};
+ghost use Rattle.lk_service.specs.Turns.{AreSealsOf, Serves, EndsEarly, LeavesEarly, TellsFailure};
 ghost use Rattle.lk_service.specs.Warnings.{TakesTurnAndWarns, Warns, WarnsUntil, reminded};
 
 use crate::another_genesis::write_other_genesis;
@@ -55,7 +56,9 @@ fn take_up<M: Machine, D: LogDisk + Drop, L: Log>(
     // It restarts from what the device has.
     ensures comes_up { D.is_honest → IfOk result (ComesUp M.meaning header.now (D.disk device)) }
     // It fails with 7 to 11, each with its cause, and what the device then has fits as what it had.
-    ensures refused { IfErr result (λ e. IsNotTakenUp M.meaning M.IsText D.is_honest (D.disk device) header.now (fault_number e.fault) (D.disk e.device)) }
+    ensures refused { IfErr result
+        (λ e. IsNotTakenUp M.meaning M.IsText D.is_honest (D.disk device) header.now
+        (fault_number e.fault) (D.disk e.device)) }
 {
     let revived = Replica::<M, D>::revive(alloc, device, header)?;
     log_start(log, revived.is_new, &revived.replica.status());
@@ -74,9 +77,12 @@ pub fn revive<M: Machine, D: LogDisk + Drop, S: DatagramSocket + Drop, L: Log>(
     // received nothing.
     ensures begun { IfOk result (IsBegun M.meaning D.is_honest (D.disk resources.device) header.now) }
     ensures serves { IfOk result (ServesAs header.now.cluster header.now.node resources.pace resources.network) }
-    ensures socket { IfOk result (ServesOn (S.sent resources.socket) (S.failures resources.socket) (S.coming resources.socket)) }
+    ensures socket { IfOk result
+        (ServesOn (S.sent resources.socket) (S.failures resources.socket) (S.coming resources.socket)) }
     // It fails with 7 to 11, each with its cause, and what the device then has fits as what it had.
-    ensures refused { IfErr result (λ e. IsNotTakenUp M.meaning M.IsText D.is_honest (D.disk resources.device) header.now (fault_number e.fault) (D.disk e.device)) }
+    ensures refused { IfErr result
+        (λ e. IsNotTakenUp M.meaning M.IsText D.is_honest (D.disk resources.device) header.now
+        (fault_number e.fault) (D.disk e.device)) }
 {
     let Resources {
         device,
@@ -114,7 +120,8 @@ fn revive_plan<
 ) -> Result<NodeServer<M, D, S>, ServiceFault>
     ensures begun { IfOk result (IsBegun M.meaning D.is_honest (D.disk resources.device) plan.now.header) }
     ensures seals { IfOk result (λ s. s.addresses.seals ≡ resources.network.seals) }
-    ensures refused { IfErr result (IsRefusedWith M.meaning M.IsText D.is_honest (D.disk resources.device) plan.now.header) }
+    ensures refused { IfErr result
+        (IsRefusedWith M.meaning M.IsText D.is_honest (D.disk resources.device) plan.now.header) }
 {
     match revive::<M, D, S, L>(alloc, &plan.header, resources, log) {
         Ok(server) => Ok(server),
@@ -175,13 +182,18 @@ fn take_turn<
     // where one was due. Of the letters that it said it keeps none but those of the node to itself, after the ones
     // that wait. After that it handles probes: the probe and the report that were kept, or else the first that
     // came. No node of another genesis has led it.
-    ensures turn { OnOk result (TakesTurnWith ⟦<Replica<M, D> as ServedReplica>⟧.Says S.is_telling buffer.old.asked buffer.old.reported GoesOn server.old server.new) }
+    ensures turn { OnOk result
+        (TakesTurnWith ⟦<Replica<M, D> as ServedReplica>⟧.Says S.is_telling buffer.old.asked buffer.old.reported
+        GoesOn server.old server.new) }
     ensures spent { OnOk result ((buffer.new.asked ≡ None) × (buffer.new.reported ≡ None)) }
     // While the node goes on nothing is written.
     ensures quiet { OnOk result (E.contents err.new ≡ E.contents err.old) }
     // The turn ended the replica, and after that nothing is sent and no probe is answered; or it is such a turn, and a
     // node of another genesis has led the node.
-    ensures ends { OnErr result (EndsTurn ⟦<Replica<M, D> as ServedReplica>⟧.Says S.is_telling server.old server.new ⊎ TakesTurnWith ⟦<Replica<M, D> as ServedReplica>⟧.Says S.is_telling buffer.old.asked buffer.old.reported LeavesOff server.old server.new) }
+    ensures ends { OnErr result
+        (EndsTurn ⟦<Replica<M, D> as ServedReplica>⟧.Says S.is_telling server.old server.new
+        ⊎ TakesTurnWith ⟦<Replica<M, D> as ServedReplica>⟧.Says S.is_telling buffer.old.asked buffer.old.reported
+        LeavesOff server.old server.new) }
 {
     match node_turn(server, buffer, metronome, log) {
         Ok(()) => end_turn(server, buffer, log, observer, err),
@@ -199,7 +211,8 @@ fn warn_if_due<M: Machine, D: LogDisk + Drop, S: DatagramSocket + Drop, E: Write
     plan: &NodePlan<'_>,
     err: &mut E,
 )
-    ensures { Warns plan.now.header.node plan.now.port server.now reminder.old reminder.new (E.contents err.old) (E.contents err.new) }
+    ensures { Warns plan.now.header.node plan.now.port server.now reminder.old reminder.new
+        (E.contents err.old) (E.contents err.new) }
 {
     let status = server.status();
     let _ = reminder.remind(&status, plan, err);
@@ -224,14 +237,22 @@ fn take_turns<
     err: &mut E,
 ) -> Result<(), ServiceFault>
     // At Ok it has taken exactly this many turns, one after another.
-    ensures ok { OnOk result (Repeats (TakesTurn ⟦<Replica<M, D> as ServedReplica>⟧.Says S.is_telling) (2 ^ 48) server.old server.new) }
+    ensures ok { OnOk result
+        (Repeats (TakesTurn ⟦<Replica<M, D> as ServedReplica>⟧.Says S.is_telling) (2 ^ 48) server.old server.new) }
     // At an error it has taken fewer, and then one that ended the replica, or after which a node of another genesis had
     // led the node.
-    ensures err { OnErr result (BreaksOff ⟦<Replica<M, D> as ServedReplica>⟧.Says S.is_telling (2 ^ 48) server.old server.new ⊎ Leaves ⟦<Replica<M, D> as ServedReplica>⟧.Says S.is_telling (2 ^ 48) server.old server.new) }
-    // After each of its turns, but the last at an error, it warns by the server's own status if that is due, and nothing
-    // else is written.
-    ensures warns { OnOk result ((last : PortReminder) × Repeats (TakesTurnAndWarns ⟦<Replica<M, D> as ServedReplica>⟧.Says S.is_telling plan.now.header.node plan.now.port) (2 ^ 48) (reminded server.old reminder (E.contents err.old)) (reminded server.new last (E.contents err.new))) }
-    ensures warned { OnErr result (WarnsUntil ⟦<Replica<M, D> as ServedReplica>⟧.Says S.is_telling plan.now.header.node plan.now.port (2 ^ 48) (reminded server.old reminder (E.contents err.old)) server.new) }
+    ensures err { OnErr result
+        (BreaksOff ⟦<Replica<M, D> as ServedReplica>⟧.Says S.is_telling (2 ^ 48) server.old server.new
+        ⊎ Leaves ⟦<Replica<M, D> as ServedReplica>⟧.Says S.is_telling (2 ^ 48) server.old server.new) }
+    // After each of its turns, but the last at an error, it warns by the server's own status if that is due, and
+    // nothing else is written.
+    ensures warns { OnOk result
+        ((last : PortReminder) × Repeats
+        (TakesTurnAndWarns ⟦<Replica<M, D> as ServedReplica>⟧.Says S.is_telling plan.now.header.node plan.now.port)
+        (2 ^ 48) (reminded server.old reminder (E.contents err.old)) (reminded server.new last (E.contents err.new))) }
+    ensures warned { OnErr result
+        (WarnsUntil ⟦<Replica<M, D> as ServedReplica>⟧.Says S.is_telling plan.now.header.node plan.now.port (2 ^ 48)
+        (reminded server.old reminder (E.contents err.old)) server.new) }
 {
     let mut buffer = ReceiveBuffer::new();
     let mut metronome = Metronome::new(clock);
@@ -269,8 +290,13 @@ fn serve_turns<
     observer: &mut O,
     err: &mut E,
 ) -> Result<(), ServiceFault>
-    ensures ok { OnOk result ((ended : ServerValue ReplicaValue) × Repeats (TakesTurn ⟦<Replica<M, D> as ServedReplica>⟧.Says S.is_telling) (2 ^ 48) server ended) }
-    ensures err { OnErr result ((ended : ServerValue ReplicaValue) × (BreaksOff ⟦<Replica<M, D> as ServedReplica>⟧.Says S.is_telling (2 ^ 48) server ended ⊎ Leaves ⟦<Replica<M, D> as ServedReplica>⟧.Says S.is_telling (2 ^ 48) server ended)) }
+    ensures ok { OnOk result
+        ((ended : ServerValue ReplicaValue)
+        × Repeats (TakesTurn ⟦<Replica<M, D> as ServedReplica>⟧.Says S.is_telling) (2 ^ 48) server ended) }
+    ensures err { OnErr result
+        ((ended : ServerValue ReplicaValue)
+        × (BreaksOff ⟦<Replica<M, D> as ServedReplica>⟧.Says S.is_telling (2 ^ 48) server ended
+        ⊎ Leaves ⟦<Replica<M, D> as ServedReplica>⟧.Says S.is_telling (2 ^ 48) server ended)) }
 {
     let mut server = server;
     log_port(log, plan.port);
@@ -297,10 +323,15 @@ fn serve<
     err: &mut E,
 ) -> Result<(), ServiceFault>
     requires { AreSealsOf plan.now.header resources.network.seals }
-    ensures ok { OnOk result (Serves (IsBegun M.meaning D.is_honest (D.disk resources.device) plan.now.header) plan.now.header resources.network.seals ⟦<Replica<M, D> as ServedReplica>⟧.Says S.is_telling (2 ^ 48)) }
-    ensures err { IfErr result (λ f. IsRefusedWith M.meaning M.IsText D.is_honest (D.disk resources.device) plan.now.header f
-        ⊎ EndsEarly (IsBegun M.meaning D.is_honest (D.disk resources.device) plan.now.header) plan.now.header resources.network.seals ⟦<Replica<M, D> as ServedReplica>⟧.Says S.is_telling (2 ^ 48)
-        ⊎ LeavesEarly (IsBegun M.meaning D.is_honest (D.disk resources.device) plan.now.header) plan.now.header resources.network.seals ⟦<Replica<M, D> as ServedReplica>⟧.Says S.is_telling (2 ^ 48)) }
+    ensures ok { OnOk result
+        (Serves (IsBegun M.meaning D.is_honest (D.disk resources.device) plan.now.header) plan.now.header
+        resources.network.seals ⟦<Replica<M, D> as ServedReplica>⟧.Says S.is_telling (2 ^ 48)) }
+    ensures err { IfErr result
+        (λ f. IsRefusedWith M.meaning M.IsText D.is_honest (D.disk resources.device) plan.now.header f
+        ⊎ EndsEarly (IsBegun M.meaning D.is_honest (D.disk resources.device) plan.now.header) plan.now.header
+        resources.network.seals ⟦<Replica<M, D> as ServedReplica>⟧.Says S.is_telling (2 ^ 48)
+        ⊎ LeavesEarly (IsBegun M.meaning D.is_honest (D.disk resources.device) plan.now.header) plan.now.header
+        resources.network.seals ⟦<Replica<M, D> as ServedReplica>⟧.Says S.is_telling (2 ^ 48)) }
 {
     let reminder = PortReminder::of(resources.unheard);
     let server = revive_plan::<M, D, S, L, E>(alloc, plan, resources, log, err)?;
@@ -330,12 +361,18 @@ pub fn run_node<
     ensures status { result ≤ 1 }
     // At status 0 the server of the plan's node, with a replica restarted from what the device had, has taken this
     // many turns.
-    ensures served { result ≡ 0 → Serves (IsBegun M.meaning D.is_honest (D.disk resources.device) plan.now.header) plan.now.header resources.network.seals ⟦<Replica<M, D> as ServedReplica>⟧.Says S.is_telling (2 ^ 48) }
+    ensures served { result ≡ 0
+        → Serves (IsBegun M.meaning D.is_honest (D.disk resources.device) plan.now.header) plan.now.header
+        resources.network.seals ⟦<Replica<M, D> as ServedReplica>⟧.Says S.is_telling (2 ^ 48) }
     // At status 1 it did not start, or it has taken fewer turns, and then one that ended its replica, or after which a
     // node of another genesis had led it.
-    ensures broken { result ≡ 1 → ((f : ServiceFault) × IsRefusedWith M.meaning M.IsText D.is_honest (D.disk resources.device) plan.now.header f)
-        ⊎ EndsEarly (IsBegun M.meaning D.is_honest (D.disk resources.device) plan.now.header) plan.now.header resources.network.seals ⟦<Replica<M, D> as ServedReplica>⟧.Says S.is_telling (2 ^ 48)
-        ⊎ LeavesEarly (IsBegun M.meaning D.is_honest (D.disk resources.device) plan.now.header) plan.now.header resources.network.seals ⟦<Replica<M, D> as ServedReplica>⟧.Says S.is_telling (2 ^ 48) }
+    ensures broken { result ≡ 1
+        → ((f : ServiceFault) × IsRefusedWith M.meaning M.IsText D.is_honest
+        (D.disk resources.device) plan.now.header f)
+        ⊎ EndsEarly (IsBegun M.meaning D.is_honest (D.disk resources.device) plan.now.header) plan.now.header
+        resources.network.seals ⟦<Replica<M, D> as ServedReplica>⟧.Says S.is_telling (2 ^ 48)
+        ⊎ LeavesEarly (IsBegun M.meaning D.is_honest (D.disk resources.device) plan.now.header) plan.now.header
+        resources.network.seals ⟦<Replica<M, D> as ServedReplica>⟧.Says S.is_telling (2 ^ 48) }
 {
     match serve::<M, D, S, C, L, O, E>(clock, alloc, plan, resources, log, observer, err) {
         Ok(()) => 0,

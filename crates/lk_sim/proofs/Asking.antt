@@ -1,5 +1,6 @@
 -- A client asks: its request joins what was asked, and may join what was sent.
-use Rattle.std.proofs.Common.{◌≡◌, ℕ, List, [], ◌∷◌, ◌++◌, Contains, refl, ap, sym, ◌∙◌, subst, inl, inr, arith, append-nil}
+use Rattle.std.proofs.Common.{◌≡◌, ℕ, List, [], ◌∷◌, ◌++◌, Contains, refl, ap, sym, ◌∙◌, subst, inl, inr, arith}
+use Rattle.std.proofs.Common.{append-nil}
 use Rattle.std.proofs.lemmas.List.Elements.{Contains-append_cases, Contains-append_right, Contains-push_cases}
 use Rattle.lk_disk.specs.Disk.{Disk}
 use Rattle.lk_simulated_disk.specs.Memory.{disk_of}
@@ -35,14 +36,17 @@ use Rattle.lk_sim.specs.Orders.{RestsOn}
 
 -- what was asked last was asked
 pub asked_last : (trace : List Note) (r : RequestValue) → Contains (asked_in (trace ++ note.Asked r ∷ [])) r
-asked_last trace r = subst (λ l. Contains l r) (sym (asked_in-append trace (note.Asked r ∷ []))) (Contains-append_right (asked_in trace) (r ∷ []) r (0, omega arith, refl))
+asked_last trace r = subst (λ l. Contains l r) (sym (asked_in-append trace (note.Asked r ∷ [])))
+    (Contains-append_right (asked_in trace) (r ∷ []) r (0, omega arith, refl))
 
-module _ {R : Type 0} (Shows : R → Genesis → ℕ → Holding → Type 0) (disks : R → Side → Disk) (m : Meaning) (genesis : Genesis) (seats : List (Seat R)) (sent : List Datagram) (trace : List Note)
+module _ {R : Type 0} (Shows : R → Genesis → ℕ → Holding → Type 0) (disks : R → Side → Disk) (m : Meaning)
+    (genesis : Genesis) (seats : List (Seat R)) (sent : List Datagram) (trace : List Note)
     (w : Holds Shows disks m genesis seats sent trace) (r : RequestValue) where
   -- datagrams of clients
   module _ (more : List Datagram) (fits : WorldFits genesis (record { sent = sent ++ more; views = w.views }))
       (silent : (d : Datagram) → Contains more d → (n : ℕ) (x : NodeMessage) → Spells (said_by genesis n x) d.bytes → ⊥)
-      (tells : Tells more []) (asks : (d : Datagram) → Contains more d → (q : RequestValue) (cluster : ℕ) → Spells (record { cluster = cluster; content = content.Request q }) d.bytes → q ≡ r) where
+      (tells : Tells more []) (asks : (d : Datagram) → Contains more d → (q : RequestValue) (cluster : ℕ)
+      → Spells (record { cluster = cluster; content = content.Request q }) d.bytes → q ≡ r) where
     abbrev notes : List Note
     notes = note.Asked r ∷ []
 
@@ -53,10 +57,12 @@ module _ {R : Type 0} (Shows : R → Genesis → ℕ → Holding → Type 0) (di
     among = asked_among trace notes
 
     old_sent : (n : ℕ) (x : NodeMessage) → HasSent genesis (sent ++ more) n x → HasSent genesis sent n x
-    old_sent n x h = elim (sent_cases genesis sent more n x h) [ inl old ↦ old | inr fresh ↦ absurd (silent fresh.datagram fresh.listed n x fresh.spelled) ]
+    old_sent n x h = elim (sent_cases genesis sent more n x h)
+        [ inl old ↦ old | inr fresh ↦ absurd (silent fresh.datagram fresh.listed n x fresh.spelled) ]
 
     images : (n : ℕ) (d : Side → Disk) → DisksFit m (happened genesis sent trace) n d → DisksFit m since n d
-    images n d f = disks_move m genesis sent (sent ++ more) (asked_in trace) (asked_in (trace ++ notes)) n d (λ s c x h. c x (old_sent n x h)) (still_stems genesis sent more) f
+    images n d f = disks_move m genesis sent (sent ++ more) (asked_in trace) (asked_in (trace ++ notes)) n d
+        (λ s c x h. c x (old_sent n x h)) (still_stems genesis sent more) f
 
     seated : (k : ℕ) (t : Seat R) → At seats k t → SeatFits Shows disks m since (w.views t.number) t
     seated k t at = let f = w.seated k t at in record {
@@ -64,7 +70,8 @@ module _ {R : Type 0} (Shows : R → Genesis → ℕ → Holding → Type 0) (di
         holding = u.holding;
         view = u.view;
         shown = u.shown;
-        fits = still_holding genesis sent more (asked_in trace) (asked_in (trace ++ notes)) among m t.number u.holding (subst (λ v. ViewFits genesis (sent ++ more) t.number v) (sym u.view) (fits.views t.number)) u.fits;
+        fits = still_holding genesis sent more (asked_in trace) (asked_in (trace ++ notes)) among m t.number u.holding
+            (subst (λ v. ViewFits genesis (sent ++ more) t.number v) (sym u.view) (fits.views t.number)) u.fits;
         left = images t.number (disks q) u.left;
         room = u.room;
       };
@@ -81,31 +88,42 @@ module _ {R : Type 0} (Shows : R → Genesis → ℕ → Holding → Type 0) (di
       known = λ n x h. w.known n x (old_sent n x h);
       requests = λ d q cluster c said. elim (Contains-append_cases sent more d c) [
         | inl old ↦ among q (w.requests d q cluster old said)
-        | inr fresh ↦ subst (λ z. Contains (asked_in (trace ++ notes)) z) (sym (asks d fresh q cluster said)) (asked_last trace r)
+        | inr fresh ↦
+            subst (λ z. Contains (asked_in (trace ++ notes)) z) (sym (asks d fresh q cluster said)) (asked_last trace r)
       ];
-      proposed = λ x h. still_asked genesis sent more (asked_in trace) (asked_in (trace ++ notes)) among x.command (w.proposed x (record { sender = h.sender; has_sent = old_sent h.sender (Accept x) h.has_sent }));
+      proposed = λ x h. still_asked genesis sent more (asked_in trace) (asked_in (trace ++ notes)) among x.command
+          (w.proposed x (record { sender = h.sender; has_sent = old_sent h.sender (Accept x) h.has_sent }));
       list = w.list;
       chosen = still_chosen genesis sent more w.list w.chosen;
       notes = λ x c. elim (Contains-push_cases trace (note.Asked r) x c) [
-        | inl old ↦ still_bears genesis sent more (asked_in trace) (asked_in (trace ++ notes)) among m w.list x (w.notes x old)
+        | inl old ↦
+            still_bears genesis sent more (asked_in trace) (asked_in (trace ++ notes)) among m w.list x (w.notes x old)
         | inr e ↦ subst (λ z. BearsOut m since w.list z) e (asked_last trace r)
       ];
       messages = λ n x h. w.messages n x (old_sent n x h);
-      told = subst (λ l. Tells (sent ++ more) l) (sym (told_in-append trace notes)) (tells_append sent more (told_in trace) [] w.told tells);
-      in_time = still_in_time m genesis sent more trace notes w.in_time (λ x c. subst (λ z. RestsOn m genesis sent trace z) (only (note.Asked r) x c) tt);
+      told = subst (λ l. Tells (sent ++ more) l) (sym (told_in-append trace notes))
+          (tells_append sent more (told_in trace) [] w.told tells);
+      in_time = still_in_time m genesis sent more trace notes w.in_time
+          (λ x c. subst (λ z. RestsOn m genesis sent trace z) (only (note.Asked r) x c) tt);
     }
 
   -- a request that is injected
   pub injected_holds : Holds Shows disks m genesis seats sent (trace ++ note.Asked r ∷ [])
   injected_holds = subst (λ l. Holds Shows disks m genesis seats l (trace ++ note.Asked r ∷ [])) (append-nil sent)
-      (goes_on [] (subst (λ l. WorldFits genesis (record { sent = l; views = w.views })) (sym (append-nil sent)) w.world) (λ d c. absurd (omega (arith, c.1))) refl (λ d c. absurd (omega (arith, c.1))))
+      (goes_on [] (subst (λ l. WorldFits genesis (record { sent = l; views = w.views }))
+      (sym (append-nil sent)) w.world) (λ d c. absurd (omega (arith, c.1))) refl (λ d c. absurd (omega (arith, c.1))))
 
   -- a client's datagram
-  pub asked_holds : (d : Datagram) (a : IsClientRequest d) → a.request ≡ r → Holds Shows disks m genesis seats (sent ++ d ∷ []) (trace ++ note.Asked r ∷ [])
+  pub asked_holds : (d : Datagram) (a : IsClientRequest d) → a.request ≡ r
+      → Holds Shows disks m genesis seats (sent ++ d ∷ []) (trace ++ note.Asked r ∷ [])
   asked_holds d a is = goes_on (d ∷ []) (asked_fits genesis (record { sent = sent; views = w.views }) d w.world a)
-      (λ x c n k said. asked_is_no_saying genesis d a n k (subst (λ (z : Datagram). Spells (said_by genesis n k) z.bytes) (sym (only d x c)) said))
+      (λ x c n k said. asked_is_no_saying genesis d a n k
+      (subst (λ (z : Datagram). Spells (said_by genesis n k) z.bytes) (sym (only d x c)) said))
       (record { cluster = a.cluster; content = content.Request a.request }, [], a.spelled, refl, refl)
-      (λ x c q cluster said. same q (ap (λ z. z.content) (one_message _ _ d.bytes a.spelled (subst (λ (z : Datagram). Spells (record { cluster = cluster; content = content.Request q }) z.bytes) (sym (only d x c)) said))))
+      (λ x c q cluster said. same q
+      (ap (λ z. z.content) (one_message _ _ d.bytes a.spelled
+      (subst (λ (z : Datagram). Spells (record { cluster = cluster; content = content.Request q }) z.bytes)
+      (sym (only d x c)) said))))
     where
       same : (q : RequestValue) → content.Request a.request ≡ content.Request q → q ≡ r
       same q e = let f : a.request ≡ q = cc e in sym f ∙ is

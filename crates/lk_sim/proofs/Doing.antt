@@ -1,5 +1,6 @@
 -- What an event has done, by what its calls came to.
-use Rattle.std.proofs.Common.{◌≡◌, ℕ, ◌⊎◌, List, [], ◌++◌, length, set, Option, Some, None, Ok, refl, ap, sym, ◌∙◌, subst, subst₂, inl, inr, append_assoc, append-nil}
+use Rattle.std.proofs.Common.{◌≡◌, ℕ, ◌⊎◌, List, [], ◌++◌, length, set, Option, Some, None, Ok, refl, ap, sym, ◌∙◌}
+use Rattle.std.proofs.Common.{subst, subst₂, inl, inr, append_assoc, append-nil}
 use Rattle.std.proofs.lemmas.List.{get_or_default}
 use Rattle.lk_simulated_disk.specs.Memory.{Memory}
 use Rattle.lk_disk.specs.Meters.{stopping}
@@ -17,7 +18,8 @@ use Rattle.lk_world_nodes.specs.Seats.{At, SeatFits, SeatGoes, stopped_on, falle
 use Rattle.lk_replica.specs.Behaviours.{Behaviour, TrapsAlone, disks_by}
 use Rattle.lk_world_nodes.specs.Ends.{Breaks, StaysDown, FailsToCompact, IsToldEnd, end_by, end_at}
 use Rattle.lk_world_nodes.specs.Sends.{stop_among, after_sends}
-use Rattle.lk_sim.specs.Events.{AreOwn, Adds, Falls, Comes, IsGiven, IsBack, ComesUp, GoesOnCompacted, IsCompacted, IsHalted, LeftBy, LeftByRevival}
+use Rattle.lk_sim.specs.Events.{AreOwn, Adds, Falls, Comes, IsGiven, IsBack, ComesUp, GoesOnCompacted, IsCompacted}
+use Rattle.lk_sim.specs.Events.{IsHalted, LeftBy, LeftByRevival}
 use Rattle.lk_world_nodes.specs.Outcomes.{HasFallen, HasTaken, HasRevived, HasCompacted, HasWanted, Rests}
 use Rattle.lk_sim.specs.Settled.{HasAdded, HasSettled, HasGivenUp}
 use Rattle.lk_sim.specs.Worlds.{Holds}
@@ -44,8 +46,11 @@ StopsOn b Left life = (d : Memory) × Left d × (stopped_on 0 0 (device_in b lif
 
 module _ {R : Type 0} (b : Behaviour R) (old new : Scene R) where
   -- a node that a fault ended, or an armed stop at a call of its device, has added nothing of its own
-  pub falls : (Ends : ℕ → Memory → Type 0) (t next : Seat R) (asked mine told : List Note) (batch : List Datagram) (how : Option End) (stop : Option ℕ) → Adds old new ((asked ++ mine) ++ told) batch → Tells batch told → new.ended ≡ how
-      → next.number ≡ t.number → Rests b stop t next → IsToldEnd how → HasFallen Ends t mine batch how stop → Falls Ends old new next asked
+  pub falls : (Ends : ℕ → Memory → Type 0) (t next : Seat R) (asked mine told : List Note) (batch : List Datagram)
+      (how : Option End) (stop : Option ℕ) → Adds old new ((asked ++ mine) ++ told) batch
+      → Tells batch told → new.ended ≡ how
+      → next.number ≡ t.number → Rests b stop t next → IsToldEnd how → HasFallen Ends t mine batch how stop
+      → Falls Ends old new next asked
   falls Ends t next asked mine told batch how stop a tells ended number rests tellable f = record {
     number = f.number;
     left = f.left;
@@ -53,17 +58,22 @@ module _ {R : Type 0} (b : Behaviour R) (old new : Scene R) where
     no_want = f.no_want;
     down = subst (λ z. next.life ≡ Down (rested_on z f.left)) f.stop_is (rested b stop t next f.left f.down rests);
     told = told_as new.ended how ended tellable;
-    ended = ended ∙ f.ended ∙ ap (λ z. Some (end_by z t.number f.number)) f.stop_is ∙ ap (λ k. Some (end_by (stopping f.left.meter) k f.number)) (sym number);
+    ended = ended ∙ f.ended ∙ ap (λ z. Some (end_by z t.number f.number)) f.stop_is
+        ∙ ap (λ k. Some (end_by (stopping f.left.meter) k f.number)) (sym number);
     adds = record {
       genesis = a.genesis;
       sent = a.sent ∙ ap (λ l. old.sent ++ l) f.no_batch;
-      trace = a.trace ∙ ap (λ l. old.trace ++ l) (ap (λ l. (asked ++ mine) ++ l) (nothing_told batch told f.no_batch tells) ∙ append-nil (asked ++ mine) ∙ ap (λ l. asked ++ l) f.no_notes ∙ append-nil asked);
+      trace = a.trace ∙ ap (λ l. old.trace ++ l)
+          (ap (λ l. (asked ++ mine) ++ l) (nothing_told batch told f.no_batch tells) ∙ append-nil (asked ++ mine)
+          ∙ ap (λ l. asked ++ l) f.no_notes ∙ append-nil asked);
     };
   }
 
   -- a node that went on, up to an armed stop at a send if there was one
-  went : (r : R) (t next : Seat R) (o : Option (List ℕ)) (asked mine told : List Note) (batch : List Datagram) (how : Option End) (stop : Option ℕ) → (k : HasTaken b r o t mine batch how stop) → AreOwn mine
-      → Adds old new ((asked ++ mine) ++ told) batch → Tells batch told → new.ended ≡ how → next.number ≡ t.number → Rests b stop t next → Comes b old new r next o asked
+  went : (r : R) (t next : Seat R) (o : Option (List ℕ)) (asked mine told : List Note) (batch : List Datagram)
+      (how : Option End) (stop : Option ℕ) → (k : HasTaken b r o t mine batch how stop) → AreOwn mine
+      → Adds old new ((asked ++ mine) ++ told) batch → Tells batch told → new.ended ≡ how → next.number ≡ t.number
+      → Rests b stop t next → Comes b old new r next o asked
   went r t next o asked mine told batch how None k own adds tells ended number rests = inl (record {
     replica = k.replica;
     notes = mine;
@@ -73,7 +83,8 @@ module _ {R : Type 0} (b : Behaviour R) (old new : Scene R) where
     calls = k.calls;
     passes = k.passes;
     no_stop = subst (λ l. stop_among (b.memory k.replica).meter.trap (length l) ≡ None) (sym k.sends.2) k.sends.0;
-    up = ap (λ (z : Seat R). z.life) rests ∙ k.up ∙ ap Up (k.sends.1 ∙ ap (λ l. after_sends b (length l) k.replica) (sym k.sends.2));
+    up = ap (λ (z : Seat R). z.life) rests ∙ k.up
+        ∙ ap Up (k.sends.1 ∙ ap (λ l. after_sends b (length l) k.replica) (sym k.sends.2));
     own = own;
     tells = tells;
     adds = adds;
@@ -98,9 +109,12 @@ module _ {R : Type 0} (b : Behaviour R) (old new : Scene R) where
   }))
 
   -- a node that was given something
-  pub given : (Shows : R → Genesis → ℕ → Holding → Type 0) (m : Meaning) (i n : ℕ) (s t : Seat R) (r : R) (o : Option (List ℕ)) (asked mine : List Note) (batch : List Datagram) (how : Option End) (stop : Option ℕ)
+  pub given : (Shows : R → Genesis → ℕ → Holding → Type 0) (m : Meaning) (i n : ℕ) (s t : Seat R) (r : R)
+      (o : Option (List ℕ)) (asked mine : List Note) (batch : List Datagram) (how : Option End) (stop : Option ℕ)
       → At old.seats i s → s.number ≡ n → s.life ≡ Up r → t.number ≡ s.number → ((q : R) → t.life ≡ Up q → AreOwn mine)
-      → HasSettled Shows b m (record old { seats = set old.seats i t }) i new asked mine batch how stop → IsToldEnd how → HasTaken b r o t mine batch how stop ⊎ HasFallen (Breaks b r o) t mine batch how stop → IsGiven b old new n o asked
+      → HasSettled Shows b m (record old { seats = set old.seats i t }) i new asked mine batch how stop → IsToldEnd how
+      → HasTaken b r o t mine batch how stop ⊎ HasFallen (Breaks b r o) t mine batch how stop
+      → IsGiven b old new n o asked
   given Shows m i n s t r o asked mine batch how stop at is up number own k tellable cases = record {
     seat = s;
     number = is;
@@ -110,7 +124,8 @@ module _ {R : Type 0} (b : Behaviour R) (old new : Scene R) where
     turns = record { place = i; at = at; number = on ∙ number; seats = k.seats ∙ set_twice old.seats i t k.next };
     comes_to = elim cases [
       | inl q ↦ went r t k.next o asked mine k.told batch how stop q (own q.after q.up) adds k.tells k.ended on rests
-      | inr f ↦ inr (inr (falls (Breaks b r o) t k.next asked mine k.told batch how stop adds k.tells k.ended on rests tellable f))
+      | inr f ↦ inr (inr (falls
+          (Breaks b r o) t k.next asked mine k.told batch how stop adds k.tells k.ended on rests tellable f))
     ];
   }
     where
@@ -126,9 +141,12 @@ module _ {R : Type 0} (b : Behaviour R) (old new : Scene R) where
       adds : Adds old new ((asked ++ mine) ++ k.told) batch
       adds = record { genesis = k.adds.genesis; sent = k.adds.sent; trace = k.adds.trace }
 
-  pub comes : (t next : Seat R) (d : Memory) (n : ℕ) (mine told : List Note) (batch : List Datagram) (how : Option End) (stop : Option ℕ)
-      → t.number ≡ n → next.number ≡ t.number → Rests b stop t next → ((q : R) → t.life ≡ Up q → AreOwn mine) → Adds old new (([] ++ mine) ++ told) batch → Tells batch told → new.ended ≡ how → IsToldEnd how
-      → HasRevived b d (header_of old.genesis n) t mine batch how stop ⊎ HasFallen (StaysDown b d (header_of old.genesis n)) t mine batch how stop → ComesUp b old new next d
+  pub comes : (t next : Seat R) (d : Memory) (n : ℕ) (mine told : List Note) (batch : List Datagram)
+      (how : Option End) (stop : Option ℕ)
+      → t.number ≡ n → next.number ≡ t.number → Rests b stop t next → ((q : R) → t.life ≡ Up q → AreOwn mine)
+      → Adds old new (([] ++ mine) ++ told) batch → Tells batch told → new.ended ≡ how → IsToldEnd how
+      → HasRevived b d (header_of old.genesis n) t mine batch how stop
+      ⊎ HasFallen (StaysDown b d (header_of old.genesis n)) t mine batch how stop → ComesUp b old new next d
   comes t next d n mine told batch how stop number on rests own a tells ended tellable cases = elim cases [
     | inl k ↦ inl (record {
       replica = k.replica;
@@ -141,18 +159,24 @@ module _ {R : Type 0} (b : Behaviour R) (old new : Scene R) where
       adds = record {
         genesis = a.genesis;
         sent = a.sent ∙ ap (λ l. old.sent ++ l) k.no_batch;
-        trace = a.trace ∙ ap (λ l. old.trace ++ l) (ap (λ l. mine ++ l) (nothing_told batch told k.no_batch tells) ∙ append-nil mine);
+        trace = a.trace ∙ ap (λ l. old.trace ++ l)
+            (ap (λ l. mine ++ l) (nothing_told batch told k.no_batch tells) ∙ append-nil mine);
       };
       ended = ended ∙ k.ended;
     })
-    | inr f ↦ inr (falls (StaysDown b d (header_of old.genesis next.number)) t next [] mine told batch how stop a tells ended on rests tellable (subst (λ z. HasFallen (StaysDown b d (header_of old.genesis z)) t mine batch how stop) (sym (on ∙ number)) f))
+    | inr f ↦ inr (falls (StaysDown b d (header_of old.genesis next.number)) t next [] mine told batch how stop a tells
+        ended on rests tellable (subst
+        (λ z. HasFallen (StaysDown b d (header_of old.genesis z)) t mine batch how stop) (sym (on ∙ number)) f))
   ]
 
   -- a node that came up
-  pub back : (Shows : R → Genesis → ℕ → Holding → Type 0) (m : Meaning) (i n : ℕ) (s t : Seat R) (d : Memory) (mine : List Note) (batch : List Datagram) (how : Option End) (stop : Option ℕ)
-      → At old.seats i s → s.number ≡ n → s.life ≡ Down d → t.number ≡ s.number → ((q : R) → t.life ≡ Up q → AreOwn mine)
+  pub back : (Shows : R → Genesis → ℕ → Holding → Type 0) (m : Meaning) (i n : ℕ) (s t : Seat R) (d : Memory)
+      (mine : List Note) (batch : List Datagram) (how : Option End) (stop : Option ℕ)
+      → At old.seats i s → s.number ≡ n → s.life ≡ Down d → t.number ≡ s.number
+      → ((q : R) → t.life ≡ Up q → AreOwn mine)
       → HasSettled Shows b m (record old { seats = set old.seats i t }) i new [] mine batch how stop → IsToldEnd how
-      → HasRevived b d (header_of old.genesis s.number) t mine batch how stop ⊎ HasFallen (StaysDown b d (header_of old.genesis s.number)) t mine batch how stop → IsBack b old new n
+      → HasRevived b d (header_of old.genesis s.number) t mine batch how stop
+      ⊎ HasFallen (StaysDown b d (header_of old.genesis s.number)) t mine batch how stop → IsBack b old new n
   back Shows m i n s t d mine batch how stop at is down number own k tellable cases =
       let same : k.seat ≡ t = at_same (set old.seats i t) i k.seat t k.at (at_set_here old.seats i t at.0) in
       let on : k.next.number ≡ t.number = k.number ∙ ap (λ (z : Seat R). z.number) same in
@@ -163,13 +187,17 @@ module _ {R : Type 0} (b : Behaviour R) (old new : Scene R) where
         down = down;
         next = k.next;
         turns = record { place = i; at = at; number = on ∙ number; seats = k.seats ∙ set_twice old.seats i t k.next };
-        comes = comes t k.next d s.number mine k.told batch how stop number on (subst (λ z. Rests b stop z k.next) same k.rests) own
-            (record { genesis = k.adds.genesis; sent = k.adds.sent; trace = k.adds.trace }) k.tells k.ended tellable cases;
+        comes = comes t k.next d s.number mine k.told batch how stop number on
+            (subst (λ z. Rests b stop z k.next) same k.rests) own
+            (record { genesis = k.adds.genesis; sent = k.adds.sent; trace = k.adds.trace })
+            k.tells k.ended tellable cases;
       }
 
   packs : (t next : Seat R) (r : R) (mine told : List Note) (batch : List Datagram) (how : Option End) (stop : Option ℕ)
-      → next.number ≡ t.number → Rests b stop t next → Adds old new (([] ++ mine) ++ told) batch → Tells batch told → new.ended ≡ how → IsToldEnd how
-      → HasCompacted b r t mine batch how stop ⊎ HasFallen (FailsToCompact b r) t mine batch how stop → GoesOnCompacted b old new r next ⊎ Falls (FailsToCompact b r) old new next []
+      → next.number ≡ t.number → Rests b stop t next → Adds old new (([] ++ mine) ++ told) batch → Tells batch told
+      → new.ended ≡ how → IsToldEnd how
+      → HasCompacted b r t mine batch how stop ⊎ HasFallen (FailsToCompact b r) t mine batch how stop
+      → GoesOnCompacted b old new r next ⊎ Falls (FailsToCompact b r) old new next []
   packs t next r mine told batch how stop on rests a tells ended tellable cases = elim cases [
     | inl k ↦ inl (record {
       replica = k.replica;
@@ -179,7 +207,8 @@ module _ {R : Type 0} (b : Behaviour R) (old new : Scene R) where
       adds = record {
         genesis = a.genesis;
         sent = a.sent ∙ ap (λ l. old.sent ++ l) k.no_batch;
-        trace = a.trace ∙ ap (λ l. old.trace ++ l) (ap (λ l. mine ++ l) (nothing_told batch told k.no_batch tells) ∙ append-nil mine ∙ k.no_notes);
+        trace = a.trace ∙ ap (λ l. old.trace ++ l)
+            (ap (λ l. mine ++ l) (nothing_told batch told k.no_batch tells) ∙ append-nil mine ∙ k.no_notes);
       };
       ended = ended ∙ k.ended;
     })
@@ -187,10 +216,12 @@ module _ {R : Type 0} (b : Behaviour R) (old new : Scene R) where
   ]
 
   -- a node that was told to compact
-  pub compacted : (Shows : R → Genesis → ℕ → Holding → Type 0) (m : Meaning) (i n : ℕ) (s t : Seat R) (r : R) (mine : List Note) (batch : List Datagram) (how : Option End) (stop : Option ℕ)
+  pub compacted : (Shows : R → Genesis → ℕ → Holding → Type 0) (m : Meaning) (i n : ℕ) (s t : Seat R) (r : R)
+      (mine : List Note) (batch : List Datagram) (how : Option End) (stop : Option ℕ)
       → At old.seats i s → s.number ≡ n → s.life ≡ Up r → t.number ≡ s.number
       → HasSettled Shows b m (record old { seats = set old.seats i t }) i new [] mine batch how stop → IsToldEnd how
-      → HasCompacted b r t mine batch how stop ⊎ HasFallen (FailsToCompact b r) t mine batch how stop → IsCompacted b old new n
+      → HasCompacted b r t mine batch how stop ⊎ HasFallen (FailsToCompact b r) t mine batch how stop
+      → IsCompacted b old new n
   compacted Shows m i n s t r mine batch how stop at is up number k tellable cases =
       let same : k.seat ≡ t = at_same (set old.seats i t) i k.seat t k.at (at_set_here old.seats i t at.0) in
       let on : k.next.number ≡ t.number = k.number ∙ ap (λ (z : Seat R). z.number) same in
@@ -202,12 +233,15 @@ module _ {R : Type 0} (b : Behaviour R) (old new : Scene R) where
         next = k.next;
         turns = record { place = i; at = at; number = on ∙ number; seats = k.seats ∙ set_twice old.seats i t k.next };
         comes_to = packs t k.next r mine k.told batch how stop on (subst (λ z. Rests b stop z k.next) same k.rests)
-            (record { genesis = k.adds.genesis; sent = k.adds.sent; trace = k.adds.trace }) k.tells k.ended tellable cases;
+            (record { genesis = k.adds.genesis; sent = k.adds.sent; trace = k.adds.trace })
+            k.tells k.ended tellable cases;
       }
 
   -- a node that was given up
-  pub given_up : (Left : Life R → Memory → Type 0) (Shows : R → Genesis → ℕ → Holding → Type 0) (m : Meaning) (i n : ℕ) (s t : Seat R) → At old.seats i s → s.number ≡ n → t.number ≡ s.number
-      → StopsOn b (Left s.life) t.life → HasGivenUp Shows b m (record old { seats = set old.seats i t }) i new → IsHalted Left old new n
+  pub given_up : (Left : Life R → Memory → Type 0) (Shows : R → Genesis → ℕ → Holding → Type 0) (m : Meaning) (i n : ℕ)
+      (s t : Seat R) → At old.seats i s → s.number ≡ n → t.number ≡ s.number
+      → StopsOn b (Left s.life) t.life → HasGivenUp Shows b m (record old { seats = set old.seats i t }) i new
+      → IsHalted Left old new n
   given_up Left Shows m i n s t at is number stood k =
       let same : k.seat ≡ t = at_same (set old.seats i t) i k.seat t k.at (at_set_here old.seats i t at.0) in
       record {
@@ -227,35 +261,57 @@ module _ {R : Type 0} (b : Behaviour R) (old new : Scene R) where
         ended = k.ended;
       }
 
--- whatever a node's call came to of which something was to be kept, a stop leaves of its device what it leaves of the one that the call left
+-- whatever a node's call came to of which something was to be kept, a stop leaves of its device what it leaves of the
+-- one that the call left
 module _ {R : Type 0} (b : Behaviour R) where
-  pub taken_left : TrapsAlone b → (r : R) (o : Option (List ℕ)) (life : Life R) (t : Seat R) (mine : List Note) (batch : List Datagram) (how : Option End) (stop : Option ℕ) → (mine ≡ [] → batch ≡ [] → ⊥)
-      → life ≡ Up r → HasTaken b r o t mine batch how stop ⊎ HasFallen (Breaks b r o) t mine batch how stop → StopsOn b (LeftBy b o life) t.life
+  pub taken_left : TrapsAlone b
+      → (r : R) (o : Option (List ℕ)) (life : Life R) (t : Seat R) (mine : List Note) (batch : List Datagram)
+      (how : Option End) (stop : Option ℕ) → (mine ≡ [] → batch ≡ [] → ⊥)
+      → life ≡ Up r → HasTaken b r o t mine batch how stop ⊎ HasFallen (Breaks b r o) t mine batch how stop
+      → StopsOn b (LeftBy b o life) t.life
   taken_left alone r o life t mine batch how stop some up cases = elim cases [
     | inl k ↦ (
       b.memory k.replica,
-      (r, k.replica, Ok (mine, k.all), up, k.takes, refl, λ silent idle. some silent (nothing_sent b stop k.replica k.after k.all batch k.sends idle)),
-      ap (λ (z : Life R). stopped_on 0 0 (device_in b z)) k.up ∙ stopped_sent b alone stop k.replica k.after k.all batch k.sends,
+      (
+        r,
+        k.replica,
+        Ok (mine, k.all),
+        up,
+        k.takes,
+        refl,
+        λ silent idle. some silent (nothing_sent b stop k.replica k.after k.all batch k.sends idle),
+      ),
+      ap (λ (z : Life R). stopped_on 0 0 (device_in b z)) k.up
+          ∙ stopped_sent b alone stop k.replica k.after k.all batch k.sends,
     )
     | inr f ↦ absurd (some f.no_notes f.no_batch)
   ]
 
-  pub revived_left : (d : Memory) (header : HeaderValue) (life : Life R) (t : Seat R) (mine : List Note) (batch : List Datagram) (how : Option End) (stop : Option ℕ) → (mine ≡ [] → batch ≡ [] → ⊥)
-      → life ≡ Down d → HasRevived b d header t mine batch how stop ⊎ HasFallen (StaysDown b d header) t mine batch how stop → StopsOn b (LeftByRevival b header life) t.life
+  pub revived_left : (d : Memory) (header : HeaderValue) (life : Life R) (t : Seat R) (mine : List Note)
+      (batch : List Datagram) (how : Option End) (stop : Option ℕ) → (mine ≡ [] → batch ≡ [] → ⊥)
+      → life ≡ Down d → HasRevived b d header t mine batch how stop
+      ⊎ HasFallen (StaysDown b d header) t mine batch how stop → StopsOn b (LeftByRevival b header life) t.life
   revived_left d header life t mine batch how stop some down cases = elim cases [
-    | inl k ↦ (b.memory k.replica, (d, Ok (k.replica, mine), down, k.revives, (refl, λ none. some none k.no_batch)), ap (λ (z : Life R). stopped_on 0 0 (device_in b z)) k.up)
+    | inl k ↦ (
+      b.memory k.replica,
+      (d, Ok (k.replica, mine), down, k.revives, (refl, λ none. some none k.no_batch)),
+      ap (λ (z : Life R). stopped_on 0 0 (device_in b z)) k.up,
+    )
     | inr f ↦ absurd (some f.no_notes f.no_batch)
   ]
 
 -- of one that was told to compact nothing is to be kept
 module _ {R : Type 0} (b : Behaviour R) where
-  pub packed_none : (r : R) (t : Seat R) (mine : List Note) (batch : List Datagram) (how : Option End) (stop : Option ℕ) → (mine ≡ [] → batch ≡ [] → ⊥)
+  pub packed_none : (r : R) (t : Seat R) (mine : List Note) (batch : List Datagram) (how : Option End)
+      (stop : Option ℕ) → (mine ≡ [] → batch ≡ [] → ⊥)
       → HasCompacted b r t mine batch how stop ⊎ HasFallen (FailsToCompact b r) t mine batch how stop → ⊥
-  packed_none r t mine batch how stop some cases = elim cases [ inl k ↦ some k.no_notes k.no_batch | inr f ↦ some f.no_notes f.no_batch ]
+  packed_none r t mine batch how stop some cases =
+      elim cases [ inl k ↦ some k.no_notes k.no_batch | inr f ↦ some f.no_notes f.no_batch ]
 
 -- a node that was stopped when out of memory
 module _ {R : Type 0} (old : Scene R) (Left : Life R → Memory → Type 0) (Ends : ℕ → Memory → Type 0) where
-  pub wanted : (i n : ℕ) (s t : Seat R) → At old.seats i s → s.number ≡ n → t.number ≡ s.number → (k : HasWanted Ends t) → Left s.life k.left → IsHalted Left old (record old { seats = set old.seats i t }) n
+  pub wanted : (i n : ℕ) (s t : Seat R) → At old.seats i s → s.number ≡ n → t.number ≡ s.number
+      → (k : HasWanted Ends t) → Left s.life k.left → IsHalted Left old (record old { seats = set old.seats i t }) n
   wanted i n s t at is number k left = record {
     seat = s;
     number = is;
@@ -275,29 +331,37 @@ pub record Ends {R : Type 0} (t : Seat R) (mine : List Note) (batch : List Datag
   pub no_notes : mine ≡ []
   pub no_batch : batch ≡ []
 
-pub taken_cases : {R : Type 0} (b : Behaviour R) (r : R) (o : Option (List ℕ)) (t : Seat R) (mine : List Note) (batch : List Datagram) (how : Option End) (stop : Option ℕ)
-    → HasTaken b r o t mine batch how stop ⊎ HasFallen (Breaks b r o) t mine batch how stop → ((q : R) × (t.life ≡ Up q)) ⊎ Ends t mine batch
+pub taken_cases : {R : Type 0} (b : Behaviour R) (r : R) (o : Option (List ℕ)) (t : Seat R) (mine : List Note)
+    (batch : List Datagram) (how : Option End) (stop : Option ℕ)
+    → HasTaken b r o t mine batch how stop ⊎ HasFallen (Breaks b r o) t mine batch how stop
+    → ((q : R) × (t.life ≡ Up q)) ⊎ Ends t mine batch
 taken_cases b r o t mine batch how stop cases = elim cases [
   | inl k ↦ inl (k.after, k.up)
   | inr f ↦ inr (record { device = fallen_on f.left; down = f.down; no_notes = f.no_notes; no_batch = f.no_batch })
 ]
 
-pub revived_cases : {R : Type 0} (b : Behaviour R) (d : Memory) (whose : HeaderValue) (t : Seat R) (mine : List Note) (batch : List Datagram) (how : Option End) (stop : Option ℕ)
-    → HasRevived b d whose t mine batch how stop ⊎ HasFallen (StaysDown b d whose) t mine batch how stop → ((q : R) × (t.life ≡ Up q)) ⊎ Ends t mine batch
+pub revived_cases : {R : Type 0} (b : Behaviour R) (d : Memory) (whose : HeaderValue) (t : Seat R) (mine : List Note)
+    (batch : List Datagram) (how : Option End) (stop : Option ℕ)
+    → HasRevived b d whose t mine batch how stop ⊎ HasFallen (StaysDown b d whose) t mine batch how stop
+    → ((q : R) × (t.life ≡ Up q)) ⊎ Ends t mine batch
 revived_cases b d whose t mine batch how stop cases = elim cases [
   | inl k ↦ inl (k.replica, k.up)
   | inr f ↦ inr (record { device = fallen_on f.left; down = f.down; no_notes = f.no_notes; no_batch = f.no_batch })
 ]
 
-pub packed_cases : {R : Type 0} (b : Behaviour R) (r : R) (t : Seat R) (mine : List Note) (batch : List Datagram) (how : Option End) (stop : Option ℕ)
-    → HasCompacted b r t mine batch how stop ⊎ HasFallen (FailsToCompact b r) t mine batch how stop → ((q : R) × (t.life ≡ Up q)) ⊎ Ends t mine batch
+pub packed_cases : {R : Type 0} (b : Behaviour R) (r : R) (t : Seat R) (mine : List Note) (batch : List Datagram)
+    (how : Option End) (stop : Option ℕ)
+    → HasCompacted b r t mine batch how stop ⊎ HasFallen (FailsToCompact b r) t mine batch how stop
+    → ((q : R) × (t.life ≡ Up q)) ⊎ Ends t mine batch
 packed_cases b r t mine batch how stop cases = elim cases [
   | inl k ↦ inl (k.replica, k.up)
   | inr f ↦ inr (record { device = fallen_on f.left; down = f.down; no_notes = f.no_notes; no_batch = f.no_batch })
 ]
 
-module _ {R : Type 0} (Shows : R → Genesis → ℕ → Holding → Type 0) (b : Behaviour R) (m : Meaning) (genesis : Genesis) (seats : List (Seat R)) (sent : List Datagram) (trace : List Note)
-    (w : Holds Shows (disks_by b) m genesis seats sent trace) (i : ℕ) (s t : Seat R) (at : At seats i s) (number : t.number ≡ s.number) (o : Option RequestValue) where
+module _ {R : Type 0} (Shows : R → Genesis → ℕ → Holding → Type 0) (b : Behaviour R) (m : Meaning) (genesis : Genesis)
+    (seats : List (Seat R)) (sent : List Datagram) (trace : List Note)
+    (w : Holds Shows (disks_by b) m genesis seats sent trace) (i : ℕ) (s t : Seat R) (at : At seats i s)
+    (number : t.number ≡ s.number) (o : Option RequestValue) where
   abbrev asked : List Note
   asked = trace ++ asked_note o
 
@@ -308,8 +372,10 @@ module _ {R : Type 0} (Shows : R → Genesis → ℕ → Holding → Type 0) (b 
   since = asked_maybe Shows (disks_by b) m genesis seats sent trace w o
 
   -- a node that was halted keeps all that holds
-  pub halted_holds : (off : Seat R) → off.number ≡ s.number → (d : Memory) → off.life ≡ Down d → (v : View) → SeatFits Shows (disks_by b) m h v off → Holds Shows (disks_by b) m genesis (set seats i off) sent trace
-  halted_holds off same d down v f = went_off Shows (disks_by b) m genesis seats sent trace w i s off at same (asked_in asked) v d down f
+  pub halted_holds : (off : Seat R) → off.number ≡ s.number → (d : Memory) → off.life ≡ Down d → (v : View)
+      → SeatFits Shows (disks_by b) m h v off → Holds Shows (disks_by b) m genesis (set seats i off) sent trace
+  halted_holds off same d down v f =
+      went_off Shows (disks_by b) m genesis seats sent trace w i s off at same (asked_in asked) v d down f
 
   module _ (mine : List Note) (batch : List Datagram)
       (goes : (q : R) → t.life ≡ Up q → SeatGoes Shows (disks_by b) m h t mine batch)
@@ -318,51 +384,71 @@ module _ {R : Type 0} (Shows : R → Genesis → ℕ → Holding → Type 0) (b 
     abbrev mid : Option End → Scene R
     mid ended = record { genesis = genesis; seats = set seats i t; sent = sent; trace = trace; ended = ended }
 
-    added : (told : List Note) → Tells batch told → Holds Shows (disks_by b) m genesis (set seats i t) (sent ++ batch) (trace ++ ((asked_note o ++ mine) ++ told))
+    added : (told : List Note) → Tells batch told
+        → Holds Shows (disks_by b) m genesis (set seats i t) (sent ++ batch) (trace ++ ((asked_note o ++ mine) ++ told))
     added told tells = elim cases [
       | inl u ↦ subst (λ l. Holds Shows (disks_by b) m genesis (set seats i t) (sent ++ batch) l)
-          (append_assoc trace (asked_note o) (mine ++ told) ∙ ap (λ l. trace ++ l) (sym (append_assoc (asked_note o) mine told)))
-          (went_on Shows (disks_by b) m genesis seats sent asked since i s t at number mine told batch (goes u.0 u.1) tells)
+          (append_assoc trace (asked_note o) (mine ++ told)
+          ∙ ap (λ l. trace ++ l) (sym (append_assoc (asked_note o) mine told)))
+          (went_on Shows (disks_by b) m genesis seats sent asked since i s t at number mine told
+          batch (goes u.0 u.1) tells)
       | inr e ↦ subst₂ (λ x y. Holds Shows (disks_by b) m genesis (set seats i t) x y)
           (sym (ap (λ l. sent ++ l) e.no_batch ∙ append-nil sent))
-          (sym (ap (λ l. trace ++ l) (ap (λ l. (asked_note o ++ mine) ++ l) (nothing_told batch told e.no_batch tells) ∙ append-nil (asked_note o ++ mine) ∙ ap (λ l. asked_note o ++ l) e.no_notes ∙ append-nil (asked_note o))))
+          (sym (ap (λ l. trace ++ l)
+          (ap (λ l. (asked_note o ++ mine) ++ l) (nothing_told batch told e.no_batch tells)
+          ∙ append-nil (asked_note o ++ mine) ∙ ap (λ l. asked_note o ++ l) e.no_notes ∙ append-nil (asked_note o))))
           (went_down Shows (disks_by b) m genesis seats sent asked since i s t at number (down e.device e.down))
     ]
 
     -- what the node has added keeps all that holds
-    pub added_holds : (before how : Option End) (new : Scene R) → HasAdded (mid before) new (asked_note o) mine batch how → Holds Shows (disks_by b) m new.genesis new.seats new.sent new.trace
+    pub added_holds : (before how : Option End) (new : Scene R)
+        → HasAdded (mid before) new (asked_note o) mine batch how
+        → Holds Shows (disks_by b) m new.genesis new.seats new.sent new.trace
     added_holds before how new k =
         subst (λ g. Holds Shows (disks_by b) m g new.seats new.sent new.trace) (sym k.adds.genesis)
         (subst (λ z. Holds Shows (disks_by b) m genesis z new.sent new.trace) (sym k.seats)
-        (subst₂ (λ x y. Holds Shows (disks_by b) m genesis (set seats i t) x y) (sym k.adds.sent) (sym k.adds.trace) (added k.told k.tells)))
+        (subst₂ (λ x y. Holds Shows (disks_by b) m genesis (set seats i t) x y) (sym k.adds.sent)
+        (sym k.adds.trace) (added k.told k.tells)))
 
     -- what the node has added, and an armed stop to which it has come, keeps all that holds
-    pub settled_holds : (before how : Option End) (stop : Option ℕ) (new : Scene R) → HasSettled Shows b m (mid before) i new (asked_note o) mine batch how stop → Holds Shows (disks_by b) m new.genesis new.seats new.sent new.trace
+    pub settled_holds : (before how : Option End) (stop : Option ℕ) (new : Scene R)
+        → HasSettled Shows b m (mid before) i new (asked_note o) mine batch how stop
+        → Holds Shows (disks_by b) m new.genesis new.seats new.sent new.trace
     settled_holds before how stop new k =
         let same : k.seat ≡ t = at_same (set seats i t) i k.seat t k.at (at_set_here seats i t at.0) in
         let here : At (set seats i t) i t = at_set_here seats i t at.0 in
         let now : List Note = trace ++ ((asked_note o ++ mine) ++ k.told) in
         let w2 : Holds Shows (disks_by b) m genesis (set seats i t) (sent ++ batch) now = added k.told k.tells in
-        let f : SeatFits Shows (disks_by b) m (happened genesis (sent ++ batch) now) (w2.views t.number) t = w2.seated i t here in
+        let f : SeatFits Shows (disks_by b) m (happened genesis (sent ++ batch) now) (w2.views t.number) t =
+        w2.seated i t here in
         subst (λ g. Holds Shows (disks_by b) m g new.seats new.sent new.trace) (sym k.adds.genesis)
         (subst (λ z. Holds Shows (disks_by b) m genesis z new.sent new.trace) (sym k.seats)
-        (subst₂ (λ x y. Holds Shows (disks_by b) m genesis (set (set seats i t) i k.next) x y) (sym k.adds.sent) (sym k.adds.trace)
-        (went_down Shows (disks_by b) m genesis (set seats i t) (sent ++ batch) now w2 i t k.next here (k.number ∙ ap (λ (z : Seat R). z.number) same)
-        (k.fits _ _ (subst (λ z. SeatFits Shows (disks_by b) m (happened genesis (sent ++ batch) now) (w2.views t.number) z) (sym same) f)))))
+        (subst₂ (λ x y. Holds Shows (disks_by b) m genesis (set (set seats i t) i k.next) x y)
+        (sym k.adds.sent) (sym k.adds.trace)
+        (went_down Shows (disks_by b) m genesis (set seats i t) (sent ++ batch) now w2 i t k.next here
+        (k.number ∙ ap (λ (z : Seat R). z.number) same)
+        (k.fits _ _ (subst (λ z. SeatFits Shows (disks_by b) m (happened genesis (sent ++ batch) now)
+        (w2.views t.number) z) (sym same) f)))))
 
     -- it fits to some view
     fits_some : (v : View) × SeatFits Shows (disks_by b) m h v t
     fits_some = elim cases [
-      | inl u ↦ (let f = goes u.0 u.1 in (f.goes.holding.view, goes_fits Shows (disks_by b) m genesis sent (asked_in asked) t mine batch f))
+      | inl u ↦ (let f = goes u.0 u.1 in
+          (f.goes.holding.view, goes_fits Shows (disks_by b) m genesis sent (asked_in asked) t mine batch f))
       | inr e ↦ (since.views s.number, down e.device e.down)
     ]
 
     -- that it was given up does too
-    pub given_up_holds : (before : Option End) (new : Scene R) → HasGivenUp Shows b m (mid before) i new → Holds Shows (disks_by b) m new.genesis new.seats new.sent new.trace
+    pub given_up_holds : (before : Option End) (new : Scene R) → HasGivenUp Shows b m (mid before) i new
+        → Holds Shows (disks_by b) m new.genesis new.seats new.sent new.trace
     given_up_holds before new k =
         let same : k.seat ≡ t = at_same (set seats i t) i k.seat t k.at (at_set_here seats i t at.0) in
         let f = fits_some in
         subst (λ g. Holds Shows (disks_by b) m g new.seats new.sent new.trace) (sym k.adds.genesis)
-        (subst (λ z. Holds Shows (disks_by b) m genesis z new.sent new.trace) (sym (k.seats ∙ set_twice seats i t k.next))
-        (subst₂ (λ x y. Holds Shows (disks_by b) m genesis (set seats i k.next) x y) (sym (k.adds.sent ∙ append-nil sent)) (sym (k.adds.trace ∙ append-nil trace))
-        (halted_holds k.next (k.number ∙ ap (λ (z : Seat R). z.number) same ∙ number) (stopped_on 0 0 (device_in b k.seat.life)) k.halted f.0 (k.fits h f.0 (subst (λ z. SeatFits Shows (disks_by b) m h f.0 z) (sym same) f.1)))))
+        (subst (λ z. Holds Shows (disks_by b) m genesis z new.sent new.trace)
+        (sym (k.seats ∙ set_twice seats i t k.next))
+        (subst₂ (λ x y. Holds Shows (disks_by b) m genesis (set seats i k.next) x y)
+        (sym (k.adds.sent ∙ append-nil sent)) (sym (k.adds.trace ∙ append-nil trace))
+        (halted_holds k.next (k.number ∙ ap (λ (z : Seat R). z.number) same ∙ number)
+        (stopped_on 0 0 (device_in b k.seat.life)) k.halted f.0
+        (k.fits h f.0 (subst (λ z. SeatFits Shows (disks_by b) m h f.0 z) (sym same) f.1)))))

@@ -19,24 +19,29 @@ use Rattle.lk_world_nodes.specs.declared.seat.Life.TheVariants.{Down}
 use Rattle.lk_sim.proofs.Lists.{at_set, at_set_here, at_set_other}
 
 -- a node that is down fits whatever view stands for its number
-pub any_view : {R : Type 0} (Shows : R → Genesis → ℕ → Holding → Type 0) (disks : R → Side → Disk) (m : Meaning) (h : History) (v x : View) (s : Seat R) (d : Memory) → s.life ≡ Down d
+pub any_view : {R : Type 0} (Shows : R → Genesis → ℕ → Holding → Type 0) (disks : R → Side → Disk) (m : Meaning)
+    (h : History) (v x : View) (s : Seat R) (d : Memory) → s.life ≡ Down d
     → SeatFits Shows disks m h v s → SeatFits Shows disks m h x s
 any_view Shows disks m h v x s d down f = record { up = λ q is. absurd (cc (down, is)); down = f.down; room = f.room }
 
 -- a node is replaced by one of the same number that fits to the same view
-module _ {R : Type 0} (Shows : R → Genesis → ℕ → Holding → Type 0) (disks : R → Side → Disk) (m : Meaning) (genesis : Genesis) (seats : List (Seat R)) (sent : List Datagram) (trace : List Note)
+module _ {R : Type 0} (Shows : R → Genesis → ℕ → Holding → Type 0) (disks : R → Side → Disk) (m : Meaning)
+    (genesis : Genesis) (seats : List (Seat R)) (sent : List Datagram) (trace : List Note)
     (w : Holds Shows disks m genesis seats sent trace)
-    (i : ℕ) (s new : Seat R) (at : At seats i s) (number : new.number ≡ s.number) (fits : SeatFits Shows disks m (happened genesis sent trace) (w.views s.number) new) where
+    (i : ℕ) (s new : Seat R) (at : At seats i s) (number : new.number ≡ s.number)
+    (fits : SeatFits Shows disks m (happened genesis sent trace) (w.views s.number) new) where
   abbrev h : History
   h = happened genesis sent trace
 
   seated : (k : ℕ) (t : Seat R) → At (set seats i new) k t → SeatFits Shows disks m h (w.views t.number) t
   seated k t c = elim (at_set seats i new k t c) [
-    | inl e ↦ subst (λ z. SeatFits Shows disks m h (w.views z.number) z) e.1 (subst (λ k. SeatFits Shows disks m h (w.views k) new) (sym number) fits)
+    | inl e ↦ subst (λ z. SeatFits Shows disks m h (w.views z.number) z) e.1
+        (subst (λ k. SeatFits Shows disks m h (w.views k) new) (sym number) fits)
     | inr o ↦ w.seated k t o.1
   ]
 
-  pub apart : (j k : ℕ) (t u : Seat R) → At (set seats i new) j t → At (set seats i new) k u → t.number ≡ u.number → j ≡ k
+  pub apart : (j k : ℕ) (t u : Seat R) → At (set seats i new) j t → At (set seats i new) k u
+      → t.number ≡ u.number → j ≡ k
   apart j k t u c d e = elim (at_set seats i new j t c) [
     | inl a ↦ elim (at_set seats i new k u d) [
       | inl b ↦ a.0 ∙ sym b.0
@@ -48,7 +53,8 @@ module _ {R : Type 0} (Shows : R → Genesis → ℕ → Holding → Type 0) (di
     ]
   ]
 
-  still_there : (j : ℕ) (t : Seat R) → At seats j t → (k : ℕ) × (u : Seat R) × At (set seats i new) k u × (u.number ≡ t.number)
+  still_there : (j : ℕ) (t : Seat R) → At seats j t
+      → (k : ℕ) × (u : Seat R) × At (set seats i new) k u × (u.number ≡ t.number)
   still_there j t c = elim (cases_eq j i) [
     | inl e ↦ (i, new, at_set_here seats i new at.0, number ∙ ap (λ (z : Seat R). z.number) (same e))
     | inr ne ↦ (j, t, at_set_other seats i new j t ne c, refl)
@@ -75,16 +81,21 @@ module _ {R : Type 0} (Shows : R → Genesis → ℕ → Holding → Type 0) (di
   }
 
 -- a node that has come up, or went on, fits
-pub goes_fits : {R : Type 0} (Shows : R → Genesis → ℕ → Holding → Type 0) (disks : R → Side → Disk) (m : Meaning) (genesis : Genesis) (sent : List Datagram) (asked : List RequestValue) (s : Seat R) (notes : List Note) (batch : List Datagram)
-    → (g : SeatGoes Shows disks m (record { genesis = genesis; sent = sent; asked = asked }) s notes batch) → SeatFits Shows disks m (record { genesis = genesis; sent = sent; asked = asked }) g.goes.holding.view s
+pub goes_fits : {R : Type 0} (Shows : R → Genesis → ℕ → Holding → Type 0) (disks : R → Side → Disk) (m : Meaning)
+    (genesis : Genesis) (sent : List Datagram) (asked : List RequestValue) (s : Seat R)
+    (notes : List Note) (batch : List Datagram)
+    → (g : SeatGoes Shows disks m (record { genesis = genesis; sent = sent; asked = asked }) s notes batch)
+    → SeatFits Shows disks m (record { genesis = genesis; sent = sent; asked = asked }) g.goes.holding.view s
 goes_fits Shows disks m genesis sent asked s notes batch g = record {
   up = λ q is. let same : g.replica ≡ q = cc (g.up, is) in
-      subst (λ r. UpFits Shows disks m (record { genesis = genesis; sent = sent; asked = asked }) g.goes.holding.view s.number r) same (record {
+      subst (λ r. UpFits Shows disks m
+      (record { genesis = genesis; sent = sent; asked = asked }) g.goes.holding.view s.number r) same (record {
         holding = g.goes.holding;
         view = refl;
         shown = g.goes.shown;
         fits = g.goes.fits;
-        left = subst (λ l. DisksFit m (record { genesis = genesis; sent = l; asked = asked }) s.number (disks g.replica)) (append-nil sent) (g.goes.left 0);
+        left = subst (λ l. DisksFit m (record { genesis = genesis; sent = l; asked = asked }) s.number
+            (disks g.replica)) (append-nil sent) (g.goes.left 0);
         room = g.room;
       });
   down = λ d is. absurd (cc (g.up, is));

@@ -24,11 +24,25 @@ module _ {R : Type 0} (b : Behaviour R) where
   come_told : (old new : Scene R) (t : Seat R) (d : Memory) → ComesUp b old new t d → IsToldEnd new.ended
   come_told old new t d c = elim c [ inl r ↦ nothing_told new r.ended | inr f ↦ f.told ]
 
-  given_told : (old new : Scene R) (n : ℕ) (o : Option (List ℕ)) (asked : List Note) → IsGiven b old new n o asked → IsToldEnd new.ended
-  given_told old new n o asked k = elim k.comes_to [ inl r ↦ nothing_told new r.ended | inr (inl r) ↦ told_as new.ended _ r.ended tt | inr (inr f) ↦ f.told ]
+  given_told : (old new : Scene R) (n : ℕ) (o : Option (List ℕ)) (asked : List Note)
+      → IsGiven b old new n o asked → IsToldEnd new.ended
+  given_told old new n o asked k =
+      elim k.comes_to [
+        | inl r ↦ nothing_told new r.ended
+        | inr (inl r) ↦
+            told_as new.ended _ r.ended tt
+        | inr (inr f) ↦ f.told
+      ]
 
-  together_told : (old new : Scene R) (n : ℕ) (given : List (Option (List ℕ))) → IsGivenTogether b old new n given → IsToldEnd new.ended
-  together_told old new n given k = elim k.comes_to [ inl r ↦ nothing_told new r.ended | inr (inl r) ↦ told_as new.ended _ r.ended tt | inr (inr f) ↦ f.told ]
+  together_told : (old new : Scene R) (n : ℕ) (given : List (Option (List ℕ)))
+      → IsGivenTogether b old new n given → IsToldEnd new.ended
+  together_told old new n given k =
+      elim k.comes_to [
+        | inl r ↦ nothing_told new r.ended
+        | inr (inl r) ↦
+            told_as new.ended _ r.ended tt
+        | inr (inr f) ↦ f.told
+      ]
 
   brings_told : (old new : Scene R) (e : Event) → Brings b old e new → IsToldEnd new.ended
   brings_told old new (event.Start n) k = come_told old new k.seat empty k.comes
@@ -55,23 +69,31 @@ module _ {R : Type 0} (b : Behaviour R) where
   wants_told old new (event.Tick m) k told = told_as new.ended old.ended k.ended told
   wants_told old new (event.Compact m) k told = told_as new.ended old.ended k.ended told
   wants_told old new (event.Client m r) k told = same_told old new k told
-  wants_told old new (event.Deliver i) k told = elim k [ inl same ↦ same_told old new same told | inr h ↦ told_as new.ended old.ended h.4.ended told ]
-  wants_told old new (event.Group m turns) k told = elim k [ inl same ↦ same_told old new same.0 told | inr h ↦ told_as new.ended old.ended h.ended told ]
-  wants_told old new (event.Inject m bytes) k told = elim k [ inl same ↦ same_told old new same.0 told | inr h ↦ told_as new.ended old.ended h.ended told ]
+  wants_told old new (event.Deliver i) k told =
+      elim k [ inl same ↦ same_told old new same told | inr h ↦ told_as new.ended old.ended h.4.ended told ]
+  wants_told old new (event.Group m turns) k told =
+      elim k [ inl same ↦ same_told old new same.0 told | inr h ↦ told_as new.ended old.ended h.ended told ]
+  wants_told old new (event.Inject m bytes) k told =
+      elim k [ inl same ↦ same_told old new same.0 told | inr h ↦ told_as new.ended old.ended h.ended told ]
   wants_told old new (event.Stop m x y) k told = absurd k
   wants_told old new (event.FailAt m count) k told = absurd k
   wants_told old new (event.Arm m count bytes) k told = absurd k
 
-  pub refused_told : (old new : Scene R) (e : Event) (r : Refused) → IsToldEnd old.ended → IsRefused b old e r new → IsToldEnd new.ended
-  refused_told old new e r told k = elim k [ inl same ↦ same_told old new same.1 told | inr wants ↦ wants_told old new e wants.2 told ]
+  pub refused_told : (old new : Scene R) (e : Event) (r : Refused) → IsToldEnd old.ended
+      → IsRefused b old e r new → IsToldEnd new.ended
+  refused_told old new e r told k =
+      elim k [ inl same ↦ same_told old new same.1 told | inr wants ↦ wants_told old new e wants.2 told ]
 
   passes_told : (es : List Event) (old new : Scene R) → Passes b es old new → IsToldEnd old.ended → IsToldEnd new.ended
   passes_told [] old new p told = same_told old new p told
   passes_told (e ∷ es) old new p told = passes_told es p.0 new p.2 (done_told old p.0 e p.1)
 
-  stops_told : (es : List Event) (done : ℕ) (o : Option Refused) (last new : Scene R) → StopsAt b es done o last new → IsToldEnd last.ended → IsToldEnd new.ended
+  stops_told : (es : List Event) (done : ℕ) (o : Option Refused) (last new : Scene R) → StopsAt b es done o last new
+      → IsToldEnd last.ended → IsToldEnd new.ended
   stops_told es done None last new k told = same_told last new k.1 told
   stops_told es done (Some r) last new k told = refused_told last new k.0 r told k.2
 
-  pub run_told : (old new : Scene R) (es : List Event) (how : RunEnd) → Runs b old es how new → IsToldEnd old.ended → IsToldEnd new.ended
-  run_told old new es how k told = stops_told es how.done how.refused k.last new k.stops (passes_told (take how.done es) old k.last k.passes told)
+  pub run_told : (old new : Scene R) (es : List Event) (how : RunEnd) → Runs b old es how new
+      → IsToldEnd old.ended → IsToldEnd new.ended
+  run_told old new es how k told =
+      stops_told es how.done how.refused k.last new k.stops (passes_told (take how.done es) old k.last k.passes told)

@@ -44,7 +44,8 @@ noted_asked (x ∷ xs) r c = elim (Contains-append_cases (asked_by x) (asked_in 
 at_place : (L : List Command) (v : Command) → Contains L v → (k : ℕ) × (command_at L (suc k) ≡ Some v)
 at_place L v c = (c.0, slice_get-get_or L c.0 v c.1 ∙ ap Some c.2)
 
-module _ {R : Type 0} (Shows : R → Genesis → ℕ → Holding → Type 0) (disks : R → Side → Disk) (m : Meaning) (genesis : Genesis) (seats : List (Seat R)) (sent : List Datagram) (trace : List Note)
+module _ {R : Type 0} (Shows : R → Genesis → ℕ → Holding → Type 0) (disks : R → Side → Disk) (m : Meaning)
+    (genesis : Genesis) (seats : List (Seat R)) (sent : List Datagram) (trace : List Note)
     (w : Holds Shows disks m genesis seats sent trace) where
   abbrev sound : Sound genesis sent
   sound = w.world.sound
@@ -66,11 +67,14 @@ module _ {R : Type 0} (Shows : R → Genesis → ℕ → Holding → Type 0) (di
   pub chosen_asked : (i : ℕ) (v : Command) → ChosenAt genesis sent i v → WasAsked (happened genesis sent trace) v
   chosen_asked i v p =
       let n = chosen_was_accepted genesis sent i v p in
-      w.proposed (record { position = i; ballot = n.1; command = v }) (sound.proposed n.0 (record { position = i; ballot = n.1; command = v }) n.2)
+      w.proposed (record { position = i; ballot = n.1; command = v })
+      (sound.proposed n.0 (record { position = i; ballot = n.1; command = v }) n.2)
 
   -- so is each request of a chosen list
-  pub request_asked : (L : List Command) → Chosen genesis sent L → (r : RequestValue) → Contains L (Request r) → Contains (asked_in trace) r
-  request_asked L l r c = let at = at_place L (Request r) c in chosen_asked (suc at.0) (Request r) (entry_chosen genesis sent L l (suc at.0) (Request r) at.1)
+  pub request_asked : (L : List Command) → Chosen genesis sent L → (r : RequestValue) → Contains L (Request r)
+      → Contains (asked_in trace) r
+  request_asked L l r c = let at = at_place L (Request r) c in
+      chosen_asked (suc at.0) (Request r) (entry_chosen genesis sent L l (suc at.0) (Request r) at.1)
 
   pub ordered : InOrder genesis sent trace
   ordered = ordering.in_order m genesis sent sound trace w.in_time noted_asked
@@ -83,24 +87,31 @@ module _ {R : Type 0} (Shows : R → Genesis → ℕ → Holding → Type 0) (di
     asked = λ r c. noted_asked trace r (request_asked w.list w.chosen r c);
     ran = λ n i v c. w.notes (note.Ran n i v) c;
     among = λ n i set v c. let b = w.notes (note.Counted n i set v) c in (b.0, b.1);
-    counted = λ n i set v u c at. one_chosen genesis sent sound i v u (w.notes (note.Counted n i set v) c).2 (entry_chosen genesis sent w.list w.chosen i u at);
-    counted_twice = λ n k i set other v u c d. one_chosen genesis sent sound i v u (w.notes (note.Counted n i set v) c).2 (w.notes (note.Counted k i other u) d).2;
+    counted = λ n i set v u c at. one_chosen genesis sent sound i v u (w.notes (note.Counted n i set v) c).2
+        (entry_chosen genesis sent w.list w.chosen i u at);
+    counted_twice = λ n k i set other v u c d. one_chosen genesis sent sound i v u
+        (w.notes (note.Counted n i set v) c).2 (w.notes (note.Counted k i other u) d).2;
     answered = λ n client number a c. w.notes (note.Answered n client number a) c;
     told = λ n client number last c. w.notes (note.Told n client number last) c;
     answers = λ n a h. w.messages n (kinds.Answer a) h;
     passes = λ n p h. w.messages n (kinds.Passed p) h;
-    decided = λ n j d v u h at there. one_chosen genesis sent sound (d.first + j) v u (sound.told n d h j v at) (entry_chosen genesis sent w.list w.chosen (d.first + j) u there);
+    decided = λ n j d v u h at there. one_chosen genesis sent sound (d.first + j) v u (sound.told n d h j v at)
+        (entry_chosen genesis sent w.list w.chosen (d.first + j) u there);
     parts = λ n p h. w.messages n (kinds.Part p) h;
   }
 
   -- what a node holds as executed, and what its snapshots have, is a chosen list
-  packed_lists : (n : ℕ) (d : Side → Disk) → DisksFit m (happened genesis sent trace) n d → KeepsPacked m genesis sent n d
-  packed_lists n d f image may = let i = f image may in (i.standing, i.stands, (i.under, i.stems.done, i.position, i.snapshot))
+  packed_lists : (n : ℕ) (d : Side → Disk) → DisksFit m (happened genesis sent trace) n d
+      → KeepsPacked m genesis sent n d
+  packed_lists n d f image may = let i = f image may in
+      (i.standing, i.stands, (i.under, i.stems.done, i.position, i.snapshot))
 
-  pub states : (whole : R → WholeValue) → ((r : R) (g : Genesis) (n : ℕ) (x : Holding) → Shows r g n x → SumsUp m g x.view.done (whole r))
+  pub states : (whole : R → WholeValue)
+      → ((r : R) (g : Genesis) (n : ℕ) (x : Holding) → Shows r g n x → SumsUp m g x.view.done (whole r))
       → (k : ℕ) (s : Seat R) → At seats k s → SumsUpChosen whole disks m genesis sent s
   states whole sums k s at = let f = w.seated k s at in record {
-    executed = λ r is. let u = f.up r is in (u.holding.view.done, u.fits.view.stems.done, sums r genesis s.number u.holding u.shown);
+    executed = λ r is. let u = f.up r is in
+        (u.holding.view.done, u.fits.view.stems.done, sums r genesis s.number u.holding u.shown);
     kept = λ r is. packed_lists s.number (disks r) (f.up r is).left;
     left = λ d is. packed_lists s.number (disk_of d) (f.down d is);
   }

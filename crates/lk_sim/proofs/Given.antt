@@ -1,5 +1,6 @@
 -- What stands once a node was given something.
-use Rattle.std.proofs.Common.{◌≡◌, ℕ, zero, suc, Option, Some, None, List, [], ◌∷◌, ◌++◌, set, refl, ap, sym, subst, append-nil}
+use Rattle.std.proofs.Common.{◌≡◌, ℕ, zero, suc, Option, Some, None, List, [], ◌∷◌, ◌++◌, set, refl, ap, sym, subst}
+use Rattle.std.proofs.Common.{append-nil}
 use Rattle.lk_disk.specs.Disk.{Disk}
 use Rattle.lk_simulated_disk.specs.Memory.{Memory, disk_of}
 use Rattle.lk_disk.specs.declared.device.Side.{Side}
@@ -27,27 +28,38 @@ set_twice (x ∷ xs) zero y z = refl
 set_twice (x ∷ xs) (suc i) y z = ap (λ l. x ∷ l) (set_twice xs i y z)
 
 -- a request that was just asked, if there is one, keeps all
-pub asked_maybe : {R : Type 0} (Shows : R → Genesis → ℕ → Holding → Type 0) (disks : R → Side → Disk) (m : Meaning) (genesis : Genesis) (seats : List (Seat R)) (sent : List Datagram) (trace : List Note)
-    → Holds Shows disks m genesis seats sent trace → (o : Option RequestValue) → Holds Shows disks m genesis seats sent (trace ++ asked_note o)
-asked_maybe Shows disks m genesis seats sent trace w None = subst (λ l. Holds Shows disks m genesis seats sent l) (sym (append-nil trace)) w
-asked_maybe Shows disks m genesis seats sent trace w (Some r) = injected_holds Shows disks m genesis seats sent trace w r
+pub asked_maybe : {R : Type 0} (Shows : R → Genesis → ℕ → Holding → Type 0) (disks : R → Side → Disk) (m : Meaning)
+    (genesis : Genesis) (seats : List (Seat R)) (sent : List Datagram) (trace : List Note)
+    → Holds Shows disks m genesis seats sent trace → (o : Option RequestValue)
+    → Holds Shows disks m genesis seats sent (trace ++ asked_note o)
+asked_maybe Shows disks m genesis seats sent trace w None =
+    subst (λ l. Holds Shows disks m genesis seats sent l) (sym (append-nil trace)) w
+asked_maybe Shows disks m genesis seats sent trace w (Some r) =
+    injected_holds Shows disks m genesis seats sent trace w r
 
-module _ {R : Type 0} (Shows : R → Genesis → ℕ → Holding → Type 0) (disks : R → Side → Disk) (m : Meaning) (genesis : Genesis) (seats : List (Seat R)) (sent : List Datagram) (trace : List Note)
-    (w : Holds Shows disks m genesis seats sent trace) (i : ℕ) (s new : Seat R) (at : At seats i s) (number : new.number ≡ s.number) where
+module _ {R : Type 0} (Shows : R → Genesis → ℕ → Holding → Type 0) (disks : R → Side → Disk) (m : Meaning)
+    (genesis : Genesis) (seats : List (Seat R)) (sent : List Datagram) (trace : List Note)
+    (w : Holds Shows disks m genesis seats sent trace) (i : ℕ) (s new : Seat R) (at : At seats i s)
+    (number : new.number ≡ s.number) where
   -- it went down
-  pub went_down : SeatFits Shows disks m (happened genesis sent trace) (w.views s.number) new → Holds Shows disks m genesis (set seats i new) sent trace
+  pub went_down : SeatFits Shows disks m (happened genesis sent trace) (w.views s.number) new
+      → Holds Shows disks m genesis (set seats i new) sent trace
   went_down f = ends Shows disks m genesis seats sent trace w i s new at number f
 
   -- it went down, whatever was asked meanwhile
-  pub went_off : (asked : List RequestValue) (v : View) (d : Memory) → new.life ≡ Down d → SeatFits Shows disks m (record { genesis = genesis; sent = sent; asked = asked }) v new
+  pub went_off : (asked : List RequestValue) (v : View) (d : Memory) → new.life ≡ Down d
+      → SeatFits Shows disks m (record { genesis = genesis; sent = sent; asked = asked }) v new
       → Holds Shows disks m genesis (set seats i new) sent trace
   went_off asked v d down f =
       went_down (down_fits Shows disks m (happened genesis sent trace) (w.views s.number) new d down
-      (disks_move m genesis sent sent asked (asked_in trace) new.number (disk_of d) (λ x c. c) (λ x c. c) (f.down d down)) (f.room d down))
+      (disks_move m genesis sent sent asked (asked_in trace) new.number (disk_of d) (λ x c. c) (λ x c. c)
+      (f.down d down)) (f.room d down))
 
   -- it went on
-  pub went_on : (notes told : List Note) (batch : List Datagram) → SeatGoes Shows disks m (happened genesis sent trace) new notes batch → Tells batch told
+  pub went_on : (notes told : List Note) (batch : List Datagram)
+      → SeatGoes Shows disks m (happened genesis sent trace) new notes batch → Tells batch told
       → Holds Shows disks m genesis (set seats i new) (sent ++ batch) (trace ++ (notes ++ told))
   went_on notes told batch f tells =
       goes_on Shows disks m genesis seats sent trace w i s new at f.replica number f.up notes told batch
-      (subst (λ k. Goes m (happened genesis sent trace) k (Shows f.replica genesis k) (disks f.replica) notes batch) number f.goes) tells f.room
+      (subst (λ k. Goes m (happened genesis sent trace) k (Shows f.replica genesis k) (disks f.replica) notes batch)
+      number f.goes) tells f.room

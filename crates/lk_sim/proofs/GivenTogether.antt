@@ -1,5 +1,6 @@
 -- What stands once a node was given a group.
-use Rattle.std.proofs.Common.{◌≡◌, ℕ, ◌⊎◌, List, [], ◌∷◌, ◌++◌, length, min, take, drop, map, set, Option, Some, None, Ok, refl, ap, sym, ◌∙◌, subst, subst₂, inl, inr, append-nil}
+use Rattle.std.proofs.Common.{◌≡◌, ℕ, ◌⊎◌, List, [], ◌∷◌, ◌++◌, length, min, take, drop, map, set, Option, Some, None}
+use Rattle.std.proofs.Common.{Ok, refl, ap, sym, ◌∙◌, subst, subst₂, inl, inr, append-nil}
 use Rattle.std.specs.List.{AllByRecursion}
 use Rattle.std.proofs.Math.Seq.{take-append_seam, drop-append_seam}
 use Rattle.std.proofs.lemmas.List.{length-take, take-append-drop}
@@ -50,15 +51,21 @@ use Rattle.lk_world_nodes.proofs.Together.{parts_cut, still_whole}
 -- ---- what it may be given
 
 -- datagrams that were sent may be heard
-pub all_heard : {R : Type 0} (Shows : R → Genesis → ℕ → Holding → Type 0) (disks : R → Side → Disk) (m : Meaning) (genesis : Genesis) (seats : List (Seat R)) (sent : List Datagram) (trace : List Note)
-    → Holds Shows disks m genesis seats sent trace → (is : List Input) → WereSentTo sent is → AllByRecursion (InputFits (happened genesis sent trace)) is
+pub all_heard : {R : Type 0} (Shows : R → Genesis → ℕ → Holding → Type 0) (disks : R → Side → Disk) (m : Meaning)
+    (genesis : Genesis) (seats : List (Seat R)) (sent : List Datagram) (trace : List Note)
+    → Holds Shows disks m genesis seats sent trace → (is : List Input) → WereSentTo sent is
+    → AllByRecursion (InputFits (happened genesis sent trace)) is
 all_heard Shows disks m genesis seats sent trace w [] were = tt
-all_heard Shows disks m genesis seats sent trace w (Tick ∷ is) were = (tt, all_heard Shows disks m genesis seats sent trace w is were.1)
-all_heard Shows disks m genesis seats sent trace w (Heard bytes ∷ is) were =
-    (heard_sent Shows disks m genesis seats sent trace w were.0.0 were.0.1 bytes were.0.2, all_heard Shows disks m genesis seats sent trace w is were.1)
+all_heard Shows disks m genesis seats sent trace w (Tick ∷ is) were =
+    (tt, all_heard Shows disks m genesis seats sent trace w is were.1)
+all_heard Shows disks m genesis seats sent trace w (Heard bytes ∷ is) were = (
+  heard_sent Shows disks m genesis seats sent trace w were.0.0 were.0.1 bytes were.0.2,
+  all_heard Shows disks m genesis seats sent trace w is were.1,
+)
 
 -- the turns of a group bring what was sent
-was_brought : (sent : List Datagram) (n : ℕ) (t : Turn) (i : Input) → IsFor sent n t → heard_by i ≡ given_by sent t → WasSentTo sent i
+was_brought : (sent : List Datagram) (n : ℕ) (t : Turn) (i : Input) → IsFor sent n t
+    → heard_by i ≡ given_by sent t → WasSentTo sent i
 was_brought sent n t Tick is same = tt
 was_brought sent n turn.Tick (Heard bytes) is same = absurd cc
 was_brought sent n (turn.Deliver k) (Heard bytes) is same =
@@ -69,17 +76,22 @@ was_brought sent n (turn.Deliver k) (Heard bytes) is same =
     given_of None = None
     given_of (Some d) = Some d.bytes
 
-pub were_brought : (sent : List Datagram) (n : ℕ) (turns : List Turn) (is : List Input) → AreFor sent n turns → map heard_by is ≡ map (given_by sent) turns → WereSentTo sent is
+pub were_brought : (sent : List Datagram) (n : ℕ) (turns : List Turn) (is : List Input) → AreFor sent n turns
+    → map heard_by is ≡ map (given_by sent) turns → WereSentTo sent is
 were_brought sent n turns [] for_it same = tt
 were_brought sent n [] (i ∷ is) for_it same = absurd cc
-were_brought sent n (t ∷ turns) (i ∷ is) for_it same = (was_brought sent n t i for_it.0 (cc same), were_brought sent n turns is for_it.1 (cc same))
+were_brought sent n (t ∷ turns) (i ∷ is) for_it same =
+    (was_brought sent n t i for_it.0 (cc same), were_brought sent n turns is for_it.1 (cc same))
 
 -- ---- what it has done
 
 module _ {R : Type 0} (b : Behaviour R) (old new : Scene R) where
   -- a node that went on, up to an armed stop at a send if there was one
-  went_together : (r : R) (t next : Seat R) (given : List (Option (List ℕ))) (steps : List Step) (notes : List Note) (batch : List Datagram) (how : Option End) (stop : Option ℕ) → (k : HasTakenTogether b r given t steps batch how stop)
-      → AreAllOwn (parts_of steps k.all) → AreNotesOf (parts_of steps batch) notes → Adds old new notes batch → new.ended ≡ how → next.number ≡ t.number → Rests b stop t next → ComesTogether b old new r next given
+  went_together : (r : R) (t next : Seat R) (given : List (Option (List ℕ))) (steps : List Step) (notes : List Note)
+      (batch : List Datagram) (how : Option End) (stop : Option ℕ)
+      → (k : HasTakenTogether b r given t steps batch how stop)
+      → AreAllOwn (parts_of steps k.all) → AreNotesOf (parts_of steps batch) notes → Adds old new notes batch
+      → new.ended ≡ how → next.number ≡ t.number → Rests b stop t next → ComesTogether b old new r next given
   went_together r t next given steps notes batch how None k own tells adds ended number rests =
       let whole : batch ≡ sent_of (parts_of steps k.all) = k.sends.2 ∙ k.whole in
       inl (record {
@@ -89,47 +101,60 @@ module _ {R : Type 0} (b : Behaviour R) (old new : Scene R) where
         takes = k.takes;
         calls = k.calls;
         passes = k.passes;
-        no_stop = subst (λ (l : List Datagram). stop_among (b.memory k.replica).meter.trap (length l) ≡ None) k.whole k.sends.0;
-        up = ap (λ (z : Seat R). z.life) rests ∙ k.up ∙ ap Up (k.sends.1 ∙ ap (λ (l : List Datagram). after_sends b (length l) k.replica) k.whole);
+        no_stop = subst (λ (l : List Datagram). stop_among (b.memory k.replica).meter.trap (length l) ≡ None) k.whole
+            k.sends.0;
+        up = ap (λ (z : Seat R). z.life) rests ∙ k.up
+            ∙ ap Up (k.sends.1 ∙ ap (λ (l : List Datagram). after_sends b (length l) k.replica) k.whole);
         own = own;
         tells = subst (λ (l : List Datagram). AreNotesOf (parts_of steps l) notes) k.sends.2 tells;
         adds = subst (λ (l : List Datagram). Adds old new notes l) whole adds;
         ended = ended ∙ k.ended;
       })
-  went_together r t next given steps notes batch how (Some bytes) k own tells adds ended number rests = inr (inl (record {
-    replica = k.replica;
-    said = parts_of steps k.all;
-    notes = notes;
-    takes = k.takes;
-    calls = k.calls;
-    passes = k.passes;
-    sends = k.sends.0;
-    bytes = bytes;
-    stop = subst (λ (l : List Datagram). stop_among (b.memory k.replica).meter.trap (length l) ≡ Some (k.sends.0, bytes)) k.whole k.sends.1;
-    down = rests ∙ ap (λ (z : Life R). Down (stopped_on bytes bytes (device_in b z))) (k.up ∙ ap Up k.sends.2);
-    own = own;
-    tells = subst (λ (l : List Said). AreNotesOf l notes) (ap (parts_of steps) k.sends.3 ∙ parts_cut steps k.all k.sends.0) tells;
-    adds = subst (λ (l : List Datagram). Adds old new notes l) (k.sends.3 ∙ ap (take k.sends.0) k.whole) adds;
-    ended = ended ∙ k.ended ∙ ap (λ z. end_at (Some bytes) z) (sym number);
-  }))
+  went_together r t next given steps notes batch how (Some bytes) k own tells adds ended number rests =
+      inr (inl (record {
+        replica = k.replica;
+        said = parts_of steps k.all;
+        notes = notes;
+        takes = k.takes;
+        calls = k.calls;
+        passes = k.passes;
+        sends = k.sends.0;
+        bytes = bytes;
+        stop = subst (λ (l : List Datagram). stop_among (b.memory k.replica).meter.trap (length l)
+            ≡ Some (k.sends.0, bytes)) k.whole k.sends.1;
+        down = rests ∙ ap (λ (z : Life R). Down (stopped_on bytes bytes (device_in b z))) (k.up ∙ ap Up k.sends.2);
+        own = own;
+        tells = subst (λ (l : List Said). AreNotesOf l notes)
+            (ap (parts_of steps) k.sends.3 ∙ parts_cut steps k.all k.sends.0) tells;
+        adds = subst (λ (l : List Datagram). Adds old new notes l) (k.sends.3 ∙ ap (take k.sends.0) k.whole) adds;
+        ended = ended ∙ k.ended ∙ ap (λ z. end_at (Some bytes) z) (sym number);
+      }))
 
   -- nothing is noted of no steps
-  no_notes : (steps : List Step) (batch : List Datagram) (notes : List Note) → steps ≡ [] → AreNotesOf (parts_of steps batch) notes → notes ≡ []
+  no_notes : (steps : List Step) (batch : List Datagram) (notes : List Note) → steps ≡ []
+      → AreNotesOf (parts_of steps batch) notes → notes ≡ []
   no_notes steps batch notes none tells = subst (λ (l : List Step). AreNotesOf (parts_of l batch) notes) none tells
 
-  fell_together : (Ends : ℕ → Memory → Type 0) (t next : Seat R) (steps : List Step) (notes : List Note) (batch : List Datagram) (how : Option End) (stop : Option ℕ) → HasFallenTogether Ends t steps batch how stop
-      → AreNotesOf (parts_of steps batch) notes → Adds old new notes batch → new.ended ≡ how → next.number ≡ t.number → Rests b stop t next → IsToldEnd how → Falls Ends old new next []
+  fell_together : (Ends : ℕ → Memory → Type 0) (t next : Seat R) (steps : List Step) (notes : List Note)
+      (batch : List Datagram) (how : Option End) (stop : Option ℕ) → HasFallenTogether Ends t steps batch how stop
+      → AreNotesOf (parts_of steps batch) notes → Adds old new notes batch → new.ended ≡ how → next.number ≡ t.number
+      → Rests b stop t next → IsToldEnd how → Falls Ends old new next []
   fell_together Ends t next steps notes batch how stop f tells adds ended number rests tellable =
-      falls b old new Ends t next [] [] [] batch how stop (subst (λ (l : List Note). Adds old new l batch) (no_notes steps batch notes f.no_steps tells) adds) (nothing f.fallen.no_batch) ended number rests tellable f.fallen
+      falls b old new Ends t next [] [] [] batch how stop
+      (subst (λ (l : List Note). Adds old new l batch) (no_notes steps batch notes f.no_steps tells) adds)
+      (nothing f.fallen.no_batch) ended number rests tellable f.fallen
     where
       nothing : batch ≡ [] → Tells batch []
       nothing none = subst (λ (l : List Datagram). Tells l []) (sym none) refl
 
   -- a node that was given a group
-  pub given_together : (Shows : R → Genesis → ℕ → Holding → Type 0) (m : Meaning) (i n : ℕ) (s t : Seat R) (r : R) (given : List (Option (List ℕ))) (steps : List Step) (batch : List Datagram) (how : Option End) (stop : Option ℕ)
-      → At old.seats i s → s.number ≡ n → s.life ≡ Up r → t.number ≡ s.number → ((k : HasTakenTogether b r given t steps batch how stop) → AreAllOwn (parts_of steps k.all))
+  pub given_together : (Shows : R → Genesis → ℕ → Holding → Type 0) (m : Meaning) (i n : ℕ) (s t : Seat R) (r : R)
+      (given : List (Option (List ℕ))) (steps : List Step) (batch : List Datagram) (how : Option End) (stop : Option ℕ)
+      → At old.seats i s → s.number ≡ n → s.life ≡ Up r → t.number ≡ s.number
+      → ((k : HasTakenTogether b r given t steps batch how stop) → AreAllOwn (parts_of steps k.all))
       → HasSettledSteps Shows b m (record old { seats = set old.seats i t }) i new steps batch how stop → IsToldEnd how
-      → HasTakenTogether b r given t steps batch how stop ⊎ HasFallenTogether (BreaksTogether b r given) t steps batch how stop → IsGivenTogether b old new n given
+      → HasTakenTogether b r given t steps batch how stop
+      ⊎ HasFallenTogether (BreaksTogether b r given) t steps batch how stop → IsGivenTogether b old new n given
   given_together Shows m i n s t r given steps batch how stop at is up number own k tellable cases = record {
     seat = s;
     number = is;
@@ -139,7 +164,8 @@ module _ {R : Type 0} (b : Behaviour R) (old new : Scene R) where
     turns = record { place = i; at = at; number = on ∙ number; seats = k.seats ∙ set_twice old.seats i t k.next };
     comes_to = elim cases [
       | inl q ↦ went_together r t k.next given steps k.notes batch how stop q (own q) k.tells adds k.ended on rests
-      | inr f ↦ inr (inr (fell_together (BreaksTogether b r given) t k.next steps k.notes batch how stop f k.tells adds k.ended on rests tellable))
+      | inr f ↦ inr (inr (fell_together
+          (BreaksTogether b r given) t k.next steps k.notes batch how stop f k.tells adds k.ended on rests tellable))
     ];
   }
     where
@@ -160,12 +186,26 @@ none_taken [] sent e = refl
 none_taken (s ∷ steps) sent e = absurd (cc e)
 
 -- whatever a group came to, a stop leaves of the node's device what it leaves of the one that the call left
-pub group_left : {R : Type 0} (b : Behaviour R) → TrapsAlone b → (r : R) (given : List (Option (List ℕ))) (life : Life R) (t : Seat R) (steps : List Step) (batch : List Datagram) (how : Option End) (stop : Option ℕ)
-    → (steps ≡ [] → batch ≡ [] → ⊥) → life ≡ Up r → HasTakenTogether b r given t steps batch how stop ⊎ HasFallenTogether (BreaksTogether b r given) t steps batch how stop → StopsOn b (LeftByGroup b given life) t.life
+pub group_left : {R : Type 0} (b : Behaviour R) → TrapsAlone b
+    → (r : R) (given : List (Option (List ℕ))) (life : Life R) (t : Seat R) (steps : List Step) (batch : List Datagram)
+    (how : Option End) (stop : Option ℕ)
+    → (steps ≡ [] → batch ≡ [] → ⊥) → life ≡ Up r
+    → HasTakenTogether b r given t steps batch how stop
+    ⊎ HasFallenTogether (BreaksTogether b r given) t steps batch how stop → StopsOn b (LeftByGroup b given life) t.life
 group_left b alone r given life t steps batch how stop some up (inl k) = (
   b.memory k.replica,
-  (r, k.replica, Ok (parts_of steps k.all), up, k.takes, refl, λ none. some (none_taken steps k.all none) (nothing_sent b stop k.replica k.after k.all batch k.sends (k.whole ∙ ap sent_of none))),
-  ap (λ (z : Life _). stopped_on 0 0 (device_in b z)) k.up ∙ stopped_sent b alone stop k.replica k.after k.all batch k.sends,
+  (
+    r,
+    k.replica,
+    Ok (parts_of steps k.all),
+    up,
+    k.takes,
+    refl,
+    λ none. some (none_taken steps k.all none)
+        (nothing_sent b stop k.replica k.after k.all batch k.sends (k.whole ∙ ap sent_of none)),
+  ),
+  ap (λ (z : Life _). stopped_on 0 0 (device_in b z)) k.up
+      ∙ stopped_sent b alone stop k.replica k.after k.all batch k.sends,
 )
 group_left b alone r given life t steps batch how stop some up (inr f) = absurd (some f.no_steps f.fallen.no_batch)
 
@@ -175,86 +215,120 @@ kept_none : (m : Memory) (s : Side) → (k : ℕ) × (disk_of (stopped_on 0 0 m)
 kept_none m A = (0, refl)
 kept_none m B = (0, refl)
 
-module _ {R : Type 0} (Shows : R → Genesis → ℕ → Holding → Type 0) (b : Behaviour R) (m : Meaning) (genesis : Genesis) (seats : List (Seat R)) (sent : List Datagram) (trace : List Note)
-    (w : Holds Shows (disks_by b) m genesis seats sent trace) (i : ℕ) (s t : Seat R) (at : At seats i s) (number : t.number ≡ s.number) where
+module _ {R : Type 0} (Shows : R → Genesis → ℕ → Holding → Type 0) (b : Behaviour R) (m : Meaning) (genesis : Genesis)
+    (seats : List (Seat R)) (sent : List Datagram) (trace : List Note)
+    (w : Holds Shows (disks_by b) m genesis seats sent trace) (i : ℕ) (s t : Seat R) (at : At seats i s)
+    (number : t.number ≡ s.number) where
   abbrev h : History
   h = happened genesis sent trace
 
   -- a node that went down on such disks
-  pub down_holds : (off : Seat R) → off.number ≡ s.number → (d : Memory) → off.life ≡ Down d → DisksFit m h off.number (disk_of d) → AreShort (disk_of d) → Holds Shows (disks_by b) m genesis (set seats i off) sent trace
+  pub down_holds : (off : Seat R) → off.number ≡ s.number → (d : Memory) → off.life ≡ Down d
+      → DisksFit m h off.number (disk_of d) → AreShort (disk_of d)
+      → Holds Shows (disks_by b) m genesis (set seats i off) sent trace
   down_holds off same d down fit short =
-      went_down Shows (disks_by b) m genesis seats sent trace w i s off at same (down_fits Shows (disks_by b) m h (w.views s.number) off d down fit short)
+      went_down Shows (disks_by b) m genesis seats sent trace w i s off at same
+      (down_fits Shows (disks_by b) m h (w.views s.number) off d down fit short)
 
   -- one that is up, with what it noted and sent
-  taken_holds : (r q : R) (is : List Input) (steps : List Step) (batch : List Datagram) (notes : List Note) → s.life ≡ Up r → t.life ≡ Up q → WereSentTo sent is → GoesAll Shows (disks_by b) m s.number r is q (parts_of steps batch)
-      → batch ≡ sent_of (parts_of steps batch) → AreNotesOf (parts_of steps batch) notes → Holds Shows (disks_by b) m genesis (set seats i t) (sent ++ batch) (trace ++ notes)
+  taken_holds : (r q : R) (is : List Input) (steps : List Step) (batch : List Datagram) (notes : List Note)
+      → s.life ≡ Up r → t.life ≡ Up q → WereSentTo sent is
+      → GoesAll Shows (disks_by b) m s.number r is q (parts_of steps batch)
+      → batch ≡ sent_of (parts_of steps batch) → AreNotesOf (parts_of steps batch) notes
+      → Holds Shows (disks_by b) m genesis (set seats i t) (sent ++ batch) (trace ++ notes)
   taken_holds r q is steps batch notes was up were goes whole tells =
       let made : ℕ → Life R → Seat R = λ k l. record { number = k; life = l } in
       let same : made s.number (Up q) ≡ t = ap (λ k. made k (Up q)) (sym number) ∙ ap (made t.number) (sym up) in
       subst (λ (z : Seat R). Holds Shows (disks_by b) m genesis (set seats i z) (sent ++ batch) (trace ++ notes)) same
-      (subst (λ (l : List Datagram). Holds Shows (disks_by b) m genesis (set seats i (made s.number (Up q))) (sent ++ l) (trace ++ notes)) (sym whole)
-      (group_holds Shows (disks_by b) m genesis i is r q (parts_of steps batch) seats sent trace notes s w at was were goes tells))
+      (subst (λ (l : List Datagram). Holds Shows (disks_by b) m genesis (set seats i (made s.number (Up q)))
+      (sent ++ l) (trace ++ notes)) (sym whole)
+      (group_holds Shows (disks_by b) m genesis i is r q
+      (parts_of steps batch) seats sent trace notes s w at was were goes tells))
 
   module _ (before : Option End) (steps : List Step) (batch : List Datagram) (how : Option End) (stop : Option ℕ) where
     abbrev mid : Scene R
     mid = record { genesis = genesis; seats = set seats i t; sent = sent; trace = trace; ended = before }
 
     -- the node rests, where it has come to an armed stop
-    rested_holds : (new : Scene R) → (k : HasSettledSteps Shows b m mid i new steps batch how stop) → Holds Shows (disks_by b) m genesis (set seats i t) (sent ++ batch) (trace ++ k.notes)
+    rested_holds : (new : Scene R) → (k : HasSettledSteps Shows b m mid i new steps batch how stop)
+        → Holds Shows (disks_by b) m genesis (set seats i t) (sent ++ batch) (trace ++ k.notes)
         → Holds Shows (disks_by b) m new.genesis new.seats new.sent new.trace
     rested_holds new k now =
         let same : k.seat ≡ t = at_same (set seats i t) i k.seat t k.at (at_set_here seats i t at.0) in
         let here : At (set seats i t) i t = at_set_here seats i t at.0 in
-        let f : SeatFits Shows (disks_by b) m (happened genesis (sent ++ batch) (trace ++ k.notes)) (now.views t.number) t = now.seated i t here in
+        let f : SeatFits Shows (disks_by b) m (happened genesis (sent ++ batch) (trace ++ k.notes))
+        (now.views t.number) t = now.seated i t here in
         subst (λ g. Holds Shows (disks_by b) m g new.seats new.sent new.trace) (sym k.adds.genesis)
         (subst (λ z. Holds Shows (disks_by b) m genesis z new.sent new.trace) (sym k.seats)
-        (subst₂ (λ x y. Holds Shows (disks_by b) m genesis (set (set seats i t) i k.next) x y) (sym k.adds.sent) (sym k.adds.trace)
-        (went_down Shows (disks_by b) m genesis (set seats i t) (sent ++ batch) (trace ++ k.notes) now i t k.next here (k.number ∙ ap (λ (z : Seat R). z.number) same)
-        (k.fits _ _ (subst (λ z. SeatFits Shows (disks_by b) m (happened genesis (sent ++ batch) (trace ++ k.notes)) (now.views t.number) z) (sym same) f)))))
+        (subst₂ (λ x y. Holds Shows (disks_by b) m genesis (set (set seats i t) i k.next) x y)
+        (sym k.adds.sent) (sym k.adds.trace)
+        (went_down Shows (disks_by b) m genesis (set seats i t) (sent ++ batch) (trace ++ k.notes) now i t k.next here
+        (k.number ∙ ap (λ (z : Seat R). z.number) same)
+        (k.fits _ _ (subst (λ z. SeatFits Shows (disks_by b) m (happened genesis (sent ++ batch) (trace ++ k.notes))
+        (now.views t.number) z) (sym same) f)))))
 
     -- what a group came to keeps all that holds
-    pub settled_steps_hold : (new : Scene R) (r : R) (is : List Input) (given : List (Option (List ℕ))) (Ends : ℕ → Memory → Type 0) → s.life ≡ Up r → WereSentTo sent is
-        → ((q : R) → t.life ≡ Up q → GoesAll Shows (disks_by b) m s.number r is q (parts_of steps batch)) → DisksFit m h t.number (disk_of (device_in b t.life)) → AreShort (disk_of (device_in b t.life))
-        → HasTakenTogether b r given t steps batch how stop ⊎ HasFallenTogether Ends t steps batch how stop → HasSettledSteps Shows b m mid i new steps batch how stop
+    pub settled_steps_hold : (new : Scene R) (r : R) (is : List Input) (given : List (Option (List ℕ)))
+        (Ends : ℕ → Memory → Type 0) → s.life ≡ Up r → WereSentTo sent is
+        → ((q : R) → t.life ≡ Up q → GoesAll Shows (disks_by b) m s.number r is q (parts_of steps batch))
+        → DisksFit m h t.number (disk_of (device_in b t.life)) → AreShort (disk_of (device_in b t.life))
+        → HasTakenTogether b r given t steps batch how stop ⊎ HasFallenTogether Ends t steps batch how stop
+        → HasSettledSteps Shows b m mid i new steps batch how stop
         → Holds Shows (disks_by b) m new.genesis new.seats new.sent new.trace
     settled_steps_hold new r is given Ends was were goes left short cases k = rested_holds new k (elim cases [
-      | inl q ↦ taken_holds r q.after is steps batch k.notes was q.up were (goes q.after q.up) (still_whole b stop q.replica q.after steps q.all batch q.sends q.whole) k.tells
+      | inl q ↦ taken_holds r q.after is steps batch k.notes was q.up were (goes q.after q.up)
+          (still_whole b stop q.replica q.after steps q.all batch q.sends q.whole) k.tells
       | inr f ↦ subst₂ (λ x y. Holds Shows (disks_by b) m genesis (set seats i t) x y)
           (sym (ap (λ l. sent ++ l) f.fallen.no_batch ∙ append-nil sent))
-          (sym (ap (λ l. trace ++ l) (subst (λ (l : List Step). AreNotesOf (parts_of l batch) k.notes) f.no_steps k.tells) ∙ append-nil trace))
+          (sym (ap (λ l. trace ++ l)
+          (subst (λ (l : List Step). AreNotesOf (parts_of l batch) k.notes) f.no_steps k.tells) ∙ append-nil trace))
           (down_holds t number (fallen_on f.fallen.left) f.fallen.down
-          (subst (λ (l : Life R). DisksFit m h t.number (disk_of (device_in b l))) f.fallen.down left) (subst (λ (l : Life R). AreShort (disk_of (device_in b l))) f.fallen.down short))
+          (subst (λ (l : Life R). DisksFit m h t.number (disk_of (device_in b l))) f.fallen.down left)
+          (subst (λ (l : Life R). AreShort (disk_of (device_in b l))) f.fallen.down short))
     ])
 
     -- that it was given up does too
-    pub given_up_still : (new : Scene R) → DisksFit m h t.number (disk_of (device_in b t.life)) → AreShort (disk_of (device_in b t.life)) → HasGivenUp Shows b m mid i new → Holds Shows (disks_by b) m new.genesis new.seats new.sent new.trace
+    pub given_up_still : (new : Scene R) → DisksFit m h t.number (disk_of (device_in b t.life))
+        → AreShort (disk_of (device_in b t.life)) → HasGivenUp Shows b m mid i new
+        → Holds Shows (disks_by b) m new.genesis new.seats new.sent new.trace
     given_up_still new left short k =
         let same : k.seat ≡ t = at_same (set seats i t) i k.seat t k.at (at_set_here seats i t at.0) in
         let device = device_in b t.life in
         let off : k.next.number ≡ t.number = k.number ∙ ap (λ (z : Seat R). z.number) same in
-        let down : k.next.life ≡ Down (stopped_on 0 0 device) = k.halted ∙ ap (λ (z : Seat R). Down (stopped_on 0 0 (device_in b z.life))) same in
+        let down : k.next.life ≡ Down (stopped_on 0 0 device) = k.halted
+        ∙ ap (λ (z : Seat R). Down (stopped_on 0 0 (device_in b z.life))) same in
         subst (λ g. Holds Shows (disks_by b) m g new.seats new.sent new.trace) (sym k.adds.genesis)
-        (subst (λ z. Holds Shows (disks_by b) m genesis z new.sent new.trace) (sym (k.seats ∙ set_twice seats i t k.next))
-        (subst₂ (λ x y. Holds Shows (disks_by b) m genesis (set seats i k.next) x y) (sym (k.adds.sent ∙ append-nil sent)) (sym (k.adds.trace ∙ append-nil trace))
+        (subst (λ z. Holds Shows (disks_by b) m genesis z new.sent new.trace)
+        (sym (k.seats ∙ set_twice seats i t k.next))
+        (subst₂ (λ x y. Holds Shows (disks_by b) m genesis (set seats i k.next) x y)
+        (sym (k.adds.sent ∙ append-nil sent)) (sym (k.adds.trace ∙ append-nil trace))
         (down_holds k.next (off ∙ number) (stopped_on 0 0 device) down
-        (subst (λ n. DisksFit m h n (disk_of (stopped_on 0 0 device))) (sym off) (stopped_fit m h t.number (disk_of device) (disk_of (stopped_on 0 0 device)) (kept_none device) left))
+        (subst (λ n. DisksFit m h n (disk_of (stopped_on 0 0 device))) (sym off)
+        (stopped_fit m h t.number (disk_of device) (disk_of (stopped_on 0 0 device)) (kept_none device) left))
         (kept_short (disk_of device) (disk_of (stopped_on 0 0 device)) (kept_none device) short))))
 
 -- ---- what the steps note is their own
 
-own_too : (steps : List Step) (some others : List Datagram) → AreAllOwn (parts_of steps some) → AreAllOwn (parts_of steps others)
+own_too : (steps : List Step) (some others : List Datagram) → AreAllOwn (parts_of steps some)
+    → AreAllOwn (parts_of steps others)
 own_too [] some others own = tt
 own_too (s ∷ steps) some others own = (own.0, own_too steps (drop s.sends some) (drop s.sends others) own.1)
 
-pub all_own : {R : Type 0} (Shows : R → Genesis → ℕ → Holding → Type 0) (disks : R → Side → Disk) (m : Meaning) (genesis : Genesis) (seats : List (Seat R)) (sent : List Datagram) (trace notes : List Note)
-    → Holds Shows disks m genesis seats sent trace → (i : ℕ) (s : Seat R) → At seats i s → (is : List Input) (r q : R) (steps : List Step) (batch all : List Datagram) → s.life ≡ Up r → WereSentTo sent is
-    → GoesAll Shows disks m s.number r is q (parts_of steps batch) → AreNotesOf (parts_of steps batch) notes → AreAllOwn (parts_of steps all)
+pub all_own : {R : Type 0} (Shows : R → Genesis → ℕ → Holding → Type 0) (disks : R → Side → Disk) (m : Meaning)
+    (genesis : Genesis) (seats : List (Seat R)) (sent : List Datagram) (trace notes : List Note)
+    → Holds Shows disks m genesis seats sent trace → (i : ℕ) (s : Seat R) → At seats i s
+    → (is : List Input) (r q : R) (steps : List Step) (batch all : List Datagram) → s.life ≡ Up r → WereSentTo sent is
+    → GoesAll Shows disks m s.number r is q (parts_of steps batch) → AreNotesOf (parts_of steps batch) notes
+    → AreAllOwn (parts_of steps all)
 all_own Shows disks m genesis seats sent trace notes w i s at is r q steps batch all up were goes tells =
-    own_too steps batch all (group_own Shows disks m genesis i is r q (parts_of steps batch) seats sent trace notes s w at up were goes tells)
+    own_too steps batch all (group_own Shows disks m genesis i is r q
+    (parts_of steps batch) seats sent trace notes s w at up were goes tells)
 
 -- ---- no more than there are
 pub take_min : {X : Type 0} (k : ℕ) (xs : List X) → take (min k (length xs)) xs ≡ take k xs
-take_min k xs = ap (λ j. take j xs) (sym (length-take k xs)) ∙ ap (take (length (take k xs))) (sym (take-append-drop k xs)) ∙ take-append_seam (take k xs) (drop k xs)
+take_min k xs = ap (λ j. take j xs) (sym (length-take k xs))
+    ∙ ap (take (length (take k xs))) (sym (take-append-drop k xs)) ∙ take-append_seam (take k xs) (drop k xs)
 
 pub drop_min : {X : Type 0} (k : ℕ) (xs : List X) → drop (min k (length xs)) xs ≡ drop k xs
-drop_min k xs = ap (λ j. drop j xs) (sym (length-take k xs)) ∙ ap (drop (length (take k xs))) (sym (take-append-drop k xs)) ∙ drop-append_seam (take k xs) (drop k xs)
+drop_min k xs = ap (λ j. drop j xs) (sym (length-take k xs))
+    ∙ ap (drop (length (take k xs))) (sym (take-append-drop k xs)) ∙ drop-append_seam (take k xs) (drop k xs)

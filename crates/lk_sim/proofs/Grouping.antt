@@ -1,4 +1,5 @@
--- A node takes several inputs, one after another, before it sends: what is then added keeps all that holds of the world.
+-- A node takes several inputs, one after another, before it sends: what is then added keeps all that holds of the
+-- world.
 use Rattle.std.proofs.Common.{◌≡◌, ℕ, List, [], ◌∷◌, ◌++◌, set, refl, ap, sym, ◌∙◌, subst, append_assoc}
 use Rattle.std.proofs.lemmas.List.Elements.{Contains-append_left}
 use Rattle.lk_disk.specs.Disk.{Disk}
@@ -30,23 +31,32 @@ use Rattle.lk_sim.proofs.Explaining.{lawful}
 still_sent_to : (sent more : List Datagram) (is : List Input) → WereSentTo sent is → WereSentTo (sent ++ more) is
 still_sent_to sent more [] w = tt
 still_sent_to sent more (Tick ∷ is) w = (tt, still_sent_to sent more is w.1)
-still_sent_to sent more (Heard bytes ∷ is) w = ((w.0.0, Contains-append_left sent more w.0.0 w.0.1, w.0.2), still_sent_to sent more is w.1)
+still_sent_to sent more (Heard bytes ∷ is) w =
+    ((w.0.0, Contains-append_left sent more w.0.0 w.0.1, w.0.2), still_sent_to sent more is w.1)
 
 abbrev seat_with : {R : Type 0} → ℕ → R → Seat R
 seat_with n r = record { number = n; life = Up r }
 
-module _ {R : Type 0} (Shows : R → Genesis → ℕ → Holding → Type 0) (disks : R → Side → Disk) (m : Meaning) (genesis : Genesis) (i : ℕ) where
-  pub group_holds : (is : List Input) (r q : R) (said : List Said) (seats : List (Seat R)) (sent : List Datagram) (trace notes : List Note) (s : Seat R)
-      → Holds Shows disks m genesis seats sent trace → At seats i s → s.life ≡ Up r → WereSentTo sent is → GoesAll Shows disks m s.number r is q said → AreNotesOf said notes
+module _ {R : Type 0} (Shows : R → Genesis → ℕ → Holding → Type 0) (disks : R → Side → Disk) (m : Meaning)
+    (genesis : Genesis) (i : ℕ) where
+  pub group_holds : (is : List Input) (r q : R) (said : List Said) (seats : List (Seat R)) (sent : List Datagram)
+      (trace notes : List Note) (s : Seat R)
+      → Holds Shows disks m genesis seats sent trace → At seats i s → s.life ≡ Up r → WereSentTo sent is
+      → GoesAll Shows disks m s.number r is q said → AreNotesOf said notes
       → Holds Shows disks m genesis (set seats i (seat_with s.number q)) (sent ++ sent_of said) (trace ++ notes)
   group_holds [] r q said seats sent trace notes s w at up were goes told =
       let none : notes ≡ [] = subst (λ (l : List Said). AreNotesOf l notes) goes.0 told in
       let u = (w.seated i s at).up r up in
       let g : Goes m (happened genesis sent trace) s.number (Shows q genesis s.number) (disks q) [] [] =
-      goes.1 (happened genesis sent trace) (node_fits Shows disks m (happened genesis sent trace) (w.views s.number) s.number r (lawful Shows disks m genesis seats sent trace w) u) in
-      let last = goes_on Shows disks m genesis seats sent trace w i s (seat_with s.number q) at q refl refl [] [] [] g refl (stepped_short (disks r) (disks q) goes.2 u.room) in
-      subst (λ (l : List Said). Holds Shows disks m genesis (set seats i (seat_with s.number q)) (sent ++ sent_of l) (trace ++ notes)) (sym goes.0)
-      (subst (λ l. Holds Shows disks m genesis (set seats i (seat_with s.number q)) (sent ++ []) (trace ++ l)) (sym none) last)
+      goes.1 (happened genesis sent trace)
+      (node_fits Shows disks m (happened genesis sent trace) (w.views s.number) s.number r
+      (lawful Shows disks m genesis seats sent trace w) u) in
+      let last = goes_on Shows disks m genesis seats sent trace w i s
+      (seat_with s.number q) at q refl refl [] [] [] g refl (stepped_short (disks r) (disks q) goes.2 u.room) in
+      subst (λ (l : List Said). Holds Shows disks m genesis (set seats i (seat_with s.number q)) (sent ++ sent_of l)
+      (trace ++ notes)) (sym goes.0)
+      (subst (λ l. Holds Shows disks m genesis (set seats i (seat_with s.number q)) (sent ++ []) (trace ++ l))
+      (sym none) last)
   group_holds (x ∷ is) r q said seats sent trace notes s w at up were goes told =
       let mid = goes.0 in
       let one = goes.1 in
@@ -54,24 +64,38 @@ module _ {R : Type 0} (Shows : R → Genesis → ℕ → Holding → Type 0) (di
       let names : AreNotesOf (one ∷ rest) notes = subst (λ (l : List Said). AreNotesOf l notes) goes.3 told in
       let h = happened genesis sent trace in
       let u = (w.seated i s at).up r up in
-      let g : Goes m h s.number (Shows mid genesis s.number) (disks mid) one.0 one.1 = goes.4 h (node_fits Shows disks m h (w.views s.number) s.number r (lawful Shows disks m genesis seats sent trace w) u) (fits x were.0) in
-      let next = goes_on Shows disks m genesis seats sent trace w i s (seat_with s.number mid) at mid refl refl one.0 names.0 one.1 g names.2 (stepped_short (disks r) (disks mid) goes.5 u.room) in
-      let all = group_holds is mid q rest (set seats i (seat_with s.number mid)) (sent ++ one.1) (trace ++ (one.0 ++ names.0)) names.1 (seat_with s.number mid) next (at_set_here seats i (seat_with s.number mid) at.0) refl
+      let g : Goes m h s.number (Shows mid genesis s.number) (disks mid) one.0 one.1 =
+      goes.4 h (node_fits Shows disks m h (w.views s.number) s.number r
+      (lawful Shows disks m genesis seats sent trace w) u) (fits x were.0) in
+      let next = goes_on Shows disks m genesis seats sent trace w i s
+      (seat_with s.number mid) at mid refl refl one.0 names.0 one.1 g names.2
+      (stepped_short (disks r) (disks mid) goes.5 u.room) in
+      let all = group_holds is mid q rest (set seats i (seat_with s.number mid)) (sent ++ one.1)
+      (trace ++ (one.0 ++ names.0)) names.1 (seat_with s.number mid) next
+      (at_set_here seats i (seat_with s.number mid) at.0) refl
       (still_sent_to sent one.1 is were.1) goes.6 names.4 in
-      let sent_is : (sent ++ one.1) ++ sent_of rest ≡ sent ++ sent_of said = append_assoc sent one.1 (sent_of rest) ∙ ap (λ (l : List Said). sent ++ sent_of l) (sym goes.3) in
-      let trace_is : (trace ++ (one.0 ++ names.0)) ++ names.1 ≡ trace ++ notes = append_assoc trace (one.0 ++ names.0) names.1 ∙ ap (λ l. trace ++ l) (sym names.3) in
-      subst (λ z. Holds Shows disks m genesis z (sent ++ sent_of said) (trace ++ notes)) (set_twice seats i (seat_with s.number mid) (seat_with s.number q))
-      (subst (λ z. Holds Shows disks m genesis (set (set seats i (seat_with s.number mid)) i (seat_with s.number q)) z (trace ++ notes)) sent_is
-      (subst (λ z. Holds Shows disks m genesis (set (set seats i (seat_with s.number mid)) i (seat_with s.number q)) ((sent ++ one.1) ++ sent_of rest) z) trace_is all))
+      let sent_is : (sent ++ one.1) ++ sent_of rest ≡ sent ++ sent_of said = append_assoc sent one.1 (sent_of rest)
+      ∙ ap (λ (l : List Said). sent ++ sent_of l) (sym goes.3) in
+      let trace_is : (trace ++ (one.0 ++ names.0)) ++ names.1 ≡ trace ++ notes =
+      append_assoc trace (one.0 ++ names.0) names.1 ∙ ap (λ l. trace ++ l) (sym names.3) in
+      subst (λ z. Holds Shows disks m genesis z (sent ++ sent_of said) (trace ++ notes))
+      (set_twice seats i (seat_with s.number mid) (seat_with s.number q))
+      (subst (λ z. Holds Shows disks m genesis (set (set seats i (seat_with s.number mid)) i (seat_with s.number q)) z
+      (trace ++ notes)) sent_is
+      (subst (λ z. Holds Shows disks m genesis (set (set seats i (seat_with s.number mid)) i (seat_with s.number q))
+      ((sent ++ one.1) ++ sent_of rest) z) trace_is all))
     where
       fits : (x : Input) → WasSentTo sent x → InputFits (happened genesis sent trace) x
       fits Tick was = tt
       fits (Heard bytes) was = heard_sent Shows disks m genesis seats sent trace w was.0 was.1 bytes was.2
 
   -- each step notes what is its own
-  pub group_own : (is : List Input) (r q : R) (said : List Said) (seats : List (Seat R)) (sent : List Datagram) (trace notes : List Note) (s : Seat R)
-      → Holds Shows disks m genesis seats sent trace → At seats i s → s.life ≡ Up r → WereSentTo sent is → GoesAll Shows disks m s.number r is q said → AreNotesOf said notes → AreAllOwn said
-  group_own [] r q said seats sent trace notes s w at up were goes told = subst (λ (l : List Said). AreAllOwn l) (sym goes.0) tt
+  pub group_own : (is : List Input) (r q : R) (said : List Said) (seats : List (Seat R)) (sent : List Datagram)
+      (trace notes : List Note) (s : Seat R)
+      → Holds Shows disks m genesis seats sent trace → At seats i s → s.life ≡ Up r → WereSentTo sent is
+      → GoesAll Shows disks m s.number r is q said → AreNotesOf said notes → AreAllOwn said
+  group_own [] r q said seats sent trace notes s w at up were goes told =
+      subst (λ (l : List Said). AreAllOwn l) (sym goes.0) tt
   group_own (x ∷ is) r q said seats sent trace notes s w at up were goes told =
       let mid = goes.0 in
       let one = goes.1 in
@@ -79,9 +103,15 @@ module _ {R : Type 0} (Shows : R → Genesis → ℕ → Holding → Type 0) (di
       let names : AreNotesOf (one ∷ rest) notes = subst (λ (l : List Said). AreNotesOf l notes) goes.3 told in
       let h = happened genesis sent trace in
       let u = (w.seated i s at).up r up in
-      let g : Goes m h s.number (Shows mid genesis s.number) (disks mid) one.0 one.1 = goes.4 h (node_fits Shows disks m h (w.views s.number) s.number r (lawful Shows disks m genesis seats sent trace w) u) (fits x were.0) in
-      let next = goes_on Shows disks m genesis seats sent trace w i s (seat_with s.number mid) at mid refl refl one.0 names.0 one.1 g names.2 (stepped_short (disks r) (disks mid) goes.5 u.room) in
-      let all = group_own is mid q rest (set seats i (seat_with s.number mid)) (sent ++ one.1) (trace ++ (one.0 ++ names.0)) names.1 (seat_with s.number mid) next (at_set_here seats i (seat_with s.number mid) at.0) refl
+      let g : Goes m h s.number (Shows mid genesis s.number) (disks mid) one.0 one.1 =
+      goes.4 h (node_fits Shows disks m h (w.views s.number) s.number r
+      (lawful Shows disks m genesis seats sent trace w) u) (fits x were.0) in
+      let next = goes_on Shows disks m genesis seats sent trace w i s
+      (seat_with s.number mid) at mid refl refl one.0 names.0 one.1 g names.2
+      (stepped_short (disks r) (disks mid) goes.5 u.room) in
+      let all = group_own is mid q rest (set seats i (seat_with s.number mid)) (sent ++ one.1)
+      (trace ++ (one.0 ++ names.0)) names.1 (seat_with s.number mid) next
+      (at_set_here seats i (seat_with s.number mid) at.0) refl
       (still_sent_to sent one.1 is were.1) goes.6 names.4 in
       subst (λ (l : List Said). AreAllOwn l) (sym goes.3) ((λ n c. (g.noted n c).0), all)
     where

@@ -15,9 +15,12 @@ use Rattle.lk_node.specs.Holdings.{Holding, HoldingFits}
 use Rattle.lk_node.specs.Leavings.{DisksFit}
 
 -- images fit to another history that they cover, and from which they stem
-pub disks_move : (m : Meaning) (genesis : Genesis) (sent now : List Datagram) (asked since : List RequestValue) (n : ℕ) (disks : Side → Disk)
-    → ((s : AcceptorState) → CoversSent genesis sent n s → CoversSent genesis now n s) → ((w : View) → Stems genesis sent w → Stems genesis now w)
-    → DisksFit m (record { genesis = genesis; sent = sent; asked = asked }) n disks → DisksFit m (record { genesis = genesis; sent = now; asked = since }) n disks
+pub disks_move : (m : Meaning) (genesis : Genesis) (sent now : List Datagram) (asked since : List RequestValue)
+    (n : ℕ) (disks : Side → Disk)
+    → ((s : AcceptorState) → CoversSent genesis sent n s → CoversSent genesis now n s)
+    → ((w : View) → Stems genesis sent w → Stems genesis now w)
+    → DisksFit m (record { genesis = genesis; sent = sent; asked = asked }) n disks
+    → DisksFit m (record { genesis = genesis; sent = now; asked = since }) n disks
 disks_move m genesis sent now asked since n disks covers stems f image may =
     let i = f image may in
     record {
@@ -31,7 +34,8 @@ disks_move m genesis sent now asked since n disks covers stems f image may =
       near = i.near;
     }
 
-module _ (genesis : Genesis) (sent more : List Datagram) (asked since : List RequestValue) (among : (r : RequestValue) → Contains asked r → Contains since r) where
+module _ (genesis : Genesis) (sent more : List Datagram) (asked since : List RequestValue)
+    (among : (r : RequestValue) → Contains asked r → Contains since r) where
   abbrev before : History
   before = record { genesis = genesis; sent = sent; asked = asked }
 
@@ -42,7 +46,8 @@ module _ (genesis : Genesis) (sent more : List Datagram) (asked since : List Req
   still_asked Noop a = tt
   still_asked (Request r) a = among r a
 
-  pub still_holding : (m : Meaning) (n : ℕ) (x : Holding) → ViewFits genesis (sent ++ more) n x.view → HoldingFits m before n x → HoldingFits m after n x
+  pub still_holding : (m : Meaning) (n : ℕ) (x : Holding) → ViewFits genesis (sent ++ more) n x.view
+      → HoldingFits m before n x → HoldingFits m after n x
   still_holding m n x view f = record {
     view = view;
     waiting = λ r c. among r (f.waiting r c);

@@ -1,5 +1,6 @@
 -- What a node may be handed.
-use Rattle.std.proofs.Common.{◌≡◌, ℕ, zero, suc, List, ◌∷◌, [], ◌++◌, slice_get, arith, append-nil, Option, Some, None, Contains, refl, ap, sym, ◌∙◌, subst}
+use Rattle.std.proofs.Common.{◌≡◌, ℕ, zero, suc, List, ◌∷◌, [], ◌++◌, slice_get, arith, append-nil, Option, Some, None}
+use Rattle.std.proofs.Common.{Contains, refl, ap, sym, ◌∙◌, subst}
 use Rattle.lk_disk.specs.Disk.{Disk}
 use Rattle.lk_disk.specs.declared.device.Side.{Side}
 use Rattle.lk_messages.specs.Grammar.{Spells}
@@ -21,11 +22,15 @@ use Rattle.lk_world_nodes.specs.declared.seat.Seat.{Seat}
 use Rattle.lk_sim.proofs.Asking.{asked_last}
 
 -- a datagram of the list
-pub heard_sent : {R : Type 0} (Shows : R → Genesis → ℕ → Holding → Type 0) (disks : R → Side → Disk) (m : Meaning) (genesis : Genesis) (seats : List (Seat R)) (sent : List Datagram) (trace : List Note)
-    → Holds Shows disks m genesis seats sent trace → (d : Datagram) → Contains sent d → (bytes : List ℕ) → bytes ≡ d.bytes → IsHeard (happened genesis sent trace) bytes
+pub heard_sent : {R : Type 0} (Shows : R → Genesis → ℕ → Holding → Type 0) (disks : R → Side → Disk) (m : Meaning)
+    (genesis : Genesis) (seats : List (Seat R)) (sent : List Datagram) (trace : List Note)
+    → Holds Shows disks m genesis seats sent trace → (d : Datagram) → Contains sent d → (bytes : List ℕ)
+    → bytes ≡ d.bytes → IsHeard (happened genesis sent trace) bytes
 heard_sent Shows disks m genesis seats sent trace w d c bytes e = record {
-  said = λ n x said. heard_was_sent genesis sent w.world.sound d c n x (subst (λ b. Spells (said_by genesis n x) b) e said);
-  asked = λ r cluster said. w.requests d r cluster c (subst (λ b. Spells (record { cluster = cluster; content = content.Request r }) b) e said);
+  said = λ n x said. heard_was_sent genesis sent w.world.sound d c n x
+      (subst (λ b. Spells (said_by genesis n x) b) e said);
+  asked = λ r cluster said. w.requests d r cluster c
+      (subst (λ b. Spells (record { cluster = cluster; content = content.Request r }) b) e said);
 }
 
 got : {X : Type 0} (xs : List X) (k : ℕ) (x : X) → slice_get xs k ≡ Some x → Contains xs x
@@ -41,12 +46,15 @@ one_some : {X : Type 0} (o : Option X) (x y : X) → o ≡ Some x → o ≡ Some
 one_some o x y a b = cc (a, b)
 
 -- one datagram stands at a place
-pub one_datagram : (sent : List Datagram) (k : ℕ) (d e : Datagram) → datagram_at sent k ≡ Some d → datagram_at sent k ≡ Some e → d ≡ e
+pub one_datagram : (sent : List Datagram) (k : ℕ) (d e : Datagram) → datagram_at sent k ≡ Some d
+    → datagram_at sent k ≡ Some e → d ≡ e
 one_datagram sent k d e a b = one_some (datagram_at sent k) d e a b
 
 -- where nothing more was asked
-pub heard_delivered : {R : Type 0} (Shows : R → Genesis → ℕ → Holding → Type 0) (disks : R → Side → Disk) (m : Meaning) (genesis : Genesis) (seats : List (Seat R)) (sent : List Datagram) (trace : List Note)
-    → Holds Shows disks m genesis seats sent trace → (k : ℕ) (d : Datagram) → datagram_at sent k ≡ Some d → (bytes : List ℕ) → bytes ≡ d.bytes → IsHeard (happened genesis sent (trace ++ [])) bytes
+pub heard_delivered : {R : Type 0} (Shows : R → Genesis → ℕ → Holding → Type 0) (disks : R → Side → Disk) (m : Meaning)
+    (genesis : Genesis) (seats : List (Seat R)) (sent : List Datagram) (trace : List Note)
+    → Holds Shows disks m genesis seats sent trace → (k : ℕ) (d : Datagram) → datagram_at sent k ≡ Some d
+    → (bytes : List ℕ) → bytes ≡ d.bytes → IsHeard (happened genesis sent (trace ++ [])) bytes
 heard_delivered Shows disks m genesis seats sent trace w k d at bytes e =
     subst (λ l. IsHeard (happened genesis sent l) bytes) (sym (append-nil trace))
     (heard_sent Shows disks m genesis seats sent trace w d (datagram_listed sent k d at) bytes e)
@@ -61,11 +69,15 @@ same_some : (q r : RequestValue) → Some q ≡ Some r → q ≡ r
 same_some q r e = cc e
 
 -- a request that was just asked
-pub heard_request : (genesis : Genesis) (sent : List Datagram) (trace all : List Note) (bytes : List ℕ) (r : RequestValue) → Reads bytes (Some r) → all ≡ trace ++ note.Asked r ∷ [] → IsHeard (happened genesis sent all) bytes
+pub heard_request : (genesis : Genesis) (sent : List Datagram) (trace all : List Note) (bytes : List ℕ)
+    (r : RequestValue) → Reads bytes (Some r) → all ≡ trace ++ note.Asked r ∷ []
+    → IsHeard (happened genesis sent all) bytes
 heard_request genesis sent trace all bytes r reads e = record {
   said = λ n x said. let q = reads (said_by genesis n x) said in absurd (nobody n x q.0 q.1);
   asked = λ q cluster said. let p = reads (record { cluster = cluster; content = content.Request q }) said in
-      subst (λ l. Contains (asked_in l) q) (sym e) (subst (λ z. Contains (asked_in (trace ++ note.Asked r ∷ [])) z) (same_some r p.0 p.2 ∙ sym (same_request q p.0 p.1)) (asked_last trace r));
+      subst (λ l. Contains (asked_in l) q) (sym e)
+      (subst (λ z. Contains (asked_in (trace ++ note.Asked r ∷ [])) z)
+      (same_some r p.0 p.2 ∙ sym (same_request q p.0 p.1)) (asked_last trace r));
 }
 
 -- bytes that spell nothing
@@ -76,27 +88,32 @@ heard_nothing h bytes reads = record {
 }
 
 -- what was read, and nothing else, is spelled
-pub reads_request : (bytes : List ℕ) (x : Message) (r : RequestValue) → Spells x bytes → x.content ≡ content.Request r → Reads bytes (Some r)
+pub reads_request : (bytes : List ℕ) (x : Message) (r : RequestValue) → Spells x bytes
+    → x.content ≡ content.Request r → Reads bytes (Some r)
 reads_request bytes x r s e y t = (r, ap (λ (z : Message). z.content) (one_message y x bytes t s) ∙ e, refl)
 
 pub reads_nothing : (bytes : List ℕ) → ((x : Message) → Spells x bytes → ⊥) → Reads bytes None
 reads_nothing bytes none x s = absurd (none x s)
 
 -- what is asked may be heard, once it is noted, and is not forged
-pub heard_asked : (genesis : Genesis) (sent : List Datagram) (trace : List Note) (bytes : List ℕ) (o : Option RequestValue) → Asks bytes o → IsHeard (happened genesis sent (trace ++ asked_note o)) bytes
+pub heard_asked : (genesis : Genesis) (sent : List Datagram) (trace : List Note) (bytes : List ℕ)
+    (o : Option RequestValue) → Asks bytes o → IsHeard (happened genesis sent (trace ++ asked_note o)) bytes
 heard_asked genesis sent trace bytes None a = heard_nothing (happened genesis sent (trace ++ [])) bytes a.only
-heard_asked genesis sent trace bytes (Some r) a = heard_request genesis sent trace (trace ++ note.Asked r ∷ []) bytes r a.only refl
+heard_asked genesis sent trace bytes (Some r) a =
+    heard_request genesis sent trace (trace ++ note.Asked r ∷ []) bytes r a.only refl
 
 pub asked_unforged : (bytes : List ℕ) (o : Option RequestValue) → Asks bytes o → IsForged bytes → ⊥
 asked_unforged bytes o a f = let r = a.only f.message f.spelled in f.of_node r.0 r.1
 
-pub asks_request : (bytes : List ℕ) (x : Message) (r : RequestValue) → Spells x bytes → x.content ≡ content.Request r → Asks bytes (Some r)
+pub asks_request : (bytes : List ℕ) (x : Message) (r : RequestValue) → Spells x bytes
+    → x.content ≡ content.Request r → Asks bytes (Some r)
 asks_request bytes x r s e = record {
   only = reads_request bytes x r s e;
   spelled = λ q is. (x.cluster, subst (λ (z : Message). Spells z bytes) (same x r q e (same_some r q is)) s);
 }
   where
-    same : (x : Message) (r q : RequestValue) → x.content ≡ content.Request r → r ≡ q → x ≡ record { cluster = x.cluster; content = content.Request q }
+    same : (x : Message) (r q : RequestValue) → x.content ≡ content.Request r → r ≡ q
+        → x ≡ record { cluster = x.cluster; content = content.Request q }
     same x r q e f = ap (λ c. record { cluster = x.cluster; content = c }) (e ∙ ap content.Request f)
 
 pub asks_nothing : (bytes : List ℕ) → ((x : Message) → Spells x bytes → ⊥) → Asks bytes None

@@ -20,16 +20,21 @@ use Rattle.lk_world_nodes.specs.declared.seat.Life.{Life}
 use Rattle.lk_world_nodes.specs.declared.seat.Life.TheVariants.{Up, Down}
 use Rattle.lk_world_nodes.specs.declared.seat.Seat.{Seat}
 
-module _ {R : Type 0} (Shows : R → Genesis → ℕ → Holding → Type 0) (disks : R → Side → Disk) (m : Meaning) (genesis : Genesis) (seats : List (Seat R)) (sent : List Datagram) (trace : List Note)
+module _ {R : Type 0} (Shows : R → Genesis → ℕ → Holding → Type 0) (disks : R → Side → Disk) (m : Meaning)
+    (genesis : Genesis) (seats : List (Seat R)) (sent : List Datagram) (trace : List Note)
     (w : Holds Shows disks m genesis seats sent trace) where
-  its_disks_fit : (s : Seat R) (life : Life R) → s.life ≡ life → SeatFits Shows disks m (happened genesis sent trace) (w.views s.number) s → DisksFit m (happened genesis sent trace) s.number (disks_of disks life)
+  its_disks_fit : (s : Seat R) (life : Life R) → s.life ≡ life
+      → SeatFits Shows disks m (happened genesis sent trace) (w.views s.number) s
+      → DisksFit m (happened genesis sent trace) s.number (disks_of disks life)
   its_disks_fit s (Up r) is f = (f.up r is).left
   its_disks_fit s (Down d) is f = f.down d is
 
-  fit_at : (k : ℕ) (s : Seat R) → At seats k s → DisksFit m (happened genesis sent trace) s.number (disks_of disks s.life)
+  fit_at : (k : ℕ) (s : Seat R) → At seats k s
+      → DisksFit m (happened genesis sent trace) s.number (disks_of disks s.life)
   fit_at k s at = its_disks_fit s s.life refl (w.seated k s at)
 
-  its_files_are_short : (s : Seat R) (life : Life R) → s.life ≡ life → SeatFits Shows disks m (happened genesis sent trace) (w.views s.number) s → AreShort (disks_of disks life)
+  its_files_are_short : (s : Seat R) (life : Life R) → s.life ≡ life
+      → SeatFits Shows disks m (happened genesis sent trace) (w.views s.number) s → AreShort (disks_of disks life)
   its_files_are_short s (Up r) is f = (f.up r is).room
   its_files_are_short s (Down d) is f = f.room d is
 
@@ -39,7 +44,8 @@ module _ {R : Type 0} (Shows : R → Genesis → ℕ → Holding → Type 0) (di
   pub covered : (k : ℕ) (s : Seat R) → At seats k s → CoversAll disks m genesis sent s
   covered k s at image may = let i = fit_at k s at image may in (i.standing, i.stands, i.covers)
 
-  module _ (L : List Command) (chosen : Chosen genesis sent L) (i : ℕ) (v : Command) (at : command_at L i ≡ Some v) where
+  module _ (L : List Command) (chosen : Chosen genesis sent L) (i : ℕ) (v : Command)
+      (at : command_at L i ≡ Some v) where
     pub kept : IsKeptBy disks m genesis seats sent L i v
     kept =
         let k = kept_by_majority genesis sent w.world.sound L chosen i v at in
@@ -47,18 +53,29 @@ module _ {R : Type 0} (Shows : R → Genesis → ℕ → Holding → Type 0) (di
           nodes = k.nodes;
           majority = k.majority;
           keep = λ n c.
-              let a = w.known n (Accepted (record { position = i; ballot = k.ballot; command = v })) (k.accepted n c) in (
+              let a = w.known n (Accepted (record { position = i; ballot = k.ballot; command = v }))
+              (k.accepted n c) in (
                 a.0,
                 a.1,
                 a.2,
                 a.3,
                 λ image may.
                     let f = fit_at a.0 a.1 a.2 image may in
-                    let covers : CoversSent genesis sent n (view_of f.standing f.under).acceptor = subst (λ z. CoversSent genesis sent z (view_of f.standing f.under).acceptor) a.3 f.covers in (
+                    let covers : CoversSent genesis sent n (view_of f.standing f.under).acceptor =
+                    subst (λ z. CoversSent genesis sent z (view_of f.standing f.under).acceptor) a.3 f.covers in (
                       f.standing,
                       f.stands,
                       elim (k.held n c (view_of f.standing f.under) (covers, f.stems)) [
-                        | inl under ↦ inl (under.0, record { under = f.under; chosen = f.stems.done; position = f.position; snapshot = f.snapshot; agrees = chosen_agree genesis sent w.world.sound f.under L f.stems.done chosen })
+                        | inl under ↦ inl (
+                          under.0,
+                          record {
+                            under = f.under;
+                            chosen = f.stems.done;
+                            position = f.position;
+                            snapshot = f.snapshot;
+                            agrees = chosen_agree genesis sent w.world.sound f.under L f.stems.done chosen;
+                          },
+                        )
                         | inr vote ↦ inr vote
                       ],
                     ),

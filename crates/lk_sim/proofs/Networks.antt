@@ -1,5 +1,6 @@
 -- What holds of each world holds of each network of processes.
-use Rattle.std.proofs.Common.{◌≡◌, ℕ, Option, Some, None, List, [], ◌∷◌, ◌++◌, Contains, refl, ap, sym, ◌∙◌, subst, subst₂, inl, inr, append_assoc, append-nil, set, arith}
+use Rattle.std.proofs.Common.{◌≡◌, ℕ, Option, Some, None, List, [], ◌∷◌, ◌++◌, Contains, refl, ap, sym, ◌∙◌, subst}
+use Rattle.std.proofs.Common.{subst₂, inl, inr, append_assoc, append-nil, set, arith}
 use Rattle.lk_disk.specs.Disk.{Disk, kept_by}
 use Rattle.lk_simulated_disk.specs.Memory.{Memory, disk_of}
 use Rattle.lk_disk.specs.declared.device.Side.{Side}
@@ -14,7 +15,8 @@ use Rattle.lk_node.specs.Holdings.{Holding}
 use Rattle.lk_node.specs.Leavings.{DisksFit}
 use Rattle.lk_world_nodes.specs.Rooms.{AreShort}
 use Rattle.lk_sim.specs.Events.{Adds}
-use Rattle.lk_sim.specs.Networks.{MayCome, IsRequestIn, AreAsking, MayHear, TellsOf, Appears, Restarts, Rests, GoesOn, Ends, Stops, Steps, StepsAll, nothing}
+use Rattle.lk_sim.specs.Networks.{MayCome, IsRequestIn, AreAsking, MayHear, TellsOf, Appears, Restarts, Rests, GoesOn}
+use Rattle.lk_sim.specs.Networks.{Ends, Stops, Steps, StepsAll, nothing}
 use Rattle.lk_sim.specs.Scenes.{Scene}
 use Rattle.lk_world_nodes.specs.Seats.{UpFits, SeatFits, SeatGoes, At}
 use Rattle.lk_world_nodes.specs.Told.{Tells}
@@ -39,23 +41,29 @@ use Rattle.lk_sim.proofs.Starting.{starts}
 
 -- ---- what comes may be heard, once what it asks is noted
 
-heard_bytes : (genesis : Genesis) (sent : List Datagram) (trace : List Note) (bytes : List ℕ) (o : Option RequestValue) → MayCome genesis sent (Some bytes) → IsRequestIn bytes o
+heard_bytes : (genesis : Genesis) (sent : List Datagram) (trace : List Note) (bytes : List ℕ) (o : Option RequestValue)
+    → MayCome genesis sent (Some bytes) → IsRequestIn bytes o
     → IsHeard (happened genesis sent (trace ++ asked_note o)) bytes
-heard_bytes genesis sent trace bytes o may asks = record { said = may; asked = λ r cluster said. noted r (asks.only r cluster said) }
+heard_bytes genesis sent trace bytes o may asks =
+    record { said = may; asked = λ r cluster said. noted r (asks.only r cluster said) }
   where
     noted : (r : RequestValue) → o ≡ Some r → Contains (asked_in (trace ++ asked_note o)) r
-    noted r e = subst (λ (p : Option RequestValue). Contains (asked_in (trace ++ asked_note p)) r) (sym e) (asked_last trace r)
+    noted r e =
+        subst (λ (p : Option RequestValue). Contains (asked_in (trace ++ asked_note p)) r) (sym e) (asked_last trace r)
 
-pub heard : (genesis : Genesis) (sent : List Datagram) (trace : List Note) (came : Option (List ℕ)) (o : Option RequestValue) → MayCome genesis sent came → AreAsking came o
+pub heard : (genesis : Genesis) (sent : List Datagram) (trace : List Note) (came : Option (List ℕ))
+    (o : Option RequestValue) → MayCome genesis sent came → AreAsking came o
     → MayHear (happened genesis sent (trace ++ asked_note o)) came
 heard genesis sent trace None o may asks = tt
 heard genesis sent trace (Some bytes) o may asks = heard_bytes genesis sent trace bytes o may asks
 
 -- ---- what may go out reads
 
-pub tells_all : (batch : List Datagram) (told : List Note) → ((d : Datagram) → Contains batch d → (m : _) × Spells m d.bytes) → TellsOf batch told → Tells batch told
+pub tells_all : (batch : List Datagram) (told : List Note)
+    → ((d : Datagram) → Contains batch d → (m : _) × Spells m d.bytes) → TellsOf batch told → Tells batch told
 tells_all [] told reads tells = tells
-tells_all (d ∷ batch) told reads (inl t) = (t.0, t.1, t.2, t.3, tells_all batch t.1 (λ x c. reads x (contains_more d batch x c)) t.4)
+tells_all (d ∷ batch) told reads (inl t) =
+    (t.0, t.1, t.2, t.3, tells_all batch t.1 (λ x c. reads x (contains_more d batch x c)) t.4)
 tells_all (d ∷ batch) told reads (inr t) = let r = reads d (0, omega arith, refl) in absurd (t.0 r.0 r.1)
 
 module _ {R : Type 0} (Shows : R → Genesis → ℕ → Holding → Type 0) (disks : R → Side → Disk) (m : Meaning) where
@@ -63,52 +71,70 @@ module _ {R : Type 0} (Shows : R → Genesis → ℕ → Holding → Type 0) (di
   abbrev pub HoldsOf : Scene R → Type 0
   HoldsOf w = Holds Shows disks m w.genesis w.seats w.sent w.trace
 
-  moved : (old new : Scene R) (seats : List (Seat R)) (notes : List Note) (batch : List Datagram) → new.seats ≡ seats → Adds old new notes batch
+  moved : (old new : Scene R) (seats : List (Seat R)) (notes : List Note) (batch : List Datagram) → new.seats ≡ seats
+      → Adds old new notes batch
       → Holds Shows disks m old.genesis seats (old.sent ++ batch) (old.trace ++ notes) → HoldsOf new
   moved old new seats notes batch same a w =
       subst (λ g. Holds Shows disks m g new.seats new.sent new.trace) (sym a.genesis)
       (subst (λ z. Holds Shows disks m old.genesis z new.sent new.trace) (sym same)
       (subst₂ (λ x y. Holds Shows disks m old.genesis seats x y) (sym a.sent) (sym a.trace) w))
 
-  moved_still : (old new : Scene R) (seats : List (Seat R)) (notes : List Note) → new.seats ≡ seats → Adds old new notes []
+  moved_still : (old new : Scene R) (seats : List (Seat R)) (notes : List Note)
+      → new.seats ≡ seats → Adds old new notes []
       → Holds Shows disks m old.genesis seats old.sent (old.trace ++ notes) → HoldsOf new
   moved_still old new seats notes same a w =
-      moved old new seats notes [] same a (subst (λ l. Holds Shows disks m old.genesis seats l (old.trace ++ notes)) (sym (append-nil old.sent)) w)
+      moved old new seats notes [] same a
+      (subst (λ l. Holds Shows disks m old.genesis seats l (old.trace ++ notes)) (sym (append-nil old.sent)) w)
 
-  moved_silent : (old new : Scene R) (seats : List (Seat R)) → new.seats ≡ seats → Adds old new [] [] → Holds Shows disks m old.genesis seats old.sent old.trace → HoldsOf new
-  moved_silent old new seats same a w = moved_still old new seats [] same a (subst (λ l. Holds Shows disks m old.genesis seats old.sent l) (sym (append-nil old.trace)) w)
+  moved_silent : (old new : Scene R) (seats : List (Seat R)) → new.seats ≡ seats → Adds old new [] []
+      → Holds Shows disks m old.genesis seats old.sent old.trace → HoldsOf new
+  moved_silent old new seats same a w =
+      moved_still old new seats [] same a
+      (subst (λ l. Holds Shows disks m old.genesis seats old.sent l) (sym (append-nil old.trace)) w)
 
   appears : (old new : Scene R) → HoldsOf old → Appears old new → HoldsOf new
-  appears old new w a = moved_silent old new (old.seats ++ a.seat ∷ []) a.seats a.adds (starts Shows disks m old.genesis old.seats old.sent old.trace w a.seat a.unused a.device a.down a.empty)
+  appears old new w a = moved_silent old new (old.seats ++ a.seat ∷ []) a.seats a.adds
+      (starts Shows disks m old.genesis old.seats old.sent old.trace w a.seat a.unused a.device a.down a.empty)
 
   restarts : (old new : Scene R) → HoldsOf old → Restarts Shows disks m old new → HoldsOf new
   restarts old new w a =
       let h = happened old.genesis old.sent old.trace in
       let f = w.seated a.turns.place a.seat a.turns.at in
-      let g = a.restarts.goes h refl (lawful Shows disks m old.genesis old.seats old.sent old.trace w) (f.down a.device a.down) in
+      let g = a.restarts.goes h refl (lawful Shows disks m old.genesis old.seats old.sent old.trace w)
+      (f.down a.device a.down) in
       let seat_goes : SeatGoes Shows disks m h a.next a.notes [] = record {
         replica = a.replica;
         up = a.up;
-        goes = subst (λ k. Goes m h k (Shows a.replica old.genesis k) (disks a.replica) a.notes []) (sym a.turns.number) g;
+        goes =
+            subst (λ k. Goes m h k (Shows a.replica old.genesis k) (disks a.replica) a.notes []) (sym a.turns.number) g;
         room = a.restarts.short (f.room a.device a.down);
       } in
-      let went = went_on Shows disks m old.genesis old.seats old.sent old.trace w a.turns.place a.seat a.next a.turns.at a.turns.number a.notes [] [] seat_goes refl in
+      let went = went_on Shows disks m old.genesis old.seats old.sent old.trace w a.turns.place a.seat a.next
+      a.turns.at a.turns.number a.notes [] [] seat_goes refl in
       moved old new (set old.seats a.turns.place a.next) a.notes [] a.turns.seats a.adds
-      (subst (λ l. Holds Shows disks m old.genesis (set old.seats a.turns.place a.next) (old.sent ++ []) (old.trace ++ l)) (append-nil a.notes) went)
+      (subst (λ l. Holds Shows disks m old.genesis (set old.seats a.turns.place a.next) (old.sent ++ [])
+      (old.trace ++ l)) (append-nil a.notes) went)
 
   -- of a node that is down, the history is lawful, and its disks fit it
-  pub holds_down : (c : Scene R) → HoldsOf c → (place : ℕ) (s : Seat R) → At c.seats place s → (d : Memory) → s.life ≡ Down d
-      → IsLawful m (happened c.genesis c.sent c.trace) × DisksFit m (happened c.genesis c.sent c.trace) s.number (disk_of d)
-  holds_down c w place s at d down = (lawful Shows disks m c.genesis c.seats c.sent c.trace w, (w.seated place s at).down d down)
+  pub holds_down : (c : Scene R) → HoldsOf c → (place : ℕ) (s : Seat R) → At c.seats place s
+      → (d : Memory) → s.life ≡ Down d
+      → IsLawful m (happened c.genesis c.sent c.trace)
+      × DisksFit m (happened c.genesis c.sent c.trace) s.number (disk_of d)
+  holds_down c w place s at d down =
+      (lawful Shows disks m c.genesis c.seats c.sent c.trace w, (w.seated place s at).down d down)
 
   rests : (old new : Scene R) → HoldsOf old → Rests m old new → HoldsOf new
   rests old new w a =
       let h = happened old.genesis old.sent old.trace in
       let f = w.seated a.turns.place a.seat a.turns.at in
-      let left = a.rests.ends h refl (lawful Shows disks m old.genesis old.seats old.sent old.trace w) (f.down a.device a.down) in
+      let left = a.rests.ends h refl (lawful Shows disks m old.genesis old.seats old.sent old.trace w)
+      (f.down a.device a.down) in
       moved_silent old new (set old.seats a.turns.place a.next) a.turns.seats a.adds
-      (went_down Shows disks m old.genesis old.seats old.sent old.trace w a.turns.place a.seat a.next a.turns.at a.turns.number
-      (down_fits Shows disks m h (w.views a.seat.number) a.next a.left a.still (subst (λ k. DisksFit m h k (disk_of a.left)) (sym a.turns.number) left) (a.rests.short (f.room a.device a.down))))
+      (went_down Shows disks m old.genesis old.seats old.sent old.trace w a.turns.place a.seat a.next
+      a.turns.at a.turns.number
+      (down_fits Shows disks m h (w.views a.seat.number) a.next a.left a.still
+      (subst (λ k. DisksFit m h k (disk_of a.left)) (sym a.turns.number) left)
+      (a.rests.short (f.room a.device a.down))))
 
   module _ (old new : Scene R) (w : HoldsOf old) (a : Stops disks old new) where
     abbrev before : History
@@ -117,9 +143,12 @@ module _ {R : Type 0} (Shows : R → Genesis → ℕ → Holding → Type 0) (di
     fit : SeatFits Shows disks m before (w.views a.seat.number) a.seat
     fit = w.seated a.turns.place a.seat a.turns.at
 
-    stopped_by : (was : Side → Disk) → ((s : Side) → (k : ℕ) × (disk_of a.left s ≡ kept_by k (was s))) → DisksFit m before a.seat.number was → AreShort was → SeatFits Shows disks m before (w.views a.seat.number) a.next
+    stopped_by : (was : Side → Disk) → ((s : Side) → (k : ℕ) × (disk_of a.left s ≡ kept_by k (was s)))
+        → DisksFit m before a.seat.number was → AreShort was
+        → SeatFits Shows disks m before (w.views a.seat.number) a.next
     stopped_by was kept f short = down_fits Shows disks m before (w.views a.seat.number) a.next a.left a.down
-        (subst (λ k. DisksFit m before k (disk_of a.left)) (sym a.turns.number) (stopped_fit m before a.seat.number was (disk_of a.left) kept f)) (kept_short was (disk_of a.left) kept short)
+        (subst (λ k. DisksFit m before k (disk_of a.left)) (sym a.turns.number)
+        (stopped_fit m before a.seat.number was (disk_of a.left) kept f)) (kept_short was (disk_of a.left) kept short)
 
     of_life : (life : Life R) → a.seat.life ≡ life → SeatFits Shows disks m before (w.views a.seat.number) a.next
     of_life (Up r) is = stopped_by (disks r) (a.was_up r is) (fit.up r is).left (fit.up r is).room
@@ -127,7 +156,8 @@ module _ {R : Type 0} (Shows : R → Genesis → ℕ → Holding → Type 0) (di
 
     stops : HoldsOf new
     stops = moved_silent old new (set old.seats a.turns.place a.next) a.turns.seats a.adds
-        (went_down Shows disks m old.genesis old.seats old.sent old.trace w a.turns.place a.seat a.next a.turns.at a.turns.number (of_life a.seat.life refl))
+        (went_down Shows disks m old.genesis old.seats old.sent old.trace w a.turns.place a.seat a.next a.turns.at
+        a.turns.number (of_life a.seat.life refl))
 
   -- what a step began with, once what was asked is noted
   module _ (old : Scene R) (w : HoldsOf old) (o : Option RequestValue) where
@@ -137,10 +167,12 @@ module _ {R : Type 0} (Shows : R → Genesis → ℕ → Holding → Type 0) (di
     since : Holds Shows disks m old.genesis old.seats old.sent asked
     since = asked_maybe Shows disks m old.genesis old.seats old.sent old.trace w o
 
-    fits_before : (place : ℕ) (seat : Seat R) → At old.seats place seat → (r : R) → seat.life ≡ Up r → UpFits Shows disks m (happened old.genesis old.sent asked) (since.views seat.number) seat.number r
+    fits_before : (place : ℕ) (seat : Seat R) → At old.seats place seat → (r : R) → seat.life ≡ Up r
+        → UpFits Shows disks m (happened old.genesis old.sent asked) (since.views seat.number) seat.number r
     fits_before place seat at r was = (since.seated place seat at).up r was
 
-    node_before : (place : ℕ) (seat : Seat R) → At old.seats place seat → (r : R) → seat.life ≡ Up r → NodeFits m (happened old.genesis old.sent asked) seat.number (Shows r old.genesis seat.number) (disks r)
+    node_before : (place : ℕ) (seat : Seat R) → At old.seats place seat → (r : R) → seat.life ≡ Up r
+        → NodeFits m (happened old.genesis old.sent asked) seat.number (Shows r old.genesis seat.number) (disks r)
     node_before place seat at r was =
         node_fits Shows disks m (happened old.genesis old.sent asked) (since.views seat.number) seat.number r
         (lawful Shows disks m old.genesis old.seats old.sent asked since) (fits_before place seat at r was)
@@ -151,18 +183,24 @@ module _ {R : Type 0} (Shows : R → Genesis → ℕ → Holding → Type 0) (di
       let trace : List Note = old.trace ++ asked_note a.request in
       let now = since old w a.request in
       let hears = heard old.genesis old.sent old.trace a.came a.request a.may a.asks in
-      let g = a.goes.goes (happened old.genesis old.sent trace) (node_before old w a.request a.turns.place a.seat a.turns.at a.before a.was) hears in
+      let g = a.goes.goes (happened old.genesis old.sent trace)
+      (node_before old w a.request a.turns.place a.seat a.turns.at a.before a.was) hears in
       let seat_goes : SeatGoes Shows disks m (happened old.genesis old.sent trace) a.next a.notes a.batch = record {
         replica = a.after;
         up = a.up;
-        goes = subst (λ k. Goes m (happened old.genesis old.sent trace) k (Shows a.after old.genesis k) (disks a.after) a.notes a.batch) (sym a.turns.number) g;
+        goes = subst (λ k. Goes m (happened old.genesis old.sent trace) k (Shows a.after old.genesis k)
+            (disks a.after) a.notes a.batch) (sym a.turns.number) g;
         room = a.goes.short (fits_before old w a.request a.turns.place a.seat a.turns.at a.before a.was).room;
       } in
-      let tells = tells_all a.batch a.told (λ d c. let p = g.may d c in (said_by old.genesis n p.message, p.spelled)) a.tells in
-      let went = went_on Shows disks m old.genesis old.seats old.sent trace now a.turns.place a.seat a.next a.turns.at a.turns.number a.notes a.told a.batch seat_goes tells in
-      moved old new (set old.seats a.turns.place a.next) ((asked_note a.request ++ a.notes) ++ a.told) a.batch a.turns.seats a.adds
+      let tells = tells_all a.batch a.told
+      (λ d c. let p = g.may d c in (said_by old.genesis n p.message, p.spelled)) a.tells in
+      let went = went_on Shows disks m old.genesis old.seats old.sent trace now a.turns.place a.seat a.next a.turns.at
+      a.turns.number a.notes a.told a.batch seat_goes tells in
+      moved old new (set old.seats a.turns.place a.next)
+      ((asked_note a.request ++ a.notes) ++ a.told) a.batch a.turns.seats a.adds
       (subst (λ l. Holds Shows disks m old.genesis (set old.seats a.turns.place a.next) (old.sent ++ a.batch) l)
-      (append_assoc old.trace (asked_note a.request) (a.notes ++ a.told) ∙ ap (λ l. old.trace ++ l) (sym (append_assoc (asked_note a.request) a.notes a.told))) went)
+      (append_assoc old.trace (asked_note a.request) (a.notes ++ a.told)
+      ∙ ap (λ l. old.trace ++ l) (sym (append_assoc (asked_note a.request) a.notes a.told))) went)
 
   ends : (old new : Scene R) → HoldsOf old → Ends Shows disks m old new → HoldsOf new
   ends old new w a =
@@ -173,8 +211,10 @@ module _ {R : Type 0} (Shows : R → Genesis → ℕ → Holding → Type 0) (di
       let left = a.ends.ends h (node_before old w a.request a.turns.place a.seat a.turns.at a.before a.was) hears in
       let room = a.ends.short (fits_before old w a.request a.turns.place a.seat a.turns.at a.before a.was).room in
       moved_still old new (set old.seats a.turns.place a.next) (asked_note a.request) a.turns.seats a.adds
-      (went_down Shows disks m old.genesis old.seats old.sent trace now a.turns.place a.seat a.next a.turns.at a.turns.number
-      (down_fits Shows disks m h (now.views a.seat.number) a.next a.left a.down (subst (λ k. DisksFit m h k (disk_of a.left)) (sym a.turns.number) left) room))
+      (went_down Shows disks m old.genesis old.seats old.sent trace now a.turns.place a.seat a.next
+      a.turns.at a.turns.number
+      (down_fits Shows disks m h (now.views a.seat.number) a.next a.left a.down
+      (subst (λ k. DisksFit m h k (disk_of a.left)) (sym a.turns.number) left) room))
 
   -- a step keeps all that holds
   pub step_holds : (old new : Scene R) → HoldsOf old → Steps Shows disks m old new → HoldsOf new
@@ -186,17 +226,22 @@ module _ {R : Type 0} (Shows : R → Genesis → ℕ → Holding → Type 0) (di
   step_holds old new w (inr (inr (inr (inr (inr a))))) = stops old new w a
 
   -- so do many
-  pub steps_hold : (first last : Scene R) (scenes : List (Scene R)) → HoldsOf first → StepsAll Shows disks m first scenes last → HoldsOf last
+  pub steps_hold : (first last : Scene R) (scenes : List (Scene R)) → HoldsOf first
+      → StepsAll Shows disks m first scenes last → HoldsOf last
   steps_hold first last [] w all = subst HoldsOf (sym all) w
   steps_hold first last (next ∷ scenes) w all = steps_hold next last scenes (step_holds first next w all.0) all.1
 
   -- whatever has happened since nothing had
-  pub network_holds : (genesis : Genesis) (scenes : List (Scene R)) (last : Scene R) → StepsAll Shows disks m (nothing genesis) scenes last → HoldsOf last
-  network_holds genesis scenes last all = steps_hold (nothing genesis) last scenes (nothing_holds Shows disks m genesis) all
+  pub network_holds : (genesis : Genesis) (scenes : List (Scene R)) (last : Scene R)
+      → StepsAll Shows disks m (nothing genesis) scenes last → HoldsOf last
+  network_holds genesis scenes last all =
+      steps_hold (nothing genesis) last scenes (nothing_holds Shows disks m genesis) all
 
 -- what is promised of a world is promised of a network
-pub promises_of : {R : Type 0} (Shows : R → Genesis → ℕ → Holding → Type 0) (b : Behaviour R) (whole : R → WholeValue) (m : Meaning)
-    → ((r : R) (g : Genesis) (n : ℕ) (x : Holding) → Shows r g n x → SumsUp m g x.view.done (whole r)) → (w : Scene R) → Holds Shows (disks_by b) m w.genesis w.seats w.sent w.trace → Promises b whole m w
+pub promises_of : {R : Type 0} (Shows : R → Genesis → ℕ → Holding → Type 0) (b : Behaviour R)
+    (whole : R → WholeValue) (m : Meaning)
+    → ((r : R) (g : Genesis) (n : ℕ) (x : Holding) → Shows r g n x → SumsUp m g x.view.done (whole r)) → (w : Scene R)
+    → Holds Shows (disks_by b) m w.genesis w.seats w.sent w.trace → Promises b whole m w
 promises_of Shows b whole m sums w h = record {
   explained = (h.list, h.chosen, explains Shows (disks_by b) m w.genesis w.seats w.sent w.trace h);
   agree = agree Shows (disks_by b) m w.genesis w.seats w.sent w.trace h;

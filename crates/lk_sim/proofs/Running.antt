@@ -1,11 +1,13 @@
 -- Events in a row.
-use Rattle.std.proofs.Common.{◌≡◌, ℕ, suc, List, [], ◌∷◌, ◌++◌, map, take, slice_get, Some, None, refl, sym, ap, ◌∙◌, subst, inl, inr, append_assoc, append-nil}
+use Rattle.std.proofs.Common.{◌≡◌, ℕ, suc, List, [], ◌∷◌, ◌++◌, map, take, slice_get, Some, None, refl, sym, ap, ◌∙◌}
+use Rattle.std.proofs.Common.{subst, inl, inr, append_assoc, append-nil}
 use Rattle.lk_simulated_disk.specs.Memory.{Memory, empty}
 use Rattle.lk_replica.specs.Behaviours.{Behaviour}
 use Rattle.std.specs.Prelude.{Option, Result, Ok, Err, Vec, OnOk, IfErr, IsErrAnd}
 use Rattle.std.specs.Global.{Global}
 use Rattle.lk_node_io.specs.declared.note.Note.{Note}
-use Rattle.lk_sim.specs.Events.{IsGiven, IsGivenTogether, ComesUp, Brings, Does, Wants, IsRefused, IsNotInjected, IsNotGrouped, Grows}
+use Rattle.lk_sim.specs.Events.{IsGiven, IsGivenTogether, ComesUp, Brings, Does, Wants, IsRefused, IsNotInjected}
+use Rattle.lk_sim.specs.Events.{IsNotGrouped, Grows}
 use Rattle.lk_replica.specs.Together.{sent_of}
 use Rattle.lk_sim.specs.Groups.{given_by}
 use Rattle.lk_sim.specs.declared.event.Turn.{Turn}
@@ -20,13 +22,16 @@ use Rattle.lk_world_nodes.specs.declared.seat.Seat.{Seat}
 use Rattle.lk_world_nodes.proofs.Tellings.{take_next}
 
 module _ {R : Type 0} (b : Behaviour R) where
-  passes_on : (es : List Event) (e : Event) (old mid new : Scene R) → Passes b es old mid → Does b mid e new → Passes b (es ++ e ∷ []) old new
+  passes_on : (es : List Event) (e : Event) (old mid new : Scene R) → Passes b es old mid → Does b mid e new
+      → Passes b (es ++ e ∷ []) old new
   passes_on [] e old mid new p d = (new, subst (λ z. Does b z e new) p d, refl)
   passes_on (x ∷ es) e old mid new p d = (p.0, p.1, passes_on es e p.0 mid new p.2 d)
 
   -- one event more
-  pub passes_next : (es : List Event) (i : ℕ) (e : Event) (old mid new : Scene R) → slice_get es i ≡ Some e → Passes b (take i es) old mid → Does b mid e new → Passes b (take (suc i) es) old new
-  passes_next es i e old mid new at p d = subst (λ l. Passes b l old new) (sym (take_next es i e at)) (passes_on (take i es) e old mid new p d)
+  pub passes_next : (es : List Event) (i : ℕ) (e : Event) (old mid new : Scene R) → slice_get es i ≡ Some e
+      → Passes b (take i es) old mid → Does b mid e new → Passes b (take (suc i) es) old new
+  passes_next es i e old mid new at p d =
+      subst (λ l. Passes b l old new) (sym (take_next es i e at)) (passes_on (take i es) e old mid new p d)
 
 -- what follows of each refusal
 pub if_err : {A E : Type 0} (P Q : E → Type 0) (r : Result A E) → ((e : E) → P e → Q e) → IfErr r P → IfErr r Q
@@ -57,7 +62,8 @@ group_refused b old new n turns r k = elim k [
 -- ---- the datagrams only grow
 
 -- whatever a call came to
-pub of_result : {A E : Type 0} (G P : Type 0) (Q : E → Type 0) (r : Result A E) → (P → G) → ((e : E) → Q e → G) → OnOk r P → IfErr r Q → G
+pub of_result : {A E : Type 0} (G P : Type 0) (Q : E → Type 0) (r : Result A E) → (P → G) → ((e : E) → Q e → G)
+    → OnOk r P → IfErr r Q → G
 of_result G P Q (Ok x) p q a b = p a
 of_result G P Q (Err e) p q a b = q e b
 
@@ -68,11 +74,25 @@ module _ {R : Type 0} (b : Behaviour R) where
   come_grows : (old new : Scene R) (t : Seat R) (d : Memory) → ComesUp b old new t d → Grows old new
   come_grows old new t d c = elim c [ inl r ↦ ([], r.adds.sent) | inr f ↦ ([], f.adds.sent) ]
 
-  given_grows : (old new : Scene R) (n : ℕ) (o : Option (List ℕ)) (asked : List Note) → IsGiven b old new n o asked → Grows old new
-  given_grows old new n o asked k = elim k.comes_to [ inl r ↦ (r.batch, r.adds.sent) | inr (inl r) ↦ (take r.sends r.batch, r.adds.sent) | inr (inr f) ↦ ([], f.adds.sent) ]
+  given_grows : (old new : Scene R) (n : ℕ) (o : Option (List ℕ)) (asked : List Note)
+      → IsGiven b old new n o asked → Grows old new
+  given_grows old new n o asked k =
+      elim k.comes_to [
+        | inl r ↦ (r.batch, r.adds.sent)
+        | inr (inl r) ↦
+            (take r.sends r.batch, r.adds.sent)
+        | inr (inr f) ↦ ([], f.adds.sent)
+      ]
 
-  together_grows : (old new : Scene R) (n : ℕ) (given : List (Option (List ℕ))) → IsGivenTogether b old new n given → Grows old new
-  together_grows old new n given k = elim k.comes_to [ inl r ↦ (sent_of r.said, r.adds.sent) | inr (inl r) ↦ (take r.sends (sent_of r.said), r.adds.sent) | inr (inr f) ↦ ([], f.adds.sent) ]
+  together_grows : (old new : Scene R) (n : ℕ) (given : List (Option (List ℕ)))
+      → IsGivenTogether b old new n given → Grows old new
+  together_grows old new n given k =
+      elim k.comes_to [
+        | inl r ↦ (sent_of r.said, r.adds.sent)
+        | inr (inl r) ↦
+            (take r.sends (sent_of r.said), r.adds.sent)
+        | inr (inr f) ↦ ([], f.adds.sent)
+      ]
 
   brings_grows : (old new : Scene R) (e : Event) → Brings b old e new → Grows old new
   brings_grows old new (event.Start n) k = come_grows old new k.seat empty k.comes
@@ -82,7 +102,8 @@ module _ {R : Type 0} (b : Behaviour R) where
   brings_grows old new (event.Client n r) k = (k.datagram ∷ [], k.adds.sent)
   brings_grows old new (event.Deliver i) k = given_grows old new k.node (Some k.datagram.bytes) [] k.given
   brings_grows old new (event.Group n turns) k = together_grows old new n (map (given_by old.sent) turns.items) k
-  brings_grows old new (event.Inject n bytes) k = given_grows old new n (Some bytes.items) (asked_note k.request) k.given
+  brings_grows old new (event.Inject n bytes) k =
+      given_grows old new n (Some bytes.items) (asked_note k.request) k.given
   brings_grows old new (event.Stop n x y) k = ([], k.adds.sent)
   brings_grows old new (event.FailAt n count) k = ([], k.adds.sent)
   brings_grows old new (event.Arm n count bytes) k = ([], k.adds.sent)
@@ -97,14 +118,17 @@ module _ {R : Type 0} (b : Behaviour R) where
   wants_grow old new (event.Compact m) k = ([], k.adds.sent)
   wants_grow old new (event.Client m r) k = nothing_more old new k
   wants_grow old new (event.Deliver i) k = elim k [ inl same ↦ nothing_more old new same | inr h ↦ ([], h.4.adds.sent) ]
-  wants_grow old new (event.Group m turns) k = elim k [ inl same ↦ nothing_more old new same.0 | inr h ↦ ([], h.adds.sent) ]
-  wants_grow old new (event.Inject m bytes) k = elim k [ inl same ↦ nothing_more old new same.0 | inr h ↦ ([], h.adds.sent) ]
+  wants_grow old new (event.Group m turns) k =
+      elim k [ inl same ↦ nothing_more old new same.0 | inr h ↦ ([], h.adds.sent) ]
+  wants_grow old new (event.Inject m bytes) k =
+      elim k [ inl same ↦ nothing_more old new same.0 | inr h ↦ ([], h.adds.sent) ]
   wants_grow old new (event.Stop m x y) k = absurd k
   wants_grow old new (event.FailAt m count) k = absurd k
   wants_grow old new (event.Arm m count bytes) k = absurd k
 
   pub refused_grows : (old new : Scene R) (e : Event) (r : Refused) → IsRefused b old e r new → Grows old new
-  refused_grows old new e r k = elim k [ inl same ↦ nothing_more old new same.1 | inr wants ↦ wants_grow old new e wants.2 ]
+  refused_grows old new e r k =
+      elim k [ inl same ↦ nothing_more old new same.1 | inr wants ↦ wants_grow old new e wants.2 ]
 
   both_grow : (old mid new : Scene R) → Grows old mid → Grows mid new → Grows old new
   both_grow old mid new x y = (x.0 ++ y.0, y.1 ∙ ap (λ l. l ++ y.0) x.1 ∙ append_assoc old.sent x.0 y.0)
@@ -113,9 +137,12 @@ module _ {R : Type 0} (b : Behaviour R) where
   passes_grow [] old new p = nothing_more old new p
   passes_grow (e ∷ es) old new p = both_grow old p.0 new (done_grows old p.0 e p.1) (passes_grow es p.0 new p.2)
 
-  stops_grow : (es : List Event) (done : ℕ) (o : Option Refused) (last new : Scene R) → StopsAt b es done o last new → Grows last new
+  stops_grow : (es : List Event) (done : ℕ) (o : Option Refused) (last new : Scene R)
+      → StopsAt b es done o last new → Grows last new
   stops_grow es done None last new k = nothing_more last new k.1
   stops_grow es done (Some r) last new k = refused_grows last new k.0 r k.2
 
   pub run_grows : (old new : Scene R) (es : List Event) (how : RunEnd) → Runs b old es how new → Grows old new
-  run_grows old new es how k = both_grow old k.last new (passes_grow (take how.done es) old k.last k.passes) (stops_grow es how.done how.refused k.last new k.stops)
+  run_grows old new es how k =
+      both_grow old k.last new (passes_grow (take how.done es) old k.last k.passes)
+      (stops_grow es how.done how.refused k.last new k.stops)

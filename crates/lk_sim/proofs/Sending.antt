@@ -1,5 +1,6 @@
 -- A node goes on: what it sends and notes keeps all that holds of the world.
-use Rattle.std.proofs.Common.{◌≡◌, ℕ, ◌==◌, Bool, true, false, cond, List, ◌++◌, length, set, get_or, Contains, refl, ap, sym, ◌∙◌, subst, inl, inr, eqb-true}
+use Rattle.std.proofs.Common.{◌≡◌, ℕ, ◌==◌, Bool, true, false, cond, List, ◌++◌, length, set, get_or, Contains, refl}
+use Rattle.std.proofs.Common.{ap, sym, ◌∙◌, subst, inl, inr, eqb-true}
 use Rattle.std.proofs.lemmas.Bool.{cases_eq, eqb-false}
 use Rattle.std.proofs.lemmas.List.{get_or_default}
 use Rattle.std.proofs.Math.Seq.{take-length}
@@ -50,17 +51,21 @@ pub other_view : (k n : ℕ) (y v : View) → (k ≡ n → ⊥) → (t : Bool) �
 other_view k n y v ne true e = absurd (ne (eqb-true k n e))
 other_view k n y v ne false e = refl
 
-no_request : (genesis : Genesis) (n : ℕ) (x : NodeMessage) (r : RequestValue) (cluster : ℕ) (bytes : List ℕ) → Spells (said_by genesis n x) bytes
+no_request : (genesis : Genesis) (n : ℕ) (x : NodeMessage) (r : RequestValue) (cluster : ℕ) (bytes : List ℕ)
+    → Spells (said_by genesis n x) bytes
     → Spells (record { cluster = cluster; content = content.Request r }) bytes → ⊥
 no_request genesis n x r cluster bytes said asked = none (ap (λ k. k.content) (one_message _ _ bytes said asked))
   where
     none : content.Node n x ≡ content.Request r → ⊥
     none e = cc e
 
-module _ {R : Type 0} (Shows : R → Genesis → ℕ → Holding → Type 0) (disks : R → Side → Disk) (m : Meaning) (genesis : Genesis) (seats : List (Seat R)) (sent : List Datagram) (trace : List Note)
+module _ {R : Type 0} (Shows : R → Genesis → ℕ → Holding → Type 0) (disks : R → Side → Disk) (m : Meaning)
+    (genesis : Genesis) (seats : List (Seat R)) (sent : List Datagram) (trace : List Note)
     (w : Holds Shows disks m genesis seats sent trace)
     (i : ℕ) (s new : Seat R) (at : At seats i s) (r : R) (number : new.number ≡ s.number) (up : new.life ≡ Up r)
-    (mine told : List Note) (batch : List Datagram) (g : Goes m (happened genesis sent trace) s.number (Shows r genesis s.number) (disks r) mine batch) (tells : Tells batch told) (short : AreShort (disks r)) where
+    (mine told : List Note) (batch : List Datagram)
+    (g : Goes m (happened genesis sent trace) s.number (Shows r genesis s.number) (disks r) mine batch)
+    (tells : Tells batch told) (short : AreShort (disks r)) where
   abbrev notes : List Note
   notes = mine ++ told
 
@@ -85,7 +90,12 @@ module _ {R : Type 0} (Shows : R → Genesis → ℕ → Holding → Type 0) (di
   may : MayPostAll genesis sent n (now.views n) batch
   may d c =
       let p = g.may d c in
-      record { message = p.message; from = p.from; spelled = p.spelled; may = subst (λ v. MaySend genesis sent v p.message) (sym here) p.may }
+      record {
+        message = p.message;
+        from = p.from;
+        spelled = p.spelled;
+        may = subst (λ v. MaySend genesis sent v p.message) (sym here) p.may;
+      }
 
   after_fits : WorldFits genesis (with_sent now batch)
   after_fits = batch_fits genesis now n batch may now_fits
@@ -101,26 +111,35 @@ module _ {R : Type 0} (Shows : R → Genesis → ℕ → Holding → Type 0) (di
     holding = g.holding;
     view = sym here;
     shown = g.shown;
-    fits = still_holding genesis sent batch (asked_in trace) (asked_in (trace ++ notes)) among m n g.holding (subst (λ v. ViewFits genesis (sent ++ batch) n v) here (after_fits.views n)) g.fits;
-    left = disks_move m genesis (sent ++ batch) (sent ++ batch) (asked_in trace) (asked_in (trace ++ notes)) n (disks r) (λ x c. c) (λ x c. c)
-        (subst (λ b. DisksFit m (later (happened genesis sent trace) b) n (disks r)) (take-length batch) (g.left (length batch)));
+    fits = still_holding genesis sent batch (asked_in trace) (asked_in (trace ++ notes)) among m n g.holding
+        (subst (λ v. ViewFits genesis (sent ++ batch) n v) here (after_fits.views n)) g.fits;
+    left = disks_move m genesis (sent ++ batch) (sent ++ batch) (asked_in trace) (asked_in (trace ++ notes)) n
+        (disks r) (λ x c. c) (λ x c. c)
+        (subst (λ b. DisksFit m (later (happened genesis sent trace) b) n (disks r)) (take-length batch)
+        (g.left (length batch)));
     room = short;
   }
 
-  others : (k : ℕ) → (k ≡ n → ⊥) → (d : Side → Disk) → DisksFit m (happened genesis sent trace) k d → DisksFit m since k d
+  others : (k : ℕ) → (k ≡ n → ⊥) → (d : Side → Disk)
+      → DisksFit m (happened genesis sent trace) k d → DisksFit m since k d
   others k ne d f = disks_move m genesis sent (sent ++ batch) (asked_in trace) (asked_in (trace ++ notes)) k d
       (λ x c. covers_elsewhere genesis now n batch may k x (λ e. ne (sym e)) c) (still_stems genesis sent batch) f
 
-  elsewhere : (t : Seat R) → (t.number ≡ n → ⊥) → SeatFits Shows disks m (happened genesis sent trace) (w.views t.number) t → SeatFits Shows disks m since (now.views t.number) t
+  elsewhere : (t : Seat R) → (t.number ≡ n → ⊥)
+      → SeatFits Shows disks m (happened genesis sent trace) (w.views t.number) t
+      → SeatFits Shows disks m since (now.views t.number) t
   elsewhere t ne f = record {
     up = λ q is. let u = f.up q is in
-        let same : now.views t.number ≡ w.views t.number = other_view t.number n y (w.views t.number) ne (t.number == n) refl in
+        let same : now.views t.number ≡ w.views t.number =
+        other_view t.number n y (w.views t.number) ne (t.number == n) refl in
         record {
           holding = u.holding;
           view = u.view ∙ sym same;
           shown = u.shown;
-          fits = still_holding genesis sent batch (asked_in trace) (asked_in (trace ++ notes)) among m t.number u.holding
-              (subst (λ v. ViewFits genesis (sent ++ batch) t.number v) (same ∙ sym u.view) (after_fits.views t.number)) u.fits;
+          fits =
+              still_holding genesis sent batch (asked_in trace) (asked_in (trace ++ notes)) among m t.number u.holding
+              (subst (λ v. ViewFits genesis (sent ++ batch) t.number v) (same ∙ sym u.view)
+              (after_fits.views t.number)) u.fits;
           left = others t.number ne (disks q) u.left;
           room = u.room;
         };
@@ -137,7 +156,8 @@ module _ {R : Type 0} (Shows : R → Genesis → ℕ → Holding → Type 0) (di
       own_seat : SeatFits Shows disks m since (now.views new.number) new
       own_seat = record {
         up = λ q is. let same : r ≡ q = cc (up, is) in
-            subst (λ z. UpFits Shows disks m since (now.views new.number) new.number z) same (subst (λ k. UpFits Shows disks m since (now.views k) k r) (sym number) own);
+            subst (λ z. UpFits Shows disks m since (now.views new.number) new.number z) same
+            (subst (λ k. UpFits Shows disks m since (now.views k) k r) (sym number) own);
         down = λ d is. absurd (cc (up, is));
         room = λ d is. absurd (cc (up, is));
       }
@@ -154,7 +174,8 @@ module _ {R : Type 0} (Shows : R → Genesis → ℕ → Holding → Type 0) (di
     ]
   ]
 
-  still_there : (j : ℕ) (t : Seat R) → At seats j t → (k : ℕ) × (u : Seat R) × At (set seats i new) k u × (u.number ≡ t.number)
+  still_there : (j : ℕ) (t : Seat R) → At seats j t
+      → (k : ℕ) × (u : Seat R) × At (set seats i new) k u × (u.number ≡ t.number)
   still_there j t c = elim (cases_eq j i) [
     | inl e ↦ (i, new, at_set_here seats i new at.0, number ∙ ap (λ (z : Seat R). z.number) (same e))
     | inr ne ↦ (j, t, at_set_other seats i new j t ne c, refl)
@@ -169,13 +190,16 @@ module _ {R : Type 0} (Shows : R → Genesis → ℕ → Holding → Type 0) (di
       let e = said_alike genesis n k p.message x h.datagram.bytes p.spelled h.spelled in
       (e.0, subst (λ z. MaySend genesis sent y z) e.1 p.may)
 
-  known : (k : ℕ) (x : NodeMessage) → HasSent genesis (sent ++ batch) k x → (j : ℕ) × (t : Seat R) × At (set seats i new) j t × (t.number ≡ k)
+  known : (k : ℕ) (x : NodeMessage) → HasSent genesis (sent ++ batch) k x
+      → (j : ℕ) × (t : Seat R) × At (set seats i new) j t × (t.number ≡ k)
   known k x h = elim (sent_cases genesis sent batch k x h) [
     | inl old ↦ (let a = w.known k x old in let b = still_there a.0 a.1 a.2 in (b.0, b.1, b.2, b.3 ∙ a.3))
     | inr fresh ↦ (i, new, at_set_here seats i new at.0, number ∙ (said_now k x fresh).0)
   ]
 
-  requests : (d : Datagram) (q : RequestValue) (cluster : ℕ) → Contains (sent ++ batch) d → Spells (record { cluster = cluster; content = content.Request q }) d.bytes → Contains (asked_in (trace ++ notes)) q
+  requests : (d : Datagram) (q : RequestValue) (cluster : ℕ) → Contains (sent ++ batch) d
+      → Spells (record { cluster = cluster; content = content.Request q }) d.bytes
+      → Contains (asked_in (trace ++ notes)) q
   requests d q cluster c said = elim (Contains-append_cases sent batch d c) [
     | inl old ↦ among q (w.requests d q cluster old said)
     | inr fresh ↦ (let p = g.may d fresh in absurd (no_request genesis n p.message q cluster d.bytes p.spelled said))
@@ -183,52 +207,76 @@ module _ {R : Type 0} (Shows : R → Genesis → ℕ → Holding → Type 0) (di
 
   proposed : (x : Vote) → WasSent genesis (sent ++ batch) (Accept x) → WasAsked since x.command
   proposed x h = elim (sent_cases genesis sent batch h.sender (Accept x) h.has_sent) [
-    | inl old ↦ still_asked genesis sent batch (asked_in trace) (asked_in (trace ++ notes)) among x.command (w.proposed x (record { sender = h.sender; has_sent = old }))
+    | inl old ↦ still_asked genesis sent batch (asked_in trace) (asked_in (trace ++ notes)) among x.command
+        (w.proposed x (record { sender = h.sender; has_sent = old }))
     | inr fresh ↦ (let t = (said_now h.sender (Accept x) fresh).1 in
-        still_asked genesis sent batch (asked_in trace) (asked_in (trace ++ notes)) among x.command (g.fits.proposals t.0 t.1 x.position x.command t.3))
+        still_asked genesis sent batch (asked_in trace) (asked_in (trace ++ notes)) among x.command
+        (g.fits.proposals t.0 t.1 x.position x.command t.3))
   ]
 
   abbrev BearsDatagram : List Command → Datagram → Type 0
-  BearsDatagram L d = (k : ℕ) (x : NodeMessage) → Spells (said_by genesis k x) d.bytes → BearsOutMessage m (happened genesis sent trace) L x
+  BearsDatagram L d = (k : ℕ) (x : NodeMessage) → Spells (said_by genesis k x) d.bytes
+      → BearsOutMessage m (happened genesis sent trace) L x
 
   of_datagram : (d : Datagram) → Contains batch d → (K : List Command) × Chosen genesis sent K × BearsDatagram K d
   of_datagram d c =
       let p = g.may d c in (
         p.served.under,
         p.served.chosen,
-        λ k x said. subst (λ z. BearsOutMessage m (happened genesis sent trace) p.served.under z) (said_alike genesis n k p.message x d.bytes p.spelled said).1 p.served.bears,
+        λ k x said. subst (λ z. BearsOutMessage m (happened genesis sent trace) p.served.under z)
+            (said_alike genesis n k p.message x d.bytes p.spelled said).1 p.served.bears,
       )
 
-  of_told : (x : Note) → Contains told x → (K : List Command) × Chosen genesis sent K × BearsOut m (happened genesis sent trace) K x
+  of_told : (x : Note) → Contains told x
+      → (K : List Command) × Chosen genesis sent K × BearsOut m (happened genesis sent trace) K x
   of_told x c =
       let t = told_from batch told tells x c in
       let p = g.may t.0 t.2 in
-      let same : t.1.content ≡ content.Node n p.message = ap (λ k. k.content) (one_message _ _ t.0.bytes t.3 p.spelled) in
-      (p.served.under, p.served.chosen, bears_told m (happened genesis sent trace) p.served.under n p.message t.0.bytes p.spelled p.served.bears x (subst (λ k. Contains (told_by k) x) same t.4))
+      let same : t.1.content ≡ content.Node n p.message =
+      ap (λ k. k.content) (one_message _ _ t.0.bytes t.3 p.spelled) in (
+        p.served.under,
+        p.served.chosen,
+        bears_told m (happened genesis sent trace) p.served.under n p.message t.0.bytes p.spelled p.served.bears x
+            (subst (λ k. Contains (told_by k) x) same t.4),
+      )
 
-  of_note : (x : Note) → Contains notes x → (K : List Command) × Chosen genesis sent K × BearsOut m (happened genesis sent trace) K x
-  of_note x c = elim (Contains-append_cases mine told x c) [ inl own ↦ (let b = (g.noted x own).1 in (b.under, b.chosen, b.bears)) | inr now ↦ of_told x now ]
+  of_note : (x : Note) → Contains notes x
+      → (K : List Command) × Chosen genesis sent K × BearsOut m (happened genesis sent trace) K x
+  of_note x c = elim (Contains-append_cases mine told x c)
+      [ inl own ↦ (let b = (g.noted x own).1 in (b.under, b.chosen, b.bears)) | inr now ↦ of_told x now ]
 
   -- what is borne out rests on what was asked before
-  rests : (x : Note) (L : List Command) → Chosen genesis sent L → BearsOut m (happened genesis sent trace) L x → RestsOn m genesis sent trace x
+  rests : (x : Note) (L : List Command) → Chosen genesis sent L → BearsOut m (happened genesis sent trace) L x
+      → RestsOn m genesis sent trace x
   rests (note.Asked r) L l b = tt
   rests (note.Counted k j set v) L l b = tt
   rests (note.Ran k j v) L l b = tt
-  rests (note.Answered k client number a) L l b = record { under = L; chosen = l; replied = b; asked = request_asked Shows disks m genesis seats sent trace w L l }
-  rests (note.Told k client number last) L l b = (b.1.0, record { under = L; chosen = l; replied = b.1.1; asked = request_asked Shows disks m genesis seats sent trace w L l })
+  rests (note.Answered k client number a) L l b =
+      record { under = L; chosen = l; replied = b; asked = request_asked Shows disks m genesis seats sent trace w L l }
+  rests (note.Told k client number last) L l b = (
+    b.1.0,
+    record {
+      under = L;
+      chosen = l;
+      replied = b.1.1;
+      asked = request_asked Shows disks m genesis seats sent trace w L l;
+    },
+  )
 
   rests_now : (x : Note) → Contains notes x → RestsOn m genesis sent trace x
   rests_now x c = let b = of_note x c in rests x b.0 b.1 b.2
 
   told_now : told_in (trace ++ notes) ≡ told_in trace ++ told
   told_now = told_in-append trace notes ∙ ap (λ l. told_in trace ++ l)
-      (told_in-append mine told ∙ ap (λ l. l ++ told_in told) (told_in-of_node mine (λ x c. (g.noted x c).0)) ∙ told_in-tells batch told tells)
+      (told_in-append mine told ∙ ap (λ l. l ++ told_in told) (told_in-of_node mine (λ x c. (g.noted x c).0))
+      ∙ told_in-tells batch told tells)
 
   pub goes_on : Holds Shows disks m genesis (set seats i new) (sent ++ batch) (trace ++ notes)
   goes_on =
       let h = happened genesis sent trace in
       let a = all_borne genesis sent w.world.sound (BearsOut m h) (bears_longer m h) notes of_note w.list w.chosen in
-      let b = all_borne genesis sent w.world.sound BearsDatagram (λ L rest d bears k x said. message_longer m h L rest x (bears k x said)) batch of_datagram a.0 a.1 in
+      let b = all_borne genesis sent w.world.sound BearsDatagram
+      (λ L rest d bears k x said. message_longer m h L rest x (bears k x said)) batch of_datagram a.0 a.1 in
       record {
         views = now.views;
         world = after_fits;
@@ -246,9 +294,11 @@ module _ {R : Type 0} (Shows : R → Genesis → ℕ → Holding → Type 0) (di
               | inr fresh ↦ a.3 x fresh
             ]));
         messages = λ k x c. elim (sent_cases genesis sent batch k x c) [
-          | inl old ↦ begins_all (BearsOutMessage m h) (message_longer m h) a.0 b.0 b.2 x (begins_all (BearsOutMessage m h) (message_longer m h) w.list a.0 a.2 x (w.messages k x old))
+          | inl old ↦ begins_all (BearsOutMessage m h) (message_longer m h) a.0 b.0 b.2 x
+              (begins_all (BearsOutMessage m h) (message_longer m h) w.list a.0 a.2 x (w.messages k x old))
           | inr fresh ↦ b.3 fresh.datagram fresh.listed k x fresh.spelled
         ];
-        told = subst (λ l. Tells (sent ++ batch) l) (sym told_now) (tells_append sent batch (told_in trace) told w.told tells);
+        told = subst (λ l. Tells (sent ++ batch) l) (sym told_now)
+            (tells_append sent batch (told_in trace) told w.told tells);
         in_time = still_in_time m genesis sent batch trace notes w.in_time rests_now;
       }

@@ -24,26 +24,34 @@ pub on_ok : {T E : Type 0} (P Q : Type 0) (r : Result T E) → (P → Q) → OnO
 on_ok P Q (Ok x) f p = f p
 on_ok P Q (Err e) f p = tt
 
-module _ {R : Type 0} (b : Behaviour R) (Shows : R → Genesis → ℕ → Holding → Type 0) (whole : R → WholeValue) (m : Meaning)
-    (law : (old new : R) (genesis : Genesis) (n : ℕ) (x : Holding) → Shows old genesis n x → b.Compacts old new (Ok tt) → AllStandAt m genesis n (disks_by b new) (whole new).roster.executed x.view.done) where
-  stands_packed : (old new : Scene R) → Holds Shows (disks_by b) m old.genesis old.seats old.sent old.trace → (n : ℕ) → (k : IsCompacted b old new n) → GoesOnCompacted b old new k.replica k.next → StandsPacked whole (disks_by b) m new n
+module _ {R : Type 0} (b : Behaviour R) (Shows : R → Genesis → ℕ → Holding → Type 0)
+    (whole : R → WholeValue) (m : Meaning)
+    (law : (old new : R) (genesis : Genesis) (n : ℕ) (x : Holding) → Shows old genesis n x → b.Compacts old new (Ok tt)
+    → AllStandAt m genesis n (disks_by b new) (whole new).roster.executed x.view.done) where
+  stands_packed : (old new : Scene R) → Holds Shows (disks_by b) m old.genesis old.seats old.sent old.trace → (n : ℕ)
+      → (k : IsCompacted b old new n) → GoesOnCompacted b old new k.replica k.next
+      → StandsPacked whole (disks_by b) m new n
   stands_packed old new w n k p = record {
     place = k.turns.place;
     seat = k.next;
-    at = subst (λ l. At l k.turns.place k.next) (sym k.turns.seats) (at_set_here old.seats k.turns.place k.next k.turns.at.0);
+    at = subst (λ l. At l k.turns.place k.next) (sym k.turns.seats)
+        (at_set_here old.seats k.turns.place k.next k.turns.at.0);
     number = k.turns.number ∙ k.number;
     replica = p.replica;
     up = p.up;
     stands = λ image may.
         let u = (w.seated k.turns.place k.seat k.turns.at).up k.replica k.up in
-        let g = law k.replica p.replica old.genesis k.seat.number u.holding u.shown p.compacts image (subst (λ z. MayLeaveBoth (disks_of (disks_by b) z) image) p.up may) in (
+        let g = law k.replica p.replica old.genesis k.seat.number u.holding u.shown p.compacts image
+        (subst (λ z. MayLeaveBoth (disks_of (disks_by b) z) image) p.up may) in (
           g.0,
-          subst₂ (λ (z : Genesis) (j : ℕ). StandsAs (header_of z j) (text m z []) image g.0) (sym p.adds.genesis) (sym k.turns.number) g.1,
+          subst₂ (λ (z : Genesis) (j : ℕ). StandsAs (header_of z j) (text m z []) image g.0) (sym p.adds.genesis)
+              (sym k.turns.number) g.1,
           (
             g.2,
             (
               u.holding.view.done,
-              subst₂ (λ z l. Chosen z l u.holding.view.done) (sym p.adds.genesis) (sym (p.adds.sent ∙ append-nil old.sent)) u.fits.view.stems.done,
+              subst₂ (λ z l. Chosen z l u.holding.view.done) (sym p.adds.genesis)
+                  (sym (p.adds.sent ∙ append-nil old.sent)) u.fits.view.stems.done,
               g.3,
               subst (λ z. g.0.snapshot ≡ text m z u.holding.view.done) (sym p.adds.genesis) g.4,
             ),
@@ -52,7 +60,8 @@ module _ {R : Type 0} (b : Behaviour R) (Shows : R → Genesis → ℕ → Holdi
   }
 
   -- an event that is done leaves such disks where a node compacted
-  pub leaves_packed : (old new : Scene R) → Holds Shows (disks_by b) m old.genesis old.seats old.sent old.trace → (e : Event) → Does b old e new → LeavesPacked whole (disks_by b) m e new
+  pub leaves_packed : (old new : Scene R) → Holds Shows (disks_by b) m old.genesis old.seats old.sent old.trace
+      → (e : Event) → Does b old e new → LeavesPacked whole (disks_by b) m e new
   leaves_packed old new w (event.Start n) k = tt
   leaves_packed old new w (event.Restart n) k = tt
   leaves_packed old new w (event.Tick n) k = tt

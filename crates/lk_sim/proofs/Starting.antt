@@ -1,5 +1,6 @@
 -- A node is started: its disks are empty, and it has sent nothing.
-use Rattle.std.proofs.Common.{◌≡◌, ℕ, zero, suc, ◌⊎◌, List, [], ◌∷◌, ◌++◌, length, take, Contains, refl, ap, sym, ◌∙◌, subst, inl, inr, arith}
+use Rattle.std.proofs.Common.{◌≡◌, ℕ, zero, suc, ◌⊎◌, List, [], ◌∷◌, ◌++◌, length, take, Contains, refl, ap, sym, ◌∙◌}
+use Rattle.std.proofs.Common.{subst, inl, inr, arith}
 use Rattle.lk_disk.specs.Disk.{Disk}
 use Rattle.lk_simulated_disk.specs.Memory.{Memory, disk_of}
 use Rattle.lk_disk.specs.declared.device.Side.{Side}
@@ -25,12 +26,18 @@ use Rattle.lk_world_nodes.specs.declared.seat.Seat.{Seat}
 use Rattle.lk_world_nodes.specs.declared.seat.Life.TheVariants.{Down}
 
 -- empty disks fit where the node has sent nothing
-pub empty_fits : (m : Meaning) (h : History) (n : ℕ) (disks : Side → Disk) → ((s : Side) → disks s ≡ record { synced = []; unsynced = [] }) → ((x : NodeMessage) → HasSent h.genesis h.sent n x → ⊥) → DisksFit m h n disks
+pub empty_fits : (m : Meaning) (h : History) (n : ℕ) (disks : Side → Disk)
+    → ((s : Side) → disks s ≡ record { synced = []; unsynced = [] })
+    → ((x : NodeMessage) → HasSent h.genesis h.sent n x → ⊥) → DisksFit m h n disks
 empty_fits m h n disks empty silent image may = record {
   standing = (first_base (header_of h.genesis n) (text m h.genesis [])).standing;
   stands = record {
     entries = Base (first_base (header_of h.genesis n) (text m h.genesis [])) ∷ [];
-    found = inr (empty_image image (λ s. (may s).1 ∙ ap (λ (d : Disk). d.synced ++ take (may s).0 d.unsynced) (empty s) ∙ none (may s).0), refl);
+    found = inr (
+      empty_image image
+          (λ s. (may s).1 ∙ ap (λ (d : Disk). d.synced ++ take (may s).0 d.unsynced) (empty s) ∙ none (may s).0),
+      refl,
+    );
     header = refl;
     stands = first_stands (header_of h.genesis n) (text m h.genesis []);
   };
@@ -46,11 +53,14 @@ empty_fits m h n disks empty silent image may = record {
     none zero = refl
     none (suc k) = refl
 
-pub at_push : {X : Type 0} (xs : List X) (y : X) (j : ℕ) (x : X) → At (xs ++ y ∷ []) j x → At xs j x ⊎ ((j ≡ length xs) × (y ≡ x))
+pub at_push : {X : Type 0} (xs : List X) (y : X) (j : ℕ) (x : X) → At (xs ++ y ∷ []) j x
+    → At xs j x ⊎ ((j ≡ length xs) × (y ≡ x))
 at_push [] y zero x c = inr (refl, c.1)
 at_push [] y (suc j) x c = absurd (omega (arith, c.0))
 at_push (z ∷ xs) y zero x c = inl (omega arith, c.1)
-at_push (z ∷ xs) y (suc j) x c = elim (at_push xs y j x (omega (arith, c.0), c.1)) [ inl a ↦ inl (omega (arith, a.0), a.1) | inr a ↦ inr (omega (arith, a.0), a.1) ]
+at_push (z ∷ xs) y (suc j) x c =
+    elim (at_push xs y j x (omega (arith, c.0), c.1))
+    [ inl a ↦ inl (omega (arith, a.0), a.1) | inr a ↦ inr (omega (arith, a.0), a.1) ]
 
 at_front : {X : Type 0} (xs : List X) (y : X) (j : ℕ) (x : X) → At xs j x → At (xs ++ y ∷ []) j x
 at_front [] y j x c = absurd (omega (arith, c.0))
@@ -61,10 +71,12 @@ pub at_end : {X : Type 0} (xs : List X) (y : X) → At (xs ++ y ∷ []) (length 
 at_end [] y = (omega arith, refl)
 at_end (z ∷ xs) y = let a = at_end xs y in (omega (arith, a.0), a.1)
 
-module _ {R : Type 0} (Shows : R → Genesis → ℕ → Holding → Type 0) (disks : R → Side → Disk) (m : Meaning) (genesis : Genesis) (seats : List (Seat R)) (sent : List Datagram) (trace : List Note)
+module _ {R : Type 0} (Shows : R → Genesis → ℕ → Holding → Type 0) (disks : R → Side → Disk) (m : Meaning)
+    (genesis : Genesis) (seats : List (Seat R)) (sent : List Datagram) (trace : List Note)
     (w : Holds Shows disks m genesis seats sent trace)
     (new : Seat R) (unused : (k : ℕ) (t : Seat R) → At seats k t → t.number ≡ new.number → ⊥)
-    (device : Memory) (down : new.life ≡ Down device) (left : (s : Side) → disk_of device s ≡ record { synced = []; unsynced = [] }) where
+    (device : Memory) (down : new.life ≡ Down device)
+    (left : (s : Side) → disk_of device s ≡ record { synced = []; unsynced = [] }) where
   silent : (x : NodeMessage) → HasSent genesis sent new.number x → ⊥
   silent x h = let a = w.known new.number x h in unused a.0 a.1 a.2 a.3
 
@@ -72,8 +84,10 @@ module _ {R : Type 0} (Shows : R → Genesis → ℕ → Holding → Type 0) (di
   mine = record {
     up = λ q is. absurd (cc (down, is));
     down = λ d is. let same : device ≡ d = cc (down, is) in
-        subst (λ z. DisksFit m (happened genesis sent trace) new.number (disk_of z)) same (empty_fits m (happened genesis sent trace) new.number (disk_of device) left silent);
-    room = λ d is. let same : device ≡ d = cc (down, is) in subst (λ (z : Memory). AreShort (disk_of z)) same (empty_short (disk_of device) left);
+        subst (λ z. DisksFit m (happened genesis sent trace) new.number (disk_of z)) same
+        (empty_fits m (happened genesis sent trace) new.number (disk_of device) left silent);
+    room = λ d is. let same : device ≡ d = cc (down, is) in
+        subst (λ (z : Memory). AreShort (disk_of z)) same (empty_short (disk_of device) left);
   }
 
   pub starts : Holds Shows disks m genesis (seats ++ new ∷ []) sent trace
@@ -106,7 +120,8 @@ module _ {R : Type 0} (Shows : R → Genesis → ℕ → Holding → Type 0) (di
   }
 
 -- nothing was started, sent or noted
-pub nothing_holds : {R : Type 0} (Shows : R → Genesis → ℕ → Holding → Type 0) (disks : R → Side → Disk) (m : Meaning) (genesis : Genesis) → Holds Shows disks m genesis [] [] []
+pub nothing_holds : {R : Type 0} (Shows : R → Genesis → ℕ → Holding → Type 0) (disks : R → Side → Disk) (m : Meaning)
+    (genesis : Genesis) → Holds Shows disks m genesis [] [] []
 nothing_holds Shows disks m genesis = record {
   views = λ n. fresh;
   world = start_fits genesis;

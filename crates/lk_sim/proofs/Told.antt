@@ -1,5 +1,6 @@
 -- Answers and passes, by the datagrams and by the trace.
-use Rattle.std.proofs.Common.{◌≡◌, ℕ, List, [], ◌∷◌, ◌++◌, Contains, refl, ap, sym, ◌∙◌, subst, inl, inr, arith, append_assoc}
+use Rattle.std.proofs.Common.{◌≡◌, ℕ, List, [], ◌∷◌, ◌++◌, Contains, refl, ap, sym, ◌∙◌, subst, inl, inr, arith}
+use Rattle.std.proofs.Common.{append_assoc}
 use Rattle.std.proofs.lemmas.List.Elements.{Contains-append_cases}
 use Rattle.lk_messages.specs.Grammar.{Spells}
 use Rattle.lk_messages.specs.declared.message.Content.{Content}
@@ -19,7 +20,8 @@ use Rattle.lk_sim.specs.Traces.{told_of, told_in}
 
 pub told_in-append : (xs ys : List Note) → told_in (xs ++ ys) ≡ told_in xs ++ told_in ys
 told_in-append [] ys = refl
-told_in-append (x ∷ xs) ys = ap (λ l. told_of x ++ l) (told_in-append xs ys) ∙ sym (append_assoc (told_of x) (told_in xs) (told_in ys))
+told_in-append (x ∷ xs) ys =
+    ap (λ l. told_of x ++ l) (told_in-append xs ys) ∙ sym (append_assoc (told_of x) (told_in xs) (told_in ys))
 
 none_told : (x : Note) → IsOfNode x → told_of x ≡ []
 none_told (note.Asked r) f = absurd f
@@ -31,7 +33,8 @@ none_told (note.Told node client number last) f = absurd f
 pub told_in-of_node : (xs : List Note) → ((x : Note) → Contains xs x → IsOfNode x) → told_in xs ≡ []
 told_in-of_node [] f = refl
 told_in-of_node (x ∷ xs) f =
-    ap (λ l. l ++ told_in xs) (none_told x (f x (0, omega arith, refl))) ∙ told_in-of_node xs (λ y c. f y (contains_more x xs y c))
+    ap (λ l. l ++ told_in xs) (none_told x (f x (0, omega arith, refl)))
+    ∙ told_in-of_node xs (λ y c. f y (contains_more x xs y c))
 
 all_told : (c : Content) → told_in (told_by c) ≡ told_by c
 all_told (content.Request r) = refl
@@ -51,10 +54,12 @@ all_told (content.Node n (kinds.Lead b e)) = refl
 pub told_in-tells : (ds : List Datagram) (xs : List Note) → Tells ds xs → told_in xs ≡ xs
 told_in-tells [] xs t = ap told_in t ∙ sym t
 told_in-tells (d ∷ ds) xs t =
-    ap told_in t.3 ∙ told_in-append (told_by t.0.content) t.1 ∙ ap (λ l. l ++ told_in t.1) (all_told t.0.content) ∙ ap (λ l. told_by t.0.content ++ l) (told_in-tells ds t.1 t.4) ∙ sym t.3
+    ap told_in t.3 ∙ told_in-append (told_by t.0.content) t.1 ∙ ap (λ l. l ++ told_in t.1) (all_told t.0.content)
+    ∙ ap (λ l. told_by t.0.content ++ l) (told_in-tells ds t.1 t.4) ∙ sym t.3
 
 -- the datagram of a note
-pub told_from : (ds : List Datagram) (xs : List Note) → Tells ds xs → (x : Note) → Contains xs x → (d : Datagram) × (m : Message) × Contains ds d × Spells m d.bytes × Contains (told_by m.content) x
+pub told_from : (ds : List Datagram) (xs : List Note) → Tells ds xs → (x : Note) → Contains xs x
+    → (d : Datagram) × (m : Message) × Contains ds d × Spells m d.bytes × Contains (told_by m.content) x
 told_from [] xs t x c = absurd (omega (arith, (subst (λ l. Contains l x) t c).1))
 told_from (d ∷ ds) xs t x c =
     elim (Contains-append_cases (told_by t.0.content) t.1 x (subst (λ l. Contains l x) t.3 c)) [
@@ -63,10 +68,12 @@ told_from (d ∷ ds) xs t x c =
     ]
 
 -- a list that bears out a message of this cluster bears out its note
-pub bears_told : (m : Meaning) (h : History) (L : List Command) (n : ℕ) (y : NodeMessage) (bytes : List ℕ) → Spells (said_by h.genesis n y) bytes → BearsOutMessage m h L y
+pub bears_told : (m : Meaning) (h : History) (L : List Command) (n : ℕ) (y : NodeMessage) (bytes : List ℕ)
+    → Spells (said_by h.genesis n y) bytes → BearsOutMessage m h L y
     → (x : Note) → Contains (told_by_node n y) x → BearsOut m h L x
 bears_told m h L n (kinds.Answer a) bytes s b x c = subst (λ z. BearsOut m h L z) (only _ x c) b
-bears_told m h L n (kinds.Passed p) bytes s b x c = subst (λ z. BearsOut m h L z) (only (note.Told n p.client p.number p.last) x c) (s.0.1.1.3, b)
+bears_told m h L n (kinds.Passed p) bytes s b x c =
+    subst (λ z. BearsOut m h L z) (only (note.Told n p.client p.number p.last) x c) (s.0.1.1.3, b)
 bears_told m h L n (kinds.Prepare k first) bytes s b x c = absurd (omega (arith, c.1))
 bears_told m h L n (kinds.Promise p) bytes s b x c = absurd (omega (arith, c.1))
 bears_told m h L n (kinds.Accept v) bytes s b x c = absurd (omega (arith, c.1))

@@ -1,5 +1,6 @@
 -- What an event does to a world.
-use Rattle.std.specs.Prelude.{◌≡◌, ℕ, ◌+◌, ◌<◌, ◌⊎◌, length, map, take, List, [], ◌∷◌, ◌++◌, Option, Some, None, Result, Ok, Err, set, Contains, Vec, vec_len, vec_capacity}
+use Rattle.std.specs.Prelude.{◌≡◌, ℕ, ◌+◌, ◌<◌, ◌⊎◌, length, map, take, List, [], ◌∷◌, ◌++◌, Option, Some, None, Result}
+use Rattle.std.specs.Prelude.{Ok, Err, set, Contains, Vec, vec_len, vec_capacity}
 use Rattle.std.specs.Global.{Global}
 use Rattle.std.specs.List.{AllByRecursion}
 use Rattle.lk_simulated_disk.specs.Memory.{Memory, empty}
@@ -18,7 +19,8 @@ use Rattle.lk_node.specs.Leavings.{header_of}
 use Rattle.lk_node.specs.Served.{IsOfNode}
 use Rattle.lk_replica.specs.Behaviours.{Behaviour}
 use Rattle.lk_replica.specs.Together.{Said, sent_of}
-use Rattle.lk_world_nodes.specs.Ends.{Breaks, BreaksTogether, StaysDown, FailsToCompact, IsNoWant, IsWant, IsToldEnd, end_by}
+use Rattle.lk_world_nodes.specs.Ends.{Breaks, BreaksTogether, StaysDown, FailsToCompact, IsNoWant, IsWant, IsToldEnd}
+use Rattle.lk_world_nodes.specs.Ends.{end_by}
 use Rattle.lk_world_nodes.specs.Seats.{At, stopped_on, rested_on, IsTrapped}
 use Rattle.lk_world_nodes.specs.Sends.{stop_among, after_sends, cut_short}
 use Rattle.lk_world_nodes.specs.Told.{Tells}
@@ -56,7 +58,8 @@ pub record Adds {R : Type 0} (old new : Scene R) (notes : List Note) (batch : Li
 
 -- a fault of that kind, or an armed stop at a call of the device, ended the node, which is down: it noted and sent
 -- nothing
-pub record Falls {R : Type 0} (Ends : ℕ → Memory → Type 0) (old new : Scene R) (t : Seat R) (asked : List Note) : Type 0 where
+pub record Falls {R : Type 0} (Ends : ℕ → Memory → Type 0) (old new : Scene R) (t : Seat R)
+    (asked : List Note) : Type 0 where
   pub number : ℕ
   pub left : Memory
   pub ends : Ends number left
@@ -70,7 +73,8 @@ pub record Falls {R : Type 0} (Ends : ℕ → Memory → Type 0) (old new : Scen
 
 -- it goes on: all calls of its device have passed, no armed stop happened at a send, what its replica noted and sent
 -- was added, after a request that was just asked, with its answers and passes noted as they were sent
-pub record GoesOn {R : Type 0} (b : Behaviour R) (old new : Scene R) (r : R) (t : Seat R) (o : Option (List ℕ)) (asked : List Note) : Type 0 where
+pub record GoesOn {R : Type 0} (b : Behaviour R) (old new : Scene R) (r : R) (t : Seat R) (o : Option (List ℕ))
+    (asked : List Note) : Type 0 where
   pub replica : R
   pub notes : List Note
   pub told : List Note
@@ -86,7 +90,8 @@ pub record GoesOn {R : Type 0} (b : Behaviour R) (old new : Scene R) (r : R) (t 
   pub ended : new.ended ≡ None
 
 -- an armed stop ended it at a send: everything that its replica noted was added, and what it sent before that
-pub record StopsSending {R : Type 0} (b : Behaviour R) (old new : Scene R) (r : R) (t : Seat R) (o : Option (List ℕ)) (asked : List Note) : Type 0 where
+pub record StopsSending {R : Type 0} (b : Behaviour R) (old new : Scene R) (r : R) (t : Seat R) (o : Option (List ℕ))
+    (asked : List Note) : Type 0 where
   pub replica : R
   pub notes : List Note
   pub told : List Note
@@ -105,10 +110,12 @@ pub record StopsSending {R : Type 0} (b : Behaviour R) (old new : Scene R) (r : 
 
 -- the result of a tick, or of these bytes
 abbrev pub Comes : {R : Type 0} → Behaviour R → Scene R → Scene R → R → Seat R → Option (List ℕ) → List Note → Type 0
-Comes b old new r t o asked = GoesOn b old new r t o asked ⊎ StopsSending b old new r t o asked ⊎ Falls (Breaks b r o) old new t asked
+Comes b old new r t o asked =
+    GoesOn b old new r t o asked ⊎ StopsSending b old new r t o asked ⊎ Falls (Breaks b r o) old new t asked
 
 -- the node of this number took a tick or these bytes
-pub record IsGiven {R : Type 0} (b : Behaviour R) (old new : Scene R) (n : ℕ) (o : Option (List ℕ)) (asked : List Note) : Type 0 where
+pub record IsGiven {R : Type 0} (b : Behaviour R) (old new : Scene R) (n : ℕ) (o : Option (List ℕ))
+    (asked : List Note) : Type 0 where
   pub seat : Seat R
   pub number : seat.number ≡ n
   pub replica : R
@@ -133,7 +140,8 @@ AreAllOwn said = AllByRecursion (λ (x : Said). AreOwn x.0) said
 
 -- it goes on: all calls of its device have passed, no armed stop happened at a send, and what the steps noted and sent
 -- was added, step by step, with the answers and passes noted as they were sent
-pub record GoesOnTogether {R : Type 0} (b : Behaviour R) (old new : Scene R) (r : R) (t : Seat R) (given : List (Option (List ℕ))) : Type 0 where
+pub record GoesOnTogether {R : Type 0} (b : Behaviour R) (old new : Scene R) (r : R) (t : Seat R)
+    (given : List (Option (List ℕ))) : Type 0 where
   pub replica : R
   pub said : List Said
   pub notes : List Note
@@ -148,7 +156,8 @@ pub record GoesOnTogether {R : Type 0} (b : Behaviour R) (old new : Scene R) (r 
   pub ended : new.ended ≡ None
 
 -- an armed stop ended it at a send: everything that the steps noted was added, and what they sent before that
-pub record StopsTogether {R : Type 0} (b : Behaviour R) (old new : Scene R) (r : R) (t : Seat R) (given : List (Option (List ℕ))) : Type 0 where
+pub record StopsTogether {R : Type 0} (b : Behaviour R) (old new : Scene R) (r : R) (t : Seat R)
+    (given : List (Option (List ℕ))) : Type 0 where
   pub replica : R
   pub said : List Said
   pub notes : List Note
@@ -167,10 +176,13 @@ pub record StopsTogether {R : Type 0} (b : Behaviour R) (old new : Scene R) (r :
 -- the result of the group; if a fault ended the node, or an armed stop at a call of its device, it noted and sent
 -- nothing
 abbrev pub ComesTogether : {R : Type 0} → Behaviour R → Scene R → Scene R → R → Seat R → List (Option (List ℕ)) → Type 0
-ComesTogether b old new r t given = GoesOnTogether b old new r t given ⊎ StopsTogether b old new r t given ⊎ Falls (BreaksTogether b r given) old new t []
+ComesTogether b old new r t given =
+    GoesOnTogether b old new r t given ⊎ StopsTogether b old new r t given
+    ⊎ Falls (BreaksTogether b r given) old new t []
 
 -- the node of this number took these together
-pub record IsGivenTogether {R : Type 0} (b : Behaviour R) (old new : Scene R) (n : ℕ) (given : List (Option (List ℕ))) : Type 0 where
+pub record IsGivenTogether {R : Type 0} (b : Behaviour R) (old new : Scene R) (n : ℕ)
+    (given : List (Option (List ℕ))) : Type 0 where
   pub seat : Seat R
   pub number : seat.number ≡ n
   pub replica : R
@@ -210,7 +222,8 @@ pub record IsRevived {R : Type 0} (b : Behaviour R) (old new : Scene R) (t : Sea
   pub ended : new.ended ≡ None
 
 abbrev pub ComesUp : {R : Type 0} → Behaviour R → Scene R → Scene R → Seat R → Memory → Type 0
-ComesUp b old new t device = IsRevived b old new t device ⊎ Falls (StaysDown b device (header_of old.genesis t.number)) old new t []
+ComesUp b old new t device =
+    IsRevived b old new t device ⊎ Falls (StaysDown b device (header_of old.genesis t.number)) old new t []
 
 -- a node was added, and started with empty disks
 pub record IsBegun {R : Type 0} (b : Behaviour R) (old new : Scene R) (n : ℕ) : Type 0 where
@@ -302,7 +315,9 @@ TakesMemory (Err number) left = IsWant number left
 
 -- such a call of the replica left this device
 abbrev pub LeftBy : {R : Type 0} → Behaviour R → Option (List ℕ) → Life R → Memory → Type 0
-LeftBy {R = R} b o life left = (r q : R) × (came : Result (List Note × List Datagram) ℕ) × (life ≡ Up r) × b.Takes r o q came × (left ≡ b.memory q) × TakesMemory came left
+LeftBy {R = R} b o life left =
+    (r q : R) × (came : Result (List Note × List Datagram) ℕ) × (life ≡ Up r) × b.Takes r o q came
+    × (left ≡ b.memory q) × TakesMemory came left
 
 -- what a group came to takes memory: it was refused when out of memory, or there is what a step noted or sent
 abbrev pub TakesMemoryTogether : Result (List Said) ℕ → Memory → Type 0
@@ -312,7 +327,8 @@ TakesMemoryTogether (Err number) left = IsWant number left
 -- such a call for a group left this device
 abbrev pub LeftByGroup : {R : Type 0} → Behaviour R → List (Option (List ℕ)) → Life R → Memory → Type 0
 LeftByGroup {R = R} b given life left =
-    (r q : R) × (came : Result (List Said) ℕ) × (life ≡ Up r) × b.TakesAll r given q came × (left ≡ b.memory q) × TakesMemoryTogether came left
+    (r q : R) × (came : Result (List Said) ℕ) × (life ≡ Up r) × b.TakesAll r given q came × (left ≡ b.memory q)
+    × TakesMemoryTogether came left
 
 -- this is the device of a restart whose result takes memory: it ran out of memory, or there is something to note
 abbrev pub IsOf : {R : Type 0} → Behaviour R → Result (R × List Note) (ℕ × Memory) → Memory → Type 0
@@ -322,15 +338,19 @@ IsOf b (Err came) left = (left ≡ came.1) × IsWant came.0 came.1
 -- such a restart left this device
 abbrev pub LeftByRevival : {R : Type 0} → Behaviour R → HeaderValue → Life R → Memory → Type 0
 LeftByRevival {R = R} b header life left =
-    (d : Memory) × (came : Result (R × List Note) (ℕ × Memory)) × (life ≡ Down d) × b.Revives d header came × IsOf b came left
+    (d : Memory) × (came : Result (R × List Note) (ℕ × Memory)) × (life ≡ Down d)
+    × b.Revives d header came × IsOf b came left
 
 -- a Start takes memory: there was no room for the node's place, or its start with empty disks takes memory
 abbrev pub StartWants : {R : Type 0} → Behaviour R → Genesis → ℕ → Vec (Seat R) Global → Type 0
-StartWants b genesis n seats = (vec_capacity seats < vec_len seats + 1) ⊎ ((left : Memory) × LeftByRevival b (header_of genesis n) (Down empty) left)
+StartWants b genesis n seats =
+    (vec_capacity seats < vec_len seats + 1)
+    ⊎ ((left : Memory) × LeftByRevival b (header_of genesis n) (Down empty) left)
 
 -- a compaction that ran out of memory left this device
 abbrev pub LeftByCompacting : {R : Type 0} → Behaviour R → Life R → Memory → Type 0
-LeftByCompacting {R = R} b life left = (r q : R) × (number : ℕ) × (life ≡ Up r) × b.Compacts r q (Err number) × (left ≡ b.memory q) × IsWant number left
+LeftByCompacting {R = R} b life left =
+    (r q : R) × (number : ℕ) × (life ≡ Up r) × b.Compacts r q (Err number) × (left ≡ b.memory q) × IsWant number left
 
 -- the node has stopped, with none of the unsynced bytes of the disks that its call had left
 pub record IsHalted {R : Type 0} (Left : Life R → Memory → Type 0) (old new : Scene R) (n : ℕ) : Type 0 where
@@ -347,12 +367,14 @@ pub record IsHalted {R : Type 0} (Left : Life R → Memory → Type 0) (old new 
 -- what running out of memory leaves of bytes that no node has sent: they are a request, and there was no room for its
 -- note, before its node stepped; or the node has stopped, and its call takes memory
 abbrev pub WantsInjection : {R : Type 0} → Behaviour R → Scene R → ℕ → List ℕ → Scene R → Type 0
-WantsInjection b old n bytes new = ((new ≡ old) × ((r : RequestValue) × Asks bytes (Some r))) ⊎ IsHalted (LeftBy b (Some bytes)) old new n
+WantsInjection b old n bytes new =
+    ((new ≡ old) × ((r : RequestValue) × Asks bytes (Some r))) ⊎ IsHalted (LeftBy b (Some bytes)) old new n
 
 -- what refused memory leaves of a group: there was no room for what its node was to be given, which is something,
 -- before the node stepped; or the node has stopped, and its call takes memory
 abbrev pub WantsGroup : {R : Type 0} → Behaviour R → Scene R → ℕ → List Turn → Scene R → Type 0
-WantsGroup b old n turns new = ((new ≡ old) × (0 < length turns)) ⊎ IsHalted (LeftByGroup b (map (given_by old.sent) turns)) old new n
+WantsGroup b old n turns new =
+    ((new ≡ old) × (0 < length turns)) ⊎ IsHalted (LeftByGroup b (map (given_by old.sent) turns)) old new n
 
 -- what refused memory leaves of an event: the node that it steps, or revives, has stopped. Where no node was stepping
 -- yet nothing has changed, nor where the node was never started before: it is as never started. A stop, and a trap
@@ -365,7 +387,8 @@ Wants b old (event.Tick n) new = IsHalted (LeftBy b None) old new n
 Wants b old (event.Compact n) new = IsHalted (LeftByCompacting b) old new n
 Wants b old (event.Client n r) new = new ≡ old
 Wants b old (event.Deliver k) new =
-    (new ≡ old) ⊎ ((n : ℕ) × (d : Datagram) × (datagram_at old.sent k ≡ Some d) × (d.to ≡ party.Node n) × IsHalted (LeftBy b (Some d.bytes)) old new n)
+    (new ≡ old) ⊎ ((n : ℕ) × (d : Datagram) × (datagram_at old.sent k ≡ Some d) × (d.to ≡ party.Node n)
+    × IsHalted (LeftBy b (Some d.bytes)) old new n)
 Wants b old (event.Group n turns) new = WantsGroup b old n turns.items new
 Wants b old (event.Inject n bytes) new = WantsInjection b old n bytes.items new
 Wants b old (event.Stop n x y) new = ⊥
@@ -378,11 +401,15 @@ IsRefused b old e r new = (MayNot old e r × (new ≡ old)) ⊎ ((r ≡ WorldMem
 
 -- the same of bytes that no node has sent
 abbrev pub IsNotInjected : {R : Type 0} → Behaviour R → Scene R → ℕ → List ℕ → Refused → Scene R → Type 0
-IsNotInjected b old n bytes r new = (NoInjection old.seats old.sent n bytes r × (new ≡ old)) ⊎ ((r ≡ WorldMemory) × MayInject old n bytes × WantsInjection b old n bytes new)
+IsNotInjected b old n bytes r new =
+    (NoInjection old.seats old.sent n bytes r × (new ≡ old))
+    ⊎ ((r ≡ WorldMemory) × MayInject old n bytes × WantsInjection b old n bytes new)
 
 -- the same of a group
 abbrev pub IsNotGrouped : {R : Type 0} → Behaviour R → Scene R → ℕ → List Turn → Refused → Scene R → Type 0
-IsNotGrouped b old n turns r new = (NoGroup old.seats old.sent n turns r × (new ≡ old)) ⊎ ((r ≡ WorldMemory) × MayGroup old n turns × WantsGroup b old n turns new)
+IsNotGrouped b old n turns r new =
+    (NoGroup old.seats old.sent n turns r × (new ≡ old))
+    ⊎ ((r ≡ WorldMemory) × MayGroup old n turns × WantsGroup b old n turns new)
 
 -- ---- what every event keeps
 

@@ -41,4 +41,5 @@ WereSentTo sent (i ∷ is) = WasSentTo sent i × WereSentTo sent is
 -- the notes of the steps, one step after another: what the node noted, and its answers and passes as they are sent
 abbrev pub AreNotesOf : List Said → List Note → Type 0
 AreNotesOf [] notes = notes ≡ []
-AreNotesOf (x ∷ xs) notes = (told rest : List Note) × Tells x.1 told × (notes ≡ (x.0 ++ told) ++ rest) × AreNotesOf xs rest
+AreNotesOf (x ∷ xs) notes =
+    (told rest : List Note) × Tells x.1 told × (notes ≡ (x.0 ++ told) ++ rest) × AreNotesOf xs rest

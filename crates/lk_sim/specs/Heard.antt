@@ -12,7 +12,8 @@ Reads bytes o = (x : Message) → Spells x bytes → (r : RequestValue) × (x.co
 -- the bytes spell the request, if there is one, and nothing if there is none
 pub record Asks (bytes : List ℕ) (o : Option RequestValue) : Type 0 where
   pub only : Reads bytes o
-  pub spelled : (r : RequestValue) → o ≡ Some r → (cluster : ℕ) × Spells (record { cluster = cluster; content = content.Request r }) bytes
+  pub spelled : (r : RequestValue) → o ≡ Some r
+      → (cluster : ℕ) × Spells (record { cluster = cluster; content = content.Request r }) bytes
 
 -- the bytes are a datagram that only a node sends
 pub record IsForged (bytes : List ℕ) : Type 0 where

@@ -17,16 +17,19 @@ use Rattle.lk_world_nodes.specs.Seats.{At, disks_of}
 use Rattle.lk_world_nodes.specs.declared.seat.Seat.{Seat}
 
 -- whatever a stop may leave of the node's disks has a standing with this property
-abbrev pub EveryStanding : {R : Type 0} → (R → Side → Disk) → Meaning → Genesis → Seat R → (StandingValue → Type 0) → Type 0
+abbrev pub EveryStanding : {R : Type 0} → (R → Side → Disk) → Meaning → Genesis → Seat R
+    → (StandingValue → Type 0) → Type 0
 EveryStanding disks m genesis s Is = (image : Image) → MayLeaveBoth (disks_of disks s.life) image
     → (x : StandingValue) × StandsAs (header_of genesis s.number) (text m genesis []) image x × Is x
 
 -- it covers everything that the node has sent
 abbrev pub CoversAll : {R : Type 0} → (R → Side → Disk) → Meaning → Genesis → List Datagram → Seat R → Type 0
-CoversAll disks m genesis sent s = EveryStanding disks m genesis s (λ x. CoversSent genesis sent s.number (acceptor_of x))
+CoversAll disks m genesis sent s =
+    EveryStanding disks m genesis s (λ x. CoversSent genesis sent s.number (acceptor_of x))
 
 -- the snapshot is the packed text of a prefix of the list, or of a chosen list that extends it
-pub record HasPacked (m : Meaning) (genesis : Genesis) (sent : List Datagram) (L : List Command) (x : StandingValue) : Type 0 where
+pub record HasPacked (m : Meaning) (genesis : Genesis) (sent : List Datagram) (L : List Command)
+    (x : StandingValue) : Type 0 where
   pub under : List Command
   pub chosen : Chosen genesis sent under
   pub position : length under ≡ x.position
@@ -41,7 +44,10 @@ KeepsCommand m genesis sent L i v x =
 
 -- a majority of the members that the list names for the position keeps its command: each was started, and whatever a
 -- stop may leave of its disks keeps it
-pub record IsKeptBy {R : Type 0} (disks : R → Side → Disk) (m : Meaning) (genesis : Genesis) (seats : List (Seat R)) (sent : List Datagram) (L : List Command) (i : ℕ) (v : Command) : Type 0 where
+pub record IsKeptBy {R : Type 0} (disks : R → Side → Disk) (m : Meaning) (genesis : Genesis) (seats : List (Seat R))
+    (sent : List Datagram) (L : List Command) (i : ℕ) (v : Command) : Type 0 where
   pub nodes : List ℕ
   pub majority : IsMajority nodes (members genesis L i)
-  pub keep : (n : ℕ) → Contains nodes n → (k : ℕ) × (s : Seat R) × At seats k s × (s.number ≡ n) × EveryStanding disks m genesis s (KeepsCommand m genesis sent L i v)
+  pub keep : (n : ℕ) → Contains nodes n
+      → (k : ℕ) × (s : Seat R) × At seats k s × (s.number ≡ n)
+      × EveryStanding disks m genesis s (KeepsCommand m genesis sent L i v)

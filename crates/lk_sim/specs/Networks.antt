@@ -30,12 +30,15 @@ use Rattle.lk_world_nodes.specs.declared.seat.Life.TheVariants.{Up, Down}
 -- they may be lost, repeated, late, cut, of a client, of another cluster, or of nobody
 abbrev pub MayCome : Genesis → List Datagram → Option (List ℕ) → Type 0
 MayCome genesis sent None = Unit {0}
-MayCome genesis sent (Some bytes) = (n : ℕ) (x : NodeMessage) → Spells (said_by genesis n x) bytes → HasSent genesis sent n x
+MayCome genesis sent (Some bytes) =
+    (n : ℕ) (x : NodeMessage) → Spells (said_by genesis n x) bytes → HasSent genesis sent n x
 
 -- the request in the bytes, if there is one
 pub record IsRequestIn (bytes : List ℕ) (o : Option RequestValue) : Type 0 where
-  pub only : (r : RequestValue) (cluster : ℕ) → Spells (record { cluster = cluster; content = content.Request r }) bytes → o ≡ Some r
-  pub some : (r : RequestValue) → o ≡ Some r → (cluster : ℕ) × Spells (record { cluster = cluster; content = content.Request r }) bytes
+  pub only : (r : RequestValue) (cluster : ℕ)
+      → Spells (record { cluster = cluster; content = content.Request r }) bytes → o ≡ Some r
+  pub some : (r : RequestValue) → o ≡ Some r
+      → (cluster : ℕ) × Spells (record { cluster = cluster; content = content.Request r }) bytes
 
 -- the request that arrives
 abbrev pub AreAsking : Option (List ℕ) → Option RequestValue → Type 0
@@ -58,18 +61,23 @@ TellsOf (d ∷ ds) notes =
 
 -- with that input it goes on: what it holds permits everything that it notes and sends, and each image that a stop may
 -- leave fits with any prefix of that sent
-pub record GoesBy {R : Type 0} (Shows : R → Genesis → ℕ → Holding → Type 0) (disks : R → Side → Disk) (m : Meaning) (n : ℕ) (r : R) (o : Option (List ℕ)) (q : R) (notes : List Note) (batch : List Datagram) : Type 0 where
-  pub goes : (h : History) → NodeFits m h n (Shows r h.genesis n) (disks r) → MayHear h o → Goes m h n (Shows q h.genesis n) (disks q) notes batch
+pub record GoesBy {R : Type 0} (Shows : R → Genesis → ℕ → Holding → Type 0) (disks : R → Side → Disk) (m : Meaning)
+    (n : ℕ) (r : R) (o : Option (List ℕ)) (q : R) (notes : List Note) (batch : List Datagram) : Type 0 where
+  pub goes : (h : History) → NodeFits m h n (Shows r h.genesis n) (disks r) → MayHear h o
+      → Goes m h n (Shows q h.genesis n) (disks q) notes batch
   pub short : AreShort (disks r) → AreShort (disks q)
 
 -- with that input it ends, and each image that a stop may leave of these disks fits
-pub record EndsBy {R : Type 0} (Shows : R → Genesis → ℕ → Holding → Type 0) (disks : R → Side → Disk) (m : Meaning) (n : ℕ) (r : R) (o : Option (List ℕ)) (left : Side → Disk) : Type 0 where
+pub record EndsBy {R : Type 0} (Shows : R → Genesis → ℕ → Holding → Type 0) (disks : R → Side → Disk) (m : Meaning)
+    (n : ℕ) (r : R) (o : Option (List ℕ)) (left : Side → Disk) : Type 0 where
   pub ends : (h : History) → NodeFits m h n (Shows r h.genesis n) (disks r) → MayHear h o → DisksFit m h n left
   pub short : AreShort (disks r) → AreShort left
 
 -- it restarts from what its disks have
-pub record RestartsBy {R : Type 0} (Shows : R → Genesis → ℕ → Holding → Type 0) (disks : R → Side → Disk) (m : Meaning) (genesis : Genesis) (n : ℕ) (old : Side → Disk) (q : R) (notes : List Note) : Type 0 where
-  pub goes : (h : History) → h.genesis ≡ genesis → IsLawful m h → DisksFit m h n old → Goes m h n (Shows q h.genesis n) (disks q) notes []
+pub record RestartsBy {R : Type 0} (Shows : R → Genesis → ℕ → Holding → Type 0) (disks : R → Side → Disk) (m : Meaning)
+    (genesis : Genesis) (n : ℕ) (old : Side → Disk) (q : R) (notes : List Note) : Type 0 where
+  pub goes : (h : History) → h.genesis ≡ genesis → IsLawful m h → DisksFit m h n old
+      → Goes m h n (Shows q h.genesis n) (disks q) notes []
   pub short : AreShort old → AreShort (disks q)
 
 -- it does not, and leaves these disks
@@ -90,7 +98,8 @@ pub record Appears {R : Type 0} (old new : Scene R) : Type 0 where
   pub adds : Adds old new [] []
 
 -- a node that was down has started
-pub record Restarts {R : Type 0} (Shows : R → Genesis → ℕ → Holding → Type 0) (disks : R → Side → Disk) (m : Meaning) (old new : Scene R) : Type 0 where
+pub record Restarts {R : Type 0} (Shows : R → Genesis → ℕ → Holding → Type 0) (disks : R → Side → Disk) (m : Meaning)
+    (old new : Scene R) : Type 0 where
   pub seat : Seat R
   pub next : Seat R
   pub turns : Turns old.seats new.seats seat next
@@ -115,7 +124,8 @@ pub record Rests {R : Type 0} (m : Meaning) (old new : Scene R) : Type 0 where
   pub adds : Adds old new [] []
 
 -- a node that is up took a tick, or what may arrive, and went on
-pub record GoesOn {R : Type 0} (Shows : R → Genesis → ℕ → Holding → Type 0) (disks : R → Side → Disk) (m : Meaning) (old new : Scene R) : Type 0 where
+pub record GoesOn {R : Type 0} (Shows : R → Genesis → ℕ → Holding → Type 0) (disks : R → Side → Disk) (m : Meaning)
+    (old new : Scene R) : Type 0 where
   pub seat : Seat R
   pub next : Seat R
   pub turns : Turns old.seats new.seats seat next
@@ -135,7 +145,8 @@ pub record GoesOn {R : Type 0} (Shows : R → Genesis → ℕ → Holding → Ty
   pub adds : Adds old new ((asked_note request ++ notes) ++ told) batch
 
 -- it ended with that
-pub record Ends {R : Type 0} (Shows : R → Genesis → ℕ → Holding → Type 0) (disks : R → Side → Disk) (m : Meaning) (old new : Scene R) : Type 0 where
+pub record Ends {R : Type 0} (Shows : R → Genesis → ℕ → Holding → Type 0) (disks : R → Side → Disk) (m : Meaning)
+    (old new : Scene R) : Type 0 where
   pub seat : Seat R
   pub next : Seat R
   pub turns : Turns old.seats new.seats seat next
@@ -161,14 +172,18 @@ pub record Stops {R : Type 0} (disks : R → Side → Disk) (old new : Scene R) 
   pub was_down : (d : Memory) → seat.life ≡ Down d → (s : Side) → (k : ℕ) × (disk_of left s ≡ kept_by k (disk_of d s))
   pub adds : Adds old new [] []
 
-abbrev pub Steps : {R : Type 0} → (R → Genesis → ℕ → Holding → Type 0) → (R → Side → Disk) → Meaning → Scene R → Scene R → Type 0
+abbrev pub Steps : {R : Type 0} → (R → Genesis → ℕ → Holding → Type 0) → (R → Side → Disk) → Meaning
+    → Scene R → Scene R → Type 0
 Steps Shows disks m old new =
-    Appears old new ⊎ Restarts Shows disks m old new ⊎ Rests m old new ⊎ GoesOn Shows disks m old new ⊎ Ends Shows disks m old new ⊎ Stops disks old new
+    Appears old new ⊎ Restarts Shows disks m old new ⊎ Rests m old new ⊎ GoesOn Shows disks m old new
+    ⊎ Ends Shows disks m old new ⊎ Stops disks old new
 
 -- these steps were taken one after another, and the last of them led to this
-abbrev pub StepsAll : {R : Type 0} → (R → Genesis → ℕ → Holding → Type 0) → (R → Side → Disk) → Meaning → Scene R → List (Scene R) → Scene R → Type 0
+abbrev pub StepsAll : {R : Type 0} → (R → Genesis → ℕ → Holding → Type 0) → (R → Side → Disk) → Meaning → Scene R
+    → List (Scene R) → Scene R → Type 0
 StepsAll Shows disks m first [] last = last ≡ first
-StepsAll Shows disks m first (next ∷ scenes) last = Steps Shows disks m first next × StepsAll Shows disks m next scenes last
+StepsAll Shows disks m first (next ∷ scenes) last =
+    Steps Shows disks m first next × StepsAll Shows disks m next scenes last
 
 -- nothing has happened
 abbrev pub nothing : {R : Type 0} → Genesis → Scene R

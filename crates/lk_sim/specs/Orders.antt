@@ -42,7 +42,8 @@ ToldInTime trace =
 -- ---- why
 
 -- a chosen list bears out the answer, and all its requests were asked in these notes
-pub record IsAnsweredBy (m : Meaning) (genesis : Genesis) (sent : List Datagram) (front : List Note) (client number : ℕ) (a : Answer) : Type 0 where
+pub record IsAnsweredBy (m : Meaning) (genesis : Genesis) (sent : List Datagram) (front : List Note)
+    (client number : ℕ) (a : Answer) : Type 0 where
   pub under : List Command
   pub chosen : Chosen genesis sent under
   pub replied : reply m genesis under client number ≡ Some a
@@ -54,8 +55,10 @@ RestsOn m genesis sent front (note.Asked r) = Unit {0}
 RestsOn m genesis sent front (note.Counted node i set v) = Unit {0}
 RestsOn m genesis sent front (note.Ran node i v) = Unit {0}
 RestsOn m genesis sent front (note.Answered node client number a) = IsAnsweredBy m genesis sent front client number a
-RestsOn m genesis sent front (note.Told node client number last) = (a : Answer) × IsAnsweredBy m genesis sent front client last a
+RestsOn m genesis sent front (note.Told node client number last) =
+    (a : Answer) × IsAnsweredBy m genesis sent front client last a
 
 -- so does each note in a front of the trace, on what was asked in that front
 abbrev pub InTime : Meaning → Genesis → List Datagram → List Note → Type 0
-InTime m genesis sent trace = (front back : List Note) → trace ≡ front ++ back → (x : Note) → Contains front x → RestsOn m genesis sent front x
+InTime m genesis sent trace =
+    (front back : List Note) → trace ≡ front ++ back → (x : Note) → Contains front x → RestsOn m genesis sent front x

@@ -15,14 +15,16 @@ use Rattle.lk_world_nodes.specs.declared.seat.Life.TheVariants.{Up}
 
 -- the node of this number is up, and whatever a stop may leave of its disks has a snapshot at the position up to which
 -- it has executed: the packed text of a chosen list of that length
-pub record StandsPacked {R : Type 0} (whole : R → WholeValue) (disks : R → Side → Disk) (m : Meaning) (w : Scene R) (n : ℕ) : Type 0 where
+pub record StandsPacked {R : Type 0} (whole : R → WholeValue) (disks : R → Side → Disk) (m : Meaning)
+    (w : Scene R) (n : ℕ) : Type 0 where
   pub place : ℕ
   pub seat : Seat R
   pub at : At w.seats place seat
   pub number : seat.number ≡ n
   pub replica : R
   pub up : seat.life ≡ Up replica
-  pub stands : EveryStanding disks m w.genesis seat (λ x. (x.position ≡ (whole replica).roster.executed) × IsPackedList m w.genesis w.sent x)
+  pub stands : EveryStanding disks m w.genesis seat
+      (λ x. (x.position ≡ (whole replica).roster.executed) × IsPackedList m w.genesis w.sent x)
 
 -- a node that compacted is in this state, unless something has ended it
 abbrev pub LeavesPacked : {R : Type 0} → (R → WholeValue) → (R → Side → Disk) → Meaning → Event → Scene R → Type 0

@@ -20,7 +20,8 @@ pub record Promises {R : Type 0} (b : Behaviour R) (whole : R → WholeValue) (m
   -- some chosen list of no-ops and asked requests explains everything that was noted and sent
   pub explained : (L : List Command) × Chosen w.genesis w.sent L × Explains m w.genesis w.sent w.trace L
   -- of two chosen lists one is a prefix of the other
-  pub agree : (L K : List Command) → Chosen w.genesis w.sent L → Chosen w.genesis w.sent K → IsBeginning L K ⊎ IsBeginning K L
+  pub agree : (L K : List Command) → Chosen w.genesis w.sent L → Chosen w.genesis w.sent K
+      → IsBeginning L K ⊎ IsBeginning K L
   -- the trace has, in order, each answer that was sent
   pub told : Tells w.sent (told_in w.trace)
   -- each node that is up has executed a chosen list
@@ -28,7 +29,8 @@ pub record Promises {R : Type 0} (b : Behaviour R) (whole : R → WholeValue) (m
   -- whatever a stop may leave of a node's disks covers everything that the node has sent
   pub covered : (k : ℕ) (s : Seat R) → At w.seats k s → CoversAll (disks_by b) m w.genesis w.sent s
   -- a majority keeps each command of a chosen list, whatever stops may leave
-  pub kept : (L : List Command) (i : ℕ) (v : Command) → Chosen w.genesis w.sent L → command_at L i ≡ Some v → IsKeptBy (disks_by b) m w.genesis w.seats w.sent L i v
+  pub kept : (L : List Command) (i : ℕ) (v : Command) → Chosen w.genesis w.sent L → command_at L i ≡ Some v
+      → IsKeptBy (disks_by b) m w.genesis w.seats w.sent L i v
   -- what was answered before a request was asked takes effect before it
   pub order : InOrder w.genesis w.sent w.trace
   -- a greater number of which a client was told was asked before

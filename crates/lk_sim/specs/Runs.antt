@@ -18,7 +18,8 @@ StopsAt b events done None last new = (done ≡ length events) × (new ≡ last)
 StopsAt b events done (Some r) last new = (e : Event) × (slice_get events done ≡ Some e) × IsRefused b last e r new
 
 -- this many events were done in order, and then it ended like this
-pub record Runs {R : Type 0} (b : Behaviour R) (old : Scene R) (events : List Event) (how : RunEnd) (new : Scene R) : Type 0 where
+pub record Runs {R : Type 0} (b : Behaviour R) (old : Scene R) (events : List Event) (how : RunEnd)
+    (new : Scene R) : Type 0 where
   pub last : Scene R
   pub passes : Passes b (take how.done events) old last
   pub stops : StopsAt b events how.done how.refused last new

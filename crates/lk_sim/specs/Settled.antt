@@ -19,7 +19,8 @@ use Rattle.lk_sim.specs.Groups.{AreNotesOf}
 use Rattle.lk_sim.specs.Scenes.{Scene}
 
 -- what it noted and sent was added, after what was just asked, with its answers and passes noted as they were sent
-pub record HasAdded {R : Type 0} (old new : Scene R) (asked mine : List Note) (batch : List Datagram) (how : Option End) : Type 0 where
+pub record HasAdded {R : Type 0} (old new : Scene R) (asked mine : List Note) (batch : List Datagram)
+    (how : Option End) : Type 0 where
   pub told : List Note
   pub tells : Tells batch told
   pub seats : new.seats ≡ old.seats
@@ -27,7 +28,9 @@ pub record HasAdded {R : Type 0} (old new : Scene R) (asked mine : List Note) (b
   pub ended : new.ended ≡ how
 
 -- it was, and the node at this place has stopped if it has reached an armed stop
-pub record HasSettled {R : Type 0} (Shows : R → Genesis → ℕ → Holding → Type 0) (b : Behaviour R) (m : Meaning) (old : Scene R) (i : ℕ) (new : Scene R) (asked mine : List Note) (batch : List Datagram) (how : Option End) (stop : Option ℕ) : Type 0 where
+pub record HasSettled {R : Type 0} (Shows : R → Genesis → ℕ → Holding → Type 0) (b : Behaviour R) (m : Meaning)
+    (old : Scene R) (i : ℕ) (new : Scene R) (asked mine : List Note) (batch : List Datagram) (how : Option End)
+    (stop : Option ℕ) : Type 0 where
   pub told : List Note
   pub tells : Tells batch told
   pub seat : Seat R
@@ -41,7 +44,8 @@ pub record HasSettled {R : Type 0} (Shows : R → Genesis → ℕ → Holding �
   pub ended : new.ended ≡ how
 
 -- what the steps noted and sent was added, step by step, with their answers and passes noted as they were sent
-pub record HasAddedSteps {R : Type 0} (old new : Scene R) (steps : List Step) (batch : List Datagram) (how : Option End) : Type 0 where
+pub record HasAddedSteps {R : Type 0} (old new : Scene R) (steps : List Step) (batch : List Datagram)
+    (how : Option End) : Type 0 where
   pub notes : List Note
   pub tells : AreNotesOf (parts_of steps batch) notes
   pub seats : new.seats ≡ old.seats
@@ -49,7 +53,9 @@ pub record HasAddedSteps {R : Type 0} (old new : Scene R) (steps : List Step) (b
   pub ended : new.ended ≡ how
 
 -- it was, and the node at this place has stopped if it has reached an armed stop
-pub record HasSettledSteps {R : Type 0} (Shows : R → Genesis → ℕ → Holding → Type 0) (b : Behaviour R) (m : Meaning) (old : Scene R) (i : ℕ) (new : Scene R) (steps : List Step) (batch : List Datagram) (how : Option End) (stop : Option ℕ) : Type 0 where
+pub record HasSettledSteps {R : Type 0} (Shows : R → Genesis → ℕ → Holding → Type 0) (b : Behaviour R) (m : Meaning)
+    (old : Scene R) (i : ℕ) (new : Scene R) (steps : List Step) (batch : List Datagram) (how : Option End)
+    (stop : Option ℕ) : Type 0 where
   pub notes : List Note
   pub tells : AreNotesOf (parts_of steps batch) notes
   pub seat : Seat R
@@ -63,7 +69,8 @@ pub record HasSettledSteps {R : Type 0} (Shows : R → Genesis → ℕ → Holdi
   pub ended : new.ended ≡ how
 
 -- the node at this place was stopped, and nothing was added
-pub record HasGivenUp {R : Type 0} (Shows : R → Genesis → ℕ → Holding → Type 0) (b : Behaviour R) (m : Meaning) (old : Scene R) (i : ℕ) (new : Scene R) : Type 0 where
+pub record HasGivenUp {R : Type 0} (Shows : R → Genesis → ℕ → Holding → Type 0) (b : Behaviour R) (m : Meaning)
+    (old : Scene R) (i : ℕ) (new : Scene R) : Type 0 where
   pub seat : Seat R
   pub next : Seat R
   pub at : At old.seats i seat

@@ -16,7 +16,8 @@ use Rattle.lk_world_nodes.specs.declared.seat.Life.TheVariants.{Up, Down}
 
 -- the snapshot is the packed text of a chosen list, whose length is its position
 abbrev pub IsPackedList : Meaning → Genesis → List Datagram → StandingValue → Type 0
-IsPackedList m genesis sent s = (L : List Command) × Chosen genesis sent L × (length L ≡ s.position) × (s.snapshot ≡ text m genesis L)
+IsPackedList m genesis sent s =
+    (L : List Command) × Chosen genesis sent L × (length L ≡ s.position) × (s.snapshot ≡ text m genesis L)
 
 -- whatever a stop may leave of the disks has such a snapshot
 abbrev pub KeepsPacked : Meaning → Genesis → List Datagram → ℕ → (Side → Disk) → Type 0
@@ -24,7 +25,8 @@ KeepsPacked m genesis sent n disks = (image : Image) → MayLeaveBoth disks imag
     → (s : StandingValue) × StandsAs (header_of genesis n) (text m genesis []) image s × IsPackedList m genesis sent s
 
 -- a node that is up has executed a chosen list, which its state sums up; and the snapshots of any node are packed lists
-pub record SumsUpChosen {R : Type 0} (whole : R → WholeValue) (disks : R → Side → Disk) (m : Meaning) (genesis : Genesis) (sent : List Datagram) (s : Seat R) : Type 0 where
+pub record SumsUpChosen {R : Type 0} (whole : R → WholeValue) (disks : R → Side → Disk) (m : Meaning)
+    (genesis : Genesis) (sent : List Datagram) (s : Seat R) : Type 0 where
   pub executed : (r : R) → s.life ≡ Up r → (L : List Command) × Chosen genesis sent L × SumsUp m genesis L (whole r)
   pub kept : (r : R) → s.life ≡ Up r → KeepsPacked m genesis sent s.number (disks r)
   pub left : (d : Memory) → s.life ≡ Down d → KeepsPacked m genesis sent s.number (disk_of d)

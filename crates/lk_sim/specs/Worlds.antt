@@ -21,31 +21,38 @@ use Rattle.lk_world_nodes.specs.Seats.{SeatFits, At}
 use Rattle.lk_world_nodes.specs.declared.seat.Seat.{Seat}
 use Rattle.lk_sim.specs.declared.world_parts.WorldParts.{WorldParts}
 
-pub record Holds {R : Type 0} (Shows : R → Genesis → ℕ → Holding → Type 0) (disks : R → Side → Disk) (m : Meaning) (genesis : Genesis) (seats : List (Seat R)) (sent : List Datagram) (trace : List Note) : Type 0 where
+pub record Holds {R : Type 0} (Shows : R → Genesis → ℕ → Holding → Type 0) (disks : R → Side → Disk) (m : Meaning)
+    (genesis : Genesis) (seats : List (Seat R)) (sent : List Datagram) (trace : List Note) : Type 0 where
   -- a view for each number, which everything that was sent fits
   pub views : ℕ → View
   pub world : WorldFits genesis (record { sent = sent; views = views })
   -- each node that was started fits, one for each number, and nobody else has sent anything
-  pub seated : (k : ℕ) (s : Seat R) → At seats k s → SeatFits Shows disks m (happened genesis sent trace) (views s.number) s
+  pub seated : (k : ℕ) (s : Seat R) → At seats k s
+      → SeatFits Shows disks m (happened genesis sent trace) (views s.number) s
   pub apart : (i j : ℕ) (s t : Seat R) → At seats i s → At seats j t → s.number ≡ t.number → i ≡ j
-  pub known : (n : ℕ) (x : NodeMessage) → HasSent genesis sent n x → (k : ℕ) × (s : Seat R) × At seats k s × (s.number ≡ n)
+  pub known : (n : ℕ) (x : NodeMessage) → HasSent genesis sent n x
+      → (k : ℕ) × (s : Seat R) × At seats k s × (s.number ≡ n)
   -- each request in the list was asked, and so was what was proposed
-  pub requests : (d : Datagram) (r : RequestValue) (cluster : ℕ) → Contains sent d → Spells (record { cluster = cluster; content = content.Request r }) d.bytes → Contains (asked_in trace) r
+  pub requests : (d : Datagram) (r : RequestValue) (cluster : ℕ) → Contains sent d
+      → Spells (record { cluster = cluster; content = content.Request r }) d.bytes → Contains (asked_in trace) r
   pub proposed : (x : Vote) → WasSent genesis sent (Accept x) → WasAsked (happened genesis sent trace) x.command
   -- one chosen list bears out everything that was noted and sent
   pub list : List Command
   pub chosen : Chosen genesis sent list
   pub notes : (x : Note) → Contains trace x → BearsOut m (happened genesis sent trace) list x
-  pub messages : (n : ℕ) (x : NodeMessage) → HasSent genesis sent n x → BearsOutMessage m (happened genesis sent trace) list x
+  pub messages : (n : ℕ) (x : NodeMessage) → HasSent genesis sent n x
+      → BearsOutMessage m (happened genesis sent trace) list x
   -- what was answered and told was noted, in order
   pub told : Tells sent (told_in trace)
   -- what was answered is borne out by what had been asked by then
   pub in_time : InTime m genesis sent trace
 
 -- the same of the parts of a world
-abbrev pub PartsHold : {R : Type 0} → (R → Genesis → ℕ → Holding → Type 0) → (R → Side → Disk) → Meaning → WorldParts R → Type 0
+abbrev pub PartsHold : {R : Type 0} → (R → Genesis → ℕ → Holding → Type 0) → (R → Side → Disk)
+    → Meaning → WorldParts R → Type 0
 PartsHold Shows disks m p = Holds Shows disks m p.genesis p.seats.items p.sent.items p.trace.items
 
 -- what is seen of them
 abbrev pub scene_of : {R : Type 0} → WorldParts R → Scene R
-scene_of p = record { genesis = p.genesis; seats = p.seats.items; sent = p.sent.items; trace = p.trace.items; ended = p.ended }
+scene_of p =
+    record { genesis = p.genesis; seats = p.seats.items; sent = p.sent.items; trace = p.trace.items; ended = p.ended }

@@ -79,8 +79,10 @@ pub fn client<R: MemoryReplica>(
 ) -> Result<(), Refused>
     requires { PartsHold R.Shows (disks_by R.behaves) R.meaning parts.old }
     ensures holds { PartsHold R.Shows (disks_by R.behaves) R.meaning parts.new }
-    ensures ok { OnOk result (Does R.behaves (scene_of parts.old) (event.Client number request.now) (scene_of parts.new)) }
-    ensures err { IfErr result (λ e. IsRefused R.behaves (scene_of parts.old) (event.Client number request.now) e (scene_of parts.new)) }
+    ensures ok { OnOk result
+        (Does R.behaves (scene_of parts.old) (event.Client number request.now) (scene_of parts.new)) }
+    ensures err { IfErr result
+        (λ e. IsRefused R.behaves (scene_of parts.old) (event.Client number request.now) e (scene_of parts.new)) }
 {
     let Some(_) = find(&parts.seats, number) else {
         return Err(Refused::NoSuchNode);

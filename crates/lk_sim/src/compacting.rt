@@ -32,7 +32,8 @@ pub fn compact<R: MemoryReplica>(parts: &mut WorldParts<R>, number: NodeNo) -> R
     requires { PartsHold R.Shows (disks_by R.behaves) R.meaning parts.old }
     ensures holds { PartsHold R.Shows (disks_by R.behaves) R.meaning parts.new }
     ensures ok { OnOk result (Does R.behaves (scene_of parts.old) (event.Compact number) (scene_of parts.new)) }
-    ensures err { IfErr result (λ e. IsRefused R.behaves (scene_of parts.old) (event.Compact number) e (scene_of parts.new)) }
+    ensures err { IfErr result
+        (λ e. IsRefused R.behaves (scene_of parts.old) (event.Compact number) e (scene_of parts.new)) }
 {
     let i = find_up(&parts.seats, number)?;
     compact_at(parts, i)?;

@@ -41,7 +41,8 @@ pub fn tick<R: MemoryReplica>(parts: &mut WorldParts<R>, number: NodeNo) -> Resu
     requires { PartsHold R.Shows (disks_by R.behaves) R.meaning parts.old }
     ensures holds { PartsHold R.Shows (disks_by R.behaves) R.meaning parts.new }
     ensures ok { OnOk result (Does R.behaves (scene_of parts.old) (event.Tick number) (scene_of parts.new)) }
-    ensures err { IfErr result (λ e. IsRefused R.behaves (scene_of parts.old) (event.Tick number) e (scene_of parts.new)) }
+    ensures err { IfErr result
+        (λ e. IsRefused R.behaves (scene_of parts.old) (event.Tick number) e (scene_of parts.new)) }
 {
     let i = find_ready(parts, number)?;
     give(parts, i, Input::Tick, None)?;
@@ -50,8 +51,10 @@ pub fn tick<R: MemoryReplica>(parts: &mut WorldParts<R>, number: NodeNo) -> Resu
 
 // The node to which the datagram at this place is addressed.
 fn bound<R: MemoryReplica>(parts: &WorldParts<R>, k: usize) -> Result<NodeNo, Refused>
-    ensures ok { IfOk result (λ n. (d : DatagramValue) × (datagram_at parts.now.sent.items k ≡ Some d) × (d.to ≡ party.Node n)) }
-    ensures err { IfErr result (λ e. NoDelivery parts.now.seats.items parts.now.sent.items (datagram_at parts.now.sent.items k) e) }
+    ensures ok { IfOk result
+        (λ n. (d : DatagramValue) × (datagram_at parts.now.sent.items k ≡ Some d) × (d.to ≡ party.Node n)) }
+    ensures err { IfErr result
+        (λ e. NoDelivery parts.now.seats.items parts.now.sent.items (datagram_at parts.now.sent.items k) e) }
 {
     let Some(found) = datagram(&parts.sent, k) else {
         return Err(Refused::NoSuchDatagram);
@@ -65,7 +68,8 @@ fn bound<R: MemoryReplica>(parts: &WorldParts<R>, k: usize) -> Result<NodeNo, Re
 // A copy of the bytes of the datagram at this place.
 fn bytes_of<R: MemoryReplica>(parts: &WorldParts<R>, k: usize) -> Result<Vec<u8>, NoMemory>
     requires { (d : DatagramValue) × (datagram_at parts.now.sent.items k ≡ Some d) }
-    ensures { IfOk result (λ b. (d : DatagramValue) × (datagram_at parts.now.sent.items k ≡ Some d) × (b.items ≡ d.bytes)) }
+    ensures { IfOk result (λ b. (d : DatagramValue)
+        × (datagram_at parts.now.sent.items k ≡ Some d) × (b.items ≡ d.bytes)) }
 {
     let Some(found) = datagram(&parts.sent, k) else {
         unreachable!()
@@ -78,7 +82,8 @@ pub fn deliver<R: MemoryReplica>(parts: &mut WorldParts<R>, k: usize) -> Result<
     requires { PartsHold R.Shows (disks_by R.behaves) R.meaning parts.old }
     ensures holds { PartsHold R.Shows (disks_by R.behaves) R.meaning parts.new }
     ensures ok { OnOk result (Does R.behaves (scene_of parts.old) (event.Deliver k) (scene_of parts.new)) }
-    ensures err { IfErr result (λ e. IsRefused R.behaves (scene_of parts.old) (event.Deliver k) e (scene_of parts.new)) }
+    ensures err { IfErr result
+        (λ e. IsRefused R.behaves (scene_of parts.old) (event.Deliver k) e (scene_of parts.new)) }
 {
     let number = bound(parts, k)?;
     let i = find_ready(parts, number)?;
@@ -90,7 +95,8 @@ pub fn deliver<R: MemoryReplica>(parts: &mut WorldParts<R>, k: usize) -> Result<
 // The request that is asked. A node's message would be forged.
 fn request_of(said: &ContentRef<'_>) -> Result<Request, Refused>
     ensures ok { IfOk result (λ r. shown_content said.now ≡ content.Request r) }
-    ensures err { IfErr result (λ e. (e ≡ Refused.Forged) × ((r : RequestValue) → shown_content said.now ≡ content.Request r → ⊥)) }
+    ensures err { IfErr result
+        (λ e. (e ≡ Refused.Forged) × ((r : RequestValue) → shown_content said.now ≡ content.Request r → ⊥)) }
 {
     match said {
         ContentRef::Request(request) => Ok(request.request()),
@@ -130,8 +136,11 @@ pub fn inject<R: MemoryReplica>(
 ) -> Result<(), Refused>
     requires { PartsHold R.Shows (disks_by R.behaves) R.meaning parts.old }
     ensures holds { PartsHold R.Shows (disks_by R.behaves) R.meaning parts.new }
-    ensures ok { OnOk result (MayInject (scene_of parts.old) number bytes.now × IsInjected R.behaves (scene_of parts.old) (scene_of parts.new) number bytes.now) }
-    ensures err { IfErr result (λ e. IsNotInjected R.behaves (scene_of parts.old) number bytes.now e (scene_of parts.new)) }
+    ensures ok { OnOk result
+        (MayInject (scene_of parts.old) number bytes.now
+        × IsInjected R.behaves (scene_of parts.old) (scene_of parts.new) number bytes.now) }
+    ensures err { IfErr result
+        (λ e. IsNotInjected R.behaves (scene_of parts.old) number bytes.now e (scene_of parts.new)) }
 {
     let i = find_up(&parts.seats, number)?;
     let viewed = Datagram::of(bytes);

@@ -27,7 +27,9 @@ fn notes_of(
     mut notes: Vec<Note>,
     batch: &[Datagram],
 ) -> Result<Vec<Note>, NoMemory>
-    ensures ok { IfOk result (λ all. (told : List NoteValue) × (all.items ≡ (asked_note asked ++ notes.items) ++ told) × Tells batch.now told) }
+    ensures ok { IfOk result
+        (λ all. (told : List NoteValue) × (all.items ≡ (asked_note asked ++ notes.items) ++ told)
+        × Tells batch.now told) }
 {
     if let Some(request) = asked {
         notes.insert(0, Note::Asked(request))?;
@@ -81,7 +83,9 @@ pub fn add<R: MemoryReplica>(
     outcome: Outcome,
 ) -> Result<(), NoMemory>
     requires room { HasNoteRoom asked parts.old.trace }
-    ensures ok { OnOk result (HasAdded (scene_of parts.old) (scene_of parts.new) (asked_note asked) outcome.notes.items outcome.sent.items outcome.ended) }
+    ensures ok { OnOk result
+        (HasAdded (scene_of parts.old) (scene_of parts.new)
+        (asked_note asked) outcome.notes.items outcome.sent.items outcome.ended) }
     ensures err { OnErr result (scene_of parts.new ≡ scene_of parts.old) }
     ensures wants { OnErr result (outcome.notes.items ≡ [] → outcome.sent.items ≡ [] → ⊥) }
     ensures seats { parts.new.seats ≡ parts.old.seats }
@@ -113,7 +117,9 @@ pub fn finish_call<R: MemoryReplica>(
 ) -> Result<(), NoMemory>
     requires place { i < length parts.old.seats.items }
     requires room { HasNoteRoom asked parts.old.trace }
-    ensures ok { OnOk result (HasSettled R.Shows R.behaves R.meaning (scene_of parts.old) i (scene_of parts.new) (asked_note asked) outcome.notes.items outcome.sent.items outcome.ended outcome.stop) }
+    ensures ok { OnOk result
+        (HasSettled R.Shows R.behaves R.meaning (scene_of parts.old) i (scene_of parts.new)
+        (asked_note asked) outcome.notes.items outcome.sent.items outcome.ended outcome.stop) }
     ensures err { OnErr result (HasGivenUp R.Shows R.behaves R.meaning (scene_of parts.old) i (scene_of parts.new)) }
     ensures wants { OnErr result (outcome.notes.items ≡ [] → outcome.sent.items ≡ [] → ⊥) }
 {
@@ -138,14 +144,17 @@ pub fn give<R: MemoryReplica>(
     asked: Option<Request>,
 ) -> Result<(), NoMemory>
     requires up { (n : ℕ) × IsUpAt parts.old.seats.items i n }
-    requires heard { InputFits (happened parts.old.genesis parts.old.sent.items (parts.old.trace.items ++ asked_note asked)) input }
+    requires heard { InputFits
+        (happened parts.old.genesis parts.old.sent.items (parts.old.trace.items ++ asked_note asked)) input }
     requires room { HasNoteRoom asked parts.old.trace }
     requires holds { PartsHold R.Shows (disks_by R.behaves) R.meaning parts.old }
     ensures holds { PartsHold R.Shows (disks_by R.behaves) R.meaning parts.new }
     ensures given { (n : ℕ) → IsUpAt parts.old.seats.items i n
-        → OnOk result (IsGiven R.behaves (scene_of parts.old) (scene_of parts.new) n (heard_by input.entry) (asked_note asked)) }
+        → OnOk result (IsGiven R.behaves (scene_of parts.old) (scene_of parts.new) n
+        (heard_by input.entry) (asked_note asked)) }
     ensures halted { (n : ℕ) → IsUpAt parts.old.seats.items i n
-        → OnErr result (IsHalted (LeftBy R.behaves (heard_by input.entry)) (scene_of parts.old) (scene_of parts.new) n) }
+        → OnErr result (IsHalted (LeftBy R.behaves (heard_by input.entry)) (scene_of parts.old)
+        (scene_of parts.new) n) }
 {
     let outcome = step(parts.alloc, &mut parts.seats[i], input)?;
     finish_call(parts, i, asked, outcome)?;
@@ -160,7 +169,8 @@ pub fn come_up<R: MemoryReplica>(parts: &mut WorldParts<R>, i: usize) -> Result<
     ensures back { (n : ℕ) → IsDownAt parts.old.seats.items i n
         → OnOk result (IsBack R.behaves (scene_of parts.old) (scene_of parts.new) n) }
     ensures halted { (n : ℕ) → IsDownAt parts.old.seats.items i n
-        → OnErr result (IsHalted (LeftByRevival R.behaves (header_of parts.old.genesis n)) (scene_of parts.old) (scene_of parts.new) n) }
+        → OnErr result (IsHalted (LeftByRevival R.behaves (header_of parts.old.genesis n)) (scene_of parts.old)
+        (scene_of parts.new) n) }
 {
     let outcome = revive(parts.alloc, &mut parts.seats[i], &parts.genesis)?;
     finish_call(parts, i, None, outcome)?;

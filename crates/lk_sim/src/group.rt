@@ -55,7 +55,8 @@ fn add_all<R: MemoryReplica>(
     parts: &mut WorldParts<R>,
     outcome: GroupOutcome,
 ) -> Result<(), NoMemory>
-    ensures ok { OnOk result (HasAddedSteps (scene_of parts.old) (scene_of parts.new) outcome.steps.items outcome.sent.items outcome.ended) }
+    ensures ok { OnOk result
+        (HasAddedSteps (scene_of parts.old) (scene_of parts.new) outcome.steps.items outcome.sent.items outcome.ended) }
     ensures err { OnErr result (scene_of parts.new ≡ scene_of parts.old) }
     ensures wants { OnErr result (outcome.steps.items ≡ [] → outcome.sent.items ≡ [] → ⊥) }
     ensures seats { parts.new.seats ≡ parts.old.seats }
@@ -84,7 +85,9 @@ fn finish_group<R: MemoryReplica>(
     outcome: GroupOutcome,
 ) -> Result<(), NoMemory>
     requires place { i < length parts.old.seats.items }
-    ensures ok { OnOk result (HasSettledSteps R.Shows R.behaves R.meaning (scene_of parts.old) i (scene_of parts.new) outcome.steps.items outcome.sent.items outcome.ended outcome.stop) }
+    ensures ok { OnOk result
+        (HasSettledSteps R.Shows R.behaves R.meaning (scene_of parts.old) i
+        (scene_of parts.new) outcome.steps.items outcome.sent.items outcome.ended outcome.stop) }
     ensures err { OnErr result (HasGivenUp R.Shows R.behaves R.meaning (scene_of parts.old) i (scene_of parts.new)) }
     ensures wants { OnErr result (outcome.steps.items ≡ [] → outcome.sent.items ≡ [] → ⊥) }
 {
@@ -112,9 +115,11 @@ fn give_all<R: MemoryReplica>(
     requires holds { PartsHold R.Shows (disks_by R.behaves) R.meaning parts.old }
     ensures holds { PartsHold R.Shows (disks_by R.behaves) R.meaning parts.new }
     ensures given { (n : ℕ) → IsUpAt parts.old.seats.items i n
-        → OnOk result (IsGivenTogether R.behaves (scene_of parts.old) (scene_of parts.new) n (map heard_by inputs.entry.items)) }
+        → OnOk result (IsGivenTogether R.behaves (scene_of parts.old) (scene_of parts.new) n
+        (map heard_by inputs.entry.items)) }
     ensures halted { (n : ℕ) → IsUpAt parts.old.seats.items i n
-        → OnErr result (IsHalted (LeftByGroup R.behaves (map heard_by inputs.entry.items)) (scene_of parts.old) (scene_of parts.new) n) }
+        → OnErr result (IsHalted (LeftByGroup R.behaves (map heard_by inputs.entry.items)) (scene_of parts.old)
+        (scene_of parts.new) n) }
 {
     let outcome = step_all(parts.alloc, &mut parts.seats[i], inputs)?;
     finish_group(parts, i, outcome)?;
@@ -195,8 +200,12 @@ pub fn group<R: MemoryReplica>(
 ) -> Result<(), Refused>
     requires { PartsHold R.Shows (disks_by R.behaves) R.meaning parts.old }
     ensures holds { PartsHold R.Shows (disks_by R.behaves) R.meaning parts.new }
-    ensures ok { OnOk result (MayGroup (scene_of parts.old) number turns.now × IsGivenTogether R.behaves (scene_of parts.old) (scene_of parts.new) number (map (given_by parts.old.sent.items) turns.now)) }
-    ensures err { IfErr result (λ e. IsNotGrouped R.behaves (scene_of parts.old) number turns.now e (scene_of parts.new)) }
+    ensures ok { OnOk result
+        (MayGroup (scene_of parts.old) number turns.now
+        × IsGivenTogether R.behaves (scene_of parts.old) (scene_of parts.new) number
+        (map (given_by parts.old.sent.items) turns.now)) }
+    ensures err { IfErr result
+        (λ e. IsNotGrouped R.behaves (scene_of parts.old) number turns.now e (scene_of parts.new)) }
 {
     let i = find_up(&parts.seats, number)?;
     if !are_for(&parts.sent, number, turns) {

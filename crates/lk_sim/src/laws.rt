@@ -11,5 +11,7 @@ use lk_replica::MemoryReplica;
 /// Whatever the processes of a network have done, one after another in any order, what is promised of every world
 /// holds of them.
 pub fn networks_promise_what_worlds_do<R: MemoryReplica>()
-    ensures { (genesis : GenesisValue) (scenes : List (Scene R)) (last : Scene R) → StepsAll R.Shows (disks_by R.behaves) R.meaning (nothing genesis) scenes last → Promises R.behaves R.whole R.meaning last }
+    ensures { (genesis : GenesisValue) (scenes : List (Scene R)) (last : Scene R)
+        → StepsAll R.Shows (disks_by R.behaves) R.meaning (nothing genesis) scenes last
+        → Promises R.behaves R.whole R.meaning last }
 {}

@@ -46,8 +46,10 @@ pub fn start<R: MemoryReplica>(parts: &mut WorldParts<R>, number: NodeNo) -> Res
     requires { PartsHold R.Shows (disks_by R.behaves) R.meaning parts.old }
     ensures holds { PartsHold R.Shows (disks_by R.behaves) R.meaning parts.new }
     ensures ok { OnOk result (Does R.behaves (scene_of parts.old) (event.Start number) (scene_of parts.new)) }
-    ensures err { IfErr result (λ e. IsRefused R.behaves (scene_of parts.old) (event.Start number) e (scene_of parts.new)) }
-    ensures wants { IfErr result (λ e. e ≡ WorldMemory → StartWants R.behaves parts.old.genesis number parts.old.seats) }
+    ensures err { IfErr result
+        (λ e. IsRefused R.behaves (scene_of parts.old) (event.Start number) e (scene_of parts.new)) }
+    ensures wants { IfErr result
+        (λ e. e ≡ WorldMemory → StartWants R.behaves parts.old.genesis number parts.old.seats) }
 {
     if let Some(_) = find(&parts.seats, number) {
         return Err(Refused::AlreadyUp);
@@ -64,7 +66,8 @@ pub fn restart<R: MemoryReplica>(parts: &mut WorldParts<R>, number: NodeNo) -> R
     requires { PartsHold R.Shows (disks_by R.behaves) R.meaning parts.old }
     ensures holds { PartsHold R.Shows (disks_by R.behaves) R.meaning parts.new }
     ensures ok { OnOk result (Does R.behaves (scene_of parts.old) (event.Restart number) (scene_of parts.new)) }
-    ensures err { IfErr result (λ e. IsRefused R.behaves (scene_of parts.old) (event.Restart number) e (scene_of parts.new)) }
+    ensures err { IfErr result
+        (λ e. IsRefused R.behaves (scene_of parts.old) (event.Restart number) e (scene_of parts.new)) }
 {
     let i = find_down(&parts.seats, number)?;
     come_up(parts, i)?;
@@ -81,7 +84,8 @@ pub fn halt<R: MemoryReplica>(
     requires { PartsHold R.Shows (disks_by R.behaves) R.meaning parts.old }
     ensures holds { PartsHold R.Shows (disks_by R.behaves) R.meaning parts.new }
     ensures ok { OnOk result (Does R.behaves (scene_of parts.old) (event.Stop number x y) (scene_of parts.new)) }
-    ensures err { IfErr result (λ e. IsRefused R.behaves (scene_of parts.old) (event.Stop number x y) e (scene_of parts.new)) }
+    ensures err { IfErr result
+        (λ e. IsRefused R.behaves (scene_of parts.old) (event.Stop number x y) e (scene_of parts.new)) }
 {
     let i = find_up(&parts.seats, number)?;
     stop(parts.alloc, &mut parts.seats[i], x, y);
@@ -98,7 +102,8 @@ pub fn fail_at<R: MemoryReplica>(
     requires { PartsHold R.Shows (disks_by R.behaves) R.meaning parts.old }
     ensures holds { PartsHold R.Shows (disks_by R.behaves) R.meaning parts.new }
     ensures ok { OnOk result (Does R.behaves (scene_of parts.old) (event.FailAt number count) (scene_of parts.new)) }
-    ensures err { IfErr result (λ e. IsRefused R.behaves (scene_of parts.old) (event.FailAt number count) e (scene_of parts.new)) }
+    ensures err { IfErr result
+        (λ e. IsRefused R.behaves (scene_of parts.old) (event.FailAt number count) e (scene_of parts.new)) }
 {
     let i = find(&parts.seats, number).ok_or(Refused::NoSuchNode)?;
     set_trap(&mut parts.seats[i], Trap::Fail(count));
@@ -116,7 +121,8 @@ pub fn arm<R: MemoryReplica>(
     requires { PartsHold R.Shows (disks_by R.behaves) R.meaning parts.old }
     ensures holds { PartsHold R.Shows (disks_by R.behaves) R.meaning parts.new }
     ensures ok { OnOk result (Does R.behaves (scene_of parts.old) (event.Arm number count bytes) (scene_of parts.new)) }
-    ensures err { IfErr result (λ e. IsRefused R.behaves (scene_of parts.old) (event.Arm number count bytes) e (scene_of parts.new)) }
+    ensures err { IfErr result
+        (λ e. IsRefused R.behaves (scene_of parts.old) (event.Arm number count bytes) e (scene_of parts.new)) }
 {
     let i = find(&parts.seats, number).ok_or(Refused::NoSuchNode)?;
     set_trap(&mut parts.seats[i], Trap::Arm(count, bytes));

@@ -113,7 +113,8 @@ impl<R: MemoryReplica> World<R> {
     /// How many bytes the disks A and B of this node have, synced or not, or `None` if it was never started.
     pub fn lengths(&self, node: NodeNo) -> Option<(usize, usize)>
         ensures some { IfSome result (λ l. (k : ℕ) × (s : SeatValue R) × At self.now.seats k s × (s.number ≡ node)
-            × (l.0 ≡ length (contents (disks_of (disks_by R.behaves) s.life A))) × (l.1 ≡ length (contents (disks_of (disks_by R.behaves) s.life B)))) }
+            × (l.0 ≡ length (contents (disks_of (disks_by R.behaves) s.life A)))
+            × (l.1 ≡ length (contents (disks_of (disks_by R.behaves) s.life B)))) }
         ensures none { result ≡ None → HasNo self.now.seats node }
     {
         let i = find(&self.parts.seats, node)?;

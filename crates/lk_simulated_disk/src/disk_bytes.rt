@@ -44,7 +44,8 @@ impl DiskBytes {
     /// Whether there are that many bytes; only then does it fill the buffer.
     pub fn read_into(&self, offset: usize, buffer: &mut [u8]) -> bool
         ensures within { IsTrue result ↔ (offset + length buffer.old ≤ length (contents self.now)) }
-        ensures value { IsTrue result → buffer.new ≡ slice_range (contents self.now) offset (offset + length buffer.old) }
+        ensures value { IsTrue result
+            → buffer.new ≡ slice_range (contents self.now) offset (offset + length buffer.old) }
         ensures unchanged { IsFalse result → buffer.new ≡ buffer.old }
     {
         let end = offset.saturating_add(buffer.len());

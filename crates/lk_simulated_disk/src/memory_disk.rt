@@ -1,7 +1,10 @@
 // A device in memory, which can be made to fail.
-ghost use Rattle.std.specs.Prelude.{◌≡◌, ◌⊎◌, ◌≤◌, ◌<◌, ◌+◌, ℕ, None, Some, Ok, length, true, false, ⊤, slice_range, IsTrue, IsFalse, IsOk, IsErr, IfOk, OnOk, OnErr, MatchResult};
-ghost use Rattle.lk_disk.specs.Disk.{MayLeave, AppendsSome, CutShort, HasCause, other, contents, appended, flushed, cut_to};
-ghost use Rattle.lk_simulated_disk.specs.Memory.{empty, disk_of, with_disk, counted, heeded, cut_within, failed, refused, wanting, stopped};
+ghost use Rattle.std.specs.Prelude.{◌≡◌, ◌⊎◌, ◌≤◌, ◌<◌, ◌+◌, ℕ, None, Some, Ok, length, true, false, ⊤, slice_range};
+ghost use Rattle.std.specs.Prelude.{IsTrue, IsFalse, IsOk, IsErr, IfOk, OnOk, OnErr, MatchResult};
+ghost use Rattle.lk_disk.specs.Disk.{MayLeave, AppendsSome, CutShort, HasCause, other, contents, appended, flushed};
+ghost use Rattle.lk_disk.specs.Disk.{cut_to};
+ghost use Rattle.lk_simulated_disk.specs.Memory.{empty, disk_of, with_disk, counted, heeded, cut_within, failed};
+ghost use Rattle.lk_simulated_disk.specs.Memory.{refused, wanting, stopped};
 ghost use Rattle.lk_disk.specs.Meters.{is_refused, is_unread, Calls, Reads, trapped, stopping};
 ghost use Rattle.lk_disk.specs.Traps.{stops_next};
 ghost use Rattle.lk_disk.specs.declared.device.Side.{Side};
@@ -202,7 +205,8 @@ impl LogDisk for MemoryDisk {
 
     fn length(&mut self, side: Side) -> Result<usize, DeviceFault>
         ensures refused { IsTrue (is_unread self.old.meter) → IsErr result × (self.new ≡ failed (heeded self.old)) }
-        ensures passed { IsFalse (is_unread self.old.meter) → (result ≡ Ok (length (contents (disk_of self.old side)))) × (self.new ≡ heeded self.old) }
+        ensures passed { IsFalse (is_unread self.old.meter)
+            → (result ≡ Ok (length (contents (disk_of self.old side)))) × (self.new ≡ heeded self.old) }
     {
         self.begin_read()?;
         Ok(self.len_of(side))
@@ -211,8 +215,10 @@ impl LogDisk for MemoryDisk {
     fn read_into(&mut self, side: Side, offset: usize, buffer: &mut [u8]) -> Result<(), DeviceFault>
         ensures refused { IsTrue (is_unread self.old.meter) → IsErr result }
         ensures past_end { length (contents (disk_of self.old side)) < offset + length buffer.old → IsErr result }
-        ensures passed { IsFalse (is_unread self.old.meter) → offset + length buffer.old ≤ length (contents (disk_of self.old side)) → IsOk result }
-        ensures value { OnOk result (buffer.new ≡ slice_range (contents (disk_of self.old side)) offset (offset + length buffer.old)) }
+        ensures passed { IsFalse (is_unread self.old.meter)
+            → offset + length buffer.old ≤ length (contents (disk_of self.old side)) → IsOk result }
+        ensures value { OnOk result
+            (buffer.new ≡ slice_range (contents (disk_of self.old side)) offset (offset + length buffer.old)) }
         ensures ok { OnOk result (self.new ≡ heeded self.old) }
         ensures err { OnErr result ((self.new ≡ failed (heeded self.old)) × (buffer.new ≡ buffer.old)) }
     {
@@ -229,9 +235,12 @@ impl LogDisk for MemoryDisk {
         ensures err { OnErr result (AppendsSome piece.now (disk_of self.old side) (disk_of self.new side)) }
         ensures cause { HasCause self.old.failures self.new.failures result }
         ensures refused { IsTrue (is_refused self.old.meter) → IsErr result × (self.new ≡ refused self.old) }
-        ensures stopped { IsFalse (is_refused self.old.meter) → (bytes : ℕ) → stops_next self.old.meter.trap ≡ Some bytes → IsErr result
-            × ((self.new ≡ failed (with_disk side (appended (disk_of self.old side) piece.now) (counted self.old))) ⊎ (self.new ≡ wanting self.old)) }
-        ensures passed { IsFalse (is_refused self.old.meter) → stops_next self.old.meter.trap ≡ None → MatchResult result
+        ensures stopped { IsFalse (is_refused self.old.meter) → (bytes : ℕ)
+            → stops_next self.old.meter.trap ≡ Some bytes → IsErr result
+            × ((self.new ≡ failed (with_disk side (appended (disk_of self.old side) piece.now) (counted self.old)))
+            ⊎ (self.new ≡ wanting self.old)) }
+        ensures passed { IsFalse (is_refused self.old.meter)
+            → stops_next self.old.meter.trap ≡ None → MatchResult result
             (λ _. self.new ≡ with_disk side (appended (disk_of self.old side) piece.now) (counted self.old))
             (λ _. self.new ≡ wanting self.old) }
     {
@@ -255,7 +264,8 @@ impl LogDisk for MemoryDisk {
 
     fn sync(&mut self, side: Side) -> Result<(), DeviceFault>
         ensures refused { IsTrue (is_refused self.old.meter) → IsErr result × (self.new ≡ refused self.old) }
-        ensures stopped { IsFalse (is_refused self.old.meter) → (bytes : ℕ) → stops_next self.old.meter.trap ≡ Some bytes → IsErr result × (self.new ≡ refused self.old) }
+        ensures stopped { IsFalse (is_refused self.old.meter) → (bytes : ℕ)
+            → stops_next self.old.meter.trap ≡ Some bytes → IsErr result × (self.new ≡ refused self.old) }
         ensures passed { IsFalse (is_refused self.old.meter) → stops_next self.old.meter.trap ≡ None → IsOk result
             × (self.new ≡ with_disk side (flushed (disk_of self.old side)) (counted self.old)) }
     {
@@ -270,16 +280,21 @@ impl LogDisk for MemoryDisk {
 
     #[tactic(auto, using(crate::proofs::Keep::cut_short))]
     fn cut(&mut self, side: Side, len: usize) -> Result<(), DeviceFault>
-        ensures ok { OnOk result ((len ≤ length (contents (disk_of self.old side))) × (self.new ≡ with_disk side (cut_to len (disk_of self.old side)) (counted self.old))) }
+        ensures ok { OnOk result
+            ((len ≤ length (contents (disk_of self.old side)))
+            × (self.new ≡ with_disk side (cut_to len (disk_of self.old side)) (counted self.old))) }
         ensures err { OnErr result (CutShort len (disk_of self.old side) (disk_of self.new side)) }
         ensures beside { disk_of self.new (other side) ≡ disk_of self.old (other side) }
         ensures cause { HasCause self.old.failures self.new.failures result }
         ensures refused { IsTrue (is_refused self.old.meter) → IsErr result × (self.new ≡ refused self.old) }
         ensures metered { len ≤ length (contents (disk_of self.old side)) → Calls self.old.meter self.new.meter result }
-        ensures past_end { length (contents (disk_of self.old side)) < len → IsErr result × (self.new ≡ refused self.old) }
-        ensures stopped { IsFalse (is_refused self.old.meter) → len ≤ length (contents (disk_of self.old side)) → (bytes : ℕ) → stops_next self.old.meter.trap ≡ Some bytes → IsErr result
+        ensures past_end { length (contents (disk_of self.old side)) < len
+            → IsErr result × (self.new ≡ refused self.old) }
+        ensures stopped { IsFalse (is_refused self.old.meter) → len ≤ length (contents (disk_of self.old side))
+            → (bytes : ℕ) → stops_next self.old.meter.trap ≡ Some bytes → IsErr result
             × (self.new ≡ failed (with_disk side (cut_within len bytes (disk_of self.old side)) (counted self.old))) }
-        ensures passed { IsFalse (is_refused self.old.meter) → len ≤ length (contents (disk_of self.old side)) → stops_next self.old.meter.trap ≡ None → IsOk result
+        ensures passed { IsFalse (is_refused self.old.meter) → len ≤ length (contents (disk_of self.old side))
+            → stops_next self.old.meter.trap ≡ None → IsOk result
             × (self.new ≡ with_disk side (cut_to len (disk_of self.old side)) (counted self.old)) }
     {
         let stop = self.begin()?;

@@ -73,8 +73,10 @@ impl AppendFile for MemoryFile {
     }
 
     fn read_into(&mut self, offset: usize, buffer: &mut [u8]) -> Result<(), FileFault>
-        ensures within { IsWhole self.old.file → IsOk result ↔ (offset + length buffer.old ≤ length (contents (left_of self.old.file))) }
-        ensures value { OnOk result (buffer.new ≡ slice_range (contents (left_of self.old.file)) offset (offset + length buffer.old)) }
+        ensures within { IsWhole self.old.file
+            → IsOk result ↔ (offset + length buffer.old ≤ length (contents (left_of self.old.file))) }
+        ensures value { OnOk result
+            (buffer.new ≡ slice_range (contents (left_of self.old.file)) offset (offset + length buffer.old)) }
         ensures unchanged { self.new.file ≡ self.old.file }
         ensures cause { HasCause self.old.failures self.new.failures result }
     {
@@ -118,7 +120,8 @@ impl AppendFile for MemoryFile {
     }
 
     fn shorten(&mut self, len: usize) -> Result<(), FileFault>
-        ensures ok { IsWhole self.old.file → len ≤ length (contents (left_of self.old.file)) → IsOk result × (self.new.file ≡ shortened len (left_of self.old.file)) }
+        ensures ok { IsWhole self.old.file → len ≤ length (contents (left_of self.old.file))
+            → IsOk result × (self.new.file ≡ shortened len (left_of self.old.file)) }
         ensures cause { HasCause self.old.failures self.new.failures result }
     {
         if self.shown.is_some() || self.bytes.len() < len {

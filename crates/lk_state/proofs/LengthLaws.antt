@@ -18,9 +18,11 @@ use Rattle.lk_state.proofs.SessionLaws.{few_sessions}
 
 length-answer : (a : Answer) → length (answer a) ≤ 11
 length-answer (Granted fence) = omega (arith, length-eight fence)
-length-answer (Busy holder fence) = omega (arith, length-append (two holder) (eight fence), length-two holder, length-eight fence)
+length-answer (Busy holder fence) =
+    omega (arith, length-append (two holder) (eight fence), length-two holder, length-eight fence)
 length-answer (Free fence) = omega (arith, length-eight fence)
-length-answer (Held holder fence) = omega (arith, length-append (two holder) (eight fence), length-two holder, length-eight fence)
+length-answer (Held holder fence) =
+    omega (arith, length-append (two holder) (eight fence), length-two holder, length-eight fence)
 length-answer (Shared fence) = omega (arith, length-eight fence)
 length-answer (HeldShared count fence) = omega (arith, length-append (one count) (eight fence), length-eight fence)
 length-answer _ = omega arith
@@ -30,11 +32,19 @@ length-member m = omega (arith, length-append (four m.node) (two m.port), length
 
 length-session : (s : Session) → length (session_text s) ≤ 21
 length-session s =
-    omega (arith, length-append (two s.client) (eight s.number ++ answer s.answer), length-append (eight s.number) (answer s.answer), length-two s.client, length-eight s.number, length-answer s.answer)
+    omega (
+      arith,
+      length-append (two s.client) (eight s.number ++ answer s.answer),
+      length-append (eight s.number) (answer s.answer),
+      length-two s.client,
+      length-eight s.number,
+      length-answer s.answer,
+    )
 
 module _ {X : Type 0} where
   -- pieces of at most k bytes
-  length-pieces : (P : X → Type 0) (f : X → List ℕ) (k : ℕ) → ((x : X) → P x → length (f x) ≤ k) → (xs : List X) → AllByRecursion P xs → length (flat_map f xs) ≤ length xs * k
+  length-pieces : (P : X → Type 0) (f : X → List ℕ) (k : ℕ) → ((x : X) → P x → length (f x) ≤ k) → (xs : List X)
+      → AllByRecursion P xs → length (flat_map f xs) ≤ length xs * k
   length-pieces P f k short [] all = omega arith
   length-pieces P f k short (x ∷ xs) all =
       let rest = length-pieces P f k short xs all.1 in
@@ -44,13 +54,15 @@ module _ {X : Type 0} where
 length-set : (set : List Member) → IsSet set → length (members set) ≤ 43
 length-set set h =
     let few = h.0.1 in
-    let pieces : length (flat_map member set) ≤ length set * 6 = length-pieces IsMember member 6 (λ m _. omega (arith, length-member m)) set h.1 in
+    let pieces : length (flat_map member set) ≤ length set * 6 =
+    length-pieces IsMember member 6 (λ m _. omega (arith, length-member m)) set h.1 in
     omega (arith, length-append (one (length set)) (flat_map member set))
 
 length-roster : (r : RosterValue) → IsRoster r → length (roster_text r) ≤ 709
 length-roster r h =
     let few = h.sets.0 in
-    let pieces : length (flat_map members r.sets) ≤ length r.sets * 43 = length-pieces IsSet members 43 length-set r.sets h.sets.1 in
+    let pieces : length (flat_map members r.sets) ≤ length r.sets * 43 =
+    length-pieces IsSet members 43 length-set r.sets h.sets.1 in
     omega (
       arith,
       length-append (eight r.executed) (sets_text r.sets ++ (four r.greatest ++ eight r.changed)),
@@ -65,13 +77,22 @@ length-roster r h =
 length-sessions : (l : List Session) → AreSessions l → length (sessions_text l) ≤ 5378
 length-sessions l h =
     let few = few_sessions l h in
-    let pieces : length (flat_map session_text l) ≤ length l * 21 = length-pieces IsSession session_text 21 (λ s _. length-session s) l h.0 in
+    let pieces : length (flat_map session_text l) ≤ length l * 21 =
+    length-pieces IsSession session_text 21 (λ s _. length-session s) l h.0 in
     omega (arith, length-append (two (length l)) (flat_map session_text l), length-two (length l))
 
 -- so it has at most 42,087 bytes, of which the machine's are 36,000
-pub length-packed : (IsText : List ℕ → Type 0) → ((t : List ℕ) → IsText t → length t ≤ 36000) → (w : WholeValue) → IsWhole IsText w → length (packed w) ≤ 42087
+pub length-packed : (IsText : List ℕ → Type 0) → ((t : List ℕ) → IsText t → length t ≤ 36000) → (w : WholeValue)
+    → IsWhole IsText w → length (packed w) ≤ 42087
 length-packed IsText short w h =
-    omega (arith, length-append (roster_text w.roster ++ sessions_text w.sessions) w.text, length-append (roster_text w.roster) (sessions_text w.sessions), length-roster w.roster h.roster, length-sessions w.sessions h.sessions, short w.text h.text)
+    omega (
+      arith,
+      length-append (roster_text w.roster ++ sessions_text w.sessions) w.text,
+      length-append (roster_text w.roster) (sessions_text w.sessions),
+      length-roster w.roster h.roster,
+      length-sessions w.sessions h.sessions,
+      short w.text h.text,
+    )
 
 -- and some: how many positions are executed has 8
 pub packed_is_some : (w : WholeValue) → 1 ≤ length (packed w)
@@ -80,6 +101,7 @@ packed_is_some w =
       arith,
       length-append (roster_text w.roster ++ sessions_text w.sessions) w.text,
       length-append (roster_text w.roster) (sessions_text w.sessions),
-      length-append (eight w.roster.executed) (sets_text w.roster.sets ++ (four w.roster.greatest ++ eight w.roster.changed)),
+      length-append (eight w.roster.executed)
+          (sets_text w.roster.sets ++ (four w.roster.greatest ++ eight w.roster.changed)),
       length-eight w.roster.executed,
     )

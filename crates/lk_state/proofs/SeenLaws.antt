@@ -8,7 +8,8 @@ use Rattle.lk_state.specs.declared.session.Session.{Session}
 use Rattle.lk_state.specs.declared.whole.Seen.TheVariants as seen
 
 -- the same number: the session has it, with that answer
-pub same_is : (o : Option Session) (number : ℕ) (a : Answer) → seen_as o number ≡ seen.Same a → (s : Session) × (o ≡ Some s) × (number ≡ s.number) × (s.answer ≡ a)
+pub same_is : (o : Option Session) (number : ℕ) (a : Answer) → seen_as o number ≡ seen.Same a
+    → (s : Session) × (o ≡ Some s) × (number ≡ s.number) × (s.answer ≡ a)
 same_is None number a e = absurd cc
 same_is (Some s) number a e =
     elim (cases_Bool (eqb number s.number)) [
@@ -24,7 +25,8 @@ same_is (Some s) number a e =
     answered e = cc
 
 -- a number that passed it: the session's, and above it
-pub passed_is : (o : Option Session) (number last : ℕ) → seen_as o number ≡ seen.Passed last → (s : Session) × (o ≡ Some s) × (s.number ≡ last) × (number < s.number)
+pub passed_is : (o : Option Session) (number last : ℕ) → seen_as o number ≡ seen.Passed last
+    → (s : Session) × (o ≡ Some s) × (s.number ≡ last) × (number < s.number)
 passed_is None number last e = absurd cc
 passed_is (Some s) number last e =
     elim (cases_Bool (eqb number s.number)) [
@@ -48,6 +50,7 @@ new_is (Some s) number e =
       | inr other ↦
           elim (cases_Bool (nat_lt number s.number)) [
             | inl below ↦ let bad : seen.Passed s.number ≡ seen.New = rw (other, below) at e in absurd cc
-            | inr above ↦ lt-ltb s.number number (omega (arith, ltb-false number s.number above, eqb-false number s.number other))
+            | inr above ↦
+                lt-ltb s.number number (omega (arith, ltb-false number s.number above, eqb-false number s.number other))
           ]
     ]

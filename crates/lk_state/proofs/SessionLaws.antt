@@ -1,23 +1,28 @@
 -- What one session more makes of the sessions.
-use Rattle.std.proofs.Common.{◌≡◌, ℕ, zero, suc, ◌+◌, ◌<◌, ◌≤◌, Bool, true, false, cond, eqb, nat_lt, ◌&&◌, List, [], ◌∷◌, length, get_or, Some, None, Contains, refl, ap, subst, sym, inl, inr, arith}
+use Rattle.std.proofs.Common.{◌≡◌, ℕ, zero, suc, ◌+◌, ◌<◌, ◌≤◌, Bool, true, false, cond, eqb, nat_lt, ◌&&◌, List, []}
+use Rattle.std.proofs.Common.{◌∷◌, length, get_or, Some, None, Contains, refl, ap, subst, sym, inl, inr, arith}
 use Rattle.std.specs.Prelude.{slice_get, slice_set, insert}
 use Rattle.std.specs.List.Sorted.{IsNonDecreasingBy, IsPartitionPoint}
 use Rattle.std.specs.List.{AllByRecursion, prefix_len}
-use Rattle.std.proofs.lemmas.Bool.{and_parts, and_from, cases_Bool, ltb-true, ltb-false, lt-ltb, le-ltb, eqb-true, eqb-false, eq-eqb, ne_eqb}
+use Rattle.std.proofs.lemmas.Bool.{and_parts, and_from, cases_Bool, ltb-true, ltb-false, lt-ltb, le-ltb, eqb-true}
+use Rattle.std.proofs.lemmas.Bool.{eqb-false, eq-eqb, ne_eqb}
 use Rattle.std.proofs.lemmas.List.Sums.{prefix_len-le-length, prefix_len_is}
 use Rattle.std.proofs.lemmas.List.Edits.{length-insert}
 use Rattle.lk_types.specs.declared.answer.Answer.TheVariants.{Bad}
-use Rattle.lk_state.specs.Sessions.{Session, session_of, own, is_at, with_session, are_sessions_above, IsSession, AreSessions}
+use Rattle.lk_state.specs.Sessions.{Session, session_of, own, is_at, with_session, are_sessions_above, IsSession}
+use Rattle.lk_state.specs.Sessions.{AreSessions}
 
 -- how many stand before the client
 abbrev pub before : ℕ → List Session → ℕ
 before client l = prefix_len (λ (s : Session). nat_lt s.client client) l
 
-before_lower : (client : ℕ) (t : Session) (l : List Session) → nat_lt t.client client ≡ true → before client (t ∷ l) ≡ suc (before client l)
+before_lower : (client : ℕ) (t : Session) (l : List Session) → nat_lt t.client client ≡ true
+    → before client (t ∷ l) ≡ suc (before client l)
 before_lower client t l lower = let n : ℕ = before client l in let e : 1 + n ≡ suc n = omega arith in rw lower e
 
 -- the client's session is replaced where it stands
-pub replaced : (s : Session) (l : List Session) → is_at s.client (slice_get l (before s.client l)) ≡ true → slice_set l (before s.client l) s ≡ with_session s l
+pub replaced : (s : Session) (l : List Session) → is_at s.client (slice_get l (before s.client l)) ≡ true
+    → slice_set l (before s.client l) s ≡ with_session s l
 replaced s [] h = absurd cc
 replaced s (t ∷ l) h =
     elim (cases_Bool (nat_lt t.client s.client)) [
@@ -39,7 +44,8 @@ replaced s (t ∷ l) h =
     ]
 
 -- a new client's session comes in at its place
-pub inserted : (s : Session) (l : List Session) → is_at s.client (slice_get l (before s.client l)) ≡ false → insert l (before s.client l) s ≡ with_session s l
+pub inserted : (s : Session) (l : List Session) → is_at s.client (slice_get l (before s.client l)) ≡ false
+    → insert l (before s.client l) s ≡ with_session s l
 inserted s [] h = refl
 inserted s (t ∷ l) h =
     elim (cases_Bool (nat_lt t.client s.client)) [
@@ -59,7 +65,8 @@ inserted s (t ∷ l) h =
           rw (none, below) refl
     ]
 
-sessions_and : (s : Session) (l : List Session) → IsSession s → AllByRecursion IsSession l → AllByRecursion IsSession (with_session s l)
+sessions_and : (s : Session) (l : List Session) → IsSession s → AllByRecursion IsSession l
+    → AllByRecursion IsSession (with_session s l)
 sessions_and s [] here all = (here, tt)
 sessions_and s (t ∷ l) here all =
     elim (cases_Bool (nat_lt s.client t.client)) [
@@ -71,22 +78,28 @@ sessions_and s (t ∷ l) here all =
           ]
     ]
 
-rising_and : (low : ℕ) (s : Session) (l : List Session) → low < s.client → are_sessions_above low l ≡ true → are_sessions_above low (with_session s l) ≡ true
+rising_and : (low : ℕ) (s : Session) (l : List Session) → low < s.client → are_sessions_above low l ≡ true
+    → are_sessions_above low (with_session s l) ≡ true
 rising_and low s [] above h = and_from (nat_lt low s.client) true (lt-ltb low s.client above) refl
 rising_and low s (t ∷ l) above h =
     let parts = and_parts (nat_lt low t.client) (are_sessions_above t.client l) h in
     let here = lt-ltb low s.client above in
     elim (cases_Bool (nat_lt s.client t.client)) [
-      | inl below ↦ rw below (and_from (nat_lt low s.client) (nat_lt s.client t.client && are_sessions_above t.client l) here (and_from (nat_lt s.client t.client) (are_sessions_above t.client l) below parts.1))
+      | inl below ↦ rw below (and_from (nat_lt low s.client)
+          (nat_lt s.client t.client && are_sessions_above t.client l) here
+          (and_from (nat_lt s.client t.client) (are_sessions_above t.client l) below parts.1))
       | inr not_below ↦
           let le = ltb-false s.client t.client not_below in
           elim (cases_Bool (eqb s.client t.client)) [
             | inl same ↦
                 let is = eqb-true s.client t.client same in
-                rw (not_below, same) (and_from (nat_lt low s.client) (are_sessions_above s.client l) here (rw is parts.1))
+                rw (not_below, same) (and_from (nat_lt low s.client)
+                (are_sessions_above s.client l) here (rw is parts.1))
             | inr other ↦
                 let not_same = eqb-false s.client t.client other in
-                rw (not_below, other) (and_from (nat_lt low t.client) (are_sessions_above t.client (with_session s l)) parts.0 (rising_and t.client s l (omega arith) parts.1))
+                rw (not_below, other) (and_from (nat_lt low t.client)
+                (are_sessions_above t.client (with_session s l)) parts.0
+                (rising_and t.client s l (omega arith) parts.1))
           ]
     ]
 
@@ -94,7 +107,8 @@ rising_and low s (t ∷ l) above h =
 pub with_session-fits : (s : Session) (l : List Session) → IsSession s → AreSessions l → AreSessions (with_session s l)
 with_session-fits s l here h = (sessions_and s l here h.0, rising_and 0 s l (omega (arith, here.0.0)) h.1)
 
-few_above : (low : ℕ) (l : List Session) → low ≤ 256 → AllByRecursion IsSession l → are_sessions_above low l ≡ true → length l + low ≤ 256
+few_above : (low : ℕ) (l : List Session) → low ≤ 256 → AllByRecursion IsSession l
+    → are_sessions_above low l ≡ true → length l + low ≤ 256
 few_above low [] le all h = omega arith
 few_above low (s ∷ l) le all h =
     let parts = and_parts (nat_lt low s.client) (are_sessions_above s.client l) h in
@@ -108,35 +122,57 @@ pub few_sessions : (l : List Session) → AreSessions l → length l ≤ 256
 few_sessions l h = omega (arith, few_above 0 l (omega arith) h.0 h.1)
 
 -- there is room for a new client's session
-pub room_for : (s : Session) (l : List Session) → IsSession s → AreSessions l → is_at s.client (slice_get l (before s.client l)) ≡ false → length l < 256
+pub room_for : (s : Session) (l : List Session) → IsSession s → AreSessions l
+    → is_at s.client (slice_get l (before s.client l)) ≡ false → length l < 256
 room_for s l here h new =
     let le = prefix_len-le-length (λ (t : Session). nat_lt t.client s.client) l in
     let many = ap length (inserted s l new) in
-    omega (arith, few_sessions (with_session s l) (with_session-fits s l here h), many, length-insert l (before s.client l) s le)
+    omega (
+      arith,
+      few_sessions (with_session s l) (with_session-fits s l here h),
+      many,
+      length-insert l (before s.client l) s le,
+    )
 
 -- ---- finding a client's session
 
 -- each client of rising sessions is above the one in front of them
-above : (low : ℕ) (l : List Session) → are_sessions_above low l ≡ true → (k : ℕ) (d : Session) → k < length l → low < (get_or l k d).client
+above : (low : ℕ) (l : List Session) → are_sessions_above low l ≡ true → (k : ℕ) (d : Session) → k < length l
+    → low < (get_or l k d).client
 above low [] h k d lt = absurd (omega arith)
-above low (s ∷ l) h zero d lt = ltb-true low s.client (and_parts (nat_lt low s.client) (are_sessions_above s.client l) h).0
+above low (s ∷ l) h zero d lt =
+    ltb-true low s.client (and_parts (nat_lt low s.client) (are_sessions_above s.client l) h).0
 above low (s ∷ l) h (suc k) d lt =
     let parts = and_parts (nat_lt low s.client) (are_sessions_above s.client l) h in
     omega (arith, ltb-true low s.client parts.0, above s.client l parts.1 k d (omega arith))
 
 -- rising sessions rise by client
-pub clients_rise : (low : ℕ) (l : List Session) → are_sessions_above low l ≡ true → IsNonDecreasingBy (λ (s : Session). s.client) l
+pub clients_rise : (low : ℕ) (l : List Session) → are_sessions_above low l ≡ true
+    → IsNonDecreasingBy (λ (s : Session). s.client) l
 clients_rise low [] h i j d le lt = absurd (omega arith)
 clients_rise low (s ∷ l) h zero zero d le lt = omega arith
-clients_rise low (s ∷ l) h zero (suc j) d le lt = omega (arith, above s.client l (and_parts (nat_lt low s.client) (are_sessions_above s.client l) h).1 j d (omega arith))
+clients_rise low (s ∷ l) h zero (suc j) d le lt =
+    omega (
+      arith,
+      above s.client l
+          (and_parts (nat_lt low s.client) (are_sessions_above s.client l) h).1 j d (omega arith),
+    )
 clients_rise low (s ∷ l) h (suc i) zero d le lt = absurd (omega arith)
-clients_rise low (s ∷ l) h (suc i) (suc j) d le lt = clients_rise s.client l (and_parts (nat_lt low s.client) (are_sessions_above s.client l) h).1 i j d (omega arith) (omega arith)
+clients_rise low (s ∷ l) h (suc i) (suc j) d le lt =
+    clients_rise s.client l (and_parts (nat_lt low s.client) (are_sessions_above s.client l) h).1 i j d
+    (omega arith) (omega arith)
 
 -- where the clients in front are below and the others are not
-pub place_is_before : (client n : ℕ) (l : List Session) → IsPartitionPoint (λ (s : Session). nat_lt s.client client ≡ true) (λ (s : Session). nat_lt s.client client ≡ false) l n → n ≤ length l → n ≡ before client l
-place_is_before client n l point le = sym (prefix_len_is (λ (s : Session). nat_lt s.client client) l n (record { client = 0; number = 0; answer = Bad }) le (λ k lt. point.0 k _ (omega arith) lt) (λ lt. point.1 n _ (omega arith) lt))
+pub place_is_before : (client n : ℕ) (l : List Session)
+    → IsPartitionPoint (λ (s : Session). nat_lt s.client client ≡ true)
+    (λ (s : Session). nat_lt s.client client ≡ false) l n → n ≤ length l → n ≡ before client l
+place_is_before client n l point le =
+    sym (prefix_len_is (λ (s : Session). nat_lt s.client client) l n
+    (record { client = 0; number = 0; answer = Bad }) le (λ k lt. point.0 k _ (omega arith) lt)
+    (λ lt. point.1 n _ (omega arith) lt))
 
-none_above : (client low : ℕ) (l : List Session) → client ≤ low → are_sessions_above low l ≡ true → session_of client l ≡ None
+none_above : (client low : ℕ) (l : List Session) → client ≤ low → are_sessions_above low l ≡ true
+    → session_of client l ≡ None
 none_above client low [] le h = refl
 none_above client low (s ∷ l) le h =
     let parts = and_parts (nat_lt low s.client) (are_sessions_above s.client l) h in
@@ -145,7 +181,8 @@ none_above client low (s ∷ l) le h =
     rw other (none_above client s.client l (omega arith) parts.1)
 
 -- in rising sessions a client's stands after those of smaller clients, or nowhere
-pub session_of-before : (client low : ℕ) (l : List Session) → are_sessions_above low l ≡ true → session_of client l ≡ own client (slice_get l (before client l))
+pub session_of-before : (client low : ℕ) (l : List Session) → are_sessions_above low l ≡ true
+    → session_of client l ≡ own client (slice_get l (before client l))
 session_of-before client low [] h = refl
 session_of-before client low (s ∷ l) h =
     let parts = and_parts (nat_lt low s.client) (are_sessions_above s.client l) h in
@@ -192,7 +229,8 @@ rises_above low [] h = refl
 rises_above low (s ∷ l) h = (and_parts (nat_lt low s.client) (are_sessions_above s.client l) h).1
 
 -- each of rising sessions is its client's
-pub each_is_its_clients : (l : List Session) (s : Session) → do_rise l ≡ true → Contains l s → session_of s.client l ≡ Some s
+pub each_is_its_clients : (l : List Session) (s : Session) → do_rise l ≡ true → Contains l s
+    → session_of s.client l ≡ Some s
 each_is_its_clients [] s h (k, lt, is) = absurd (omega arith)
 each_is_its_clients (t ∷ l) s h (zero, lt, is) = rw is at_head
   where
@@ -205,5 +243,6 @@ each_is_its_clients (t ∷ l) s h (suc k, lt, is) =
     rw other (each_is_its_clients l s (rises_above t.client l h) (k, here, is))
 
 -- so each session that may be kept is
-pub kept_is_its_clients : (l : List Session) (s : Session) → AreSessions l → Contains l s → session_of s.client l ≡ Some s
+pub kept_is_its_clients : (l : List Session) (s : Session) → AreSessions l → Contains l s
+    → session_of s.client l ≡ Some s
 kept_is_its_clients l s are c = each_is_its_clients l s (rises_above 0 l are.1) c

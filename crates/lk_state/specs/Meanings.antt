@@ -18,5 +18,7 @@ pub record Meaning : Type 0 where
 -- it begins as a text, a text stays one, and each answer is in its range
 pub record KeepsTexts (IsText : List ℕ → Type 0) (m : Meaning) : Type 0 where
   pub first : IsText m.first
-  pub next : (client : ℕ) (task : Task) (before : List ℕ) → IsClient client → IsText before → IsText (m.next client task before)
-  pub answer : (client : ℕ) (task : Task) (before : List ℕ) → IsClient client → IsText before → IsAnswer (m.answer client task before)
+  pub next : (client : ℕ) (task : Task) (before : List ℕ) → IsClient client → IsText before
+      → IsText (m.next client task before)
+  pub answer : (client : ℕ) (task : Task) (before : List ℕ) → IsClient client → IsText before
+      → IsAnswer (m.answer client task before)

@@ -2,7 +2,8 @@
 use Rattle.std.specs.Prelude.{ℕ, nat_le, List, Option}
 use Rattle.lk_types.specs.declared.member.Member.{Member}
 use Rattle.lk_fields.specs.Parser.{read_byte, both, made, tested, counted}
-use Rattle.lk_fields.specs.FieldReading.{is_from_1_to, read_two, read_node, read_client, read_count, read_total, read_members, read_answer}
+use Rattle.lk_fields.specs.FieldReading.{is_from_1_to, read_two, read_node, read_client, read_count, read_total}
+use Rattle.lk_fields.specs.FieldReading.{read_members, read_answer}
 use Rattle.lk_members.specs.Sets.{are_at_most}
 use Rattle.lk_members.specs.Windows.{RosterValue}
 use Rattle.lk_state.specs.Sessions.{Session, are_sessions_above}
@@ -13,10 +14,12 @@ read_sets = counted (tested (is_from_1_to 16) read_byte) read_members
 unfoldable pub read_roster : List ℕ → Option (RosterValue × List ℕ)
 read_roster =
     tested (λ r. are_at_most r.greatest r.sets)
-    (made (λ r. record { executed = r.0; sets = r.1.0; greatest = r.1.1.0; changed = r.1.1.1 }) (both read_total (both read_sets (both read_node read_total))))
+    (made (λ r. record { executed = r.0; sets = r.1.0; greatest = r.1.1.0; changed = r.1.1.1 })
+    (both read_total (both read_sets (both read_node read_total))))
 
 unfoldable pub read_session : List ℕ → Option (Session × List ℕ)
-read_session = made (λ s. record { client = s.0; number = s.1.0; answer = s.1.1 }) (both read_client (both read_count read_answer))
+read_session =
+    made (λ s. record { client = s.0; number = s.1.0; answer = s.1.1 }) (both read_client (both read_count read_answer))
 
 unfoldable pub read_sessions : List ℕ → Option (List Session × List ℕ)
 read_sessions = tested (are_sessions_above 0) (counted (tested (λ n. nat_le n 256) read_two) read_session)

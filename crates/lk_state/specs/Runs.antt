@@ -18,7 +18,8 @@ in_effect_now sessions (Request r) = if is_new (session_of r.client sessions) r.
 
 -- its answer
 abbrev pub session_for : Meaning → WholeValue → RequestValue → Session
-session_for m w r = record { client = r.client; number = r.number; answer = op_answer m (newest_roster w.roster) w.text r.client r.op }
+session_for m w r =
+    record { client = r.client; number = r.number; answer = op_answer m (newest_roster w.roster) w.text r.client r.op }
 
 -- one position further, with a request that takes effect or with none
 abbrev pub served_by : Meaning → WholeValue → Option RequestValue → WholeValue

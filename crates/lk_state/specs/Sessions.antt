@@ -1,6 +1,7 @@
 -- What is kept of each client: its last request that took effect, and the answer.
 pub use Rattle.lk_state.specs.declared.session.Session.{Session}
-use Rattle.std.specs.Prelude.{ℕ, Bool, true, false, ◌&&◌, ◌==◌, nat_lt, if◌then◌else◌, Option, Some, None, List, [], ◌∷◌, find, IsTrue}
+use Rattle.std.specs.Prelude.{ℕ, Bool, true, false, ◌&&◌, ◌==◌, nat_lt, if◌then◌else◌, Option, Some, None, List, []}
+use Rattle.std.specs.Prelude.{◌∷◌, find, IsTrue}
 use Rattle.std.specs.List.{AllByRecursion}
 use Rattle.lk_types.specs.Ranges.{IsClient, IsCount}
 use Rattle.lk_types.specs.Answers.{IsAnswer}

@@ -4,7 +4,8 @@ use Rattle.std.specs.List.{filter_map}
 use Rattle.std.specs.Option.{option_map}
 use Rattle.lk_types.specs.declared.answer.Answer.{Answer}
 use Rattle.lk_members.specs.Effects.{Command, RequestValue, Placed, placed, in_effect, effects}
-use Rattle.lk_members.specs.Rosters.{Genesis, PlainRoster, Op, Table, Join, Leave, Raise, join_answer, leave_answer, roster_of}
+use Rattle.lk_members.specs.Rosters.{Genesis, PlainRoster, Op, Table, Join, Leave, Raise, join_answer, leave_answer}
+use Rattle.lk_members.specs.Rosters.{roster_of}
 use Rattle.lk_members.specs.Windows.{RosterValue, roster_after}
 use Rattle.lk_state.specs.Meanings.{Meaning, Running, Raising}
 use Rattle.lk_state.specs.Sessions.{Session, with_session}
@@ -30,7 +31,8 @@ text_of m L = fold (λ text q. next_text m text q.client q.op) m.first (effects 
 -- the answer of a request that takes effect, or none
 abbrev pub session_in : Meaning → PlainRoster → List ℕ → Option RequestValue → Option Session
 session_in m roster text None = None
-session_in m roster text (Some q) = Some (record { client = q.client; number = q.number; answer = op_answer m roster text q.client q.op })
+session_in m roster text (Some q) =
+    Some (record { client = q.client; number = q.number; answer = op_answer m roster text q.client q.op })
 
 -- the answer to an entry at its place, if it takes effect
 abbrev pub served : Meaning → Genesis → Placed → Option Session
@@ -42,7 +44,8 @@ ledger m genesis L = filter_map (λ p. served m genesis p) (placed L)
 
 -- the answer to the client's request of this number at the place where it takes effect; none if it never does
 abbrev pub reply : Meaning → Genesis → List Command → ℕ → ℕ → Option Answer
-reply m genesis L client number = option_map (λ s. s.answer) (find (λ s. s.client == client && s.number == number) (ledger m genesis L))
+reply m genesis L client number =
+    option_map (λ s. s.answer) (find (λ s. s.client == client && s.number == number) (ledger m genesis L))
 
 -- the answer to the request; none if there is none
 abbrev pub reply_of : Meaning → Genesis → List Command → Option RequestValue → Option Answer
@@ -65,7 +68,8 @@ pub record WholeValue : Type 0 where
 
 -- the roster after the list is executed
 unfoldable pub whole_after : Meaning → Genesis → List Command → WholeValue
-whole_after m genesis L = record { roster = roster_after genesis L; sessions = sessions_of m genesis L; text = text_of m L }
+whole_after m genesis L =
+    record { roster = roster_after genesis L; sessions = sessions_of m genesis L; text = text_of m L }
 
 -- it stands for this list
 abbrev pub SumsUp : Meaning → Genesis → List Command → WholeValue → Type 0

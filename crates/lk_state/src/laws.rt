@@ -5,7 +5,8 @@ ghost use Rattle.lk_types.specs.Limits.{max_count};
 ghost use Rattle.lk_types.specs.Commands.{IsCommand};
 ghost use Rattle.lk_types.specs.Geneses.{IsGenesis};
 ghost use Rattle.lk_types.specs.declared.answer.Answer.{Answer};
-ghost use Rattle.lk_members.specs.Effects.{Command, RequestValue, Request, Placed, placed, in_effect, is_of_another, IsLast};
+ghost use Rattle.lk_members.specs.Effects.{Command, RequestValue, Request, Placed, placed, in_effect, is_of_another};
+ghost use Rattle.lk_members.specs.Effects.{IsLast};
 ghost use Rattle.lk_members.specs.Rosters.{Genesis};
 ghost use Rattle.lk_state.specs.Meanings.{Meaning};
 ghost use Rattle.lk_state.specs.Sessions.{Session, is_new};
@@ -16,45 +17,56 @@ use crate::machine::Machine;
 
 /// A request takes effect after a list exactly if its number is above that of its client's last one that takes effect.
 pub fn takes_effect_above_last()
-    ensures { (m : Meaning) (genesis : Genesis) (L : List Command) (r : RequestValue) → in_effect L (Request r) ≡ (if is_new (last_served m genesis L r.client) r.number then Some r else None) }
+    ensures { (m : Meaning) (genesis : Genesis) (L : List Command) (r : RequestValue)
+        → in_effect L (Request r) ≡ (if is_new (last_served m genesis L r.client) r.number then Some r else None) }
 {}
 
 /// A client's last request that takes effect has the greatest number that it used.
 pub fn last_is_greatest()
-    ensures { (m : Meaning) (genesis : Genesis) (L : List Command) (client : ℕ) (s : Session) → last_served m genesis L client ≡ Some s → IsLast L client s.number }
+    ensures { (m : Meaning) (genesis : Genesis) (L : List Command) (client : ℕ) (s : Session)
+        → last_served m genesis L client ≡ Some s → IsLast L client s.number }
 {}
 
 /// A client of which no request takes effect has none in the list.
 pub fn none_is_unused()
-    ensures { (m : Meaning) (genesis : Genesis) (L : List Command) (client : ℕ) → last_served m genesis L client ≡ None → list_all (is_of_another client) L ≡ true }
+    ensures { (m : Meaning) (genesis : Genesis) (L : List Command) (client : ℕ) → last_served m genesis L client ≡ None
+        → list_all (is_of_another client) L ≡ true }
 {}
 
 /// The answer of a client's last request that takes effect is its reply.
 pub fn last_is_replied()
-    ensures { (m : Meaning) (genesis : Genesis) (L : List Command) (client : ℕ) (s : Session) → last_served m genesis L client ≡ Some s → reply m genesis L client s.number ≡ Some s.answer }
+    ensures { (m : Meaning) (genesis : Genesis) (L : List Command) (client : ℕ) (s : Session)
+        → last_served m genesis L client ≡ Some s → reply m genesis L client s.number ≡ Some s.answer }
 {}
 
 /// A reply is the answer that an entry that takes effect gets at its place.
 pub fn replies_stand()
-    ensures { (m : Meaning) (genesis : Genesis) (L : List Command) (client number : ℕ) (a : Answer) → reply m genesis L client number ≡ Some a → (p : Placed) × Contains (placed L) p × (served m genesis p ≡ Some (record { client = client; number = number; answer = a })) }
+    ensures { (m : Meaning) (genesis : Genesis) (L : List Command) (client number : ℕ) (a : Answer)
+        → reply m genesis L client number ≡ Some a
+        → (p : Placed) × Contains (placed L) p
+        × (served m genesis p ≡ Some (record { client = client; number = number; answer = a })) }
 {}
 
 /// The answer that an entry gets at its place is the reply of its client's number.
 pub fn one_reply()
-    ensures { (m : Meaning) (genesis : Genesis) (L : List Command) (p : Placed) (s : Session) → Contains (placed L) p → served m genesis p ≡ Some s → reply m genesis L s.client s.number ≡ Some s.answer }
+    ensures { (m : Meaning) (genesis : Genesis) (L : List Command) (p : Placed) (s : Session) → Contains (placed L) p
+        → served m genesis p ≡ Some s → reply m genesis L s.client s.number ≡ Some s.answer }
 {}
 
 /// A reply stays as the list grows.
 pub fn replies_stay()
-    ensures { (m : Meaning) (genesis : Genesis) (L rest : List Command) (client number : ℕ) (a : Answer) → reply m genesis L client number ≡ Some a → reply m genesis (L ++ rest) client number ≡ Some a }
+    ensures { (m : Meaning) (genesis : Genesis) (L rest : List Command) (client number : ℕ) (a : Answer)
+        → reply m genesis L client number ≡ Some a → reply m genesis (L ++ rest) client number ≡ Some a }
 {}
 
 /// A session of the state of a list is its client's last request that takes effect.
 pub fn sessions_are_last()
-    ensures { (m : Meaning) (genesis : Genesis) (L : List Command) (s : Session) → Contains (sessions_of m genesis L) s → last_served m genesis L s.client ≡ Some s }
+    ensures { (m : Meaning) (genesis : Genesis) (L : List Command) (s : Session) → Contains (sessions_of m genesis L) s
+        → last_served m genesis L s.client ≡ Some s }
 {}
 
 /// The state after a list in range may be held, and so packed and unpacked again.
 pub fn states_fit<M: Machine>()
-    ensures { (genesis : Genesis) (L : List Command) → IsGenesis genesis → AllByRecursion IsCommand L → length L ≤ max_count → IsWhole M.IsText (whole_after M.meaning genesis L) }
+    ensures { (genesis : Genesis) (L : List Command) → IsGenesis genesis → AllByRecursion IsCommand L
+        → length L ≤ max_count → IsWhole M.IsText (whole_after M.meaning genesis L) }
 {}

@@ -103,10 +103,12 @@ pub trait Machine: Sized + Drop {
     ghost first_is_text: { IsText meaning.first };
 
     // a text stays one
-    ghost next_is_text: { (client : ℕ) (task : Task) (before : List ℕ) → IsClient client → IsText before → IsText (meaning.next client task before) };
+    ghost next_is_text: { (client : ℕ) (task : Task) (before : List ℕ) → IsClient client → IsText before
+        → IsText (meaning.next client task before) };
 
     // each answer is in its range
-    ghost answer_is_answer: { (client : ℕ) (task : Task) (before : List ℕ) → IsClient client → IsText before → IsAnswer (meaning.answer client task before) };
+    ghost answer_is_answer: { (client : ℕ) (task : Task) (before : List ℕ) → IsClient client → IsText before
+        → IsAnswer (meaning.answer client task before) };
 
     // no text is long
     ghost short: { (bytes : List ℕ) → IsText bytes → length bytes ≤ max_machine };

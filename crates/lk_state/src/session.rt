@@ -1,7 +1,8 @@
 ghost use Rattle.std.specs.Prelude.{◌≡◌, ◌≤◌, ◌==◌, ◌↔◌, nat_lt, [], length, slice_get, IsTrue, IsSome, IfSome};
 ghost use Rattle.std.specs.List.{prefix_len, AllByRecursion};
 ghost use Rattle.lk_types.specs.Limits.{max_client};
-ghost use Rattle.lk_state.specs.Sessions.{session_of, own, is_at, with_session, are_sessions_above, AreSessions, IsSession};
+ghost use Rattle.lk_state.specs.Sessions.{session_of, own, is_at, with_session, are_sessions_above, AreSessions};
+ghost use Rattle.lk_state.specs.Sessions.{IsSession};
 
 use arrayvec::ArrayVec;
 use lk_types::{Answer, ClientNo, Request, RequestNumber};

@@ -145,7 +145,8 @@ impl<M: Machine> Whole<M> {
     /// The state that the bytes pack. It fails exactly if they pack none; it may run out of memory in either case.
     pub fn unpack(alloc: Global, bytes: &[u8]) -> Result<Whole<M>, UnpackFault>
         ensures ok { IfOk result (λ w. Packs M.IsText w bytes.now) }
-        ensures only { (w : WholeValue) → Packs M.IsText w bytes.now → (result ≡ Ok w) ⊎ (result ≡ Err UnpackFault.NoMemory) }
+        ensures only { (w : WholeValue) → Packs M.IsText w bytes.now
+            → (result ≡ Ok w) ⊎ (result ≡ Err UnpackFault.NoMemory) }
         ensures not_packed { result ≡ Err UnpackFault.NotPacked → (w : WholeValue) → Packs M.IsText w bytes.now → ⊥ }
     {
         let Some((roster, sessions, rest)) = read_front(bytes) else {

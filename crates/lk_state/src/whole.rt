@@ -67,7 +67,8 @@ impl<M: Machine> Model for Whole<M> {
 
     ghost view = { λ w. record { roster = w.roster; sessions = w.sessions; text = M.text w.machine } };
 
-    ghost invariant = { λ w. IsWhole M.IsText (record { roster = w.roster; sessions = w.sessions; text = M.text w.machine }) };
+    ghost invariant = { λ w. IsWhole M.IsText
+        (record { roster = w.roster; sessions = w.sessions; text = M.text w.machine }) };
 }
 
 impl<M: Machine> Whole<M> {
@@ -125,7 +126,8 @@ impl<M: Machine> Whole<M> {
     /// The place of a request of this client relative to its last one that took effect.
     pub fn seen(&self, client: ClientNo, number: RequestNumber) -> Seen
         ensures value { result ≡ seen_as (session_of client self.now.sessions) number }
-        ensures last { (genesis : Genesis) (L : List Command) → SumsUp M.meaning genesis L self.now → result ≡ seen_as (last_served M.meaning genesis L client) number }
+        ensures last { (genesis : Genesis) (L : List Command) → SumsUp M.meaning genesis L self.now
+            → result ≡ seen_as (last_served M.meaning genesis L client) number }
     {
         Seen::of(self.sessions.get(client), number)
     }
@@ -154,7 +156,8 @@ impl<M: Machine> Whole<M> {
         ensures sums { (genesis : Genesis) (L : List Command) → SumsUp M.meaning genesis L self.old
             → OnOk result (SumsUp M.meaning genesis (L ++ command.now ∷ []) self.new) }
         ensures reply { (genesis : Genesis) (L : List Command) → SumsUp M.meaning genesis L self.old
-            → IfOk result (λ r. r.answer ≡ reply_of M.meaning genesis (L ++ command.now ∷ []) (in_effect L command.now)) }
+            → IfOk result (λ r. r.answer
+            ≡ reply_of M.meaning genesis (L ++ command.now ∷ []) (in_effect L command.now)) }
     {
         let position = self.next_position();
         let answer = self.run_command(command)?;
@@ -189,8 +192,14 @@ impl<M: Machine> Whole<M> {
     // Executes an op that takes effect, advancing by one position, and returns its answer.
     fn run_op(&mut self, client: ClientNo, op: &Op) -> Result<Answer, NoMemory>
         requires { self.old.roster.executed < max_count }
-        ensures ok { OnOk result (self.new ≡ record { roster = changed_by op.now self.old.roster; sessions = self.old.sessions; text = next_text M.meaning self.old.text client op.now }) }
-        ensures answer { IfOk result (λ a. a ≡ op_answer M.meaning (newest_roster self.old.roster) self.old.text client op.now) }
+        ensures ok { OnOk result
+            (self.new ≡ record {
+              roster = changed_by op.now self.old.roster;
+              sessions = self.old.sessions;
+              text = next_text M.meaning self.old.text client op.now;
+            }) }
+        ensures answer { IfOk result
+            (λ a. a ≡ op_answer M.meaning (newest_roster self.old.roster) self.old.text client op.now) }
         ensures err { OnErr result (self.new ≡ self.old) }
         ensures free { is_table op.now ≡ false → IsOk result }
     {

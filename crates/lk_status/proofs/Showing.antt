@@ -8,10 +8,13 @@ use Rattle.lk_health.specs.Verdicts.{IsServed}
 use Rattle.lk_status.specs.Outcomes.{IsReady, Shows}
 use Rattle.lk_status.specs.declared.status.Plan.{Plan}
 
-module _ {S : Type 0} (sent coming : S → List (SocketAddr × List ℕ)) (failures : S → ℕ) (tells : Type 0) (p : Plan) (ended : S) where
+module _ {S : Type 0} (sent coming : S → List (SocketAddr × List ℕ)) (failures : S → ℕ) (tells : Type 0)
+    (p : Plan) (ended : S) where
   -- served and ready, by the reports
-  pub shows : (first : ℕ) (reports : List Report) (served ready : Bool) → AreHeard sent coming failures p.inquiry first tells reports ended
-      → (IsTrue served ↔ IsServed reports) → (p.seconds ≡ 0 → ready ≡ true) → (p.seconds ≢ 0 → IsTrue ready → IsReady p.inquiry reports)
+  pub shows : (first : ℕ) (reports : List Report) (served ready : Bool)
+      → AreHeard sent coming failures p.inquiry first tells reports ended
+      → (IsTrue served ↔ IsServed reports) → (p.seconds ≡ 0 → ready ≡ true)
+      → (p.seconds ≢ 0 → IsTrue ready → IsReady p.inquiry reports)
       → Shows sent coming failures tells p (served && ready) ended
   shows first reports true true heard is at_once waited =
       record { first = first; reports = reports; heard = heard; only = λ it. is.0 it; exact = λ at. is; ready = waited }
@@ -24,4 +27,11 @@ module _ {S : Type 0} (sent coming : S → List (SocketAddr × List ℕ)) (failu
     ready = λ waits it. absurd (false≢true it);
   }
   shows first reports false ready heard is at_once waited =
-      record { first = first; reports = reports; heard = heard; only = λ it. is.0 it; exact = λ at. is; ready = λ waits it. absurd (false≢true it) }
+      record {
+        first = first;
+        reports = reports;
+        heard = heard;
+        only = λ it. is.0 it;
+        exact = λ at. is;
+        ready = λ waits it. absurd (false≢true it);
+      }

@@ -1,5 +1,6 @@
 -- One text after another.
-use Rattle.std.proofs.Common.{◌≡◌, ◌<◌, ◌≤◌, ℕ, suc, ◌+◌, ◌%◌, ◌^◌, false, List, [], ◌∷◌, ◌++◌, Option, Some, None, length, get_or, take, drop, sym, ap, subst, ◌∙◌, append_assoc, drop-cons, arith}
+use Rattle.std.proofs.Common.{◌≡◌, ◌<◌, ◌≤◌, ℕ, suc, ◌+◌, ◌%◌, ◌^◌, false, List, [], ◌∷◌, ◌++◌, Option, Some, None}
+use Rattle.std.proofs.Common.{length, get_or, take, drop, sym, ap, subst, ◌∙◌, append_assoc, drop-cons, arith}
 use Rattle.std.specs.List.{flat_map}
 use Rattle.std.proofs.lemmas.List.{append-nil, flat_map_more, drop_all}
 use Rattle.std.specs.Io.KnownBytes.{Appends, Keeps}
@@ -28,10 +29,13 @@ appends_kept (Some xs) (Some ys) None x f g = absurd g
 appends_kept (Some xs) (Some ys) (Some zs) x f g = g ∙ f
 
 -- one more of a list
-pub writes_more : {X : Type 0} (f : X → List ℕ) (front : List ℕ) (a b c : Option (List ℕ)) (xs : List X) (i : ℕ) (x : X) → take (i + 1) xs ≡ take i xs ++ x ∷ []
-    → Appends a b (front ++ flat_map f (take i xs)) → Appends b c (f x) → Appends a c (front ++ flat_map f (take (i + 1) xs))
+pub writes_more : {X : Type 0} (f : X → List ℕ) (front : List ℕ) (a b c : Option (List ℕ)) (xs : List X) (i : ℕ)
+    (x : X) → take (i + 1) xs ≡ take i xs ++ x ∷ []
+    → Appends a b (front ++ flat_map f (take i xs)) → Appends b c (f x)
+    → Appends a c (front ++ flat_map f (take (i + 1) xs))
 writes_more f front a b c xs i x more first second =
-    subst (λ (t : List ℕ). Appends a c t) (flat_map_more f front (take i xs) x ∙ ap (λ (ys : List _). front ++ flat_map f ys) (sym more))
+    subst (λ (t : List ℕ). Appends a c t)
+    (flat_map_more f front (take i xs) x ∙ ap (λ (ys : List _). front ++ flat_map f ys) (sym more))
     (appends_more a b c (front ++ flat_map f (take i xs)) (f x) first second)
 
 -- the counts of a node
@@ -43,10 +47,13 @@ pub traffic_as : (a z : Option (List ℕ)) (r : Report) (p w : ℕ)
 traffic_as a z r p w printed ps ws = rw (sym ps, sym ws) printed
 
 -- the nodes of another genesis, where there are several
-pub strangers_as : (a z : Option (List ℕ)) (measure : Report) (rs front : List Report) → one_genesis rs ≡ false → front ≡ rs
-    → Appends a z (codes "; genesis differs:" ++ flat_map (stranger_word measure) front) → Appends a z (strangers_text measure rs)
+pub strangers_as : (a z : Option (List ℕ)) (measure : Report) (rs front : List Report)
+    → one_genesis rs ≡ false → front ≡ rs
+    → Appends a z (codes "; genesis differs:" ++ flat_map (stranger_word measure) front)
+    → Appends a z (strangers_text measure rs)
 strangers_as a z measure rs front several all printed =
-    rw several (subst (λ (l : List Report). Appends a z (codes "; genesis differs:" ++ flat_map (stranger_word measure) l)) all printed)
+    rw several (subst (λ (l : List Report). Appends a z
+    (codes "; genesis differs:" ++ flat_map (stranger_word measure) l)) all printed)
 
 -- ---- a text for each target
 
@@ -54,16 +61,21 @@ same : (n : ℕ) → suc n ≡ n + 1
 same n = omega arith
 
 -- the targets from a place on begin with the one that is there
-pub next_target : (ts : List Target) (i : ℕ) (t : Target) → i < length ts → t ≡ get_or ts i t → drop i ts ≡ t ∷ drop (i + 1) ts
+pub next_target : (ts : List Target) (i : ℕ) (t : Target) → i < length ts → t ≡ get_or ts i t
+    → drop i ts ≡ t ∷ drop (i + 1) ts
 next_target ts i t within is =
-    drop-cons ts i t within ∙ ap (λ (other : Target). other ∷ drop (suc i) ts) (sym is) ∙ ap (λ (n : ℕ). t ∷ drop n ts) (same i)
+    drop-cons ts i t within ∙ ap (λ (other : Target). other ∷ drop (suc i) ts) (sym is)
+    ∙ ap (λ (n : ℕ). t ∷ drop n ts) (same i)
 
 -- what was written, with the texts of the targets that are left, is all
 abbrev pub SoFar : (ℕ → Target → List ℕ) → Option (List ℕ) → Option (List ℕ) → List ℕ → ℕ → List Target → Type 0
-SoFar text old new all token ts = (written : List ℕ) × Appends old new written × (written ++ by_token text token ts ≡ all)
+SoFar text old new all token ts =
+    (written : List ℕ) × Appends old new written × (written ++ by_token text token ts ≡ all)
 
-pub targets_more : (text : ℕ → Target → List ℕ) (a b c : Option (List ℕ)) (all : List ℕ) (token : ℕ) (ts : List Target) (i : ℕ) (t : Target) → drop i ts ≡ t ∷ drop (i + 1) ts
-    → SoFar text a b all token (drop i ts) → Appends b c (text token t) → SoFar text a c all ((token + 1) % (2 ^ 64)) (drop (i + 1) ts)
+pub targets_more : (text : ℕ → Target → List ℕ) (a b c : Option (List ℕ)) (all : List ℕ) (token : ℕ) (ts : List Target)
+    (i : ℕ) (t : Target) → drop i ts ≡ t ∷ drop (i + 1) ts
+    → SoFar text a b all token (drop i ts) → Appends b c (text token t)
+    → SoFar text a c all ((token + 1) % (2 ^ 64)) (drop (i + 1) ts)
 targets_more text a b c all token ts i t next so_far more = (
   so_far.0 ++ text token t,
   appends_more a b c so_far.0 (text token t) so_far.1 more,
@@ -71,8 +83,10 @@ targets_more text a b c all token ts i t next so_far more = (
       ∙ ap (λ (l : List ℕ). so_far.0 ++ l) (sym (ap (λ (l : List Target). by_token text token l) next)) ∙ so_far.2,
 )
 
-pub targets_done : (text : ℕ → Target → List ℕ) (a b : Option (List ℕ)) (all : List ℕ) (token : ℕ) (ts : List Target) (i : ℕ) → length ts ≤ i
+pub targets_done : (text : ℕ → Target → List ℕ) (a b : Option (List ℕ)) (all : List ℕ) (token : ℕ)
+    (ts : List Target) (i : ℕ) → length ts ≤ i
     → SoFar text a b all token (drop i ts) → Appends a b all
 targets_done text a b all token ts i past so_far =
     subst (λ (l : List ℕ). Appends a b l)
-    (sym (append-nil so_far.0) ∙ ap (λ (l : List Target). so_far.0 ++ by_token text token l) (sym (drop_all i ts past)) ∙ so_far.2) so_far.1
+    (sym (append-nil so_far.0)
+    ∙ ap (λ (l : List Target). so_far.0 ++ by_token text token l) (sym (drop_all i ts past)) ∙ so_far.2) so_far.1

@@ -1,12 +1,15 @@
 -- The numbers that a node tells, and the node that others follow.
-use Rattle.std.specs.Prelude.{ℕ, nat_lt, ◌==◌, not, ◌&&◌, Bool, true, false, is_some, Option, None, List, [], ◌∷◌, length, codes, if◌then◌else◌}
+use Rattle.std.specs.Prelude.{ℕ, nat_lt, ◌==◌, not, ◌&&◌, Bool, true, false, is_some, Option, None, List, [], ◌∷◌}
+use Rattle.std.specs.Prelude.{length, codes, if◌then◌else◌}
 use Rattle.std.specs.List.{list_any}
 use Rattle.lk_types.specs.declared.member.Member.{Member}
 use Rattle.lk_probe.specs.Grammar.{flag, or_zero}
 use Rattle.lk_probe.specs.declared.probe.Report.{Report}
 use Rattle.lk_health.specs.Verdicts.{seeks_votes}
 use Rattle.lk_status.specs.declared.field.Field.{Field}
-use Rattle.lk_status.specs.declared.field.Field.TheVariants.{Leads, Leader, Silence, Promised, Executed, Snapshot, Members, Pending, Waiting, Unread, Unsent, Ticks, Format, Table}
+use Rattle.lk_status.specs.declared.field.Field.TheVariants.{Leads, Leader, Silence, Promised, Executed, Snapshot}
+use Rattle.lk_status.specs.declared.field.Field.TheVariants.{Members, Pending, Waiting, Unread, Unsent, Ticks, Format}
+use Rattle.lk_status.specs.declared.field.Field.TheVariants.{Table}
 
 -- the number that a field shows of a report
 abbrev pub field_value : Field → Report → ℕ

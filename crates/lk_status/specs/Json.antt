@@ -1,5 +1,6 @@
 -- A status as one object of JSON, in a line.
-use Rattle.std.specs.Prelude.{ℕ, ◌+◌, ◌%◌, ◌^◌, Bool, Option, Some, None, List, [], ◌∷◌, ◌++◌, length, codes, flat_map, if◌then◌else◌}
+use Rattle.std.specs.Prelude.{ℕ, ◌+◌, ◌%◌, ◌^◌, Bool, Option, Some, None, List, [], ◌∷◌, ◌++◌, length, codes, flat_map}
+use Rattle.std.specs.Prelude.{if◌then◌else◌}
 use Rattle.std.specs.Fmt.{decimal}
 use Rattle.hex.specs.Hex.{encode_lower}
 use Rattle.lk_types.specs.declared.member.Member.{Member}
@@ -95,7 +96,8 @@ counts_part reporting count =
 -- how many of the members of the measure
 abbrev pub majority_part : Option Report → List Report → List ℕ
 majority_part None rs = []
-majority_part (Some measure) rs = counts_part (count_reporting measure.status.members rs) (length measure.status.members)
+majority_part (Some measure) rs =
+    counts_part (count_reporting measure.status.members rs) (length measure.status.members)
 
 abbrev pub json_text : ℕ → ℕ → List Target → List Report → Option Report → List ℕ
 json_text cluster first ts rs measure =

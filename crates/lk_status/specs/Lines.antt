@@ -1,5 +1,6 @@
 -- The lines of a status.
-use Rattle.std.specs.Prelude.{ℕ, ◌+◌, ◌-◌, ◌%◌, ◌^◌, ◌==◌, nat_eq, nat_lt, nat_le, Option, Some, None, List, [], ◌∷◌, ◌++◌, length, codes, if◌then◌else◌}
+use Rattle.std.specs.Prelude.{ℕ, ◌+◌, ◌-◌, ◌%◌, ◌^◌, ◌==◌, nat_eq, nat_lt, nat_le, Option, Some, None, List, [], ◌∷◌}
+use Rattle.std.specs.Prelude.{◌++◌, length, codes, if◌then◌else◌}
 use Rattle.std.specs.Cmp.Lexicographic.{pointwise}
 use Rattle.std.specs.Fmt.{decimal}
 use Rattle.std.specs.List.{flat_map}
@@ -51,7 +52,8 @@ leadership_text r = if seeks_votes r then codes "seeks votes" else following_tex
 
 -- how many positions fewer than these it has executed, if it has
 abbrev pub behind_text : ℕ → ℕ → List ℕ
-behind_text executed most = if nat_lt executed most then codes " (" ++ (decimal (most - executed) ++ codes " behind)") else []
+behind_text executed most =
+    if nat_lt executed most then codes " (" ++ (decimal (most - executed) ++ codes " behind)") else []
 
 abbrev pub promised_text : BallotValue → List ℕ
 promised_text b = codes ", promised " ++ (decimal b.round ++ (46 ∷ decimal b.node))
@@ -63,7 +65,8 @@ abbrev pub snapshot_text : Report → List ℕ
 snapshot_text r = codes ", snapshot " ++ decimal r.status.progress.snapshot
 
 abbrev pub progress_text : Report → ℕ → List ℕ
-progress_text r most = executed_text r ++ (behind_text r.status.progress.executed most ++ (promised_text r.status.leadership.promised ++ snapshot_text r))
+progress_text r most = executed_text r
+    ++ (behind_text r.status.progress.executed most ++ (promised_text r.status.leadership.promised ++ snapshot_text r))
 
 abbrev pub members_text : List Member → List ℕ
 members_text ms = codes ", members" ++ flat_map (λ (m : Member). 32 ∷ decimal m.node) ms
@@ -94,14 +97,17 @@ target_line port None most = codes "port " ++ (decimal port ++ codes ": no answe
 -- a line for each target, the first by the report with this token, and each other by that with the next
 abbrev pub target_lines : ℕ → List Target → List Report → ℕ → List ℕ
 target_lines token [] rs most = []
-target_lines token (t ∷ ts) rs most = target_line t.port (report_of token rs) most ++ target_lines ((token + 1) % (2 ^ 64)) ts rs most
+target_lines token (t ∷ ts) rs most =
+    target_line t.port (report_of token rs) most ++ target_lines ((token + 1) % (2 ^ 64)) ts rs most
 
 -- a node that tells another genesis than the measure
 abbrev pub stranger_word : Report → Report → List ℕ
-stranger_word measure r = if pointwise nat_eq r.status.identity.genesis measure.status.identity.genesis then [] else 32 ∷ decimal r.node
+stranger_word measure r =
+    if pointwise nat_eq r.status.identity.genesis measure.status.identity.genesis then [] else 32 ∷ decimal r.node
 
 abbrev pub strangers_text : Report → List Report → List ℕ
-strangers_text measure rs = if one_genesis rs then [] else codes "; genesis differs:" ++ flat_map (stranger_word measure) rs
+strangers_text measure rs =
+    if one_genesis rs then [] else codes "; genesis differs:" ++ flat_map (stranger_word measure) rs
 
 -- whether its table is raised
 abbrev pub raised_text : Report → List ℕ
@@ -109,12 +115,15 @@ raised_text r = if nat_le 2 r.status.identity.table then codes "; raised" else [
 
 -- how many of its members are up
 abbrev pub majority_text : Report → List Report → List ℕ
-majority_text measure rs = codes "majority: " ++ (decimal (count_reporting measure.status.members rs) ++ (codes " of " ++ (decimal (length measure.status.members) ++ codes " up")))
+majority_text measure rs =
+    codes "majority: " ++ (decimal (count_reporting measure.status.members rs)
+    ++ (codes " of " ++ (decimal (length measure.status.members) ++ codes " up")))
 
 -- the line of the cluster, if any node reports
 abbrev pub cluster_line : Option Report → List Report → List ℕ
 cluster_line None rs = []
-cluster_line (Some measure) rs = majority_text measure rs ++ (raised_text measure ++ (strangers_text measure rs ++ 10 ∷ []))
+cluster_line (Some measure) rs =
+    majority_text measure rs ++ (raised_text measure ++ (strangers_text measure rs ++ 10 ∷ []))
 
 -- all of them, with the distance to the measure
 abbrev pub status_text : ℕ → List Target → List Report → Option Report → List ℕ

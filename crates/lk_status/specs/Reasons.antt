@@ -1,5 +1,6 @@
 -- Why requests may not be answered, in words.
-use Rattle.std.specs.Prelude.{ℕ, Bool, nat_le, not, ◌&&◌, Option, Some, None, List, [], ◌++◌, codes, flat_map, if◌then◌else◌}
+use Rattle.std.specs.Prelude.{ℕ, Bool, nat_le, not, ◌&&◌, Option, Some, None, List, [], ◌++◌, codes, flat_map}
+use Rattle.std.specs.Prelude.{if◌then◌else◌}
 use Rattle.std.specs.Fmt.{decimal}
 use Rattle.lk_types.specs.declared.member.Member.{Member}
 use Rattle.lk_probe.specs.declared.probe.Report.{Report}
@@ -12,7 +13,8 @@ abbrev pub deaf_line : ℕ → List ℕ
 deaf_line node = codes "why: node " ++ (decimal node ++ codes " hears nobody: see its --port, the hosts and the keys\n")
 
 abbrev pub seeking_line : ℕ → List ℕ
-seeking_line node = codes "why: node " ++ (decimal node ++ codes " seeks votes: if that lasts, see its --port, the hosts and the keys\n")
+seeking_line node = codes "why: node "
+    ++ (decimal node ++ codes " seeks votes: if that lasts, see its --port, the hosts and the keys\n")
 
 -- it does not lead, and has heard of no leader for 28 ticks
 abbrev pub deaf_reason : Report → List ℕ
@@ -44,7 +46,8 @@ geneses_line = codes "why: two geneses: stop the nodes that were started with an
 -- a node that is followed and does not lead sends, and hears nobody
 abbrev pub mute_text : Option ℕ → List ℕ
 mute_text (Some node) =
-    codes "node " ++ (decimal node ++ codes " sends and hears nobody: stop it, and see its --port, the hosts and the keys\n")
+    codes "node " ++ (decimal node
+    ++ codes " sends and hears nobody: stop it, and see its --port, the hosts and the keys\n")
 mute_text None = codes "the members do not hear each other\n"
 
 abbrev pub leaderless_line : Option ℕ → List ℕ
@@ -65,7 +68,8 @@ leaders_reason majority measure rs = if majority then leader_reason measure rs e
 
 abbrev pub members_reason : Report → List Report → List ℕ
 members_reason measure rs =
-    leaders_reason (has_majority measure rs) measure rs ++ node_reasons (has_majority measure rs) measure.status.members rs
+    leaders_reason (has_majority measure rs) measure rs
+    ++ node_reasons (has_majority measure rs) measure.status.members rs
 
 abbrev pub why_text : Option Report → List Report → List ℕ
 why_text None rs = nobody_line

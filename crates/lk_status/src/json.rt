@@ -2,7 +2,9 @@ ghost use Rattle.std.specs.Io.KnownBytes.{Appends};
 ghost use Rattle.std.specs.Option.{option_copied};
 ghost use Rattle.std.specs.Prelude.{◌≡◌, ◌∷◌, flat_map, OnOk};
 ghost use Rattle.hex.specs.Hex.{encode_lower};
-ghost use Rattle.lk_status.specs.Json.{program_part, genesis_part, field_part, more_numbers, numbers, members_part, report_part, target_object, more_objects, objects, head_part, verdict_part, counts_part, majority_part, json_text};
+ghost use Rattle.lk_status.specs.Json.{program_part, genesis_part, field_part, more_numbers, numbers, members_part};
+ghost use Rattle.lk_status.specs.Json.{report_part, target_object, more_objects, objects, head_part, verdict_part};
+ghost use Rattle.lk_status.specs.Json.{counts_part, majority_part, json_text};
 
 use crate::field::{FIELDS, Field};
 use lk_health::target::{Inquiry, Target, report_with};
@@ -75,7 +77,8 @@ fn write_field<W: Write>(field: Field, report: &Report, out: &mut W) -> io::Resu
 
 // Writes these fields of a report.
 fn write_fields<W: Write>(fields: &[Field], report: &Report, out: &mut W) -> io::Result<()>
-    ensures { OnOk result (Appends (W.contents out.old) (W.contents out.new) (flat_map (field_part report.now) fields.now)) }
+    ensures { OnOk result (Appends (W.contents out.old) (W.contents out.new)
+        (flat_map (field_part report.now) fields.now)) }
 {
     'all: for field in fields {
         write_field(*field, report, out)?;
@@ -85,7 +88,8 @@ fn write_fields<W: Write>(fields: &[Field], report: &Report, out: &mut W) -> io:
 
 // Writes the number of the node of a report, and the version of its program.
 fn write_program<W: Write>(report: &Report, out: &mut W) -> io::Result<()>
-    ensures { OnOk result (Appends (W.contents out.old) (W.contents out.new) (program_part report.now.node report.now.status.identity.program)) }
+    ensures { OnOk result (Appends (W.contents out.old) (W.contents out.new)
+        (program_part report.now.node report.now.status.identity.program)) }
 {
     let program = report.status.identity.program;
     let (major, minor, patch) = (program.major, program.minor, program.patch);
@@ -119,7 +123,8 @@ fn write_reporting<W: Write>(port: u16, report: &Report, out: &mut W) -> io::Res
 
 // Writes the target at that port.
 fn write_target<W: Write>(port: u16, report: Option<&Report>, out: &mut W) -> io::Result<()>
-    ensures { OnOk result (Appends (W.contents out.old) (W.contents out.new) (target_object port (option_copied report.entry))) }
+    ensures { OnOk result (Appends (W.contents out.old) (W.contents out.new)
+        (target_object port (option_copied report.entry))) }
 {
     match report {
         Some(report) => write_reporting(port, report, out)?,
@@ -131,7 +136,8 @@ fn write_target<W: Write>(port: u16, report: Option<&Report>, out: &mut W) -> io
 // The same after a comma.
 #[tactic(auto, using(crate::proofs::Writing::appends_more))]
 fn write_next<W: Write>(port: u16, report: Option<&Report>, out: &mut W) -> io::Result<()>
-    ensures { OnOk result (Appends (W.contents out.old) (W.contents out.new) (44 ∷ target_object port (option_copied report.entry))) }
+    ensures { OnOk result (Appends (W.contents out.old) (W.contents out.new)
+        (44 ∷ target_object port (option_copied report.entry))) }
 {
     out.write_all(b",")?;
     write_target(port, report, out)?;
@@ -145,7 +151,8 @@ fn write_more_targets<W: Write>(
     reports: &[Report],
     out: &mut W,
 ) -> io::Result<()>
-    ensures { OnOk result (Appends (W.contents out.old) (W.contents out.new) (more_objects first targets.now reports.now)) }
+    ensures { OnOk result (Appends (W.contents out.old) (W.contents out.new)
+        (more_objects first targets.now reports.now)) }
 {
     let mut token = first;
     'targets: for target in targets {
@@ -199,7 +206,8 @@ fn write_counts<W: Write>(reporting: usize, count: usize, out: &mut W) -> io::Re
 
 // Writes how many of the members of the measure report.
 fn write_measured<W: Write>(measure: &Report, reports: &[Report], out: &mut W) -> io::Result<()>
-    ensures { OnOk result (Appends (W.contents out.old) (W.contents out.new) (majority_part (Some measure.now) reports.now)) }
+    ensures { OnOk result (Appends (W.contents out.old) (W.contents out.new)
+        (majority_part (Some measure.now) reports.now)) }
 {
     let members = measure.status.members.as_slice();
     write_counts(count_reporting(members, reports), members.len(), out)?;
@@ -212,7 +220,8 @@ fn write_majority<W: Write>(
     reports: &[Report],
     out: &mut W,
 ) -> io::Result<()>
-    ensures { OnOk result (Appends (W.contents out.old) (W.contents out.new) (majority_part (option_copied measure.entry) reports.now)) }
+    ensures { OnOk result (Appends (W.contents out.old) (W.contents out.new)
+        (majority_part (option_copied measure.entry) reports.now)) }
 {
     let Some(measure) = measure else {
         return Ok(());
@@ -229,7 +238,8 @@ pub fn write_json<W: Write>(
     measure: Option<&Report>,
     out: &mut W,
 ) -> io::Result<()>
-    ensures { OnOk result (Appends (W.contents out.old) (W.contents out.new) (json_text inquiry.now.cluster first inquiry.now.targets.items reports.now (option_copied measure.entry))) }
+    ensures { OnOk result (Appends (W.contents out.old) (W.contents out.new)
+        (json_text inquiry.now.cluster first inquiry.now.targets.items reports.now (option_copied measure.entry))) }
 {
     write_verdict(inquiry.cluster, reports, out)?;
     write_majority(measure, reports, out)?;

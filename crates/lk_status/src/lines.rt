@@ -2,7 +2,10 @@ ghost use Rattle.std.specs.Io.KnownBytes.{Appends};
 ghost use Rattle.std.specs.Option.{option_copied};
 ghost use Rattle.std.specs.Prelude.{◌≡◌, OnOk};
 ghost use Rattle.lk_status.specs.Lines.{one_or_many};
-ghost use Rattle.lk_status.specs.Lines.{heard_text, unled_text, following_text, leadership_text, executed_text, snapshot_text, behind_text, promised_text, progress_text, members_text, count_text, traffic_text, node_line, target_line, target_lines, stranger_word, strangers_text, raised_text, majority_text, cluster_line, status_text};
+ghost use Rattle.lk_status.specs.Lines.{heard_text, unled_text, following_text, leadership_text, executed_text};
+ghost use Rattle.lk_status.specs.Lines.{snapshot_text, behind_text, promised_text, progress_text, members_text};
+ghost use Rattle.lk_status.specs.Lines.{count_text, traffic_text, node_line, target_line, target_lines, stranger_word};
+ghost use Rattle.lk_status.specs.Lines.{strangers_text, raised_text, majority_text, cluster_line, status_text};
 
 use lk_health::measure::executed_of;
 use lk_health::target::{Inquiry, report_with};
@@ -177,7 +180,8 @@ fn write_target<W: Write>(
     most: u64,
     out: &mut W,
 ) -> io::Result<()>
-    ensures { OnOk result (Appends (W.contents out.old) (W.contents out.new) (target_line port (option_copied report.entry) most)) }
+    ensures { OnOk result (Appends (W.contents out.old) (W.contents out.new)
+        (target_line port (option_copied report.entry) most)) }
 {
     match report {
         Some(report) => write_node(port, report, most, out)?,
@@ -194,7 +198,8 @@ fn write_targets<W: Write>(
     most: u64,
     out: &mut W,
 ) -> io::Result<()>
-    ensures { OnOk result (Appends (W.contents out.old) (W.contents out.new) (target_lines first inquiry.now.targets.items reports.now most)) }
+    ensures { OnOk result (Appends (W.contents out.old) (W.contents out.new)
+        (target_lines first inquiry.now.targets.items reports.now most)) }
 {
     let mut token = first;
     let targets = inquiry.targets.as_slice();
@@ -254,7 +259,8 @@ fn write_cluster<W: Write>(
     reports: &[Report],
     out: &mut W,
 ) -> io::Result<()>
-    ensures { OnOk result (Appends (W.contents out.old) (W.contents out.new) (cluster_line (option_copied measure.entry) reports.now)) }
+    ensures { OnOk result (Appends (W.contents out.old) (W.contents out.new)
+        (cluster_line (option_copied measure.entry) reports.now)) }
 {
     let Some(measure) = measure else {
         return Ok(());
@@ -274,7 +280,8 @@ pub fn write_lines<W: Write>(
     measure: Option<&Report>,
     out: &mut W,
 ) -> io::Result<()>
-    ensures { OnOk result (Appends (W.contents out.old) (W.contents out.new) (status_text first inquiry.now.targets.items reports.now (option_copied measure.entry))) }
+    ensures { OnOk result (Appends (W.contents out.old) (W.contents out.new)
+        (status_text first inquiry.now.targets.items reports.now (option_copied measure.entry))) }
 {
     write_targets(inquiry, first, reports, executed_of(measure), out)?;
     write_cluster(measure, reports, out)?;

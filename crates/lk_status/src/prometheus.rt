@@ -2,7 +2,9 @@ ghost use Rattle.std.specs.Io.KnownBytes.{Appends};
 ghost use Rattle.std.specs.Option.{option_copied};
 ghost use Rattle.std.specs.Prelude.{◌≡◌, flat_map, OnOk};
 ghost use Rattle.lk_probe.specs.Grammar.{flag};
-ghost use Rattle.lk_status.specs.Metrics.{head_text, gauge_text, served_text, genesis_text, members_up, members_up_text, verdict_text, up_line, up_lines, up_text, sample_line, field_text, metrics_text};
+ghost use Rattle.lk_status.specs.Metrics.{head_text, gauge_text, served_text, genesis_text, members_up};
+ghost use Rattle.lk_status.specs.Metrics.{members_up_text, verdict_text, up_line, up_lines, up_text, sample_line};
+ghost use Rattle.lk_status.specs.Metrics.{field_text, metrics_text};
 
 use crate::field::{FIELDS, Field};
 use lk_health::target::{Inquiry, Target, is_answered};
@@ -30,7 +32,8 @@ fn write_gauge<W: Write>(
     value: u64,
     out: &mut W,
 ) -> io::Result<()>
-    ensures { OnOk result (Appends (W.contents out.old) (W.contents out.new) (gauge_text cluster name.now help.now value)) }
+    ensures { OnOk result (Appends (W.contents out.old) (W.contents out.new)
+        (gauge_text cluster name.now help.now value)) }
 {
     write_head(name, "gauge", help, out)?;
     writeln!(out, "locks_{name}{{cluster=\"{cluster}\"}} {value}")?;
@@ -45,7 +48,8 @@ fn write_flag<W: Write>(
     is: bool,
     out: &mut W,
 ) -> io::Result<()>
-    ensures { OnOk result (Appends (W.contents out.old) (W.contents out.new) (gauge_text cluster name.now help.now (flag is))) }
+    ensures { OnOk result (Appends (W.contents out.old) (W.contents out.new)
+        (gauge_text cluster name.now help.now (flag is))) }
 {
     write_gauge(cluster, name, help, u64::from(is), out)?;
     Ok(())
@@ -86,7 +90,8 @@ fn write_members_up<W: Write>(
     reports: &[Report],
     out: &mut W,
 ) -> io::Result<()>
-    ensures { OnOk result (Appends (W.contents out.old) (W.contents out.new) (members_up_text cluster (option_copied measure.entry) reports.now)) }
+    ensures { OnOk result (Appends (W.contents out.old) (W.contents out.new)
+        (members_up_text cluster (option_copied measure.entry) reports.now)) }
 {
     let help = "Members that answer.";
     write_gauge(
@@ -107,7 +112,8 @@ fn write_verdict<W: Write>(
     reports: &[Report],
     out: &mut W,
 ) -> io::Result<()>
-    ensures { OnOk result (Appends (W.contents out.old) (W.contents out.new) (verdict_text cluster (option_copied measure.entry) reports.now)) }
+    ensures { OnOk result (Appends (W.contents out.old) (W.contents out.new)
+        (verdict_text cluster (option_copied measure.entry) reports.now)) }
 {
     write_served(cluster, reports, out)?;
     write_genesis(cluster, reports, out)?;
@@ -134,7 +140,8 @@ fn write_up_lines<W: Write>(
     reports: &[Report],
     out: &mut W,
 ) -> io::Result<()>
-    ensures { OnOk result (Appends (W.contents out.old) (W.contents out.new) (up_lines cluster first targets.now reports.now)) }
+    ensures { OnOk result (Appends (W.contents out.old) (W.contents out.new)
+        (up_lines cluster first targets.now reports.now)) }
 {
     let mut token = first;
     'targets: for target in targets {
@@ -151,7 +158,8 @@ fn write_up<W: Write>(
     reports: &[Report],
     out: &mut W,
 ) -> io::Result<()>
-    ensures { OnOk result (Appends (W.contents out.old) (W.contents out.new) (up_text inquiry.now.cluster first inquiry.now.targets.items reports.now)) }
+    ensures { OnOk result (Appends (W.contents out.old) (W.contents out.new)
+        (up_text inquiry.now.cluster first inquiry.now.targets.items reports.now)) }
 {
     write_head("up", "gauge", "Whether the node at this port answers.", out)?;
     write_up_lines(
@@ -178,7 +186,8 @@ fn write_sample<W: Write>(field: Field, report: &Report, out: &mut W) -> io::Res
 
 // Writes a field of each report.
 fn write_samples<W: Write>(field: Field, reports: &[Report], out: &mut W) -> io::Result<()>
-    ensures { OnOk result (Appends (W.contents out.old) (W.contents out.new) (flat_map (sample_line field) reports.now)) }
+    ensures { OnOk result (Appends (W.contents out.old) (W.contents out.new)
+        (flat_map (sample_line field) reports.now)) }
 {
     'all: for report in reports {
         write_sample(field, report, out)?;
@@ -197,7 +206,8 @@ fn write_field<W: Write>(field: Field, reports: &[Report], out: &mut W) -> io::R
 
 // Writes these fields.
 fn write_fields<W: Write>(fields: &[Field], reports: &[Report], out: &mut W) -> io::Result<()>
-    ensures { OnOk result (Appends (W.contents out.old) (W.contents out.new) (flat_map (field_text reports.now) fields.now)) }
+    ensures { OnOk result (Appends (W.contents out.old) (W.contents out.new)
+        (flat_map (field_text reports.now) fields.now)) }
 {
     'all: for field in fields {
         write_field(*field, reports, out)?;
@@ -213,7 +223,8 @@ pub fn write_metrics<W: Write>(
     measure: Option<&Report>,
     out: &mut W,
 ) -> io::Result<()>
-    ensures { OnOk result (Appends (W.contents out.old) (W.contents out.new) (metrics_text inquiry.now.cluster first inquiry.now.targets.items reports.now (option_copied measure.entry))) }
+    ensures { OnOk result (Appends (W.contents out.old) (W.contents out.new)
+        (metrics_text inquiry.now.cluster first inquiry.now.targets.items reports.now (option_copied measure.entry))) }
 {
     write_verdict(inquiry.cluster, measure, reports, out)?;
     write_up(inquiry, first, reports, out)?;

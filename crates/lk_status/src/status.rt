@@ -64,7 +64,8 @@ fn write_text<W: Write>(
     measure: Option<&Report>,
     out: &mut W,
 ) -> io::Result<()>
-    ensures { OnOk result (Appends (W.contents out.old) (W.contents out.new) (lines_text first inquiry.now reports.now (option_copied measure.entry))) }
+    ensures { OnOk result (Appends (W.contents out.old) (W.contents out.new)
+        (lines_text first inquiry.now reports.now (option_copied measure.entry))) }
 {
     write_lines(inquiry, first, reports, measure, out)?;
     write_why(measure, reports, out)?;
@@ -79,7 +80,8 @@ fn write_form<W: Write>(
     measure: Option<&Report>,
     out: &mut W,
 ) -> io::Result<()>
-    ensures { OnOk result (Appends (W.contents out.old) (W.contents out.new) (form_text plan.now.form first plan.now.inquiry reports.now (option_copied measure.entry))) }
+    ensures { OnOk result (Appends (W.contents out.old) (W.contents out.new)
+        (form_text plan.now.form first plan.now.inquiry reports.now (option_copied measure.entry))) }
 {
     let inquiry = &plan.inquiry;
     match plan.form {
@@ -93,7 +95,8 @@ fn write_form<W: Write>(
 // Prints the reports of a round. Whether they show that the cluster is served.
 fn print<W: Write>(plan: &Plan, first: u64, reports: &[Report], out: &mut W) -> io::Result<bool>
     ensures served { IfOk result (λ is. IsTrue is ↔ IsServed reports.now) }
-    ensures printed { OnOk result (Prints plan.now.form first plan.now.inquiry reports.now (W.contents out.old) (W.contents out.new)) }
+    ensures printed { OnOk result
+        (Prints plan.now.form first plan.now.inquiry reports.now (W.contents out.old) (W.contents out.new)) }
 {
     write_form(plan, first, reports, measure_in(reports), out)?;
     out.flush()?;
@@ -137,7 +140,8 @@ fn wait_until_ready<S: DatagramSocket>(
     most: u32,
 ) -> Result<Round, ServiceFault>
     ensures ready { IfOk result (λ r. IsTrue r.is_ready → IsReady inquiry.now r.reports.items) }
-    ensures heard { IfOk result (λ r. AreHeard S.sent S.coming S.failures inquiry.now r.first S.is_telling r.reports.items socket.new) }
+    ensures heard { IfOk result
+        (λ r. AreHeard S.sent S.coming S.failures inquiry.now r.first S.is_telling r.reports.items socket.new) }
 {
     let (mut idle, mut goal) = (0, None);
     let mut round = ask_once(alloc, socket, inquiry, 0, &mut idle)?;
@@ -162,7 +166,8 @@ fn ask_once<S: DatagramSocket>(
     idle: &mut u32,
 ) -> Result<Round, ServiceFault>
     ensures fresh { IfOk result (λ r. r.is_ready ≡ false) }
-    ensures heard { IfOk result (λ r. AreHeard S.sent S.coming S.failures inquiry.now r.first S.is_telling r.reports.items socket.new) }
+    ensures heard { IfOk result
+        (λ r. AreHeard S.sent S.coming S.failures inquiry.now r.first S.is_telling r.reports.items socket.new) }
 {
     Ok(Round {
         first,
@@ -177,9 +182,11 @@ fn round_of<S: DatagramSocket>(
     socket: &mut S,
     plan: &Plan,
 ) -> Result<Round, ServiceFault>
-    ensures heard { IfOk result (λ r. AreHeard S.sent S.coming S.failures plan.now.inquiry r.first S.is_telling r.reports.items socket.new) }
+    ensures heard { IfOk result
+        (λ r. AreHeard S.sent S.coming S.failures plan.now.inquiry r.first S.is_telling r.reports.items socket.new) }
     ensures ready { plan.now.seconds ≡ 0 → IfOk result (λ r. r.is_ready ≡ true) }
-    ensures waited { plan.now.seconds ≢ 0 → IfOk result (λ r. IsTrue r.is_ready → IsReady plan.now.inquiry r.reports.items) }
+    ensures waited { plan.now.seconds ≢ 0
+        → IfOk result (λ r. IsTrue r.is_ready → IsReady plan.now.inquiry r.reports.items) }
 {
     if plan.seconds > 0 {
         let most = plan.seconds.saturating_mul(A_SECOND);

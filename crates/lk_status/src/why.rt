@@ -2,7 +2,9 @@ ghost use Rattle.std.specs.Io.KnownBytes.{Appends};
 ghost use Rattle.std.specs.Option.{option_copied};
 ghost use Rattle.std.specs.Prelude.{◌≡◌, OnOk};
 ghost use Rattle.lk_status.specs.Fields.{is_member, follows, followed};
-ghost use Rattle.lk_status.specs.Reasons.{deaf_line, seeking_line, hearing_reason, outside_line, node_reason, node_reasons, nobody_line, majority_line, mute_text, leaderless_line, geneses_reason, leader_reason, leaders_reason, members_reason, why_text};
+ghost use Rattle.lk_status.specs.Reasons.{deaf_line, seeking_line, hearing_reason, outside_line, node_reason};
+ghost use Rattle.lk_status.specs.Reasons.{node_reasons, nobody_line, majority_line, mute_text, leaderless_line};
+ghost use Rattle.lk_status.specs.Reasons.{geneses_reason, leader_reason, leaders_reason, members_reason, why_text};
 
 use lk_health::verdict::{has_majority, has_one_genesis, seeks_votes};
 use lk_probe::Report;
@@ -164,7 +166,8 @@ fn write_node<W: Write>(
     report: &Report,
     out: &mut W,
 ) -> io::Result<()>
-    ensures { OnOk result (Appends (W.contents out.old) (W.contents out.new) (node_reason majority members.now report.now)) }
+    ensures { OnOk result (Appends (W.contents out.old) (W.contents out.new)
+        (node_reason majority members.now report.now)) }
 {
     if !is_among(report.node, members) {
         write_outside(report.node, out)?;
@@ -181,7 +184,8 @@ fn write_nodes<W: Write>(
     reports: &[Report],
     out: &mut W,
 ) -> io::Result<()>
-    ensures { OnOk result (Appends (W.contents out.old) (W.contents out.new) (node_reasons majority members.now reports.now)) }
+    ensures { OnOk result (Appends (W.contents out.old) (W.contents out.new)
+        (node_reasons majority members.now reports.now)) }
 {
     'all: for report in reports {
         write_node(majority, members, report, out)?;
@@ -196,7 +200,8 @@ fn write_leaders<W: Write>(
     reports: &[Report],
     out: &mut W,
 ) -> io::Result<()>
-    ensures { OnOk result (Appends (W.contents out.old) (W.contents out.new) (leaders_reason majority measure.now reports.now)) }
+    ensures { OnOk result (Appends (W.contents out.old) (W.contents out.new)
+        (leaders_reason majority measure.now reports.now)) }
 {
     if majority {
         write_unled(measure, reports, out)?;
@@ -224,7 +229,8 @@ pub fn write_why<W: Write>(
     reports: &[Report],
     out: &mut W,
 ) -> io::Result<()>
-    ensures { OnOk result (Appends (W.contents out.old) (W.contents out.new) (why_text (option_copied measure.entry) reports.now)) }
+    ensures { OnOk result (Appends (W.contents out.old) (W.contents out.new)
+        (why_text (option_copied measure.entry) reports.now)) }
 {
     match measure {
         Some(measure) => {

@@ -8,6 +8,7 @@ same : (n : ℕ) → (n == n) ≡ true
 same n = grind (arith, common_steps)
 
 -- the first place tells the node's address
-pub first_tells : (places : List (Option (ℕ × SocketAddr))) (node : ℕ) (from : SocketAddr) → 0 < length places → node_in (slice_set places 0 (Some (node, from))) node ≡ Some from
+pub first_tells : (places : List (Option (ℕ × SocketAddr))) (node : ℕ) (from : SocketAddr) → 0 < length places
+    → node_in (slice_set places 0 (Some (node, from))) node ≡ Some from
 first_tells [] node from h = absurd (omega (arith, h))
 first_tells (p ∷ places) node from h = rw (same node) refl

@@ -53,4 +53,5 @@ pub record SendsTo (tells : Type 0) (place : SocketAddr) (frame : List ℕ) (old
 
 -- a report goes to where the probe came from, and is sent or lost
 abbrev pub Replies : Type 0 → Seals → ReceivedProbe → List ℕ → Tray → Tray → Type 0
-Replies tells s a bytes old new = SendsTo tells a.from (frame_for s (asker a.probe) bytes) old new ⊎ Loses tells (keys_to s (asker a.probe)) old new
+Replies tells s a bytes old new =
+    SendsTo tells a.from (frame_for s (asker a.probe) bytes) old new ⊎ Loses tells (keys_to s (asker a.probe)) old new

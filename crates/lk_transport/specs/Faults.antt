@@ -6,7 +6,8 @@ use Rattle.lk_state.specs.declared.machine.UnpackFault.TheVariants as unpack
 use Rattle.lk_transport.specs.declared.fault.ServiceFault.{ServiceFault}
 use Rattle.lk_node_io.specs.declared.fault.ReplicaFault.{ReplicaFault}
 use Rattle.lk_node_io.specs.declared.fault.ReplicaFault.TheVariants as replica
-use Rattle.lk_transport.specs.declared.fault.ServiceFault.TheVariants.{Device, NoMemory, Damaged, WrongStore, Failed, Halted}
+use Rattle.lk_transport.specs.declared.fault.ServiceFault.TheVariants.{Device, NoMemory, Damaged, WrongStore, Failed}
+use Rattle.lk_transport.specs.declared.fault.ServiceFault.TheVariants.{Halted}
 
 -- the fault that reports why no store was opened
 abbrev pub open_fault : OpenFault → ServiceFault

@@ -22,8 +22,11 @@ use Rattle.lk_transport.specs.declared.received_probe.ReceivedProbe.{ReceivedPro
 -- a question is due at that address, and is noted as sent at that count of ticks; or nothing is due, or the nodes have
 -- a key, and nothing changes
 abbrev pub IsAskedAt : ℕ → Option SocketAddr → AddressBook → AddressBook → Type 0
-IsAskedAt now (Some place) old new = (key_list old.seals.nodes ≡ []) × Asks now place old.neighbours new.neighbours × (new ≡ record old { neighbours = new.neighbours })
-IsAskedAt now None old new = ((key_list old.seals.nodes ≢ []) ⊎ (list_any (is_due_at now) old.neighbours ≡ false)) × (new ≡ old)
+IsAskedAt now (Some place) old new =
+    (key_list old.seals.nodes ≡ []) × Asks now place old.neighbours new.neighbours
+    × (new ≡ record old { neighbours = new.neighbours })
+IsAskedAt now None old new =
+    ((key_list old.seals.nodes ≢ []) ⊎ (list_any (is_due_at now) old.neighbours ≡ false)) × (new ≡ old)
 
 -- the question of the node of that number, which has these seals
 abbrev pub question_by : Seals → ℕ → Probe
@@ -32,7 +35,8 @@ question_by s node = question s.cluster (record { node = node; genesis = s.genes
 -- the probe is sent there as it is, or lost by a send that failed; nothing is sent where there is no address
 abbrev pub SendsProbe : Type 0 → Probe → Option SocketAddr → Tray → Tray → Type 0
 SendsProbe tells p None old new = new ≡ old
-SendsProbe tells p (Some place) old new = (bytes : List ℕ) × SpellsProbe p bytes × (SendsTo tells place bytes old new ⊎ Loses tells [] old new)
+SendsProbe tells p (Some place) old new =
+    (bytes : List ℕ) × SpellsProbe p bytes × (SendsTo tells place bytes old new ⊎ Loses tells [] old new)
 
 -- the node of that number sends its question to one address at which one is due, if there is such an address, and
 -- nothing else
@@ -50,7 +54,8 @@ is_of genesis (Some asker) = pointwise nat_eq asker.genesis genesis
 
 -- if so, what is known of the node at that address is forgotten where it is another genesis; else nothing changes
 abbrev pub ReadmitsIf : Bool → SocketAddr → AddressBook → AddressBook → Type 0
-ReadmitsIf true place old new = Readmits place old.neighbours new.neighbours × (new ≡ record old { neighbours = new.neighbours })
+ReadmitsIf true place old new =
+    Readmits place old.neighbours new.neighbours × (new ≡ record old { neighbours = new.neighbours })
 ReadmitsIf false place old new = new ≡ old
 
 -- so at the address from which a probe came that is kept, exactly if a node of the same genesis asks by it
@@ -67,8 +72,11 @@ IsToldBy node s d told = IsReportedOf (question_by s node) (d.0, heard s d.1) to
 -- what a report tells is known from now on of the node at its address, which was asked and had not told; a report of
 -- another address changes nothing
 abbrev pub LearnsOf : Reported → Option Neighbour → AddressBook → AddressBook → Type 0
-LearnsOf r (Some n) old new = Learns r.from old.seals.genesis r.told n old.neighbours new.neighbours × (new ≡ record old { neighbours = new.neighbours })
-LearnsOf r None old new = (is_open_at (slice_get old.neighbours (entry_for r.from old.neighbours)) ≡ false) × (new ≡ old)
+LearnsOf r (Some n) old new =
+    Learns r.from old.seals.genesis r.told n old.neighbours new.neighbours
+    × (new ≡ record old { neighbours = new.neighbours })
+LearnsOf r None old new =
+    (is_open_at (slice_get old.neighbours (entry_for r.from old.neighbours)) ≡ false) × (new ≡ old)
 
 -- so of a report that is kept, if one is
 abbrev pub LearnsKept : Option Reported → AddressBook → AddressBook → Type 0

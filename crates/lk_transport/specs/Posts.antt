@@ -1,5 +1,6 @@
 -- Where a letter goes and in which form, and what a contract sees of a post with a socket.
-use Rattle.std.specs.Prelude.{◌≡◌, ◌≢◌, ◌⊎◌, ◌==◌, ◌||◌, ℕ, Bool, true, false, if◌then◌else◌, List, [], ◌∷◌, ◌++◌, Option, Some, None, MatchBool, MatchOption, IsSomeAnd}
+use Rattle.std.specs.Prelude.{◌≡◌, ◌≢◌, ◌⊎◌, ◌==◌, ◌||◌, ℕ, Bool, true, false, if◌then◌else◌, List, [], ◌∷◌, ◌++◌}
+use Rattle.std.specs.Prelude.{Option, Some, None, MatchBool, MatchOption, IsSomeAnd}
 use Rattle.std.specs.Net.Socket.{socket_ip, socket_port}
 use Rattle.std.specs.declared.net.socket_addr.SocketAddr.{SocketAddr}
 use Rattle.lk_types.specs.Ranges.{IsClient}
@@ -43,7 +44,9 @@ tray_of p = record { own = p.own; sent = p.sent; failures = p.socket_failures }
 
 -- for a node: its port at its address, or, if that is not known, where it last wrote from
 abbrev pub IsPlaceOf : AddressBook → ℕ → ℕ → Option SocketAddr → Type 0
-IsPlaceOf b n port place = MatchOption (host_of b.hosts n) (place ≡ node_at b n) (λ host. IsSomeAnd place (λ a. (socket_port a ≡ port) × (socket_ip a ≡ host)))
+IsPlaceOf b n port place =
+    MatchOption (host_of b.hosts n) (place ≡ node_at b n)
+    (λ host. IsSomeAnd place (λ a. (socket_port a ≡ port) × (socket_ip a ≡ host)))
 
 -- for a client, where it last wrote from; for a node, where it lives, or, for port 0, where it last wrote from
 abbrev pub IsRoute : AddressBook → To → Option SocketAddr → Type 0
@@ -103,7 +106,8 @@ pub record Keeps (node : ℕ) (l : LetterValue) (old new : Tray) : Type 0 where
 -- its frame is sent to its destination, whole and once, if the socket reveals that, and no letter is kept
 pub record Sends (tells : Type 0) (book : AddressBook) (l : LetterValue) (old new : Tray) : Type 0 where
   pub own : new.own ≡ old.own
-  pub sent : tells → (place : Option SocketAddr) × IsRoute book l.to place × (new.sent ≡ old.sent ++ carried place (frame_of book.seals l.to l.bytes))
+  pub sent : tells → (place : Option SocketAddr) × IsRoute book l.to place
+      × (new.sent ≡ old.sent ++ carried place (frame_of book.seals l.to l.bytes))
   pub failures : tells → new.failures ≡ old.failures
 
 -- it is lost: either one more send has failed, if the socket reveals that, or its frame ran out of memory, if there is
@@ -119,7 +123,8 @@ Becomes tells node book old l true new = Keeps node l old new ⊎ Sends tells bo
 Becomes tells node book old l false new = Loses tells (keys_for book.seals l.to) old new
 
 -- the same at a post, of which a letter changes nothing else but the count of failed sends in this step
-pub record CarriesLetter (tells : Type 0) (old : PostValue) (l : LetterValue) (is_sent : Bool) (new : PostValue) : Type 0 where
+pub record CarriesLetter (tells : Type 0) (old : PostValue) (l : LetterValue) (is_sent : Bool)
+    (new : PostValue) : Type 0 where
   pub node : new.node ≡ old.node
   pub addresses : new.addresses ≡ old.addresses
   pub still : tells → new.coming ≡ old.coming
@@ -170,4 +175,5 @@ pub record Hears (cluster : ℕ) (bytes : List ℕ) (from : SocketAddr) (old new
 -- the same for each of these, one after another
 abbrev pub HearsAll : ℕ → List (SocketAddr × List ℕ) → AddressBook → AddressBook → Type 0
 HearsAll cluster [] old new = new ≡ old
-HearsAll cluster (c ∷ came) old new = (mid : AddressBook) × Hears cluster c.1 c.0 old mid × HearsAll cluster came mid new
+HearsAll cluster (c ∷ came) old new =
+    (mid : AddressBook) × Hears cluster c.1 c.0 old mid × HearsAll cluster came mid new

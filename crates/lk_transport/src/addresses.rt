@@ -38,7 +38,13 @@ impl Model for Addresses {
 
     ghost Value = { AddressBook };
 
-    ghost view = { λ a. record { clients = a.clients; nodes = a.nodes; hosts = a.hosts; seals = a.seals; neighbours = a.neighbours } };
+    ghost view = { λ a. record {
+      clients = a.clients;
+      nodes = a.nodes;
+      hosts = a.hosts;
+      seals = a.seals;
+      neighbours = a.neighbours;
+    } };
 }
 
 // The address in the first entry of a node.

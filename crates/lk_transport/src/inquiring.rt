@@ -95,9 +95,15 @@ impl<S: DatagramSocket + Drop> SocketPost<S> {
 
     // Sends the question of this node to an address.
     fn send_question(&mut self, place: SocketAddr) -> Result<(), SendFault>
-        ensures sends { SendsProbe S.is_telling (question_by self.old.addresses.seals self.old.node) (Some place) (tray_of self.old) (tray_of self.new) }
+        ensures sends { SendsProbe S.is_telling (question_by self.old.addresses.seals self.old.node) (Some place)
+            (tray_of self.old) (tray_of self.new) }
         ensures still { S.is_telling → self.new.coming ≡ self.old.coming }
-        ensures others { self.new ≡ record self.old { sent = self.new.sent; socket_failures = self.new.socket_failures; coming = self.new.coming } }
+        ensures others { self.new
+            ≡ record self.old {
+              sent = self.new.sent;
+              socket_failures = self.new.socket_failures;
+              coming = self.new.coming;
+            } }
     {
         let datagram = self.question().datagram();
         self.socket.send_to(place, &datagram)
@@ -105,10 +111,17 @@ impl<S: DatagramSocket + Drop> SocketPost<S> {
 
     /// Asks which genesis the node at an address was started with, where that is due at this count of ticks.
     pub fn probe_next(&mut self, now: u64) -> Result<(), SendFault>
-        ensures asks { AsksOne S.is_telling now self.old.node self.old.addresses self.new.addresses (tray_of self.old) (tray_of self.new) }
+        ensures asks { AsksOne S.is_telling now self.old.node self.old.addresses self.new.addresses
+            (tray_of self.old) (tray_of self.new) }
         ensures network { IsSameNetwork self.old.addresses self.new.addresses }
         ensures still { S.is_telling → self.new.coming ≡ self.old.coming }
-        ensures others { self.new ≡ record self.old { addresses = self.new.addresses; sent = self.new.sent; socket_failures = self.new.socket_failures; coming = self.new.coming } }
+        ensures others { self.new
+            ≡ record self.old {
+              addresses = self.new.addresses;
+              sent = self.new.sent;
+              socket_failures = self.new.socket_failures;
+              coming = self.new.coming;
+            } }
     {
         match self.addresses.next_to_probe(now) {
             Some(place) => self.send_question(place),

@@ -1,6 +1,7 @@
 //! The post of a node that has a socket.
 
-ghost use Rattle.std.specs.Prelude.{◌≡◌, ◌≢◌, ◌↔◌, ◌++◌, ◌∷◌, ℕ, [], Some, None, true, false, is_ok, OnOk, OnErr, IfOk, IsErr, IfSome, IsNone};
+ghost use Rattle.std.specs.Prelude.{◌≡◌, ◌≢◌, ◌↔◌, ◌++◌, ◌∷◌, ℕ, [], Some, None, true, false, is_ok, OnOk, OnErr, IfOk};
+ghost use Rattle.std.specs.Prelude.{IsErr, IfSome, IsNone};
 ghost use Rattle.lk_types.specs.Ranges.{IsClient};
 ghost use Rattle.lk_disk.specs.Disk.{HasCause, one_more};
 ghost use Rattle.lk_transport.specs.Addresses.{client_at, node_at, IsSameFilter};
@@ -79,7 +80,15 @@ impl<S: DatagramSocket + Drop> Model for SocketPost<S> {
 
     ghost Value = { PostValue };
 
-    ghost view = { λ p. record { node = p.node; addresses = p.addresses; own = p.own.items; sent = S.sent p.socket; socket_failures = S.failures p.socket; failures = p.failures; coming = S.coming p.socket } };
+    ghost view = { λ p. record {
+      node = p.node;
+      addresses = p.addresses;
+      own = p.own.items;
+      sent = S.sent p.socket;
+      socket_failures = S.failures p.socket;
+      failures = p.failures;
+      coming = S.coming p.socket;
+    } };
 }
 
 // The destination of a letter.
@@ -304,7 +313,8 @@ impl<S: DatagramSocket + Drop> SocketPost<S> {
 
     // Keeps one more letter of the node to itself.
     fn keep_own(&mut self, to: To, bytes: &[u8]) -> Result<(), NoMemory>
-        ensures ok { OnOk result (self.new ≡ record self.old { own = self.old.own ++ record { to = to; bytes = bytes.now } ∷ [] }) }
+        ensures ok { OnOk result
+            (self.new ≡ record self.old { own = self.old.own ++ record { to = to; bytes = bytes.now } ∷ [] }) }
         ensures err { OnErr result (self.new ≡ self.old) }
     {
         let kept = bytes.to_vec(self.alloc)?;
@@ -315,7 +325,8 @@ impl<S: DatagramSocket + Drop> SocketPost<S> {
 
     // Sends a letter through the system, even one to this node.
     fn transmit(&mut self, to: To, bytes: &[u8]) -> Result<(), SendFault>
-        ensures becomes { Becomes S.is_telling self.old.node self.old.addresses (tray_of self.old) (record { to = to; bytes = bytes.now }) (is_ok result) (tray_of self.new) }
+        ensures becomes { Becomes S.is_telling self.old.node self.old.addresses (tray_of self.old)
+            (record { to = to; bytes = bytes.now }) (is_ok result) (tray_of self.new) }
         ensures own { self.new.own ≡ self.old.own }
         ensures node { self.new.node ≡ self.old.node }
         ensures addresses { self.new.addresses ≡ self.old.addresses }
@@ -343,9 +354,15 @@ impl<S: DatagramSocket + Drop> SocketPost<S> {
 
     /// Sends a report to where its probe came from, by the seal for whoever asks.
     pub fn reply(&mut self, asked: &ReceivedProbe, report: &[u8]) -> Result<(), SendFault>
-        ensures replies { Replies S.is_telling self.old.addresses.seals asked.now report.now (tray_of self.old) (tray_of self.new) }
+        ensures replies { Replies S.is_telling self.old.addresses.seals asked.now report.now
+            (tray_of self.old) (tray_of self.new) }
         ensures still { S.is_telling → self.new.coming ≡ self.old.coming }
-        ensures others { self.new ≡ record self.old { sent = self.new.sent; socket_failures = self.new.socket_failures; coming = self.new.coming } }
+        ensures others { self.new
+            ≡ record self.old {
+              sent = self.new.sent;
+              socket_failures = self.new.socket_failures;
+              coming = self.new.coming;
+            } }
     {
         let Ok(framed) = framed_for(
             self.addresses.seals(),

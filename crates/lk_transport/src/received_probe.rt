@@ -27,7 +27,8 @@ pub fn is_beside(datagram: &[u8]) -> bool
 
 // Whether a probe that names a node came sealed, where the nodes have a key.
 fn is_sealed_as_named(seals: &Seals, frame: &[u8], datagram: &[u8], probe: &Probe) -> bool
-    ensures { IsTrue result ↔ (IsSome probe.now.origin → key_list seals.now.nodes ≢ [] → length frame.now ≢ length datagram.now) }
+    ensures { IsTrue result ↔ (IsSome probe.now.origin → key_list seals.now.nodes ≢ []
+        → length frame.now ≢ length datagram.now) }
 {
     probe.origin.is_none() || seals.nodes.is_none() || frame.len() != datagram.len()
 }

@@ -58,7 +58,8 @@ pub trait DatagramSocket {
         // The buffer has room for the longest frame and one byte more.
         requires room { 8229 ≤ length buffer.old }
         ensures within { IfSome result (λ r. r.0 ≤ length buffer.new) }
-        ensures some { is_telling → IfSome result (λ r. coming self.old ≡ (r.1, take r.0 buffer.new) ∷ coming self.new) }
+        ensures some { is_telling
+            → IfSome result (λ r. coming self.old ≡ (r.1, take r.0 buffer.new) ∷ coming self.new) }
         ensures none { is_telling → IsNone result → (coming self.old ≡ []) × (coming self.new ≡ []) }
         ensures unchanged { sent self.new ≡ sent self.old }
         ensures spares { failures self.new ≡ failures self.old };
@@ -67,7 +68,8 @@ pub trait DatagramSocket {
     fn receive_waiting(&mut self, buffer: &mut [u8]) -> Option<(usize, SocketAddr)>
         requires room { 8229 ≤ length buffer.old }
         ensures within { IfSome result (λ r. r.0 ≤ length buffer.new) }
-        ensures some { is_telling → IfSome result (λ r. coming self.old ≡ (r.1, take r.0 buffer.new) ∷ coming self.new) }
+        ensures some { is_telling
+            → IfSome result (λ r. coming self.old ≡ (r.1, take r.0 buffer.new) ∷ coming self.new) }
         ensures none { is_telling → IsNone result → (coming self.old ≡ []) × (coming self.new ≡ []) }
         ensures unchanged { sent self.new ≡ sent self.old }
         ensures spares { failures self.new ≡ failures self.old };

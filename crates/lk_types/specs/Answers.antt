@@ -1,7 +1,10 @@
 -- The ranges of an answer's parts, and its text.
 use Rattle.lk_types.specs.Ranges.{IsClient, IsCount, IsTotal, IsSharerCount}
 use Rattle.lk_types.specs.declared.answer.Answer.{Answer}
-use Rattle.lk_types.specs.declared.answer.Answer.TheVariants.{Granted, Busy, Released, NotHeld, Free, Held, Valid, Stale, NoRoom, Bad, Spent, Shared, HeldShared, Broken, Joined, Used, Full, Left, NotMember, Last, Raised, AlreadyRaised}
+use Rattle.lk_types.specs.declared.answer.Answer.TheVariants.{Granted, Busy, Released, NotHeld, Free, Held, Valid}
+use Rattle.lk_types.specs.declared.answer.Answer.TheVariants.{Stale, NoRoom, Bad, Spent, Shared, HeldShared, Broken}
+use Rattle.lk_types.specs.declared.answer.Answer.TheVariants.{Joined, Used, Full, Left, NotMember, Last, Raised}
+use Rattle.lk_types.specs.declared.answer.Answer.TheVariants.{AlreadyRaised}
 
 abbrev pub IsAnswer : Answer → Type 0
 IsAnswer (Granted fence) = IsCount fence

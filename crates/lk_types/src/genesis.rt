@@ -43,7 +43,8 @@ impl Genesis {
     /// The genesis, or why it is invalid.
     pub fn of(cluster: u64, alpha: u8, members: &[Member]) -> Result<Genesis, GenesisFault>
         ensures ok { IfOk result (λ g. (g.cluster ≡ cluster) × (g.alpha ≡ alpha) × (g.members ≡ members.now)) }
-        ensures fault { MatchResult result (λ _. genesis_fault alpha members.now ≡ None) (λ e. genesis_fault alpha members.now ≡ Some e) }
+        ensures fault { MatchResult result (λ _. genesis_fault alpha members.now ≡ None)
+            (λ e. genesis_fault alpha members.now ≡ Some e) }
     {
         if members.is_empty() {
             return Err(GenesisFault::NoMembers);

@@ -5,7 +5,10 @@ ghost use Rattle.lk_messages.specs.declared.message.Message.{Message};
 ghost use Rattle.lk_messages.specs.declared.message.NodeMessage.TheVariants as kinds;
 ghost use Rattle.lk_messages.specs.Grammar.{Spells};
 ghost use Rattle.lk_fields.specs.Parser.{Finds, made};
-ghost use Rattle.lk_messages.specs.Reading.{read_prepare, read_promise, read_proposal, read_nack, read_decided, read_want, read_part, read_answered, read_elsewhere, read_passed, read_lead, node_of, read_asked, content_of, read_header, read_message, all_of};
+ghost use Rattle.lk_messages.specs.Reading.{read_prepare, read_promise, read_proposal, read_nack, read_decided};
+ghost use Rattle.lk_messages.specs.Reading.{read_want, read_part, read_answered, read_elsewhere, read_passed};
+ghost use Rattle.lk_messages.specs.Reading.{read_lead, node_of, read_asked, content_of, read_header, read_message};
+ghost use Rattle.lk_messages.specs.Reading.{all_of};
 ghost use Rattle.lk_wire.specs.Shown.{shown_node, shown_content, shown, LieAtTheirPlaces};
 
 pub(crate) mod command;

@@ -1,7 +1,8 @@
 ghost use Rattle.std.specs.Prelude.{◌≡◌, ◌<◌, ◌+◌, ◌*◌, ◌++◌, length, OnOk, OnErr};
 ghost use Rattle.lk_fields.specs.Rooms.{UsesRoom, mark_room, command_room, vote_room};
 ghost use Rattle.lk_wire.specs.Rooms.{header_room, node_fields_room, fields_room};
-ghost use Rattle.lk_messages.specs.Grammar.{votes, promise, proposal, nack, commands, decided, part, node_kind, node_fields, fields, header, kind, spelling, Spells};
+ghost use Rattle.lk_messages.specs.Grammar.{votes, promise, proposal, nack, commands, decided, part, node_kind};
+ghost use Rattle.lk_messages.specs.Grammar.{node_fields, fields, header, kind, spelling, Spells};
 
 use bytes::{BufMut, BytesMut};
 use lk_fields::{
@@ -26,7 +27,8 @@ fn put_votes(out: &mut BytesMut, list: &[Vote]) -> Result<(), AllocError>
 
 fn put_promise(out: &mut BytesMut, value: &Promise) -> Result<(), AllocError>
     ensures ok { OnOk result (out.new.items ≡ out.old.items ++ promise value.now) }
-    ensures room { UsesRoom result out.old.spare out.new.spare (mark_room + 8 + 1 + vote_room * length value.now.votes) }
+    ensures room { UsesRoom result out.old.spare out.new.spare
+        (mark_room + 8 + 1 + vote_room * length value.now.votes) }
 {
     value.facts();
     let (ballot, first, votes) = value.fields();

@@ -8,7 +8,8 @@ use Rattle.lk_world_nodes.specs.Ends.{IsNoWant, IsSound, IsNumberOfEnd, IsToldEn
 use Rattle.lk_world_nodes.specs.declared.end.End.{End}
 
 -- no fault is another one, where it is not "out of memory", and neither damage nor another's store
-pub told_fault : (e : ReplicaFault) (left : Memory) → IsNoWant (fault_number e) left → IsSound (fault_number e) → IsNumberOfEnd (fault_number e)
+pub told_fault : (e : ReplicaFault) (left : Memory) → IsNoWant (fault_number e) left → IsSound (fault_number e)
+    → IsNumberOfEnd (fault_number e)
 told_fault fault.Device left no_want sound = inl refl
 told_fault fault.NoMemory left no_want sound = absurd (no_want.memory refl)
 told_fault fault.Damaged left no_want sound = absurd (sound.0 refl)
@@ -39,13 +40,21 @@ other_up number k more less by is = elim by [
 ]
 
 pub sound_up : (number : ℕ) → IsNumberOfCalls number → IsSound number
-sound_up number by = (other_up number 9 (omega arith) (omega arith) by, other_up number 10 (omega arith) (omega arith) by)
+sound_up number by =
+    (other_up number 9 (omega arith) (omega arith) by, other_up number 10 (omega arith) (omega arith) by)
 
 other_packed : (number k : ℕ) → 8 < k → k < 11 → IsStoreFault number → number ≡ k → ⊥
-other_packed number k more less by is = elim by [ inl a ↦ omega (arith, a, is, more) | inr (inl a) ↦ omega (arith, a, is, more) | inr (inr a) ↦ omega (arith, a, is, less) ]
+other_packed number k more less by is =
+    elim by [
+      | inl a ↦ omega (arith, a, is, more)
+      | inr (inl a) ↦ omega (arith, a, is, more)
+      | inr (inr a) ↦
+          omega (arith, a, is, less)
+    ]
 
 pub sound_packed : (number : ℕ) → IsStoreFault number → IsSound number
-sound_packed number by = (other_packed number 9 (omega arith) (omega arith) by, other_packed number 10 (omega arith) (omega arith) by)
+sound_packed number by =
+    (other_packed number 9 (omega arith) (omega arith) by, other_packed number 10 (omega arith) (omega arith) by)
 
 -- nor does a restart
 pub sound_back : (number : ℕ) → IsNumberOfRevival number → IsSound number

@@ -18,12 +18,21 @@ based_short old new stays short = never_longer old new (refused_room old new sta
 pub same_short : (old new : Side → Disk) → ((s : Side) → new s ≡ old s) → AreShort old → AreShort new
 same_short old new same short s = subst (λ (d : Disk). length (contents d) ≤ 262144) (sym (same s)) (short s)
 
-pub empty_short : (disks : Side → Disk) → ((s : Side) → disks s ≡ record { synced = []; unsynced = [] }) → AreShort disks
+pub empty_short : (disks : Side → Disk)
+    → ((s : Side) → disks s ≡ record { synced = []; unsynced = [] }) → AreShort disks
 empty_short disks empty s = subst (λ (d : Disk). length (contents d) ≤ 262144) (sym (empty s)) (omega arith)
 
 kept_length : (k : ℕ) (d : Disk) → length (contents (kept_by k d)) ≤ length (contents d)
-kept_length k d = omega (arith, ap length (append-nil (d.synced ++ take k d.unsynced)), length-append d.synced (take k d.unsynced), length-take k d.unsynced, length-append d.synced d.unsynced)
+kept_length k d = omega (
+  arith,
+  ap length (append-nil (d.synced ++ take k d.unsynced)),
+  length-append d.synced (take k d.unsynced),
+  length-take k d.unsynced,
+  length-append d.synced d.unsynced,
+)
 
 -- after a stop
-pub kept_short : (old new : Side → Disk) → ((s : Side) → (k : ℕ) × (new s ≡ kept_by k (old s))) → AreShort old → AreShort new
-kept_short old new kept short s = omega (arith, ap (λ (d : Disk). length (contents d)) (kept s).1, kept_length (kept s).0 (old s), short s)
+pub kept_short : (old new : Side → Disk) → ((s : Side) → (k : ℕ) × (new s ≡ kept_by k (old s)))
+    → AreShort old → AreShort new
+kept_short old new kept short s =
+    omega (arith, ap (λ (d : Disk). length (contents d)) (kept s).1, kept_length (kept s).0 (old s), short s)

@@ -1,5 +1,6 @@
 -- A node that takes several inputs together, up to an armed stop at one of its sends.
-use Rattle.std.proofs.Common.{◌≡◌, ℕ, zero, suc, List, [], ◌∷◌, ◌++◌, length, take, drop, Option, Some, None, Result, Ok, Err, OnErr, refl, ap, sym, ◌∙◌, subst}
+use Rattle.std.proofs.Common.{◌≡◌, ℕ, zero, suc, List, [], ◌∷◌, ◌++◌, length, take, drop, Option, Some, None, Result}
+use Rattle.std.proofs.Common.{Ok, Err, OnErr, refl, ap, sym, ◌∙◌, subst}
 use Rattle.lk_disk.specs.Disk.{Disk}
 use Rattle.lk_disk.specs.declared.device.Side.{Side}
 use Rattle.lk_disk.specs.declared.trap.Trap.{Trap}
@@ -36,7 +37,8 @@ cut_sent k [] = nothing k
 cut_sent k (x ∷ xs) = ap (λ l. take k x.1 ++ l) (cut_sent (left_over k x.1) xs) ∙ take_both k x.1 (sent_of xs)
 
 -- goes on so too, with all of its notes: each step may send less than it said
-pub cut_goes : {R : Type 0} (Shows : R → Genesis → ℕ → Holding → Type 0) (disks : R → Side → Disk) (m : Meaning) (n : ℕ) (is : List Input) (r q : R) (said : List Said) (k : ℕ)
+pub cut_goes : {R : Type 0} (Shows : R → Genesis → ℕ → Holding → Type 0) (disks : R → Side → Disk) (m : Meaning)
+    (n : ℕ) (is : List Input) (r q : R) (said : List Said) (k : ℕ)
     → GoesAll Shows disks m n r is q said → GoesAll Shows disks m n r is q (cut_short k said)
 cut_goes Shows disks m n [] r q said k goes = (ap (cut_short k) goes.0, goes.1, goes.2)
 cut_goes Shows disks m n (x ∷ is) r q said k goes = (
@@ -68,16 +70,21 @@ drop_cut (suc j) (suc k) [] = refl
 drop_cut (suc j) zero (x ∷ xs) = refl
 drop_cut (suc j) (suc k) (x ∷ xs) = drop_cut j k xs
 
-pub parts_cut : (steps : List Step) (all : List Datagram) (k : ℕ) → parts_of steps (take k all) ≡ cut_short k (parts_of steps all)
+pub parts_cut : (steps : List Step) (all : List Datagram) (k : ℕ)
+    → parts_of steps (take k all) ≡ cut_short k (parts_of steps all)
 parts_cut [] all k = refl
 parts_cut (s ∷ steps) all k =
     let own = take_swap s.sends k all in
-    let rest = ap (parts_of steps) (drop_cut s.sends k all) ∙ parts_cut steps (drop s.sends all) (left_over k (take s.sends all)) in
+    let rest = ap (parts_of steps) (drop_cut s.sends k all)
+    ∙ parts_cut steps (drop s.sends all) (left_over k (take s.sends all)) in
     λ i. (s.notes.items, own i) ∷ rest i
 
 -- all that was sent is of the steps, up to a stop
-pub still_whole : {R : Type 0} (b : Behaviour R) (stop : Option ℕ) (r q : R) (steps : List Step) (all sent : List Datagram) → SentUpTo b stop r q all sent → all ≡ sent_of (parts_of steps all) → sent ≡ sent_of (parts_of steps sent)
-still_whole b None r q steps all sent up whole = subst (λ (l : List Datagram). l ≡ sent_of (parts_of steps l)) (sym up.2) whole
+pub still_whole : {R : Type 0} (b : Behaviour R) (stop : Option ℕ) (r q : R) (steps : List Step)
+    (all sent : List Datagram) → SentUpTo b stop r q all sent → all ≡ sent_of (parts_of steps all)
+    → sent ≡ sent_of (parts_of steps sent)
+still_whole b None r q steps all sent up whole =
+    subst (λ (l : List Datagram). l ≡ sent_of (parts_of steps l)) (sym up.2) whole
 still_whole b (Some bytes) r q steps all sent up whole =
     subst (λ (l : List Datagram). l ≡ sent_of (parts_of steps l)) (sym up.3)
     (ap (take up.0) whole ∙ sym (cut_sent up.0 (parts_of steps all)) ∙ ap sent_of (sym (parts_cut steps all up.0)))
@@ -85,21 +92,29 @@ still_whole b (Some bytes) r q steps all sent up whole =
 -- ---- the replica, once its sends are counted
 
 -- it goes on so too by one that does as much
-goes_all_on : {R : Type 0} (Shows : R → Genesis → ℕ → Holding → Type 0) (disks : R → Side → Disk) (m : Meaning) (n : ℕ) (is : List Input) (r q p : R) (said : List Said)
-    → ((h : History) → Goes m h n (Shows q h.genesis n) (disks q) [] [] → Goes m h n (Shows p h.genesis n) (disks p) [] []) → StaysWithin 0 (disks q) (disks p)
+goes_all_on : {R : Type 0} (Shows : R → Genesis → ℕ → Holding → Type 0) (disks : R → Side → Disk) (m : Meaning) (n : ℕ)
+    (is : List Input) (r q p : R) (said : List Said)
+    → ((h : History) → Goes m h n (Shows q h.genesis n) (disks q) [] []
+    → Goes m h n (Shows p h.genesis n) (disks p) [] []) → StaysWithin 0 (disks q) (disks p)
     → GoesAll Shows disks m n r is q said → GoesAll Shows disks m n r is p said
-goes_all_on Shows disks m n [] r q p said on short goes = (goes.0, λ h f. on h (goes.1 h f), within_still 132704 (disks r) (disks q) (disks p) goes.2 short)
-goes_all_on Shows disks m n (x ∷ is) r q p said on short goes = (goes.0, goes.1, goes.2, goes.3, goes.4, goes.5, goes_all_on Shows disks m n is goes.0 q p goes.2 on short goes.6)
+goes_all_on Shows disks m n [] r q p said on short goes =
+    (goes.0, λ h f. on h (goes.1 h f), within_still 132704 (disks r) (disks q) (disks p) goes.2 short)
+goes_all_on Shows disks m n (x ∷ is) r q p said on short goes =
+    (goes.0, goes.1, goes.2, goes.3, goes.4, goes.5, goes_all_on Shows disks m n is goes.0 q p goes.2 on short goes.6)
 
 module _ {R : Type 0} (b : Behaviour R) (alone : TrapsAlone b) (Shows : R → Genesis → ℕ → Holding → Type 0)
-    (shows_on : (t : Trap) (r : R) (genesis : Genesis) (n : ℕ) (x : Holding) → Shows r genesis n x → Shows (b.with_trap t r) genesis n x) where
-  pub goes_up_to_all : (m : Meaning) (n : ℕ) (is : List Input) (first r q : R) (steps : List Step) (stop : Option ℕ) (all sent : List Datagram) → SentUpTo b stop r q all sent
-      → GoesAll Shows (disks_by b) m n first is r (parts_of steps all) → GoesAll Shows (disks_by b) m n first is q (parts_of steps sent)
+    (shows_on : (t : Trap) (r : R) (genesis : Genesis) (n : ℕ) (x : Holding) → Shows r genesis n x
+    → Shows (b.with_trap t r) genesis n x) where
+  pub goes_up_to_all : (m : Meaning) (n : ℕ) (is : List Input) (first r q : R) (steps : List Step) (stop : Option ℕ)
+      (all sent : List Datagram) → SentUpTo b stop r q all sent
+      → GoesAll Shows (disks_by b) m n first is r (parts_of steps all)
+      → GoesAll Shows (disks_by b) m n first is q (parts_of steps sent)
   goes_up_to_all m n is first r q steps None all sent up goes =
       let t = (b.memory r).meter.trap in
       let counted = goes_all_on Shows (disks_by b) m n is first r (counting b t (length all) r) (parts_of steps all)
       (λ h g. counted_goes b alone Shows shows_on m h n [] t (length all) r [] g)
-      (within_same 0 (disks_by b r) (disks_by b (counting b t (length all) r)) (λ s. counted_disks b alone Shows shows_on t (length all) r s)) goes in
+      (within_same 0 (disks_by b r) (disks_by b (counting b t (length all) r))
+      (λ s. counted_disks b alone Shows shows_on t (length all) r s)) goes in
       subst (λ (l : List Datagram). GoesAll Shows (disks_by b) m n first is q (parts_of steps l)) (sym up.2)
       (subst (λ (z : R). GoesAll Shows (disks_by b) m n first is z (parts_of steps all)) (sym up.1) counted)
   goes_up_to_all m n is first r q steps (Some bytes) all sent up goes =
@@ -109,10 +124,12 @@ module _ {R : Type 0} (b : Behaviour R) (alone : TrapsAlone b) (Shows : R → Ge
       (cut_goes Shows (disks_by b) m n is first r (parts_of steps all) up.0 goes)))
 
   -- and whatever a stop may leave of it fits as it did
-  pub left_up_to : (m : Meaning) (h : History) (n : ℕ) (stop : Option ℕ) (r q : R) (all sent : List Datagram) → SentUpTo b stop r q all sent → DisksFit m h n (disks_by b r) → DisksFit m h n (disks_by b q)
+  pub left_up_to : (m : Meaning) (h : History) (n : ℕ) (stop : Option ℕ) (r q : R) (all sent : List Datagram)
+      → SentUpTo b stop r q all sent → DisksFit m h n (disks_by b r) → DisksFit m h n (disks_by b q)
   left_up_to m h n None r q all sent up left =
       subst (λ (z : R). DisksFit m h n (disks_by b z)) (sym up.1)
-      (same_disks m h n (disks_by b r) (disks_by b (after_sends b (length all) r)) (λ s. counted_disks b alone Shows shows_on (b.memory r).meter.trap (length all) r s) left)
+      (same_disks m h n (disks_by b r) (disks_by b (after_sends b (length all) r))
+      (λ s. counted_disks b alone Shows shows_on (b.memory r).meter.trap (length all) r s) left)
   left_up_to m h n (Some bytes) r q all sent up left = subst (λ (z : R). DisksFit m h n (disks_by b z)) (sym up.2) left
 
 -- what holds after any exit holds after a refusal

@@ -11,19 +11,24 @@ use Rattle.lk_world_nodes.specs.declared.end.End.TheVariants.{Fault, Stopped}
 
 -- a call of the replica failed with the fault of this number, and left this device
 abbrev pub Breaks : {R : Type 0} → Behaviour R → R → Option (List ℕ) → ℕ → Memory → Type 0
-Breaks {R = R} b r o number left = (q : R) × b.Takes r o q (Err number) × RefusedAfter number (b.memory r).meter left.meter × (left ≡ b.memory q)
+Breaks {R = R} b r o number left =
+    (q : R) × b.Takes r o q (Err number) × RefusedAfter number (b.memory r).meter left.meter × (left ≡ b.memory q)
 
 -- a call of the replica for a group failed with the fault of this number, and left this device
 abbrev pub BreaksTogether : {R : Type 0} → Behaviour R → R → List (Option (List ℕ)) → ℕ → Memory → Type 0
-BreaksTogether {R = R} b r given number left = (q : R) × b.TakesAll r given q (Err number) × RefusedAfter number (b.memory r).meter left.meter × (left ≡ b.memory q)
+BreaksTogether {R = R} b r given number left =
+    (q : R) × b.TakesAll r given q (Err number)
+    × RefusedAfter number (b.memory r).meter left.meter × (left ≡ b.memory q)
 
 -- a restart failed with the fault of this number, and left this device
 abbrev pub StaysDown : {R : Type 0} → Behaviour R → Memory → HeaderValue → ℕ → Memory → Type 0
-StaysDown b device header number left = b.Revives device header (Err (number, left)) × RefusedAfter number device.meter left.meter
+StaysDown b device header number left =
+    b.Revives device header (Err (number, left)) × RefusedAfter number device.meter left.meter
 
 -- a compaction failed with the fault of this number, and left this device
 abbrev pub FailsToCompact : {R : Type 0} → Behaviour R → R → ℕ → Memory → Type 0
-FailsToCompact {R = R} b r number left = (q : R) × b.Compacts r q (Err number) × RefusedAfter number (b.memory r).meter left.meter × (left ≡ b.memory q)
+FailsToCompact {R = R} b r number left =
+    (q : R) × b.Compacts r q (Err number) × RefusedAfter number (b.memory r).meter left.meter × (left ≡ b.memory q)
 
 -- ---- by which fault
 

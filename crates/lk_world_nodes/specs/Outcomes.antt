@@ -18,7 +18,8 @@ use Rattle.lk_world_nodes.specs.declared.seat.Life.TheVariants.{Up, Down}
 
 -- a fault of that kind ended the node: it is down with the disks that it left, its trap is gone, and it noted and sent
 -- nothing. An armed stop that it has reached is still to be carried out
-pub record HasFallen {R : Type 0} (Ends : ℕ → Memory → Type 0) (s : Seat R) (mine : List Note) (batch : List Datagram) (how : Option End) (stop : Option ℕ) : Type 0 where
+pub record HasFallen {R : Type 0} (Ends : ℕ → Memory → Type 0) (s : Seat R) (mine : List Note) (batch : List Datagram)
+    (how : Option End) (stop : Option ℕ) : Type 0 where
   pub number : ℕ
   pub left : Memory
   pub ends : Ends number left
@@ -47,7 +48,8 @@ Rests b None s t = t ≡ s
 Rests b (Some bytes) s t = t.life ≡ Down (stopped_on bytes bytes (device_in b s.life))
 
 -- its replica took a tick or these bytes; it may have reached an armed stop at a send
-pub record HasTaken {R : Type 0} (b : Behaviour R) (r : R) (o : Option (List ℕ)) (s : Seat R) (mine : List Note) (batch : List Datagram) (how : Option End) (stop : Option ℕ) : Type 0 where
+pub record HasTaken {R : Type 0} (b : Behaviour R) (r : R) (o : Option (List ℕ)) (s : Seat R) (mine : List Note)
+    (batch : List Datagram) (how : Option End) (stop : Option ℕ) : Type 0 where
   pub replica : R
   pub all : List Datagram
   pub takes : b.Takes r o replica (Ok (mine, all))
@@ -59,7 +61,8 @@ pub record HasTaken {R : Type 0} (b : Behaviour R) (r : R) (o : Option (List ℕ
   pub ended : how ≡ end_at stop s.number
 
 -- its replica took these together, with these steps and datagrams; it may have reached an armed stop at a send
-pub record HasTakenTogether {R : Type 0} (b : Behaviour R) (r : R) (given : List (Option (List ℕ))) (s : Seat R) (steps : List Step) (batch : List Datagram) (how : Option End) (stop : Option ℕ) : Type 0 where
+pub record HasTakenTogether {R : Type 0} (b : Behaviour R) (r : R) (given : List (Option (List ℕ))) (s : Seat R)
+    (steps : List Step) (batch : List Datagram) (how : Option End) (stop : Option ℕ) : Type 0 where
   pub replica : R
   pub all : List Datagram
   pub takes : b.TakesAll r given replica (Ok (parts_of steps all))
@@ -72,12 +75,14 @@ pub record HasTakenTogether {R : Type 0} (b : Behaviour R) (r : R) (given : List
   pub ended : how ≡ end_at stop s.number
 
 -- a fault ended the node in a group
-pub record HasFallenTogether {R : Type 0} (Ends : ℕ → Memory → Type 0) (s : Seat R) (steps : List Step) (batch : List Datagram) (how : Option End) (stop : Option ℕ) : Type 0 where
+pub record HasFallenTogether {R : Type 0} (Ends : ℕ → Memory → Type 0) (s : Seat R) (steps : List Step)
+    (batch : List Datagram) (how : Option End) (stop : Option ℕ) : Type 0 where
   pub no_steps : steps ≡ []
   pub fallen : HasFallen Ends s [] batch how stop
 
 -- it restarted from this device
-pub record HasRevived {R : Type 0} (b : Behaviour R) (device : Memory) (header : HeaderValue) (s : Seat R) (mine : List Note) (batch : List Datagram) (how : Option End) (stop : Option ℕ) : Type 0 where
+pub record HasRevived {R : Type 0} (b : Behaviour R) (device : Memory) (header : HeaderValue) (s : Seat R)
+    (mine : List Note) (batch : List Datagram) (how : Option End) (stop : Option ℕ) : Type 0 where
   pub replica : R
   pub up : s.life ≡ Up replica
   pub revives : b.Revives device header (Ok (replica, mine))
@@ -88,7 +93,8 @@ pub record HasRevived {R : Type 0} (b : Behaviour R) (device : Memory) (header :
   pub no_stop : stop ≡ None
 
 -- it compacted, and noted and sent nothing
-pub record HasCompacted {R : Type 0} (b : Behaviour R) (r : R) (s : Seat R) (mine : List Note) (batch : List Datagram) (how : Option End) (stop : Option ℕ) : Type 0 where
+pub record HasCompacted {R : Type 0} (b : Behaviour R) (r : R) (s : Seat R) (mine : List Note) (batch : List Datagram)
+    (how : Option End) (stop : Option ℕ) : Type 0 where
   pub replica : R
   pub compacts : b.Compacts r replica (Ok tt)
   pub passes : Passes (b.memory r).meter (b.memory replica).meter rebase_calls

@@ -2,7 +2,8 @@
 use Rattle.std.specs.Prelude.{ℕ, List}
 use Rattle.lk_world_nodes.specs.Seats.{IsUp, IsDown, HasNo}
 use Rattle.lk_world_nodes.specs.declared.refused.Refused.{Refused}
-use Rattle.lk_world_nodes.specs.declared.refused.Refused.TheVariants.{NoSuchNode, NotUp, AlreadyUp, NoSuchDatagram, Forged, WorldFull, WorldMemory}
+use Rattle.lk_world_nodes.specs.declared.refused.Refused.TheVariants.{NoSuchNode, NotUp, AlreadyUp, NoSuchDatagram}
+use Rattle.lk_world_nodes.specs.declared.refused.Refused.TheVariants.{Forged, WorldFull, WorldMemory}
 use Rattle.lk_world_nodes.specs.declared.seat.Seat.{Seat}
 
 abbrev pub refusal_number : Refused → ℕ

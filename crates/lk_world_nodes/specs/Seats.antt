@@ -74,7 +74,8 @@ IsTrapped {R = R} b s t trap =
 -- ---- how a node fits what has happened
 
 -- a replica that is up holds this view and what fits, and so does whatever a stop may leave of it; its files are short
-pub record UpFits {R : Type 0} (Shows : R → Genesis → ℕ → Holding → Type 0) (disks : R → Side → Disk) (m : Meaning) (h : History) (w : View) (n : ℕ) (r : R) : Type 0 where
+pub record UpFits {R : Type 0} (Shows : R → Genesis → ℕ → Holding → Type 0) (disks : R → Side → Disk) (m : Meaning)
+    (h : History) (w : View) (n : ℕ) (r : R) : Type 0 where
   pub holding : Holding
   pub view : holding.view ≡ w
   pub shown : Shows r h.genesis n holding
@@ -83,13 +84,15 @@ pub record UpFits {R : Type 0} (Shows : R → Genesis → ℕ → Holding → Ty
   pub room : AreShort (disks r)
 
 -- a node is up like this, or its disks fit
-pub record SeatFits {R : Type 0} (Shows : R → Genesis → ℕ → Holding → Type 0) (disks : R → Side → Disk) (m : Meaning) (h : History) (w : View) (s : Seat R) : Type 0 where
+pub record SeatFits {R : Type 0} (Shows : R → Genesis → ℕ → Holding → Type 0) (disks : R → Side → Disk) (m : Meaning)
+    (h : History) (w : View) (s : Seat R) : Type 0 where
   pub up : (r : R) → s.life ≡ Up r → UpFits Shows disks m h w s.number r
   pub down : (d : Memory) → s.life ≡ Down d → DisksFit m h s.number (disk_of d)
   pub room : (d : Memory) → s.life ≡ Down d → AreShort (disk_of d)
 
 -- a node has started, or gone on
-pub record SeatGoes {R : Type 0} (Shows : R → Genesis → ℕ → Holding → Type 0) (disks : R → Side → Disk) (m : Meaning) (h : History) (s : Seat R) (notes : List Note) (batch : List Datagram) : Type 0 where
+pub record SeatGoes {R : Type 0} (Shows : R → Genesis → ℕ → Holding → Type 0) (disks : R → Side → Disk) (m : Meaning)
+    (h : History) (s : Seat R) (notes : List Note) (batch : List Datagram) : Type 0 where
   pub replica : R
   pub up : s.life ≡ Up replica
   pub goes : Goes m h s.number (Shows replica h.genesis s.number) (disks replica) notes batch

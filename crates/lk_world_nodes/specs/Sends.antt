@@ -1,5 +1,6 @@
 -- What of a call's datagrams is sent, up to an armed stop at one of them.
-use Rattle.std.specs.Prelude.{◌≡◌, ℕ, zero, suc, ◌-◌, ◌&&◌, nat_lt, nat_le, length, take, List, [], ◌∷◌, Option, Some, None, if◌then◌else◌}
+use Rattle.std.specs.Prelude.{◌≡◌, ℕ, zero, suc, ◌-◌, ◌&&◌, nat_lt, nat_le, length, take, List, [], ◌∷◌, Option, Some}
+use Rattle.std.specs.Prelude.{None, if◌then◌else◌}
 use Rattle.lk_disk.specs.declared.trap.Trap.{Trap}
 use Rattle.lk_disk.specs.declared.trap.Trap.TheVariants.{Off, Fail, Arm}
 use Rattle.lk_node.specs.Histories.{Datagram}
@@ -23,8 +24,10 @@ after_sends b sends r = counting b (b.memory r).meter.trap sends r
 
 -- all of these were sent, and counted; or an armed stop happened at one of them, and those before it were sent
 abbrev pub SentUpTo : {R : Type 0} → Behaviour R → Option ℕ → R → R → List Datagram → List Datagram → Type 0
-SentUpTo b None r q all sent = (stop_among (b.memory r).meter.trap (length all) ≡ None) × (q ≡ after_sends b (length all) r) × (sent ≡ all)
-SentUpTo b (Some bytes) r q all sent = (k : ℕ) × (stop_among (b.memory r).meter.trap (length all) ≡ Some (k, bytes)) × (q ≡ r) × (sent ≡ take k all)
+SentUpTo b None r q all sent =
+    (stop_among (b.memory r).meter.trap (length all) ≡ None) × (q ≡ after_sends b (length all) r) × (sent ≡ all)
+SentUpTo b (Some bytes) r q all sent =
+    (k : ℕ) × (stop_among (b.memory r).meter.trap (length all) ≡ Some (k, bytes)) × (q ≡ r) × (sent ≡ take k all)
 
 -- ---- of the steps of a group
 

@@ -27,14 +27,20 @@ pub fn step<R: MemoryReplica>(
 ) -> Result<Outcome, NoMemory>
     requires up { (r : R) × (seat.old.life ≡ Up r) }
     ensures number { seat.new.number ≡ seat.old.number }
-    ensures goes { (h : History) (w : View) → IsLawful R.meaning h → SeatFits R.Shows (disks_by R.behaves) R.meaning h w seat.old → InputFits h input.entry
-        → IfOk result (λ o. (q : R) → seat.new.life ≡ Up q → SeatGoes R.Shows (disks_by R.behaves) R.meaning h seat.new o.notes.items o.sent.items) }
-    ensures falls { (h : History) (w : View) → IsLawful R.meaning h → SeatFits R.Shows (disks_by R.behaves) R.meaning h w seat.old → InputFits h input.entry
+    ensures goes { (h : History) (w : View) → IsLawful R.meaning h
+        → SeatFits R.Shows (disks_by R.behaves) R.meaning h w seat.old → InputFits h input.entry
+        → IfOk result (λ o. (q : R) → seat.new.life ≡ Up q
+        → SeatGoes R.Shows (disks_by R.behaves) R.meaning h seat.new o.notes.items o.sent.items) }
+    ensures falls { (h : History) (w : View) → IsLawful R.meaning h
+        → SeatFits R.Shows (disks_by R.behaves) R.meaning h w seat.old → InputFits h input.entry
         → (d : Memory) → seat.new.life ≡ Down d → SeatFits R.Shows (disks_by R.behaves) R.meaning h w seat.new }
     ensures exact { (r : R) → seat.old.life ≡ Up r
-        → IfOk result (λ o. HasTaken R.behaves r (heard_by input.entry) seat.new o.notes.items o.sent.items o.ended o.stop ⊎ HasFallen (Breaks R.behaves r (heard_by input.entry)) seat.new o.notes.items o.sent.items o.ended o.stop) }
+        → IfOk result (λ o. HasTaken R.behaves r
+        (heard_by input.entry) seat.new o.notes.items o.sent.items o.ended o.stop
+        ⊎ HasFallen (Breaks R.behaves r (heard_by input.entry)) seat.new o.notes.items o.sent.items o.ended o.stop) }
     ensures told { IfOk result (λ o. IsToldEnd o.ended) }
-    ensures wants { (r : R) → seat.old.life ≡ Up r → OnErr result (HasWanted (Breaks R.behaves r (heard_by input.entry)) seat.new) }
+    ensures wants { (r : R) → seat.old.life ≡ Up r
+        → OnErr result (HasWanted (Breaks R.behaves r (heard_by input.entry)) seat.new) }
 {
     let node = seat.number;
     let Life::Up(replica) = &mut seat.life else {
@@ -65,12 +71,16 @@ pub fn compact_node<R: MemoryReplica>(
 ) -> Result<Outcome, NoMemory>
     requires up { (r : R) × (seat.old.life ≡ Up r) }
     ensures number { seat.new.number ≡ seat.old.number }
-    ensures goes { (h : History) (w : View) → IsLawful R.meaning h → SeatFits R.Shows (disks_by R.behaves) R.meaning h w seat.old
-        → IfOk result (λ o. (q : R) → seat.new.life ≡ Up q → SeatGoes R.Shows (disks_by R.behaves) R.meaning h seat.new o.notes.items o.sent.items) }
-    ensures falls { (h : History) (w : View) → IsLawful R.meaning h → SeatFits R.Shows (disks_by R.behaves) R.meaning h w seat.old
+    ensures goes { (h : History) (w : View) → IsLawful R.meaning h
+        → SeatFits R.Shows (disks_by R.behaves) R.meaning h w seat.old
+        → IfOk result (λ o. (q : R) → seat.new.life ≡ Up q
+        → SeatGoes R.Shows (disks_by R.behaves) R.meaning h seat.new o.notes.items o.sent.items) }
+    ensures falls { (h : History) (w : View) → IsLawful R.meaning h
+        → SeatFits R.Shows (disks_by R.behaves) R.meaning h w seat.old
         → (d : Memory) → seat.new.life ≡ Down d → SeatFits R.Shows (disks_by R.behaves) R.meaning h w seat.new }
     ensures exact { (r : R) → seat.old.life ≡ Up r
-        → IfOk result (λ o. HasCompacted R.behaves r seat.new o.notes.items o.sent.items o.ended o.stop ⊎ HasFallen (FailsToCompact R.behaves r) seat.new o.notes.items o.sent.items o.ended o.stop) }
+        → IfOk result (λ o. HasCompacted R.behaves r seat.new o.notes.items o.sent.items o.ended o.stop
+        ⊎ HasFallen (FailsToCompact R.behaves r) seat.new o.notes.items o.sent.items o.ended o.stop) }
     ensures told { IfOk result (λ o. IsToldEnd o.ended) }
     ensures wants { (r : R) → seat.old.life ≡ Up r → OnErr result (HasWanted (FailsToCompact R.behaves r) seat.new) }
 {
@@ -98,14 +108,22 @@ pub fn revive<R: MemoryReplica>(
     genesis: &Genesis,
 ) -> Result<Outcome, NoMemory>
     ensures number { seat.new.number ≡ seat.old.number }
-    ensures goes { (h : History) (w : View) → h.genesis ≡ genesis.now → IsLawful R.meaning h → SeatFits R.Shows (disks_by R.behaves) R.meaning h w seat.old
-        → IfOk result (λ o. (q : R) → seat.new.life ≡ Up q → SeatGoes R.Shows (disks_by R.behaves) R.meaning h seat.new o.notes.items o.sent.items) }
-    ensures falls { (h : History) (w : View) → h.genesis ≡ genesis.now → IsLawful R.meaning h → SeatFits R.Shows (disks_by R.behaves) R.meaning h w seat.old
+    ensures goes { (h : History) (w : View) → h.genesis ≡ genesis.now → IsLawful R.meaning h
+        → SeatFits R.Shows (disks_by R.behaves) R.meaning h w seat.old
+        → IfOk result (λ o. (q : R) → seat.new.life ≡ Up q
+        → SeatGoes R.Shows (disks_by R.behaves) R.meaning h seat.new o.notes.items o.sent.items) }
+    ensures falls { (h : History) (w : View) → h.genesis ≡ genesis.now → IsLawful R.meaning h
+        → SeatFits R.Shows (disks_by R.behaves) R.meaning h w seat.old
         → (d : Memory) → seat.new.life ≡ Down d → SeatFits R.Shows (disks_by R.behaves) R.meaning h w seat.new }
     ensures exact { (d : Memory) → seat.old.life ≡ Down d
-        → IfOk result (λ o. HasRevived R.behaves d (header_of genesis.now seat.old.number) seat.new o.notes.items o.sent.items o.ended o.stop ⊎ HasFallen (StaysDown R.behaves d (header_of genesis.now seat.old.number)) seat.new o.notes.items o.sent.items o.ended o.stop) }
-    ensures told { (h : History) (w : View) → h.genesis ≡ genesis.now → IsLawful R.meaning h → SeatFits R.Shows (disks_by R.behaves) R.meaning h w seat.old → IfOk result (λ o. IsToldEnd o.ended) }
-    ensures wants { (d : Memory) → seat.old.life ≡ Down d → OnErr result (HasWanted (StaysDown R.behaves d (header_of genesis.now seat.old.number)) seat.new) }
+        → IfOk result (λ o. HasRevived R.behaves d
+        (header_of genesis.now seat.old.number) seat.new o.notes.items o.sent.items o.ended o.stop
+        ⊎ HasFallen (StaysDown R.behaves d (header_of genesis.now seat.old.number)) seat.new o.notes.items
+        o.sent.items o.ended o.stop) }
+    ensures told { (h : History) (w : View) → h.genesis ≡ genesis.now → IsLawful R.meaning h
+        → SeatFits R.Shows (disks_by R.behaves) R.meaning h w seat.old → IfOk result (λ o. IsToldEnd o.ended) }
+    ensures wants { (d : Memory) → seat.old.life ≡ Down d
+        → OnErr result (HasWanted (StaysDown R.behaves d (header_of genesis.now seat.old.number)) seat.new) }
 {
     let device = take_device(alloc, seat);
     match R::revive(alloc, device, &Header::new(seat.number, genesis.copy())) {

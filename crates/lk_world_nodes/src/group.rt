@@ -56,16 +56,24 @@ pub fn step_all<R: MemoryReplica>(
 ) -> Result<GroupOutcome, NoMemory>
     requires up { (r : R) × (seat.old.life ≡ Up r) }
     ensures number { seat.new.number ≡ seat.old.number }
-    ensures goes { (r : R) → seat.old.life ≡ Up r → (genesis : GenesisValue) (held : Holding) → R.Shows r genesis seat.old.number held
-        → IfOk result (λ o. (q : R) → seat.new.life ≡ Up q → GoesAll R.Shows (disks_by R.behaves) R.meaning seat.old.number r inputs.entry.items q (parts_of o.steps.items o.sent.items)) }
+    ensures goes { (r : R) → seat.old.life ≡ Up r → (genesis : GenesisValue) (held : Holding)
+        → R.Shows r genesis seat.old.number held
+        → IfOk result (λ o. (q : R) → seat.new.life ≡ Up q
+        → GoesAll R.Shows (disks_by R.behaves) R.meaning seat.old.number r inputs.entry.items q
+        (parts_of o.steps.items o.sent.items)) }
     // However it ends, whatever a stop may leave of it fits if nothing of the group is sent.
-    ensures leaves { (h : History) (w : View) → IsLawful R.meaning h → SeatFits R.Shows (disks_by R.behaves) R.meaning h w seat.old → AllByRecursion (InputFits h) inputs.entry.items
-        → DisksFit R.meaning h seat.new.number (disk_of (device_in R.behaves seat.new.life)) × AreShort (disk_of (device_in R.behaves seat.new.life)) }
+    ensures leaves { (h : History) (w : View) → IsLawful R.meaning h
+        → SeatFits R.Shows (disks_by R.behaves) R.meaning h w seat.old → AllByRecursion (InputFits h) inputs.entry.items
+        → DisksFit R.meaning h seat.new.number (disk_of (device_in R.behaves seat.new.life))
+        × AreShort (disk_of (device_in R.behaves seat.new.life)) }
     ensures exact { (r : R) → seat.old.life ≡ Up r
-        → IfOk result (λ o. HasTakenTogether R.behaves r (map heard_by inputs.entry.items) seat.new o.steps.items o.sent.items o.ended o.stop
-        ⊎ HasFallenTogether (BreaksTogether R.behaves r (map heard_by inputs.entry.items)) seat.new o.steps.items o.sent.items o.ended o.stop) }
+        → IfOk result (λ o. HasTakenTogether R.behaves r
+        (map heard_by inputs.entry.items) seat.new o.steps.items o.sent.items o.ended o.stop
+        ⊎ HasFallenTogether (BreaksTogether R.behaves r (map heard_by inputs.entry.items)) seat.new o.steps.items
+        o.sent.items o.ended o.stop) }
     ensures told { IfOk result (λ o. IsToldEnd o.ended) }
-    ensures wants { (r : R) → seat.old.life ≡ Up r → OnErr result (HasWanted (BreaksTogether R.behaves r (map heard_by inputs.entry.items)) seat.new) }
+    ensures wants { (r : R) → seat.old.life ≡ Up r
+        → OnErr result (HasWanted (BreaksTogether R.behaves r (map heard_by inputs.entry.items)) seat.new) }
 {
     let node = seat.number;
     let Life::Up(replica) = &mut seat.life else {

@@ -26,7 +26,8 @@ fn note_of(message: &Message) -> Option<Note>
 
 // Appends the note of the datagram, if it has one.
 fn add_note(alloc: Global, notes: &mut Vec<Note>, datagram: &Datagram) -> Result<(), NoMemory>
-    ensures { OnOk result ((more : List NoteValue) × (notes.new.items ≡ notes.old.items ++ more) × Tells (datagram.now ∷ []) more) }
+    ensures { OnOk result ((more : List NoteValue) × (notes.new.items ≡ notes.old.items ++ more)
+        × Tells (datagram.now ∷ []) more) }
 {
     let Ok(message) = read(alloc, &datagram.bytes) else {
         return Err(NoMemory);
@@ -39,7 +40,8 @@ fn add_note(alloc: Global, notes: &mut Vec<Note>, datagram: &Datagram) -> Result
 
 /// Appends the notes of the datagrams, in order.
 pub fn add_notes(alloc: Global, notes: &mut Vec<Note>, batch: &[Datagram]) -> Result<(), NoMemory>
-    ensures { OnOk result ((more : List NoteValue) × (notes.new.items ≡ notes.old.items ++ more) × Tells batch.now more) }
+    ensures { OnOk result ((more : List NoteValue) × (notes.new.items ≡ notes.old.items ++ more)
+        × Tells batch.now more) }
 {
     for datagram in batch {
         add_note(alloc, notes, datagram)?;

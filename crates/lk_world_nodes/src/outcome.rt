@@ -35,7 +35,8 @@ pub struct Outcome {
 /// The node goes down if it has reached an armed stop for this many bytes.
 pub fn carry_out_stop<R: MemoryReplica>(alloc: Global, seat: &mut Seat<R>, at: Option<usize>)
     ensures number { seat.new.number ≡ seat.old.number }
-    ensures fits { (h : History) (w : View) → SeatFits R.Shows (disks_by R.behaves) R.meaning h w seat.old → SeatFits R.Shows (disks_by R.behaves) R.meaning h w seat.new }
+    ensures fits { (h : History) (w : View) → SeatFits R.Shows (disks_by R.behaves) R.meaning h w seat.old
+        → SeatFits R.Shows (disks_by R.behaves) R.meaning h w seat.new }
     ensures rests { Rests R.behaves at seat.old seat.new }
 {
     if let Some(bytes) = at {
@@ -65,8 +66,10 @@ pub fn take_down<R: MemoryReplica>(
     fault: ReplicaFault,
 ) -> Result<Outcome, NoMemory>
     ensures number { seat.new.number ≡ seat.old.number }
-    ensures fits { (h : History) (w : View) → DisksFit R.meaning h seat.old.number (disk_of device) → AreShort (disk_of device) → SeatFits R.Shows (disks_by R.behaves) R.meaning h w seat.new }
-    ensures fallen { IfOk result (λ o. HasFallen (IsThis (fault_number fault) device) seat.new o.notes.items o.sent.items o.ended o.stop) }
+    ensures fits { (h : History) (w : View) → DisksFit R.meaning h seat.old.number (disk_of device)
+        → AreShort (disk_of device) → SeatFits R.Shows (disks_by R.behaves) R.meaning h w seat.new }
+    ensures fallen { IfOk result
+        (λ o. HasFallen (IsThis (fault_number fault) device) seat.new o.notes.items o.sent.items o.ended o.stop) }
     ensures told { IsSound (fault_number fault) → IfOk result (λ o. IsToldEnd o.ended) }
     ensures halted { OnErr result (seat.new.life ≡ Down (stopped_on 0 0 device)) }
     ensures want { OnErr result (IsWant (fault_number fault) device) }

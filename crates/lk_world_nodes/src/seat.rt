@@ -44,8 +44,10 @@ fn vacate<R: Drop>(alloc: Global, seat: &mut Seat<R>) -> Life<R>
 pub fn take_device<R: MemoryReplica>(alloc: Global, seat: &mut Seat<R>) -> MemoryDisk
     ensures number { seat.new.number ≡ seat.old.number }
     ensures is { result ≡ device_in R.behaves seat.old.life }
-    ensures fits { (h : History) (w : View) → SeatFits R.Shows (disks_by R.behaves) R.meaning h w seat.old → DisksFit R.meaning h seat.old.number (disk_of result) }
-    ensures room { (h : History) (w : View) → SeatFits R.Shows (disks_by R.behaves) R.meaning h w seat.old → AreShort (disk_of result) }
+    ensures fits { (h : History) (w : View) → SeatFits R.Shows (disks_by R.behaves) R.meaning h w seat.old
+        → DisksFit R.meaning h seat.old.number (disk_of result) }
+    ensures room { (h : History) (w : View) → SeatFits R.Shows (disks_by R.behaves) R.meaning h w seat.old
+        → AreShort (disk_of result) }
 {
     match vacate(alloc, seat) {
         Life::Up(replica) => replica.into_disks(),
@@ -56,7 +58,8 @@ pub fn take_device<R: MemoryReplica>(alloc: Global, seat: &mut Seat<R>) -> Memor
 /// The node goes down, and its disks keep up to `x` and `y` of their unsynced bytes.
 pub fn stop<R: MemoryReplica>(alloc: Global, seat: &mut Seat<R>, x: usize, y: usize)
     ensures number { seat.new.number ≡ seat.old.number }
-    ensures fits { (h : History) (w : View) → SeatFits R.Shows (disks_by R.behaves) R.meaning h w seat.old → SeatFits R.Shows (disks_by R.behaves) R.meaning h w seat.new }
+    ensures fits { (h : History) (w : View) → SeatFits R.Shows (disks_by R.behaves) R.meaning h w seat.old
+        → SeatFits R.Shows (disks_by R.behaves) R.meaning h w seat.new }
     ensures stopped { seat.new.life ≡ Down (stopped_on x y (device_in R.behaves seat.old.life)) }
 {
     let mut device = take_device(alloc, seat);
@@ -68,7 +71,8 @@ pub fn stop<R: MemoryReplica>(alloc: Global, seat: &mut Seat<R>, x: usize, y: us
 /// Sets the trap of the node's device.
 pub fn set_trap<R: MemoryReplica>(seat: &mut Seat<R>, trap: Trap)
     ensures number { seat.new.number ≡ seat.old.number }
-    ensures fits { (h : History) (w : View) → SeatFits R.Shows (disks_by R.behaves) R.meaning h w seat.old → SeatFits R.Shows (disks_by R.behaves) R.meaning h w seat.new }
+    ensures fits { (h : History) (w : View) → SeatFits R.Shows (disks_by R.behaves) R.meaning h w seat.old
+        → SeatFits R.Shows (disks_by R.behaves) R.meaning h w seat.new }
     ensures trapped { IsTrapped R.behaves seat.old seat.new trap }
 {
     match &mut seat.life {

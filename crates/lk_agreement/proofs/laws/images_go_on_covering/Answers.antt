@@ -6,7 +6,8 @@ pub returns-clause-own : goal.returns-clause-own
 returns-clause-own c genesis sent batch n image = covers_both genesis sent batch n image.acceptor
 
 pub returns-clause-others : goal.returns-clause-others
-returns-clause-others c genesis w n k batch image may other = covers_elsewhere genesis w n batch may k image.acceptor other
+returns-clause-others c genesis w n k batch image may other =
+    covers_elsewhere genesis w n batch may k image.acceptor other
 
 pub returns-clause-stems : goal.returns-clause-stems
 returns-clause-stems c = still_stems

@@ -5,4 +5,5 @@ pub returns-clause-some : goal.returns-clause-some
 returns-clause-some c = (alone, last, two_commands, change)
 
 pub returns-clause-plain : goal.returns-clause-plain
-returns-clause-plain c = (alone, last, two_commands, change.reached, change.chosen, change.two, change.one_member, change.both)
+returns-clause-plain c =
+    (alone, last, two_commands, change.reached, change.chosen, change.two, change.one_member, change.both)

@@ -2,7 +2,8 @@ use Rattle.lk_agreement.proofs.Slices.{slices_join, whole_slice, still_slice, be
 use Rattle.lk_agreement.proofs.laws.slices_join.Goals as goal
 
 pub returns-clause-join : goal.returns-clause-join
-returns-clause-join c genesis sent text position total gathered bytes sound = slices_join genesis sent sound text position total gathered bytes
+returns-clause-join c genesis sent text position total gathered bytes sound =
+    slices_join genesis sent sound text position total gathered bytes
 
 pub returns-clause-whole : goal.returns-clause-whole
 returns-clause-whole c = whole_slice

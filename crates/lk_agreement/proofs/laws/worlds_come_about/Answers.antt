@@ -15,7 +15,8 @@ pub returns-clause-changes : goal.returns-clause-changes
 returns-clause-changes c genesis w n new r change = next r (changes n new change)
 
 pub returns-clause-restarts : goal.returns-clause-restarts
-returns-clause-restarts c genesis w n image r covers stems ended = next r (changes n image (restarts image covers stems ended))
+returns-clause-restarts c genesis w n image r covers stems ended =
+    next r (changes n image (restarts image covers stems ended))
 
 pub returns-clause-leaves : goal.returns-clause-leaves
 returns-clause-leaves c genesis w n r = next r (changes n _ leaves)

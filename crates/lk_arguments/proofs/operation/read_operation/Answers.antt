@@ -2,7 +2,8 @@ use Rattle.std.proofs.Common.{refl}
 use Rattle.lk_arguments.specs.Words.{HasNoSpace}
 use Rattle.lk_arguments.specs.Verbs.{word_of}
 use Rattle.lk_arguments.specs.declared.verb.Verb.{Verb}
-use Rattle.lk_arguments.specs.declared.verb.Verb.TheVariants.{Acquire, Release, Ask, Check, Share, Break, Join, Leave, Raise, Raw}
+use Rattle.lk_arguments.specs.declared.verb.Verb.TheVariants.{Acquire, Release, Ask, Check, Share, Break, Join, Leave}
+use Rattle.lk_arguments.specs.declared.verb.Verb.TheVariants.{Raise, Raw}
 use Rattle.lk_arguments.proofs.Splits.{one_way}
 use Rattle.lk_arguments.proofs.operation.read_operation.Goals as goal
 
@@ -21,5 +22,6 @@ one_verb Raw = refl
 pub returns-in_err-verb-clause-none : goal.returns-in_err-verb-clause-none
 returns-in_err-verb-clause-none c = λ none o asks.
     let first = c.in_ok-word.ensures.some in
-    let parts = one_way c.args.text.now c.in_ok-word.word.now c.in_ok-word.words.now (word_of asks.0) asks.1 first.0 first.1 (one_verb asks.0) asks.2 in
+    let parts = one_way c.args.text.now c.in_ok-word.word.now c.in_ok-word.words.now
+    (word_of asks.0) asks.1 first.0 first.1 (one_verb asks.0) asks.2 in
     c.in_err-verb.ensures.none refl asks.0 parts.0

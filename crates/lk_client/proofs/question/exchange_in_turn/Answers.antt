@@ -27,6 +27,7 @@ returns-then-is_some-clause-tries g c tells = record {
   few = c.ask_port-reply.ensures.most;
   tries = tries_told c.args.ports.now c.ports.port-index (record { socket = c.args.socket.now; followed = 0 })
       c.ask_port-reply.result (sym c.is_some.ensures ∙ c.if-is_some.true) c.deref.ensures.value
-      (slice_get_read c.args.ports.now (length c.args.ports.now) c.ports.port-index c.port-item.result refl c.ports-test.true c.port-item.is)
+      (slice_get_read c.args.ports.now
+      (length c.args.ports.now) c.ports.port-index c.port-item.result refl c.ports-test.true c.port-item.is)
       (c.ports.invariant.1 tells) (c.ask_port-reply.ensures.tries tells);
 }

@@ -3,4 +3,6 @@ use Rattle.lk_cluster.proofs.Sealing.{seals_forge_nothing, so_reachable}
 use Rattle.lk_cluster.proofs.laws.a_sealed_cluster_forges_nothing.Goals as goal
 
 pub returns : goal.returns
-returns g c genesis cluster all = so_reachable IsSealed g.D.LogDisk.is_metered g.S.DatagramSocket.is_telling (seals_forge_nothing c.is_told_by_a_node.ensures) genesis cluster all
+returns g c genesis cluster all =
+    so_reachable IsSealed g.D.LogDisk.is_metered g.S.DatagramSocket.is_telling
+    (seals_forge_nothing c.is_told_by_a_node.ensures) genesis cluster all

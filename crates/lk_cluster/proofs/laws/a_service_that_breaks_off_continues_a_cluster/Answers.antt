@@ -4,4 +4,5 @@ use Rattle.lk_cluster.proofs.Serving.{broken_service_continues}
 use Rattle.lk_cluster.proofs.laws.a_service_that_breaks_off_continues_a_cluster.Goals as goal
 
 pub returns : goal.returns
-returns g c honest = broken_service_continues ForgesNothing g.D.LogDisk.is_metered g.S.DatagramSocket.is_telling forges_nothing g.D.LogDisk.is_honest _ (λ old o letters new says. says honest) honest
+returns g c honest = broken_service_continues ForgesNothing g.D.LogDisk.is_metered g.S.DatagramSocket.is_telling
+    forges_nothing g.D.LogDisk.is_honest _ (λ old o letters new says. says honest) honest

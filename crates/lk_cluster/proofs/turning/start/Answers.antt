@@ -16,7 +16,8 @@ returns g c honest genesis whose =
       notes = up.notes;
       restarts = record {
         goes = λ h is lawful fit. up.goes h n (whose ∙ ap (λ (z : Genesis). header_of z n) (sym is)) lawful fit;
-        short = λ short. never_longer old (disks s.replica.store) (refused_room old (disks s.replica.store) up.room) short;
+        short =
+            λ short. never_longer old (disks s.replica.store) (refused_room old (disks s.replica.store) up.room) short;
       };
       own = begun.own;
       alive = sym c.replica.ensures.failed ∙ begun.alive;

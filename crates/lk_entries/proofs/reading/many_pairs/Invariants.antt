@@ -5,4 +5,5 @@ use Rattle.lk_fields.proofs.Spellings.{with_front}
 use Rattle.lk_entries.proofs.reading.many_pairs.Given as goal
 
 abbrev pub invariant-loop : goal.invariant-loop
-invariant-loop l = with_front l.pairs.items (many read_pair (l.count - l.counter) l.rest) ≡ many read_pair l.count l.bytes
+invariant-loop l =
+    with_front l.pairs.items (many read_pair (l.count - l.counter) l.rest) ≡ many read_pair l.count l.bytes

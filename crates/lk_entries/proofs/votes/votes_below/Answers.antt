@@ -7,6 +7,9 @@ use Rattle.lk_entries.proofs.votes.votes_below.Goals as goal
 
 pub returns-clause-value : goal.returns-clause-value
 returns-clause-value c =
-    let parted = IsPartitionedBy-ltb (λ (v : Vote). v.position) c.args.votes.now c.args.position (rising_votes_rise c.args.votes.now c.requires) in
-    let point = IsPartitionPoint-from_clause (λ (v : Vote). nat_lt v.position c.args.position) c.args.votes.now c.partition_point.result c.partition_point.ensures.partitioned parted (λ a r q k. search rules) in
+    let parted = IsPartitionedBy-ltb (λ (v : Vote). v.position) c.args.votes.now c.args.position
+    (rising_votes_rise c.args.votes.now c.requires) in
+    let point = IsPartitionPoint-from_clause
+    (λ (v : Vote). nat_lt v.position c.args.position) c.args.votes.now c.partition_point.result
+    c.partition_point.ensures.partitioned parted (λ a r q k. search rules) in
     point_is_below c.args.position c.partition_point.result c.args.votes.now point c.partition_point.ensures.bound

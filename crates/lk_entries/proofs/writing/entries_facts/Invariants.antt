@@ -5,4 +5,5 @@ use Rattle.lk_entries.proofs.writing.entries_facts.Given as goal
 
 -- all fit once those that are left do
 abbrev pub invariant-loop-entry : goal.invariant-loop-entry
-invariant-loop-entry l = AllByRecursion IsStored (plain (drop l.entry-index l.entries)) → AllByRecursion IsStored (plain l.entries)
+invariant-loop-entry l =
+    AllByRecursion IsStored (plain (drop l.entry-index l.entries)) → AllByRecursion IsStored (plain l.entries)

@@ -4,4 +4,5 @@ use Rattle.lk_fields.specs.Fields.{two, pair}
 use Rattle.lk_entries.proofs.writing.put_pairs.Given as goal
 
 abbrev pub invariant-loop-position : goal.invariant-loop-position
-invariant-loop-position l = l.out.items ≡ l.fn.out.items ++ (two (length l.list) ++ flat_map pair (take l.position-index l.list))
+invariant-loop-position l =
+    l.out.items ≡ l.fn.out.items ++ (two (length l.list) ++ flat_map pair (take l.position-index l.list))

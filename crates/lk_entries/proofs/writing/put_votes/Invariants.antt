@@ -4,4 +4,5 @@ use Rattle.lk_fields.specs.Fields.{two, vote}
 use Rattle.lk_entries.proofs.writing.put_votes.Given as goal
 
 abbrev pub invariant-loop-vote : goal.invariant-loop-vote
-invariant-loop-vote l = l.out.items ≡ l.fn.out.items ++ (two (length l.list) ++ flat_map vote (take l.vote-index l.list))
+invariant-loop-vote l =
+    l.out.items ≡ l.fn.out.items ++ (two (length l.list) ++ flat_map vote (take l.vote-index l.list))

@@ -17,7 +17,8 @@ returns-else-tag-eq2-clause-front c = answer_front _ _ _ (λ i. omega (arith, c.
 
 pub returns-in_default-read_sharing-clause-front : goal.returns-in_default-read_sharing-clause-front
 unfolding answer_of
-returns-in_default-read_sharing-clause-front c = answer_front _ _ _ (λ i. omega (arith, c.type_inv.bytes i)) (search rules)
+returns-in_default-read_sharing-clause-front c =
+    answer_front _ _ _ (λ i. omega (arith, c.type_inv.bytes i)) (search rules)
 
 pub returns-in-Some-read_sharing-clause-front : goal.returns-in-Some-read_sharing-clause-front
 unfolding answer_of

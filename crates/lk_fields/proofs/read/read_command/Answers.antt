@@ -5,7 +5,8 @@ use Rattle.lk_fields.proofs.read.read_command.Goals as goal
 
 pub returns-in_default-read_request-clause-front : goal.returns-in_default-read_request-clause-front
 unfolding command_of
-returns-in_default-read_request-clause-front c = command_front _ _ _ (λ i. omega (arith, c.type_inv.bytes i)) (search rules)
+returns-in_default-read_request-clause-front c =
+    command_front _ _ _ (λ i. omega (arith, c.type_inv.bytes i)) (search rules)
 
 pub returns-in-Some-clause-front : goal.returns-in-Some-clause-front
 unfolding command_of

@@ -15,7 +15,9 @@ returns c =
       up = refl;
       written_a = c.lengths-written.ensures.a ∙ ap (λ (d : Disk). length (contents d)) a;
       written_b = c.lengths-written.ensures.b ∙ ap (λ (d : Disk). length (contents d)) b;
-      synced_a = c.lengths.ensures.a ∙ ap (λ (m : Memory). length (contents m.a)) c.stop.ensures.after ∙ synced_is_left c.inspect_device-found.new.device.a ∙ ap (λ (d : Disk). length d.synced) a;
-      synced_b = c.lengths.ensures.b ∙ ap (λ (m : Memory). length (contents m.b)) c.stop.ensures.after ∙ synced_is_left c.inspect_device-found.new.device.b ∙ ap (λ (d : Disk). length d.synced) b;
+      synced_a = c.lengths.ensures.a ∙ ap (λ (m : Memory). length (contents m.a)) c.stop.ensures.after
+          ∙ synced_is_left c.inspect_device-found.new.device.a ∙ ap (λ (d : Disk). length d.synced) a;
+      synced_b = c.lengths.ensures.b ∙ ap (λ (m : Memory). length (contents m.b)) c.stop.ensures.after
+          ∙ synced_is_left c.inspect_device-found.new.device.b ∙ ap (λ (d : Disk). length d.synced) b;
       found = c.inspect_device-found.ensures.found tt;
     }

@@ -19,4 +19,5 @@ returns-then-is_over-clause-hears g c =
     λ tells. record { receives = c.receives.counter; heard = c.receives.invariant.1 tells; over = inl over }
 
 pub returns-clause-hears : goal.returns-clause-hears
-returns-clause-hears g c = λ tells. record { receives = c.receives.counter; heard = c.receives.invariant.1 tells; over = inr (omega arith) }
+returns-clause-hears g c =
+    λ tells. record { receives = c.receives.counter; heard = c.receives.invariant.1 tells; over = inr (omega arith) }

@@ -6,5 +6,6 @@ use Rattle.lk_health.proofs.asking.send_probes.Given as goal
 abbrev pub invariant-targets : goal.invariant-targets
 invariant-targets g l =
     let asks = ProbesEach g.S.DatagramSocket.sent g.S.DatagramSocket.coming g.S.DatagramSocket.failures l.inquiry in
-    g.S.DatagramSocket.is_telling → (last : g.row.S.Denot) → asks l.token (drop l.target-index l.targets) l.reports l.socket last
+    g.S.DatagramSocket.is_telling → (last : g.row.S.Denot)
+    → asks l.token (drop l.target-index l.targets) l.reports l.socket last
     → asks l.fn.first l.targets l.reports l.initial.socket last

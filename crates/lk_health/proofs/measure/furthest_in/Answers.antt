@@ -14,6 +14,9 @@ all-preserved c =
     let front = take c.all.report-index rs in
     let before = option_copied c.all.furthest in
     let one = c.report-item.result in
-    let more = take_more rs c.all.report-index one c.all-test.true ∙ ap (λ (r : Report). front ++ r ∷ []) (sym c.report-item.is) in
-    subst (λ (best : Option Report). IsFurthestOf (those_of genesis (take (c.all.report-index + 1) rs)) best) (sym c.further-furthest.ensures)
-    (subst (λ (l : List Report). IsFurthestOf (those_of genesis l) (further genesis before one)) (sym more) (one_further genesis front before one c.all.invariant))
+    let more = take_more rs c.all.report-index one c.all-test.true
+    ∙ ap (λ (r : Report). front ++ r ∷ []) (sym c.report-item.is) in
+    subst (λ (best : Option Report). IsFurthestOf (those_of genesis (take (c.all.report-index + 1) rs)) best)
+    (sym c.further-furthest.ensures)
+    (subst (λ (l : List Report). IsFurthestOf (those_of genesis l) (further genesis before one)) (sym more)
+    (one_further genesis front before one c.all.invariant))

@@ -13,9 +13,13 @@ all-preserved c =
     let front = take c.all.report-index rs in
     let before = option_copied c.all.best in
     let one = c.report-item.result in
-    let more = take_more rs c.all.report-index one c.all-test.true ∙ ap (λ (r : Report). front ++ r ∷ []) (sym c.report-item.is) in
-    subst (λ (best : Option Report). HoldsInOf rs (take (c.all.report-index + 1) rs) best) (sym c.more_told-best.ensures)
-    (subst (λ (l : List Report). HoldsInOf rs l (more_told rs before one)) (sym more) (one_told rs front before one c.all.invariant))
+    let more = take_more rs c.all.report-index one c.all-test.true
+    ∙ ap (λ (r : Report). front ++ r ∷ []) (sym c.report-item.is) in
+    subst (λ (best : Option Report). HoldsInOf rs (take (c.all.report-index + 1) rs) best)
+    (sym c.more_told-best.ensures)
+    (subst (λ (l : List Report). HoldsInOf rs l (more_told rs before one)) (sym more)
+    (one_told rs front before one c.all.invariant))
 
 pub returns : goal.returns
-returns c = of_all c.args.reports.now _ _ (take_all c.all.report-index c.args.reports.now c.all-test.false) c.all.invariant
+returns c =
+    of_all c.args.reports.now _ _ (take_all c.all.report-index c.args.reports.now c.all-test.false) c.all.invariant

@@ -4,4 +4,5 @@ use Rattle.lk_health.proofs.measure.tellers.Given as goal
 
 -- those that were counted, and those that are left, are all
 abbrev pub invariant-all : goal.invariant-all
-invariant-all l = (l.count + tellers l.genesis (drop l.index l.reports) ≡ tellers l.genesis l.reports) × (l.count ≤ l.index)
+invariant-all l =
+    (l.count + tellers l.genesis (drop l.index l.reports) ≡ tellers l.genesis l.reports) × (l.count ≤ l.index)

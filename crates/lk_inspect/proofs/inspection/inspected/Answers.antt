@@ -13,11 +13,15 @@ pub returns-clause-tells : goal.returns-clause-tells
 returns-clause-tells c = λ genesis L packs all.
     let behind : List Command = L ++ run_from (length L) c.args.standing.now.pairs in
     let sums = c.in_ok-whole.ensures.sums genesis L packs in
-    let table = same_table c.machine-table.result.now behind c.facts.ensures all (c.machine-table.ensures ∙ ap (λ (w : WholeValue). w.text) sums ∙ text_is table_meaning genesis behind) in
+    let table = same_table c.machine-table.result.now behind c.facts.ensures
+    all (c.machine-table.ensures ∙ ap (λ (w : WholeValue). w.text) sums ∙ text_is table_meaning genesis behind) in
     record {
-      executed = c.executed.ensures ∙ ap (λ (w : WholeValue). w.roster.executed) sums ∙ executed_is table_meaning genesis behind;
-      members = c.copy.ensures ∙ c.window.ensures ∙ ap (λ r. r.sets) c.roster.ensures ∙ ap (λ (w : WholeValue). w.roster.sets) sums ∙ sets_are table_meaning genesis behind;
+      executed = c.executed.ensures ∙ ap (λ (w : WholeValue). w.roster.executed) sums
+          ∙ executed_is table_meaning genesis behind;
+      members = c.copy.ensures ∙ c.window.ensures ∙ ap (λ r. r.sets) c.roster.ensures
+          ∙ ap (λ (w : WholeValue). w.roster.sets) sums ∙ sets_are table_meaning genesis behind;
       names = c.len.ensures.len ∙ ap (λ (t : Table). map.len t.names) table;
       held = c.in_ok-held.ensures ∙ ap (λ (t : Table). held_in (map.entries t.names)) table;
-      clients = ap length c.sessions.ensures ∙ ap (λ (w : WholeValue). length w.sessions) sums ∙ ap length (sessions_are table_meaning genesis behind);
+      clients = ap length c.sessions.ensures ∙ ap (λ (w : WholeValue). length w.sessions) sums
+          ∙ ap length (sessions_are table_meaning genesis behind);
     }

@@ -6,4 +6,5 @@ use Rattle.lk_leader.proofs.proposal.unheard.Goals as goal
 pub returns : goal.returns
 returns c =
     let is_left : ℕ → Bool = λ k. not (list_any (λ n. n == k) c.args.accepted.now) in
-    filter_same _ is_left _ (λ x b f' k. search rules) c.in_ok-nodes.nodes.items _ c.retain.ensures.filtered ∙ ap (filter is_left) c.in_ok-nodes.ensures
+    filter_same _ is_left _ (λ x b f' k. search rules) c.in_ok-nodes.nodes.items _ c.retain.ensures.filtered
+    ∙ ap (filter is_left) c.in_ok-nodes.ensures

@@ -10,12 +10,16 @@ pub returns-then-not-is_below : goal.returns-then-not-is_below
 returns-then-not-is_below c = λ ts best.
     let x : ReportedVote = record { node = c.args.node; vote = c.args.vote.now } in
     subst (λ (o : Option ReportedVote). IsBest (ts ++ x ∷ []) o) (sym c.in-Some.is)
-    (best-kept ts x c.in-Some.reported (subst (λ (o : Option ReportedVote). IsBest ts o) c.in-Some.is best) (c.is_below.ensures.above c.if-not-is_below.true))
+    (best-kept ts x c.in-Some.reported (subst (λ (o : Option ReportedVote). IsBest ts o) c.in-Some.is best)
+    (c.is_below.ensures.above c.if-not-is_below.true))
 
 pub returns : goal.returns
 returns c = λ ts best.
     let x : ReportedVote = record { node = c.args.node; vote = c.args.vote.now } in
-    subst (λ (v : Vote). IsHighest (ts ++ x ∷ []) (record { node = c.args.node; vote = v })) (sym c.copy.ensures) (elim c.match-best.branch [
-      | in-Some+else-not-is_below w ↦ best-raised ts x w.in-Some.reported (subst (λ (o : Option ReportedVote). IsBest ts o) w.in-Some.is best) (w.is_below.ensures.below w.if-not-is_below.false)
+    subst (λ (v : Vote). IsHighest (ts ++ x ∷ []) (record { node = c.args.node; vote = v })) (sym c.copy.ensures)
+    (elim c.match-best.branch [
+      | in-Some+else-not-is_below w ↦
+          best-raised ts x w.in-Some.reported (subst (λ (o : Option ReportedVote). IsBest ts o) w.in-Some.is best)
+          (w.is_below.ensures.below w.if-not-is_below.false)
       | in_default w ↦ best-first ts x (subst (λ (o : Option ReportedVote). IsBest ts o) w.in_default.is best)
     ])

@@ -7,6 +7,9 @@ use Rattle.lk_learner.proofs.pair.place_of.Goals as goal
 
 pub returns-clause-place : goal.returns-clause-place
 returns-clause-place c =
-    let parted = IsPartitionedBy-ltb (λ (p : Pair). p.0) c.args.pairs.now c.args.position (pairs_rise c.args.low c.args.pairs.now c.requires) in
-    let point = IsPartitionPoint-from_clause (λ (p : Pair). nat_lt p.0 c.args.position) c.args.pairs.now c.partition_point.result c.partition_point.ensures.partitioned parted (λ a r q k. search rules) in
+    let parted = IsPartitionedBy-ltb (λ (p : Pair). p.0) c.args.pairs.now c.args.position
+    (pairs_rise c.args.low c.args.pairs.now c.requires) in
+    let point = IsPartitionPoint-from_clause
+    (λ (p : Pair). nat_lt p.0 c.args.position) c.args.pairs.now c.partition_point.result
+    c.partition_point.ensures.partitioned parted (λ a r q k. search rules) in
     place_is_before c.args.position c.partition_point.result c.args.pairs.now point c.partition_point.ensures.bound

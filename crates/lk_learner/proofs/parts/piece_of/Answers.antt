@@ -6,4 +6,5 @@ pub returns-clause-bytes : goal.returns-clause-bytes
 returns-clause-bytes c =
     let long : c.min-end.result - c.args.offset ≡ min 1024 (length (drop c.args.offset c.args.text.now)) =
     omega (arith, c.min-end.ensures, length-drop c.args.offset c.args.text.now, c.requires.within) in
-    ap (λ (n : ℕ). take n (drop c.args.offset c.args.text.now)) long ∙ take_min 1024 (drop c.args.offset c.args.text.now)
+    ap (λ (n : ℕ). take n (drop c.args.offset c.args.text.now)) long
+    ∙ take_min 1024 (drop c.args.offset c.args.text.now)

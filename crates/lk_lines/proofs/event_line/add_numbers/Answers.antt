@@ -7,4 +7,5 @@ pub returns : goal.returns
 returns c =
     let past : length c.args.numbers.now ≤ c.loop-n.n-index = search rules in
     let none : drop c.loop-n.n-index c.args.numbers.now ≡ [] = drop_all c.loop-n.n-index c.args.numbers.now past in
-    sym (append-nil c.loop-n.text.items) ∙ ap (λ (l : List ℕ). c.loop-n.text.items ++ then_numbers l) (sym none) ∙ c.loop-n.invariant
+    sym (append-nil c.loop-n.text.items)
+    ∙ ap (λ (l : List ℕ). c.loop-n.text.items ++ then_numbers l) (sym none) ∙ c.loop-n.invariant

@@ -16,12 +16,22 @@ use Rattle.lk_locks.proofs.TableLaws.{starts, one_longer, falls}
 use Rattle.lk_locks.proofs.machine.read_entries.Goals as goal
 
 pub loop-init : goal.loop-init
-loop-init c = rw c.new-table.ensures (record { so_far = starts c.args.raised c.args.count c.args.bytes.now; size = map.len-empty (slice_cmp nat_cmp) Slot; version = refl })
+loop-init c = rw c.new-table.ensures
+    (record {
+      so_far = starts c.args.raised c.args.count c.args.bytes.now;
+      size = map.len-empty (slice_cmp nat_cmp) Slot;
+      version = refl;
+    })
 
 pub loop-preserved : goal.loop-preserved
 loop-preserved c = record {
-  so_far = rw c.in_ok-push.ensures.ok (goes_on (read_entry c.args.raised) (map.entries c.loop.table.names) c.args.count c.loop.counter c.loop.rest.now (c.in-Some.name, c.in-Some.slot) c.in-Some.after.now (many (read_entry c.args.raised) c.args.count c.args.bytes.now) c.loop-test.true c.in-Some.ensures.read c.loop.invariant.so_far);
-  size = one_longer c.loop.table.names c.push.new.self.names (c.in-Some.name, c.in-Some.slot) c.loop.counter c.in_ok-push.ensures.ok c.loop.invariant.size;
+  so_far = rw c.in_ok-push.ensures.ok
+      (goes_on (read_entry c.args.raised) (map.entries c.loop.table.names) c.args.count c.loop.counter c.loop.rest.now
+      (c.in-Some.name, c.in-Some.slot) c.in-Some.after.now
+      (many (read_entry c.args.raised) c.args.count c.args.bytes.now) c.loop-test.true c.in-Some.ensures.read
+      c.loop.invariant.so_far);
+  size = one_longer c.loop.table.names c.push.new.self.names
+      (c.in-Some.name, c.in-Some.slot) c.loop.counter c.in_ok-push.ensures.ok c.loop.invariant.size;
   version = c.in_ok-push.ensures.version ∙ c.loop.invariant.version;
 }
 
@@ -32,9 +42,16 @@ pub returns-in_err-push-clause-not_packed : goal.returns-in_err-push-clause-not_
 returns-in_err-push-clause-not_packed c =
     let p = err_from_is_err_and c.from_residual.result c.from_residual.ensures.1 in
     λ e.
-    let stopped = c.in_err-push.ensures.not_packed (same_fault p.0 c.in_err-push.field-0.0 NotPacked (sym p.1 ∙ e) p.2) in
-    falls (map.entries c.loop.table.names ++ (c.in-Some.name, c.in-Some.slot) ∷ []) (many (read_entry c.args.raised) (c.args.count - (c.loop.counter + 1)) c.in-Some.after.now) (many (read_entry c.args.raised) c.args.count c.args.bytes.now) stopped
-    (goes_on (read_entry c.args.raised) (map.entries c.loop.table.names) c.args.count c.loop.counter c.loop.rest.now (c.in-Some.name, c.in-Some.slot) c.in-Some.after.now (many (read_entry c.args.raised) c.args.count c.args.bytes.now) c.loop-test.true c.in-Some.ensures.read c.loop.invariant.so_far)
+    let stopped = c.in_err-push.ensures.not_packed
+    (same_fault p.0 c.in_err-push.field-0.0 NotPacked (sym p.1 ∙ e) p.2) in
+    falls (map.entries c.loop.table.names ++ (c.in-Some.name, c.in-Some.slot) ∷ [])
+    (many (read_entry c.args.raised) (c.args.count - (c.loop.counter + 1)) c.in-Some.after.now)
+    (many (read_entry c.args.raised) c.args.count c.args.bytes.now) stopped
+    (goes_on (read_entry c.args.raised) (map.entries c.loop.table.names) c.args.count c.loop.counter c.loop.rest.now
+    (c.in-Some.name, c.in-Some.slot) c.in-Some.after.now
+    (many (read_entry c.args.raised) c.args.count c.args.bytes.now) c.loop-test.true
+    c.in-Some.ensures.read c.loop.invariant.so_far)
 
 pub push-requires-clause-kept : goal.push-requires-clause-kept
-push-requires-clause-kept c = ap (λ (b : Bool). is_kept b c.in-Some.slot.holders) c.loop.invariant.version ∙ c.in-Some.ensures.kept
+push-requires-clause-kept c =
+    ap (λ (b : Bool). is_kept b c.in-Some.slot.holders) c.loop.invariant.version ∙ c.in-Some.ensures.kept

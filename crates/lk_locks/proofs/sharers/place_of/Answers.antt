@@ -6,6 +6,9 @@ use Rattle.lk_locks.proofs.sharers.place_of.Goals as goal
 
 pub returns-clause-place : goal.returns-clause-place
 returns-clause-place c =
-    let parted = IsPartitionedBy-ltb (λ (n : ℕ). n) c.args.clients.now c.args.client (clients_rise 0 c.args.clients.now c.requires) in
-    let point = IsPartitionPoint-from_clause (λ (n : ℕ). nat_lt n c.args.client) c.args.clients.now c.partition_point.result c.partition_point.ensures.partitioned parted (λ a r q k. search rules) in
+    let parted = IsPartitionedBy-ltb (λ (n : ℕ). n) c.args.clients.now c.args.client
+    (clients_rise 0 c.args.clients.now c.requires) in
+    let point = IsPartitionPoint-from_clause
+    (λ (n : ℕ). nat_lt n c.args.client) c.args.clients.now c.partition_point.result
+    c.partition_point.ensures.partitioned parted (λ a r q k. search rules) in
     place_is_before c.args.client c.partition_point.result c.args.clients.now point c.partition_point.ensures.bound

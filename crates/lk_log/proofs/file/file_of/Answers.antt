@@ -8,7 +8,12 @@ use Rattle.lk_entries.proofs.Spelling.{spelled_long, spelled-push, all-append}
 use Rattle.lk_log.proofs.file.file_of.Goals as goal
 
 pub read-smaller : goal.read-smaller
-read-smaller c = omega (arith, ap length c.in-Ok.ensures.found.1, length-append (spelling c.in-Ok.entry) c.in-Ok.more.now, spelled_long c.in-Ok.entry)
+read-smaller c = omega (
+  arith,
+  ap length c.in-Ok.ensures.found.1,
+  length-append (spelling c.in-Ok.entry) c.in-Ok.more.now,
+  spelled_long c.in-Ok.entry,
+)
 
 pub read-preserved : goal.read-preserved
 read-preserved c = record {
@@ -16,13 +21,16 @@ read-preserved c = record {
       c.read.invariant.so_far ∙ ap (λ (l : List ℕ). spelling_of_all c.read.entries.items ++ l) c.in-Ok.ensures.found.1
       ∙ sym (spelled-push c.read.entries.items c.in-Ok.entry c.in-Ok.more.now)
       ∙ ap (λ (es : List Stored). spelling_of_all es ++ c.in-Ok.more.now) (sym c.in_ok-push-in-Ok.ensures.items);
-  fit = subst (AllByRecursion IsStored) (sym c.in_ok-push-in-Ok.ensures.items) (all-append IsStored c.read.entries.items _ c.read.invariant.fit (c.in-Ok.ensures.found.0, tt));
+  fit = subst (AllByRecursion IsStored) (sym c.in_ok-push-in-Ok.ensures.items)
+      (all-append IsStored c.read.entries.items _ c.read.invariant.fit (c.in-Ok.ensures.found.0, tt));
 }
 
 pub returns-clause-file : goal.returns-clause-file
 returns-clause-file c =
     let none = c.in-Err-NoEntry.ensures.none in
     record {
-      whole = record { fit = c.read.invariant.fit; rest = c.read.rest.now; is = c.read.invariant.so_far; ends = none (cc) };
-      damage = sym (c.is_damaged-is_damaged.ensures ∙ ap (λ (es : List Stored). not (is_torn c.read.rest.now) || is_mixed es) c.deref.ensures.value);
+      whole =
+          record { fit = c.read.invariant.fit; rest = c.read.rest.now; is = c.read.invariant.so_far; ends = none (cc) };
+      damage = sym (c.is_damaged-is_damaged.ensures
+          ∙ ap (λ (es : List Stored). not (is_torn c.read.rest.now) || is_mixed es) c.deref.ensures.value);
     }

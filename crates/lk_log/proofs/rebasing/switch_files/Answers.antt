@@ -12,7 +12,8 @@ returns-in_err-write_over-clause-any g c honest b ks ls holds less two fits piec
     let old = g.D.LogDisk.disk c.args.device.now in
     let new = g.D.LogDisk.disk c.write_over.new.device in
     let side = c.other-side.ensures in
-    let over = subst (λ (k : Side). IsWrittenOver (old k) c.args.bytes.now (new k)) side (c.write_over.ensures.any honest) in
+    let over = subst (λ (k : Side). IsWrittenOver (old k) c.args.bytes.now (new k)) side
+    (c.write_over.ensures.any honest) in
     over_keeps old new c.args.live b ks ls holds less two fits
     (subst (λ (l : List ℕ). IsWrittenOver (old (other c.args.live)) l (new (other c.args.live))) piece over)
     (beside_live new old c.args.live c.other-side.result side (c.write_over.ensures.beside honest))
@@ -23,18 +24,24 @@ returns-in_err-cut-clause-any g c honest b ks ls holds less two fits piece =
     let mid = g.D.LogDisk.disk c.write_over.new.device in
     let new = g.D.LogDisk.disk c.cut.new.self in
     let side = c.other-side.ensures in
-    let same : mid c.args.live ≡ old c.args.live = beside_live mid old c.args.live c.other-side.result side (c.write_over.ensures.beside honest) in
-    let written : mid (other c.args.live) ≡ record { synced = c.args.bytes.now; unsynced = [] } = subst (λ (k : Side). mid k ≡ record { synced = c.args.bytes.now; unsynced = [] }) side (c.in_ok-write_over.ensures.ok honest) in
+    let same : mid c.args.live ≡ old c.args.live =
+    beside_live mid old c.args.live c.other-side.result side (c.write_over.ensures.beside honest) in
+    let written : mid (other c.args.live) ≡ record { synced = c.args.bytes.now; unsynced = [] } =
+    subst (λ (k : Side). mid k ≡ record { synced = c.args.bytes.now; unsynced = [] }) side
+    (c.in_ok-write_over.ensures.ok honest) in
     front_keeps old new c.args.live b ks ls holds less two fits
     (c.cut.ensures.beside honest ∙ written ∙ (λ i. record { synced = piece i; unsynced = [] }))
-    (cut_front (old c.args.live) (new c.args.live) (subst (λ (d : Disk). CutShort 0 d (new c.args.live)) same (c.in_err-cut.ensures.err honest)))
+    (cut_front (old c.args.live) (new c.args.live)
+    (subst (λ (d : Disk). CutShort 0 d (new c.args.live)) same (c.in_err-cut.ensures.err honest)))
 
 pub returns-clause-holds : goal.returns-clause-holds
 returns-clause-holds g c honest b two fits piece =
     let mid = g.D.LogDisk.disk c.write_over.new.device in
     let new = g.D.LogDisk.disk c.cut.new.self in
     let side = c.other-side.ensures in
-    let written : mid (other c.args.live) ≡ record { synced = c.args.bytes.now; unsynced = [] } = subst (λ (k : Side). mid k ≡ record { synced = c.args.bytes.now; unsynced = [] }) side (c.in_ok-write_over.ensures.ok honest) in
+    let written : mid (other c.args.live) ≡ record { synced = c.args.bytes.now; unsynced = [] } =
+    subst (λ (k : Side). mid k ≡ record { synced = c.args.bytes.now; unsynced = [] }) side
+    (c.in_ok-write_over.ensures.ok honest) in
     files_switched (new (other c.args.live)) (new c.args.live) b two fits
     (c.cut.ensures.beside honest ∙ written ∙ (λ i. record { synced = piece i; unsynced = [] }))
     (c.in_ok-cut.ensures.ok honest)
@@ -45,14 +52,18 @@ returns-clause-any g c honest b ks ls holds less two fits piece =
     let mid = g.D.LogDisk.disk c.write_over.new.device in
     let new = g.D.LogDisk.disk c.cut.new.self in
     let side = c.other-side.ensures in
-    let written : mid (other c.args.live) ≡ record { synced = c.args.bytes.now; unsynced = [] } = subst (λ (k : Side). mid k ≡ record { synced = c.args.bytes.now; unsynced = [] }) side (c.in_ok-write_over.ensures.ok honest) in
+    let written : mid (other c.args.live) ≡ record { synced = c.args.bytes.now; unsynced = [] } =
+    subst (λ (k : Side). mid k ≡ record { synced = c.args.bytes.now; unsynced = [] }) side
+    (c.in_ok-write_over.ensures.ok honest) in
     front_keeps old new c.args.live b ks ls holds less two fits
     (c.cut.ensures.beside honest ∙ written ∙ (λ i. record { synced = piece i; unsynced = [] }))
     (nothing_front (old c.args.live) (new c.args.live) (c.in_ok-cut.ensures.ok honest))
 
 pub returns-in_err-write_over-clause-room : goal.returns-in_err-write_over-clause-room
 returns-in_err-write_over-clause-room g c honest few =
-    written_room c.other-side.result (g.D.LogDisk.disk c.args.device.now) (g.D.LogDisk.disk c.write_over.new.device) c.args.bytes.now few (c.write_over.ensures.any honest) (c.write_over.ensures.beside honest)
+    written_room c.other-side.result (g.D.LogDisk.disk c.args.device.now)
+    (g.D.LogDisk.disk c.write_over.new.device) c.args.bytes.now few (c.write_over.ensures.any honest)
+    (c.write_over.ensures.beside honest)
 
 pub returns-in_err-cut-clause-room : goal.returns-in_err-cut-clause-room
 returns-in_err-cut-clause-room g c honest few =
@@ -60,8 +71,11 @@ returns-in_err-cut-clause-room g c honest few =
     let mid = g.D.LogDisk.disk c.write_over.new.device in
     let new = g.D.LogDisk.disk c.cut.new.self in
     within_still 49152 old mid new
-    (written_room c.other-side.result old mid c.args.bytes.now few (c.write_over.ensures.any honest) (c.write_over.ensures.beside honest))
-    (within_side 0 c.args.live mid new (omega (arith, cut_short_room 0 (mid c.args.live) (new c.args.live) (c.in_err-cut.ensures.err honest))) (c.cut.ensures.beside honest))
+    (written_room c.other-side.result old mid c.args.bytes.now few (c.write_over.ensures.any honest)
+    (c.write_over.ensures.beside honest))
+    (within_side 0 c.args.live mid new
+    (omega (arith, cut_short_room 0 (mid c.args.live) (new c.args.live) (c.in_err-cut.ensures.err honest)))
+    (c.cut.ensures.beside honest))
 
 pub returns-clause-room : goal.returns-clause-room
 returns-clause-room g c honest few =
@@ -69,18 +83,24 @@ returns-clause-room g c honest few =
     let mid = g.D.LogDisk.disk c.write_over.new.device in
     let new = g.D.LogDisk.disk c.cut.new.self in
     within_still 49152 old mid new
-    (written_room c.other-side.result old mid c.args.bytes.now few (c.write_over.ensures.any honest) (c.write_over.ensures.beside honest))
-    (within_side 0 c.args.live mid new (omega (arith, cut_room 0 (mid c.args.live) (new c.args.live) (c.in_ok-cut.ensures.ok honest))) (c.cut.ensures.beside honest))
+    (written_room c.other-side.result old mid c.args.bytes.now few (c.write_over.ensures.any honest)
+    (c.write_over.ensures.beside honest))
+    (within_side 0 c.args.live mid new
+    (omega (arith, cut_room 0 (mid c.args.live) (new c.args.live) (c.in_ok-cut.ensures.ok honest)))
+    (c.cut.ensures.beside honest))
 
 pub returns-clause-short : goal.returns-clause-short
 returns-clause-short g c honest few =
     let mid = g.D.LogDisk.disk c.write_over.new.device in
     let new = g.D.LogDisk.disk c.cut.new.self in
-    let written : mid (other c.args.live) ≡ record { synced = c.args.bytes.now; unsynced = [] } = subst (λ (k : Side). mid k ≡ record { synced = c.args.bytes.now; unsynced = [] }) c.other-side.ensures (c.in_ok-write_over.ensures.ok honest) in
+    let written : mid (other c.args.live) ≡ record { synced = c.args.bytes.now; unsynced = [] } =
+    subst (λ (k : Side). mid k ≡ record { synced = c.args.bytes.now; unsynced = [] }) c.other-side.ensures
+    (c.in_ok-write_over.ensures.ok honest) in
     short_room (new (other c.args.live)) c.args.bytes.now (c.cut.ensures.beside honest ∙ written) few
 
 -- ---- which calls were made
 
 pub returns-clause-metered : goal.returns-clause-metered
 returns-clause-metered g c metered honest =
-    passes_on 3 (c.in_ok-write_over.ensures.metered metered honest) 1 (call_passes _ _ (c.in_ok-cut.ensures.metered honest metered (search rules)))
+    passes_on 3 (c.in_ok-write_over.ensures.metered metered honest) 1
+    (call_passes _ _ (c.in_ok-cut.ensures.metered honest metered (search rules)))

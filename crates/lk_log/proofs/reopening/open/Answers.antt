@@ -5,20 +5,25 @@ use Rattle.lk_log.proofs.reopening.open.Goals as goal
 
 pub returns-in_err-cut_and_sync-clause-stays : goal.returns-in_err-cut_and_sync-clause-stays
 returns-in_err-cut_and_sync-clause-stays g c honest found whose zero =
-    begins_narrows (g.D.LogDisk.disk c.args.device.now) (g.D.LogDisk.disk c.cut_and_sync.new.device) whose zero (c.cut_and_sync.ensures.narrows honest c.args.file.entries.items found)
+    begins_narrows (g.D.LogDisk.disk c.args.device.now) (g.D.LogDisk.disk c.cut_and_sync.new.device) whose zero
+    (c.cut_and_sync.ensures.narrows honest c.args.file.entries.items found)
 
 pub returns-in_err-standing-clause-stays : goal.returns-in_err-standing-clause-stays
 returns-in_err-standing-clause-stays g c honest found whose zero =
-    begins_narrows (g.D.LogDisk.disk c.args.device.now) (g.D.LogDisk.disk c.cut_and_sync.new.device) whose zero (c.cut_and_sync.ensures.narrows honest c.args.file.entries.items found)
+    begins_narrows (g.D.LogDisk.disk c.args.device.now) (g.D.LogDisk.disk c.cut_and_sync.new.device) whose zero
+    (c.cut_and_sync.ensures.narrows honest c.args.file.entries.items found)
 
 pub returns-clause-stays : goal.returns-clause-stays
 returns-clause-stays g c honest found whose zero =
-    begins_narrows (g.D.LogDisk.disk c.args.device.now) (g.D.LogDisk.disk c.cut_and_sync.new.device) whose zero (c.cut_and_sync.ensures.narrows honest c.args.file.entries.items found)
+    begins_narrows (g.D.LogDisk.disk c.args.device.now) (g.D.LogDisk.disk c.cut_and_sync.new.device) whose zero
+    (c.cut_and_sync.ensures.narrows honest c.args.file.entries.items found)
 
 pub returns-clause-opens : goal.returns-clause-opens
 returns-clause-opens g c honest found whose zero own = record {
   entries = c.args.file.entries.items;
-  found = inl (found_is_live (g.D.LogDisk.disk c.args.device.now) c.args.live c.args.file.entries.items c.args.file.end c.args.file.size found);
+  found = inl (found_is_live
+      (g.D.LogDisk.disk c.args.device.now) c.args.live c.args.file.entries.items
+      c.args.file.end c.args.file.size found);
   holds = c.in_ok-cut_and_sync.ensures.holds honest c.args.file.entries.items found;
   header = own;
   generation_is = search rules;

@@ -8,5 +8,7 @@ use Rattle.lk_members.proofs.set.without.Goals as goal
 pub returns-clause-some : goal.returns-clause-some
 returns-clause-some c =
     let left : c.as_slice.result.now ≡ others c.args.node c.args.set.now = grind (arith, common_steps) in
-    let some = rw left at c.of.ensures.some in
-    (λ is. others-AreMembers c.args.node c.args.set.now (some.0 is), λ left. some.1 (AreMembers-others c.args.node c.args.set.now c.as_slice-members.ensures.fits left))
+    let some = rw left at c.of.ensures.some in (
+      λ is. others-AreMembers c.args.node c.args.set.now (some.0 is),
+      λ left. some.1 (AreMembers-others c.args.node c.args.set.now c.as_slice-members.ensures.fits left),
+    )

@@ -1,4 +1,5 @@
-use Rattle.lk_messages.proofs.Lengths.{request_is_short, command_is_short, vote_is_short, pair_is_short, answer_is_short, message_is_short}
+use Rattle.lk_messages.proofs.Lengths.{request_is_short, command_is_short, vote_is_short, pair_is_short}
+use Rattle.lk_messages.proofs.Lengths.{answer_is_short, message_is_short}
 use Rattle.lk_messages.proofs.laws.lengths.Goals as goal
 
 pub returns : goal.returns

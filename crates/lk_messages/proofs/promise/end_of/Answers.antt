@@ -11,5 +11,8 @@ loop-preserved c =
       | then-rising w ↦ search rules
       | else-rising w ↦ search rules
     ] in
-    passed c.args.low c.loop.low c.get-position.result c.args.count c.loop.counter c.loop.rest.now c.in-Some.found.1.now c.loop.invariant.0 c.loop.rising c.if-rising.rising (many read_vote c.args.count c.args.bytes.now) c.loop-test.true
-    (c.in-Some.ensures ∙ ap (λ (n : ℕ). Some (n, c.in-Some.found.1.now)) (sym c.get-position.ensures.value)) is c.loop.invariant.1 c.loop.invariant.2
+    passed c.args.low c.loop.low c.get-position.result c.args.count c.loop.counter c.loop.rest.now
+    c.in-Some.found.1.now c.loop.invariant.0 c.loop.rising c.if-rising.rising
+    (many read_vote c.args.count c.args.bytes.now) c.loop-test.true
+    (c.in-Some.ensures ∙ ap (λ (n : ℕ). Some (n, c.in-Some.found.1.now)) (sym c.get-position.ensures.value)) is
+    c.loop.invariant.1 c.loop.invariant.2

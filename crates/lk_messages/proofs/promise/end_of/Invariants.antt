@@ -8,5 +8,6 @@ use Rattle.lk_fields.proofs.Spellings.{with_front}
 use Rattle.lk_messages.proofs.promise.end_of.Given as goal
 
 abbrev pub invariant-loop : goal.invariant-loop
-invariant-loop l = (front : List Vote) × (with_front front (many read_vote (l.count - l.counter) l.rest) ≡ many read_vote l.count l.bytes)
+invariant-loop l = (front : List Vote)
+    × (with_front front (many read_vote (l.count - l.counter) l.rest) ≡ many read_vote l.count l.bytes)
     × ((more : List Vote) → are_votes_above l.fn.low (front ++ more) ≡ (l.rising && are_votes_above l.low more))

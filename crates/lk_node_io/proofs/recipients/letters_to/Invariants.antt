@@ -4,4 +4,5 @@ use Rattle.lk_node_io.specs.Recipients.{to_node}
 use Rattle.lk_node_io.proofs.recipients.letters_to.Given as goal
 
 abbrev pub invariant-nodes : goal.invariant-nodes
-invariant-nodes l = l.letters.items ≡ map (λ k. record { to = to_node l.roster.sets k; bytes = l.bytes.items }) (take l.node-index l.nodes)
+invariant-nodes l = l.letters.items
+    ≡ map (λ k. record { to = to_node l.roster.sets k; bytes = l.bytes.items }) (take l.node-index l.nodes)

@@ -5,4 +5,6 @@ use Rattle.lk_probe.proofs.neighbours.first_due.Given as goal
 
 -- no entry so far is due
 abbrev pub invariant-loop-entry : goal.invariant-loop-entry
-invariant-loop-entry l = (l.at ≡ l.entry-index) × (list_any (is_due_at l.now) (drop l.entry-index l.entries) ≡ list_any (is_due_at l.now) l.entries)
+invariant-loop-entry l =
+    (l.at ≡ l.entry-index) × (list_any (is_due_at l.now) (drop l.entry-index l.entries)
+    ≡ list_any (is_due_at l.now) l.entries)

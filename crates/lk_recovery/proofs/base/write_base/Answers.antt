@@ -26,10 +26,14 @@ returns-clause-done g c honest =
     let is : c.in_ok-standing.standing ≡ standing_of c.args.node.now = search rules in
     let fits : MayBegin c.in_ok-standing.standing = search rules in
     let may = subst MayBegin is fits in
-    subst (λ (k : NodeValue). HasSwitchedFiles m g.D.LogDisk.is_metered c.args.node.now c.args.store.now k c.rebase.new.self) (sym c.set_snapshot.ensures)
+    subst (λ (k : NodeValue). HasSwitchedFiles m g.D.LogDisk.is_metered c.args.node.now c.args.store.now k
+    c.rebase.new.self) (sym c.set_snapshot.ensures)
     (files_switched m c.args.node.now c.args.store.now c.rebase.new.self may c.standing-packed.ensures.near
-    (λ ks ls holds. subst (λ (s : StandingValue). KeepsOrIs (disks c.rebase.new.self) ks ls (next_base c.args.store.now s)) is (c.rebase.ensures.any honest ks ls holds)) g.D.LogDisk.is_metered c.in_ok-rebase.ensures.file.0
-    (λ ks ls holds. subst (λ (s : StandingValue). Holds c.rebase.new.self (Base (next_base c.args.store.now s) ∷ []) []) is (c.in_ok-rebase.ensures.base honest ks ls holds))
+    (λ ks ls holds. subst (λ (s : StandingValue). KeepsOrIs (disks c.rebase.new.self) ks ls
+    (next_base c.args.store.now s)) is (c.rebase.ensures.any honest ks ls holds)) g.D.LogDisk.is_metered
+    c.in_ok-rebase.ensures.file.0
+    (λ ks ls holds. subst (λ (s : StandingValue). Holds c.rebase.new.self
+    (Base (next_base c.args.store.now s) ∷ []) []) is (c.in_ok-rebase.ensures.base honest ks ls holds))
     (λ metered. c.in_ok-rebase.ensures.metered metered honest) (c.in_ok-rebase.ensures.left honest).1)
 
 pub returns-clause-becomes : goal.returns-clause-becomes
@@ -39,7 +43,8 @@ returns-clause-becomes g c =
     record {
       becomes = c.set_snapshot.ensures;
       begins = subst MayBegin is fits;
-      runs = λ none. subst (λ (k : NodeValue). (v : Command) → IsNext k.learner v → ⊥) (sym c.set_snapshot.ensures) none;
+      runs =
+          λ none. subst (λ (k : NodeValue). (v : Command) → IsNext k.learner v → ⊥) (sym c.set_snapshot.ensures) none;
       generation = c.in_ok-rebase.ensures.file.0;
       format = c.in_ok-rebase.ensures.file.1;
       store_alive = c.in_ok-rebase.ensures.failing;
@@ -71,7 +76,8 @@ returns-in_err-rebase-clause-disks g c honest =
     let fits : MayBegin c.in_ok-standing.standing = search rules in
     let may = subst MayBegin is fits in
     stays_safe m c.args.node.now c.args.store.now c.rebase.new.self may c.standing-packed.ensures.near
-    (λ ks ls holds. subst (λ (s : StandingValue). KeepsOrIs (disks c.rebase.new.self) ks ls (next_base c.args.store.now s)) is (c.rebase.ensures.any honest ks ls holds)) (c.rebase.ensures.room honest)
+    (λ ks ls holds. subst (λ (s : StandingValue). KeepsOrIs (disks c.rebase.new.self) ks ls
+    (next_base c.args.store.now s)) is (c.rebase.ensures.any honest ks ls holds)) (c.rebase.ensures.room honest)
 
 pub returns-clause-disks : goal.returns-clause-disks
 returns-clause-disks g c honest =
@@ -80,23 +86,28 @@ returns-clause-disks g c honest =
     let fits : MayBegin c.in_ok-standing.standing = search rules in
     let may = subst MayBegin is fits in
     stays_safe m c.args.node.now c.args.store.now c.rebase.new.self may c.standing-packed.ensures.near
-    (λ ks ls holds. subst (λ (s : StandingValue). KeepsOrIs (disks c.rebase.new.self) ks ls (next_base c.args.store.now s)) is (c.rebase.ensures.any honest ks ls holds)) (c.rebase.ensures.room honest)
+    (λ ks ls holds. subst (λ (s : StandingValue). KeepsOrIs (disks c.rebase.new.self) ks ls
+    (next_base c.args.store.now s)) is (c.rebase.ensures.any honest ks ls holds)) (c.rebase.ensures.room honest)
 
 pub returns-then-generation-ge-MAX_COUNT-clause-any : goal.returns-then-generation-ge-MAX_COUNT-clause-any
-returns-then-generation-ge-MAX_COUNT-clause-any g c honest ks ls holds image left = inl (holds_keeps c.args.store.now ks ls holds image left)
+returns-then-generation-ge-MAX_COUNT-clause-any g c honest ks ls holds image left =
+    inl (holds_keeps c.args.store.now ks ls holds image left)
 
 pub returns-in_err-standing-clause-any : goal.returns-in_err-standing-clause-any
-returns-in_err-standing-clause-any g c honest ks ls holds image left = inl (holds_keeps c.args.store.now ks ls holds image left)
+returns-in_err-standing-clause-any g c honest ks ls holds image left =
+    inl (holds_keeps c.args.store.now ks ls holds image left)
 
 pub returns-in_err-rebase-clause-any : goal.returns-in_err-rebase-clause-any
 returns-in_err-rebase-clause-any g c honest ks ls holds =
     let is : c.in_ok-standing.standing ≡ standing_of c.args.node.now = search rules in
-    subst (λ (s : StandingValue). KeepsOrIs (disks c.rebase.new.self) ks ls (next_base c.args.store.now s)) is (c.rebase.ensures.any honest ks ls holds)
+    subst (λ (s : StandingValue). KeepsOrIs (disks c.rebase.new.self) ks ls (next_base c.args.store.now s)) is
+    (c.rebase.ensures.any honest ks ls holds)
 
 pub returns-clause-any : goal.returns-clause-any
 returns-clause-any g c honest ks ls holds =
     let is : c.in_ok-standing.standing ≡ standing_of c.args.node.now = search rules in
-    subst (λ (s : StandingValue). KeepsOrIs (disks c.rebase.new.self) ks ls (next_base c.args.store.now s)) is (c.rebase.ensures.any honest ks ls holds)
+    subst (λ (s : StandingValue). KeepsOrIs (disks c.rebase.new.self) ks ls (next_base c.args.store.now s)) is
+    (c.rebase.ensures.any honest ks ls holds)
 
 -- ---- where it was refused
 
@@ -131,10 +142,12 @@ returns-in_err-rebase-clause-refused g c =
     err_as _ _ _ c.from_residual-in_err-rebase.ensures.1 (record {
       rests = refl;
       why = record {
-        of_store = rebase_refused c.args.store.now _ (λ dead. (was.refuses.0 dead).1) (λ last. (was.refuses.1 last).1) was.refuses.2;
+        of_store = rebase_refused c.args.store.now _ (λ dead. (was.refuses.0 dead).1)
+            (λ last. (was.refuses.1 last).1) was.refuses.2;
         calls = λ metered honest. refused_after _ _ _ (was.metered metered honest);
         earlier = λ is alive less. not_failed_so _ (was.refuses.2 alive less) is;
         file = was.file;
-        stays = λ honest. rebase_spares c.args.store.now c.rebase.new.self _ (was.no_memory honest) (λ dead. (c.rebase.ensures.refuses.0 dead).0) (λ last. (was.refuses.1 last).0) was.refuses.2;
+        stays = λ honest. rebase_spares c.args.store.now c.rebase.new.self _ (was.no_memory honest)
+            (λ dead. (c.rebase.ensures.refuses.0 dead).0) (λ last. (was.refuses.1 last).0) was.refuses.2;
       };
     })

@@ -20,7 +20,10 @@ use Rattle.lk_recovery.proofs.renewing.renew.Goals as goal
 
 pub returns-then-format-eq2-clause-renewed : goal.returns-then-format-eq2-clause-renewed
 returns-then-format-eq2-clause-renewed g c honest = record {
-  renews = record { rebases = λ one. absurd (omega (arith, one, c.if-format-eq2.true, c.format.ensures)); rests = λ two. (refl, refl) };
+  renews = record {
+    rebases = λ one. absurd (omega (arith, one, c.if-format-eq2.true, c.format.ensures));
+    rests = λ two. (refl, refl);
+  };
   goes = λ h n f. f;
   remembers = λ genesis n r. r;
 }
@@ -52,8 +55,13 @@ returns-clause-renewed g c honest =
     let m : Meaning = g.M.Machine.meaning in
     let done = c.in_ok-write_base.ensures.done honest in
     record {
-      renews = record { rebases = λ one. done.rebases; rests = λ is. absurd (omega (arith, is, c.if-format-eq2.false, c.format.ensures)) };
-      goes = λ h n f. goes_fits m h n c.write_base.new.node c.write_base.new.store f.lawful ((c.write_base.ensures.disks honest).fits h n (before_fits m h n c.args.node.now c.args.store.now f)) (done.goes h n f);
+      renews = record {
+        rebases = λ one. done.rebases;
+        rests = λ is. absurd (omega (arith, is, c.if-format-eq2.false, c.format.ensures));
+      };
+      goes = λ h n f. goes_fits m h n c.write_base.new.node c.write_base.new.store f.lawful
+          ((c.write_base.ensures.disks honest).fits h n (before_fits m h n c.args.node.now c.args.store.now f))
+          (done.goes h n f);
       remembers = done.remembers;
     }
 
@@ -73,11 +81,14 @@ returns-in_err-write_base-clause-safe g c honest = c.write_base.ensures.disks ho
 
 pub returns-clause-metered : goal.returns-clause-metered
 returns-clause-metered g c metered honest =
-    let other : eqb c.args.store.now.format 2 ≡ false = ne_eqb c.args.store.now.format 2 (λ two. omega (arith, two, c.if-format-eq2.false, c.format.ensures)) in
-    subst (λ (b : Bool). Passes c.args.store.now.meter c.write_base.new.store.meter (if b then 0 else rebase_calls)) (sym other) ((c.in_ok-write_base.ensures.done honest).calls metered)
+    let other : eqb c.args.store.now.format 2 ≡ false =
+    ne_eqb c.args.store.now.format 2 (λ two. omega (arith, two, c.if-format-eq2.false, c.format.ensures)) in
+    subst (λ (b : Bool). Passes c.args.store.now.meter c.write_base.new.store.meter (if b then 0 else rebase_calls))
+    (sym other) ((c.in_ok-write_base.ensures.done honest).calls metered)
 
 pub returns-in_err-write_base-clause-metered : goal.returns-in_err-write_base-clause-metered
-returns-in_err-write_base-clause-metered g c metered honest = refused_by _ _ _ _ _ c.from_residual.ensures.1 (c.in_err-write_base.ensures.refused.why.calls metered honest)
+returns-in_err-write_base-clause-metered g c metered honest =
+    refused_by _ _ _ _ _ c.from_residual.ensures.1 (c.in_err-write_base.ensures.refused.why.calls metered honest)
 
 pub returns-in_err-write_base-clause-refused : goal.returns-in_err-write_base-clause-refused
 returns-in_err-write_base-clause-refused g c =

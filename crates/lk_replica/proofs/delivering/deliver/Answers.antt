@@ -12,22 +12,36 @@ loop-letter-init g c = (delivers_none _ _ _ _ refl, refl)
 
 pub loop-letter-preserved : goal.loop-letter-preserved
 loop-letter-preserved g c =
-    let more = take_one_more c.args.letters.now c.loop-letter.letter-index c.letter-item.result (omega (arith, c.loop-letter-test.true)) c.letter-item.is in (
+    let more = take_one_more c.args.letters.now c.loop-letter.letter-index c.letter-item.result
+    (omega (arith, c.loop-letter-test.true)) c.letter-item.is in (
       elim c.if-not-is_sent.branch [
         | then-not-is_sent w ↦
-            after_lost g.P.Post.is_telling c.args.letters.now c.loop-letter.letter-index c.letter-item.result (g.P.Post.sent c.args.post.now) (g.P.Post.sent c.loop-letter.post) (g.P.Post.sent c.is_sent.new.post)
-            (g.P.Post.failures c.args.post.now) (g.P.Post.failures c.loop-letter.post) (g.P.Post.failures c.is_sent.new.post) c.loop-letter.lost c.if-not-is_sent.lost
-            more w.lost-is c.loop-letter.invariant.0 (λ telling. c.is_sent.ensures.lost telling (cc w.if-not-is_sent.true)) (c.is_sent.ensures.rises (cc w.if-not-is_sent.true))
+            after_lost g.P.Post.is_telling c.args.letters.now c.loop-letter.letter-index c.letter-item.result
+            (g.P.Post.sent c.args.post.now) (g.P.Post.sent c.loop-letter.post) (g.P.Post.sent c.is_sent.new.post)
+            (g.P.Post.failures c.args.post.now) (g.P.Post.failures c.loop-letter.post)
+            (g.P.Post.failures c.is_sent.new.post) c.loop-letter.lost c.if-not-is_sent.lost
+            more w.lost-is c.loop-letter.invariant.0
+            (λ telling. c.is_sent.ensures.lost telling (cc w.if-not-is_sent.true))
+            (c.is_sent.ensures.rises (cc w.if-not-is_sent.true))
         | else-not-is_sent w ↦
-            after_sent g.P.Post.is_telling c.args.letters.now c.loop-letter.letter-index c.letter-item.result (g.P.Post.sent c.args.post.now) (g.P.Post.sent c.loop-letter.post) (g.P.Post.sent c.is_sent.new.post)
-            (g.P.Post.failures c.args.post.now) (g.P.Post.failures c.loop-letter.post) (g.P.Post.failures c.is_sent.new.post) c.loop-letter.lost c.if-not-is_sent.lost
-            more w.lost-is c.loop-letter.invariant.0 (λ telling. c.is_sent.ensures.sent telling (cc w.if-not-is_sent.false)) (c.is_sent.ensures.same (cc w.if-not-is_sent.false))
+            after_sent g.P.Post.is_telling c.args.letters.now c.loop-letter.letter-index c.letter-item.result
+            (g.P.Post.sent c.args.post.now) (g.P.Post.sent c.loop-letter.post) (g.P.Post.sent c.is_sent.new.post)
+            (g.P.Post.failures c.args.post.now) (g.P.Post.failures c.loop-letter.post)
+            (g.P.Post.failures c.is_sent.new.post) c.loop-letter.lost c.if-not-is_sent.lost
+            more w.lost-is c.loop-letter.invariant.0
+            (λ telling. c.is_sent.ensures.sent telling (cc w.if-not-is_sent.false))
+            (c.is_sent.ensures.same (cc w.if-not-is_sent.false))
       ],
-      subst (λ (front : List LetterValue). CarriesAll g.P.Post.Carries c.args.post.now front c.is_sent.new.post) (sym more)
-          (carries_more g.P.Post.Carries c.args.post.now c.loop-letter.post c.is_sent.new.post (take c.loop-letter.letter-index c.args.letters.now) c.letter-item.result c.is_sent.result c.loop-letter.invariant.1 c.is_sent.ensures.carries),
+      subst (λ (front : List LetterValue). CarriesAll g.P.Post.Carries c.args.post.now front c.is_sent.new.post)
+          (sym more)
+          (carries_more g.P.Post.Carries c.args.post.now c.loop-letter.post c.is_sent.new.post
+          (take c.loop-letter.letter-index c.args.letters.now) c.letter-item.result c.is_sent.result
+          c.loop-letter.invariant.1 c.is_sent.ensures.carries),
     )
 
 pub returns-clause-all : goal.returns-clause-all
 returns-clause-all g c telling =
-    all_sent g.P.Post.is_telling c.args.letters.now (take c.loop-letter.letter-index c.args.letters.now) _ _ _ _ c.loop-letter.lost
-    (take_all c.loop-letter.letter-index c.args.letters.now (omega (arith, c.loop-letter-test.false))) (search rules) c.loop-letter.invariant.0 telling
+    all_sent g.P.Post.is_telling c.args.letters.now
+    (take c.loop-letter.letter-index c.args.letters.now) _ _ _ _ c.loop-letter.lost
+    (take_all c.loop-letter.letter-index c.args.letters.now (omega (arith, c.loop-letter-test.false)))
+    (search rules) c.loop-letter.invariant.0 telling

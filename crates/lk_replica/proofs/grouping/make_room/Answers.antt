@@ -2,7 +2,9 @@ use Rattle.std.proofs.Common.{◌≡◌, Err, rules, true, false, ◌∙◌, sym
 use Rattle.lk_entries.specs.Entries.{plain}
 use Rattle.lk_log.specs.StoreValue.{disks}
 use Rattle.lk_state.specs.Meanings.{Meaning}
-use Rattle.lk_replica.proofs.Grouped.{of_store_too, no_room_made, room_made, begin_fits, begun, settled_keeps, settled_fits, settled_covers, settle_leaves, settle_covers, same_recalls, same_group_fits, same_group_stays, same_group_covers}
+use Rattle.lk_replica.proofs.Grouped.{of_store_too, no_room_made, room_made, begin_fits, begun, settled_keeps}
+use Rattle.lk_replica.proofs.Grouped.{settled_fits, settled_covers, settle_leaves, settle_covers, same_recalls}
+use Rattle.lk_replica.proofs.Grouped.{same_group_fits, same_group_stays, same_group_covers}
 use Rattle.lk_log.proofs.Room.{within_first, within_more}
 use Rattle.lk_recovery.proofs.Recoveries.{before_fits, goes_fits, same_room, err_as, refused_on, spared_all, kept_then}
 use Rattle.lk_recovery.specs.Compacting.{IsDue}
@@ -12,155 +14,228 @@ use Rattle.lk_replica.proofs.grouping.make_room.Goals as goal
 -- ---- none is due
 
 pub returns-then-not-due-clause-fits : goal.returns-then-not-due-clause-fits
-returns-then-not-due-clause-fits g c honest h n f = same_group_fits g.M.Machine.meaning c.args.store.now c.is_rebase_due.new.store (c.is_rebase_due.ensures.same honest) h n c.args.node.now c.args.needs_sync f
+returns-then-not-due-clause-fits g c honest h n f =
+    same_group_fits g.M.Machine.meaning c.args.store.now c.is_rebase_due.new.store
+    (c.is_rebase_due.ensures.same honest) h n c.args.node.now c.args.needs_sync f
 
 pub returns-then-not-due-clause-stays : goal.returns-then-not-due-clause-stays
-returns-then-not-due-clause-stays g c honest h n s = same_group_stays g.M.Machine.meaning c.args.store.now c.is_rebase_due.new.store (c.is_rebase_due.ensures.same honest) h n c.args.node.now c.args.needs_sync s
+returns-then-not-due-clause-stays g c honest h n s =
+    same_group_stays g.M.Machine.meaning c.args.store.now c.is_rebase_due.new.store
+    (c.is_rebase_due.ensures.same honest) h n c.args.node.now c.args.needs_sync s
 
 pub returns-then-not-due-clause-ends : goal.returns-then-not-due-clause-ends
-returns-then-not-due-clause-ends g c honest h n s = (same_group_stays g.M.Machine.meaning c.args.store.now c.is_rebase_due.new.store (c.is_rebase_due.ensures.same honest) h n c.args.node.now c.args.needs_sync s).left
+returns-then-not-due-clause-ends g c honest h n s =
+    (same_group_stays g.M.Machine.meaning c.args.store.now c.is_rebase_due.new.store
+    (c.is_rebase_due.ensures.same honest) h n c.args.node.now c.args.needs_sync s).left
 
 pub returns-in_err-due-clause-ends : goal.returns-in_err-due-clause-ends
-returns-in_err-due-clause-ends g c honest h n s = (same_group_stays g.M.Machine.meaning c.args.store.now c.is_rebase_due.new.store (c.is_rebase_due.ensures.same honest) h n c.args.node.now c.args.needs_sync s).left
+returns-in_err-due-clause-ends g c honest h n s =
+    (same_group_stays g.M.Machine.meaning c.args.store.now c.is_rebase_due.new.store
+    (c.is_rebase_due.ensures.same honest) h n c.args.node.now c.args.needs_sync s).left
 
 pub returns-then-not-due-clause-recalls : goal.returns-then-not-due-clause-recalls
-returns-then-not-due-clause-recalls g c honest genesis n r = same_recalls g.M.Machine.meaning c.args.store.now c.is_rebase_due.new.store (c.is_rebase_due.ensures.same honest) c.args.node.now c.args.needs_sync genesis n r
+returns-then-not-due-clause-recalls g c honest genesis n r =
+    same_recalls g.M.Machine.meaning c.args.store.now c.is_rebase_due.new.store
+    (c.is_rebase_due.ensures.same honest) c.args.node.now c.args.needs_sync genesis n r
 
 pub returns-then-not-due-clause-still : goal.returns-then-not-due-clause-still
-returns-then-not-due-clause-still g c honest genesis n x r every = same_group_covers g.M.Machine.meaning c.args.store.now c.is_rebase_due.new.store (c.is_rebase_due.ensures.same honest) genesis n x c.args.needs_sync every
+returns-then-not-due-clause-still g c honest genesis n x r every =
+    same_group_covers g.M.Machine.meaning c.args.store.now c.is_rebase_due.new.store
+    (c.is_rebase_due.ensures.same honest) genesis n x c.args.needs_sync every
 
 pub returns-then-not-due-clause-covers : goal.returns-then-not-due-clause-covers
-returns-then-not-due-clause-covers g c honest genesis n x r every = same_group_covers g.M.Machine.meaning c.args.store.now c.is_rebase_due.new.store (c.is_rebase_due.ensures.same honest) genesis n x false every
+returns-then-not-due-clause-covers g c honest genesis n x r every =
+    same_group_covers g.M.Machine.meaning c.args.store.now c.is_rebase_due.new.store
+    (c.is_rebase_due.ensures.same honest) genesis n x false every
 
 pub returns-in_err-due-clause-covers : goal.returns-in_err-due-clause-covers
-returns-in_err-due-clause-covers g c honest genesis n x r every = same_group_covers g.M.Machine.meaning c.args.store.now c.is_rebase_due.new.store (c.is_rebase_due.ensures.same honest) genesis n x false every
+returns-in_err-due-clause-covers g c honest genesis n x r every =
+    same_group_covers g.M.Machine.meaning c.args.store.now c.is_rebase_due.new.store
+    (c.is_rebase_due.ensures.same honest) genesis n x false every
 
 -- ---- one is due
 
 pub returns-clause-fits : goal.returns-clause-fits
 returns-clause-fits g c honest h n f =
     let m : Meaning = g.M.Machine.meaning in
-    let mine = same_group_fits m c.args.store.now c.is_rebase_due.new.store (c.is_rebase_due.ensures.same honest) h n c.args.node.now c.args.needs_sync f in
-    let mid = settled_fits m h n c.args.node.now c.is_rebase_due.new.store c.sync_if_waiting.new.store c.args.needs_sync (c.in_ok-sync_if_waiting.ensures.settles honest) mine in
+    let mine = same_group_fits m c.args.store.now c.is_rebase_due.new.store
+    (c.is_rebase_due.ensures.same honest) h n c.args.node.now c.args.needs_sync f in
+    let mid = settled_fits m h n c.args.node.now c.is_rebase_due.new.store c.sync_if_waiting.new.store
+    c.args.needs_sync (c.in_ok-sync_if_waiting.ensures.settles honest) mine in
     (begin_fits m h n c.write_base.new.node c.write_base.new.store
-    (goes_fits m h n c.write_base.new.node c.write_base.new.store f.lawful ((c.write_base.ensures.disks honest).fits h n (before_fits m h n c.args.node.now c.sync_if_waiting.new.store mid)) ((c.in_ok-write_base.ensures.done honest).goes h n mid))).fits
+    (goes_fits m h n c.write_base.new.node c.write_base.new.store f.lawful
+    ((c.write_base.ensures.disks honest).fits h n (before_fits m h n c.args.node.now c.sync_if_waiting.new.store mid))
+    ((c.in_ok-write_base.ensures.done honest).goes h n mid))).fits
 
 pub returns-clause-stays : goal.returns-clause-stays
 returns-clause-stays g c honest h n s =
     let m : Meaning = g.M.Machine.meaning in
-    let mine = same_group_fits m c.args.store.now c.is_rebase_due.new.store (c.is_rebase_due.ensures.same honest) h n c.args.node.now c.args.needs_sync s.fits in
-    let mid = settled_fits m h n c.args.node.now c.is_rebase_due.new.store c.sync_if_waiting.new.store c.args.needs_sync (c.in_ok-sync_if_waiting.ensures.settles honest) mine in
+    let mine = same_group_fits m c.args.store.now c.is_rebase_due.new.store
+    (c.is_rebase_due.ensures.same honest) h n c.args.node.now c.args.needs_sync s.fits in
+    let mid = settled_fits m h n c.args.node.now c.is_rebase_due.new.store c.sync_if_waiting.new.store
+    c.args.needs_sync (c.in_ok-sync_if_waiting.ensures.settles honest) mine in
     begin_fits m h n c.write_base.new.node c.write_base.new.store
-    (goes_fits m h n c.write_base.new.node c.write_base.new.store s.fits.lawful ((c.write_base.ensures.disks honest).fits h n (before_fits m h n c.args.node.now c.sync_if_waiting.new.store mid)) ((c.in_ok-write_base.ensures.done honest).goes h n mid))
+    (goes_fits m h n c.write_base.new.node c.write_base.new.store s.fits.lawful
+    ((c.write_base.ensures.disks honest).fits h n (before_fits m h n c.args.node.now c.sync_if_waiting.new.store mid))
+    ((c.in_ok-write_base.ensures.done honest).goes h n mid))
 
 pub returns-clause-ends : goal.returns-clause-ends
 returns-clause-ends g c honest h n s =
     let m : Meaning = g.M.Machine.meaning in
-    let mine = same_group_fits m c.args.store.now c.is_rebase_due.new.store (c.is_rebase_due.ensures.same honest) h n c.args.node.now c.args.needs_sync s.fits in
-    let mid = settled_fits m h n c.args.node.now c.is_rebase_due.new.store c.sync_if_waiting.new.store c.args.needs_sync (c.in_ok-sync_if_waiting.ensures.settles honest) mine in
+    let mine = same_group_fits m c.args.store.now c.is_rebase_due.new.store
+    (c.is_rebase_due.ensures.same honest) h n c.args.node.now c.args.needs_sync s.fits in
+    let mid = settled_fits m h n c.args.node.now c.is_rebase_due.new.store c.sync_if_waiting.new.store
+    c.args.needs_sync (c.in_ok-sync_if_waiting.ensures.settles honest) mine in
     (c.write_base.ensures.disks honest).fits h n (before_fits m h n c.args.node.now c.sync_if_waiting.new.store mid)
 
 pub returns-in_err-write_base-clause-ends : goal.returns-in_err-write_base-clause-ends
 returns-in_err-write_base-clause-ends g c honest h n s =
     let m : Meaning = g.M.Machine.meaning in
-    let mine = same_group_fits m c.args.store.now c.is_rebase_due.new.store (c.is_rebase_due.ensures.same honest) h n c.args.node.now c.args.needs_sync s.fits in
-    let mid = settled_fits m h n c.args.node.now c.is_rebase_due.new.store c.sync_if_waiting.new.store c.args.needs_sync (c.in_ok-sync_if_waiting.ensures.settles honest) mine in
+    let mine = same_group_fits m c.args.store.now c.is_rebase_due.new.store
+    (c.is_rebase_due.ensures.same honest) h n c.args.node.now c.args.needs_sync s.fits in
+    let mid = settled_fits m h n c.args.node.now c.is_rebase_due.new.store c.sync_if_waiting.new.store
+    c.args.needs_sync (c.in_ok-sync_if_waiting.ensures.settles honest) mine in
     (c.write_base.ensures.disks honest).fits h n (before_fits m h n c.args.node.now c.sync_if_waiting.new.store mid)
 
 pub returns-in_err-sync_if_waiting-clause-ends : goal.returns-in_err-sync_if_waiting-clause-ends
 returns-in_err-sync_if_waiting-clause-ends g c honest h n s =
     let m : Meaning = g.M.Machine.meaning in
-    let mine = same_group_stays m c.args.store.now c.is_rebase_due.new.store (c.is_rebase_due.ensures.same honest) h n c.args.node.now c.args.needs_sync s in
+    let mine = same_group_stays m c.args.store.now c.is_rebase_due.new.store
+    (c.is_rebase_due.ensures.same honest) h n c.args.node.now c.args.needs_sync s in
     let k = mine.fits.shown.keeps in
-    settle_leaves m h n c.args.node.now c.is_rebase_due.new.store c.sync_if_waiting.new.store c.args.needs_sync mine (c.sync_if_waiting.ensures.any honest k.entries (plain k.loose) k.holds)
+    settle_leaves m h n c.args.node.now c.is_rebase_due.new.store c.sync_if_waiting.new.store c.args.needs_sync mine
+    (c.sync_if_waiting.ensures.any honest k.entries (plain k.loose) k.holds)
 
 pub returns-clause-recalls : goal.returns-clause-recalls
 returns-clause-recalls g c honest genesis n r =
-    let mine = same_recalls g.M.Machine.meaning c.args.store.now c.is_rebase_due.new.store (c.is_rebase_due.ensures.same honest) c.args.node.now c.args.needs_sync genesis n r in
-    let mid = settled_keeps _ c.is_rebase_due.new.store c.sync_if_waiting.new.store c.args.needs_sync _ (c.in_ok-sync_if_waiting.ensures.settles honest) mine.keeps in
-    begun _ c.write_base.new.store genesis n ((c.in_ok-write_base.ensures.done honest).remembers genesis n (record { whose = r.whose; keeps = mid }))
+    let mine = same_recalls g.M.Machine.meaning c.args.store.now c.is_rebase_due.new.store
+    (c.is_rebase_due.ensures.same honest) c.args.node.now c.args.needs_sync genesis n r in
+    let mid = settled_keeps _ c.is_rebase_due.new.store c.sync_if_waiting.new.store c.args.needs_sync
+    _ (c.in_ok-sync_if_waiting.ensures.settles honest) mine.keeps in
+    begun _ c.write_base.new.store genesis n
+    ((c.in_ok-write_base.ensures.done honest).remembers genesis n (record { whose = r.whose; keeps = mid }))
 
 pub returns-clause-still : goal.returns-clause-still
 returns-clause-still g c honest genesis n x r every =
     let m : Meaning = g.M.Machine.meaning in
-    let mine = same_recalls m c.args.store.now c.is_rebase_due.new.store (c.is_rebase_due.ensures.same honest) c.args.node.now c.args.needs_sync genesis n r in
-    let mid = settled_keeps _ c.is_rebase_due.new.store c.sync_if_waiting.new.store c.args.needs_sync _ (c.in_ok-sync_if_waiting.ensures.settles honest) mine.keeps in
+    let mine = same_recalls m c.args.store.now c.is_rebase_due.new.store
+    (c.is_rebase_due.ensures.same honest) c.args.node.now c.args.needs_sync genesis n r in
+    let mid = settled_keeps _ c.is_rebase_due.new.store c.sync_if_waiting.new.store c.args.needs_sync
+    _ (c.in_ok-sync_if_waiting.ensures.settles honest) mine.keeps in
     (c.write_base.ensures.disks honest).covers genesis n x mid
-    (settled_covers m genesis n c.args.node.now c.is_rebase_due.new.store c.sync_if_waiting.new.store c.args.needs_sync (c.in_ok-sync_if_waiting.ensures.settles honest) mine x
-    (same_group_covers m c.args.store.now c.is_rebase_due.new.store (c.is_rebase_due.ensures.same honest) genesis n x c.args.needs_sync every))
+    (settled_covers m genesis n c.args.node.now c.is_rebase_due.new.store c.sync_if_waiting.new.store c.args.needs_sync
+    (c.in_ok-sync_if_waiting.ensures.settles honest) mine x
+    (same_group_covers m c.args.store.now c.is_rebase_due.new.store
+    (c.is_rebase_due.ensures.same honest) genesis n x c.args.needs_sync every))
 
 pub returns-clause-covers : goal.returns-clause-covers
 returns-clause-covers g c honest genesis n x r every =
     let m : Meaning = g.M.Machine.meaning in
-    let mine = same_recalls m c.args.store.now c.is_rebase_due.new.store (c.is_rebase_due.ensures.same honest) c.args.node.now c.args.needs_sync genesis n r in
-    let mid = settled_keeps _ c.is_rebase_due.new.store c.sync_if_waiting.new.store c.args.needs_sync _ (c.in_ok-sync_if_waiting.ensures.settles honest) mine.keeps in
+    let mine = same_recalls m c.args.store.now c.is_rebase_due.new.store
+    (c.is_rebase_due.ensures.same honest) c.args.node.now c.args.needs_sync genesis n r in
+    let mid = settled_keeps _ c.is_rebase_due.new.store c.sync_if_waiting.new.store c.args.needs_sync
+    _ (c.in_ok-sync_if_waiting.ensures.settles honest) mine.keeps in
     (c.write_base.ensures.disks honest).covers genesis n x mid
-    (settle_covers m genesis n c.args.node.now c.is_rebase_due.new.store c.sync_if_waiting.new.store c.args.needs_sync mine (c.sync_if_waiting.ensures.any honest mine.keeps.entries (plain mine.keeps.loose) mine.keeps.holds) x
-    (same_group_covers m c.args.store.now c.is_rebase_due.new.store (c.is_rebase_due.ensures.same honest) genesis n x false every))
+    (settle_covers m genesis n c.args.node.now c.is_rebase_due.new.store c.sync_if_waiting.new.store c.args.needs_sync
+    mine (c.sync_if_waiting.ensures.any honest mine.keeps.entries (plain mine.keeps.loose) mine.keeps.holds) x
+    (same_group_covers m c.args.store.now c.is_rebase_due.new.store
+    (c.is_rebase_due.ensures.same honest) genesis n x false every))
 
 pub returns-in_err-write_base-clause-covers : goal.returns-in_err-write_base-clause-covers
 returns-in_err-write_base-clause-covers g c honest genesis n x r every =
     let m : Meaning = g.M.Machine.meaning in
-    let mine = same_recalls m c.args.store.now c.is_rebase_due.new.store (c.is_rebase_due.ensures.same honest) c.args.node.now c.args.needs_sync genesis n r in
-    let mid = settled_keeps _ c.is_rebase_due.new.store c.sync_if_waiting.new.store c.args.needs_sync _ (c.in_ok-sync_if_waiting.ensures.settles honest) mine.keeps in
+    let mine = same_recalls m c.args.store.now c.is_rebase_due.new.store
+    (c.is_rebase_due.ensures.same honest) c.args.node.now c.args.needs_sync genesis n r in
+    let mid = settled_keeps _ c.is_rebase_due.new.store c.sync_if_waiting.new.store c.args.needs_sync
+    _ (c.in_ok-sync_if_waiting.ensures.settles honest) mine.keeps in
     (c.write_base.ensures.disks honest).covers genesis n x mid
-    (settle_covers m genesis n c.args.node.now c.is_rebase_due.new.store c.sync_if_waiting.new.store c.args.needs_sync mine (c.sync_if_waiting.ensures.any honest mine.keeps.entries (plain mine.keeps.loose) mine.keeps.holds) x
-    (same_group_covers m c.args.store.now c.is_rebase_due.new.store (c.is_rebase_due.ensures.same honest) genesis n x false every))
+    (settle_covers m genesis n c.args.node.now c.is_rebase_due.new.store c.sync_if_waiting.new.store c.args.needs_sync
+    mine (c.sync_if_waiting.ensures.any honest mine.keeps.entries (plain mine.keeps.loose) mine.keeps.holds) x
+    (same_group_covers m c.args.store.now c.is_rebase_due.new.store
+    (c.is_rebase_due.ensures.same honest) genesis n x false every))
 
 pub returns-in_err-sync_if_waiting-clause-covers : goal.returns-in_err-sync_if_waiting-clause-covers
 returns-in_err-sync_if_waiting-clause-covers g c honest genesis n x r every =
     let m : Meaning = g.M.Machine.meaning in
-    let mine = same_recalls m c.args.store.now c.is_rebase_due.new.store (c.is_rebase_due.ensures.same honest) c.args.node.now c.args.needs_sync genesis n r in
-    settle_covers m genesis n c.args.node.now c.is_rebase_due.new.store c.sync_if_waiting.new.store c.args.needs_sync mine (c.sync_if_waiting.ensures.any honest mine.keeps.entries (plain mine.keeps.loose) mine.keeps.holds) x
-    (same_group_covers m c.args.store.now c.is_rebase_due.new.store (c.is_rebase_due.ensures.same honest) genesis n x false every)
+    let mine = same_recalls m c.args.store.now c.is_rebase_due.new.store
+    (c.is_rebase_due.ensures.same honest) c.args.node.now c.args.needs_sync genesis n r in
+    settle_covers m genesis n c.args.node.now c.is_rebase_due.new.store c.sync_if_waiting.new.store c.args.needs_sync
+    mine (c.sync_if_waiting.ensures.any honest mine.keeps.entries (plain mine.keeps.loose) mine.keeps.holds) x
+    (same_group_covers m c.args.store.now c.is_rebase_due.new.store
+    (c.is_rebase_due.ensures.same honest) genesis n x false every)
 
 -- ---- room
 
 pub returns-in_err-due-clause-room : goal.returns-in_err-due-clause-room
-returns-in_err-due-clause-room g c honest = same_room g.M.Machine.meaning c.args.store.now c.is_rebase_due.new.store (c.is_rebase_due.ensures.same honest)
+returns-in_err-due-clause-room g c honest =
+    same_room g.M.Machine.meaning c.args.store.now c.is_rebase_due.new.store (c.is_rebase_due.ensures.same honest)
 
 pub returns-then-not-due-clause-room : goal.returns-then-not-due-clause-room
-returns-then-not-due-clause-room g c honest = same_room g.M.Machine.meaning c.args.store.now c.is_rebase_due.new.store (c.is_rebase_due.ensures.same honest)
+returns-then-not-due-clause-room g c honest =
+    same_room g.M.Machine.meaning c.args.store.now c.is_rebase_due.new.store (c.is_rebase_due.ensures.same honest)
 
 pub returns-in_err-sync_if_waiting-clause-room : goal.returns-in_err-sync_if_waiting-clause-room
 returns-in_err-sync_if_waiting-clause-room g c honest =
-    within_first 49152 (disks c.args.store.now) (disks c.is_rebase_due.new.store) (disks c.sync_if_waiting.new.store) (same_room g.M.Machine.meaning c.args.store.now c.is_rebase_due.new.store (c.is_rebase_due.ensures.same honest))
-    (within_more 49152 (disks c.is_rebase_due.new.store) (disks c.sync_if_waiting.new.store) (c.sync_if_waiting.ensures.room honest))
+    within_first 49152 (disks c.args.store.now) (disks c.is_rebase_due.new.store) (disks c.sync_if_waiting.new.store)
+    (same_room g.M.Machine.meaning c.args.store.now c.is_rebase_due.new.store (c.is_rebase_due.ensures.same honest))
+    (within_more 49152 (disks c.is_rebase_due.new.store) (disks c.sync_if_waiting.new.store)
+    (c.sync_if_waiting.ensures.room honest))
 
 pub returns-in_err-write_base-clause-room : goal.returns-in_err-write_base-clause-room
 returns-in_err-write_base-clause-room g c honest =
     within_first 49152 (disks c.args.store.now) (disks c.sync_if_waiting.new.store) (disks c.write_base.new.store)
-    (within_first 49152 (disks c.args.store.now) (disks c.is_rebase_due.new.store) (disks c.sync_if_waiting.new.store) (same_room g.M.Machine.meaning c.args.store.now c.is_rebase_due.new.store (c.is_rebase_due.ensures.same honest))
-    (within_more 49152 (disks c.is_rebase_due.new.store) (disks c.sync_if_waiting.new.store) (c.sync_if_waiting.ensures.room honest)))
+    (within_first 49152 (disks c.args.store.now) (disks c.is_rebase_due.new.store) (disks c.sync_if_waiting.new.store)
+    (same_room g.M.Machine.meaning c.args.store.now c.is_rebase_due.new.store (c.is_rebase_due.ensures.same honest))
+    (within_more 49152 (disks c.is_rebase_due.new.store) (disks c.sync_if_waiting.new.store)
+    (c.sync_if_waiting.ensures.room honest)))
     (c.write_base.ensures.disks honest).room
 
 pub returns-clause-room : goal.returns-clause-room
 returns-clause-room g c honest =
     within_first 49152 (disks c.args.store.now) (disks c.sync_if_waiting.new.store) (disks c.write_base.new.store)
-    (within_first 49152 (disks c.args.store.now) (disks c.is_rebase_due.new.store) (disks c.sync_if_waiting.new.store) (same_room g.M.Machine.meaning c.args.store.now c.is_rebase_due.new.store (c.is_rebase_due.ensures.same honest))
-    (within_more 49152 (disks c.is_rebase_due.new.store) (disks c.sync_if_waiting.new.store) (c.sync_if_waiting.ensures.room honest)))
+    (within_first 49152 (disks c.args.store.now) (disks c.is_rebase_due.new.store) (disks c.sync_if_waiting.new.store)
+    (same_room g.M.Machine.meaning c.args.store.now c.is_rebase_due.new.store (c.is_rebase_due.ensures.same honest))
+    (within_more 49152 (disks c.is_rebase_due.new.store) (disks c.sync_if_waiting.new.store)
+    (c.sync_if_waiting.ensures.room honest)))
     (c.write_base.ensures.disks honest).room
 
 -- ---- what it has done
 
 pub returns-then-not-due-clause-exact : goal.returns-then-not-due-clause-exact
 returns-then-not-due-clause-exact g c honest =
-    let none : IsDue c.args.node.now c.args.store.now → ⊥ = λ is. let yes : c.in_ok-due.due ≡ true = (c.in_ok-due.ensures.value honest).1 is in let both : false ≡ true = sym (search rules) ∙ yes in cc both in
-    no_room_made _ c.args.node.now c.args.store.now c.is_rebase_due.new.store c.args.needs_sync none (c.is_rebase_due.ensures.same honest) (λ metered. c.in_ok-due.ensures.metered metered)
+    let none : IsDue c.args.node.now c.args.store.now
+    → ⊥ = λ is. let yes : c.in_ok-due.due ≡ true = (c.in_ok-due.ensures.value honest).1 is in
+    let both : false ≡ true = sym (search rules) ∙ yes in cc both in
+    no_room_made _ c.args.node.now c.args.store.now c.is_rebase_due.new.store c.args.needs_sync none
+    (c.is_rebase_due.ensures.same honest) (λ metered. c.in_ok-due.ensures.metered metered)
 
 pub returns-clause-exact : goal.returns-clause-exact
 returns-clause-exact g c honest =
-    room_made g.M.Machine.meaning _ c.args.node.now c.write_base.new.node c.args.store.now c.is_rebase_due.new.store c.sync_if_waiting.new.store c.write_base.new.store c.args.needs_sync
-    ((c.in_ok-due.ensures.value honest).0 (search rules)) (c.is_rebase_due.ensures.same honest) (c.in_ok-sync_if_waiting.ensures.settles honest) c.sync_if_waiting.ensures.file (c.in_ok-write_base.ensures.done honest).rebases
-    (λ metered. c.in_ok-due.ensures.metered metered) (λ metered. c.in_ok-sync_if_waiting.ensures.metered metered) (c.in_ok-write_base.ensures.done honest).calls
+    room_made g.M.Machine.meaning _ c.args.node.now c.write_base.new.node c.args.store.now c.is_rebase_due.new.store
+    c.sync_if_waiting.new.store c.write_base.new.store c.args.needs_sync
+    ((c.in_ok-due.ensures.value honest).0 (search rules)) (c.is_rebase_due.ensures.same honest)
+    (c.in_ok-sync_if_waiting.ensures.settles honest) c.sync_if_waiting.ensures.file
+    (c.in_ok-write_base.ensures.done honest).rebases
+    (λ metered. c.in_ok-due.ensures.metered metered) (λ metered. c.in_ok-sync_if_waiting.ensures.metered metered)
+    (c.in_ok-write_base.ensures.done honest).calls
 
 pub returns-then-not-due-clause-alive : goal.returns-then-not-due-clause-alive
-returns-then-not-due-clause-alive g c = record { store_alive = c.in_ok-due.ensures.alive; further = omega (arith, c.is_rebase_due.ensures.file.1); runs = λ none. none }
+returns-then-not-due-clause-alive g c =
+    record {
+      store_alive = c.in_ok-due.ensures.alive;
+      further = omega (arith, c.is_rebase_due.ensures.file.1);
+      runs = λ none. none;
+    }
 
 pub returns-clause-alive : goal.returns-clause-alive
 returns-clause-alive g c = record {
   store_alive = c.in_ok-write_base.ensures.becomes.store_alive;
-  further = omega (arith, c.is_rebase_due.ensures.file.1, c.sync_if_waiting.ensures.file.1, c.in_ok-write_base.ensures.becomes.generation);
+  further = omega (
+    arith,
+    c.is_rebase_due.ensures.file.1,
+    c.sync_if_waiting.ensures.file.1,
+    c.in_ok-write_base.ensures.becomes.generation,
+  );
   runs = c.in_ok-write_base.ensures.becomes.runs;
 }
 
@@ -189,9 +264,12 @@ returns-in_err-sync_if_waiting-clause-refused g c =
       told = store_told _ was.of_store;
       only = store_only _ was.of_store;
       calls = λ metered honest. refused_on 0 (c.in_ok-due.ensures.metered metered) _ _ (was.calls metered honest);
-      earlier = λ is alive further. was.earlier is c.in_ok-due.ensures.alive (omega (arith, further, c.is_rebase_due.ensures.file.1));
-      second = λ honest is alive less. absurd (was.earlier is c.in_ok-due.ensures.alive (omega (arith, less, c.is_rebase_due.ensures.file.1)));
-      file = λ honest. kept_then c.args.store.now c.is_rebase_due.new.store c.sync_if_waiting.new.store c.is_rebase_due.ensures.file was.file;
+      earlier = λ is alive further. was.earlier is c.in_ok-due.ensures.alive
+          (omega (arith, further, c.is_rebase_due.ensures.file.1));
+      second = λ honest is alive less. absurd
+          (was.earlier is c.in_ok-due.ensures.alive (omega (arith, less, c.is_rebase_due.ensures.file.1)));
+      file = λ honest. kept_then c.args.store.now c.is_rebase_due.new.store c.sync_if_waiting.new.store
+          c.is_rebase_due.ensures.file was.file;
       stays = λ honest. spared_all _ _ tt;
       halts = λ is. absurd (store_awake _ was.of_store is);
       awake = λ wakes other. wakes;
@@ -203,11 +281,18 @@ returns-in_err-write_base-clause-refused g c =
     err_as _ _ _ c.from_residual-in_err-write_base.ensures.1 (record {
       told = store_told _ was.of_store;
       only = store_only _ was.of_store;
-      calls = λ metered honest. refused_on 0 (c.in_ok-due.ensures.metered metered) _ _ (refused_on _ (c.in_ok-sync_if_waiting.ensures.metered metered) _ _ (was.calls metered honest));
-      earlier = λ is alive further. was.earlier is (c.in_ok-sync_if_waiting.ensures.alive c.in_ok-due.ensures.alive) (omega (arith, further, c.is_rebase_due.ensures.file.1, c.sync_if_waiting.ensures.file.1));
-      second = λ honest is alive less. absurd (was.earlier is (c.in_ok-sync_if_waiting.ensures.alive c.in_ok-due.ensures.alive) (omega (arith, less, c.is_rebase_due.ensures.file.1, c.sync_if_waiting.ensures.file.1)));
+      calls = λ metered honest. refused_on 0
+          (c.in_ok-due.ensures.metered metered)
+          _ _ (refused_on _ (c.in_ok-sync_if_waiting.ensures.metered metered) _ _ (was.calls metered honest));
+      earlier = λ is alive further. was.earlier is (c.in_ok-sync_if_waiting.ensures.alive c.in_ok-due.ensures.alive)
+          (omega (arith, further, c.is_rebase_due.ensures.file.1, c.sync_if_waiting.ensures.file.1));
+      second = λ honest is alive less. absurd
+          (was.earlier is (c.in_ok-sync_if_waiting.ensures.alive c.in_ok-due.ensures.alive)
+          (omega (arith, less, c.is_rebase_due.ensures.file.1, c.sync_if_waiting.ensures.file.1)));
       file = λ honest.
-          kept_then c.args.store.now c.sync_if_waiting.new.store c.write_base.new.store (kept_then c.args.store.now c.is_rebase_due.new.store c.sync_if_waiting.new.store c.is_rebase_due.ensures.file c.sync_if_waiting.ensures.file) was.file;
+          kept_then c.args.store.now c.sync_if_waiting.new.store c.write_base.new.store
+          (kept_then c.args.store.now c.is_rebase_due.new.store c.sync_if_waiting.new.store
+          c.is_rebase_due.ensures.file c.sync_if_waiting.ensures.file) was.file;
       stays = λ honest. spared_all _ _ tt;
       halts = λ is. absurd (store_awake _ was.of_store is);
       awake = λ wakes other. c.write_base.ensures.wakes ∙ wakes;

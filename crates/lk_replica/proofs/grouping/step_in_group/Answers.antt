@@ -21,8 +21,13 @@ returns-clause-goes g c honest =
       letters = o.letters;
       noted = ap (λ (x : GroupValue). x.notes) is;
       said = ap (λ (x : GroupValue). x.letters) is;
-      are = λ h n f heard sent among. subst (λ (x : GroupValue). GroupGoes m h n c.step_to_file.new.node c.step_to_file.new.store x.needs_sync o.notes (batch_of n sent)) (sym is)
-          (c.in_ok-outbox.ensures.goes honest h n (c.in_ok-needs_sync.ensures.fits honest h n (subst (λ (w : Bool). GroupFits g.M.Machine.meaning h n c.args.node.now c.args.store.now w) (sym (ap (λ (y : GroupValue). y.needs_sync) c.group.view_is)) f)) heard sent among);
+      are = λ h n f heard sent among. subst
+          (λ (x : GroupValue). GroupGoes m h n c.step_to_file.new.node c.step_to_file.new.store x.needs_sync o.notes
+          (batch_of n sent)) (sym is)
+          (c.in_ok-outbox.ensures.goes honest h n
+          (c.in_ok-needs_sync.ensures.fits honest h n
+          (subst (λ (w : Bool). GroupFits g.M.Machine.meaning h n c.args.node.now c.args.store.now w)
+          (sym (ap (λ (y : GroupValue). y.needs_sync) c.group.view_is)) f)) heard sent among);
     }
 
 pub returns-clause-keeps : goal.returns-clause-keeps
@@ -34,26 +39,34 @@ returns-clause-keeps g c honest =
     let room = c.in_ok-needs_sync.ensures in
     let step = c.in_ok-outbox.ensures in
     let w = sym (ap (λ (y : GroupValue). y.needs_sync) c.group.view_is) in
-    let mine : (genesis : Genesis) (n : ℕ) → Recalls c.args.node.now c.args.store.now before.needs_sync genesis n → Recalls c.args.node.now c.args.store.now c.group.inside.needs_sync genesis n =
+    let mine : (genesis : Genesis) (n : ℕ) → Recalls c.args.node.now c.args.store.now before.needs_sync genesis n
+    → Recalls c.args.node.now c.args.store.now c.group.inside.needs_sync genesis n =
     λ genesis n r. subst (λ (w : Bool). Recalls c.args.node.now c.args.store.now w genesis n) w r in
     record {
       stays = λ h n s heard.
-          subst (λ (x : GroupValue). GroupStays m h n c.step_to_file.new.node c.step_to_file.new.store x.needs_sync) (sym is)
-          (step.stays honest h n (room.stays honest h n (subst (λ (w : Bool). GroupStays m h n c.args.node.now c.args.store.now w) w s)) heard);
+          subst (λ (x : GroupValue). GroupStays m h n c.step_to_file.new.node c.step_to_file.new.store x.needs_sync)
+          (sym is)
+          (step.stays honest h n (room.stays honest h n
+          (subst (λ (w : Bool). GroupStays m h n c.args.node.now c.args.store.now w) w s)) heard);
       recalls = λ genesis n r.
-          subst (λ (x : GroupValue). Recalls c.step_to_file.new.node c.step_to_file.new.store x.needs_sync genesis n) (sym is)
+          subst (λ (x : GroupValue). Recalls c.step_to_file.new.node c.step_to_file.new.store x.needs_sync genesis n)
+          (sym is)
           (step.recalls honest genesis n (room.recalls honest genesis n (mine genesis n r)));
       said = λ genesis n r was.
           says_more m genesis n before c.add.new.self c.args.store.now c.step_to_file.new.store
-          (λ x every. subst (λ (y : GroupValue). AllCover m genesis n (disks (as_sent y.needs_sync c.step_to_file.new.store)) x) (sym is)
+          (λ x every. subst (λ (y : GroupValue). AllCover m genesis n
+          (disks (as_sent y.needs_sync c.step_to_file.new.store)) x) (sym is)
           (step.still honest genesis n x (room.recalls honest genesis n (mine genesis n r))
-          (room.still honest genesis n x (mine genesis n r) (subst (λ (w : Bool). AllCover m genesis n (disks (as_sent w c.args.store.now)) x) w every))))
+          (room.still honest genesis n x (mine genesis n r)
+          (subst (λ (w : Bool). AllCover m genesis n (disks (as_sent w c.args.store.now)) x) w every))))
           (λ x. record {
             notes = o.notes;
             letters = o.letters;
             noted = ap (λ (x : GroupValue). x.notes) is;
             said = ap (λ (x : GroupValue). x.letters) is;
-            are = λ d listed spelled. subst (λ (y : GroupValue). AllCover m genesis n (disks (as_sent y.needs_sync c.step_to_file.new.store)) x) (sym is)
+            are = λ d listed spelled. subst
+                (λ (y : GroupValue). AllCover m genesis n (disks (as_sent y.needs_sync c.step_to_file.new.store)) x)
+                (sym is)
                 (step.syncs honest genesis n x (room.recalls honest genesis n (mine genesis n r)) d listed spelled);
           })
           was;
@@ -69,58 +82,85 @@ returns-in_err-needs_sync-clause-disks g c honest =
     let m = g.M.Machine.meaning in
     let w = sym (ap (λ (y : GroupValue). y.needs_sync) c.group.view_is) in
     record {
-      ends = λ h n s heard. c.make_room.ensures.ends honest h n (subst (λ (w : Bool). GroupStays m h n c.args.node.now c.args.store.now w) w s);
-      covers = λ genesis n x r every. c.make_room.ensures.covers honest genesis n x (subst (λ (w : Bool). Recalls c.args.node.now c.args.store.now w genesis n) w r) every;
+      ends = λ h n s heard. c.make_room.ensures.ends honest h n
+          (subst (λ (w : Bool). GroupStays m h n c.args.node.now c.args.store.now w) w s);
+      covers = λ genesis n x r every. c.make_room.ensures.covers honest genesis n x
+          (subst (λ (w : Bool). Recalls c.args.node.now c.args.store.now w genesis n) w r) every;
       room = refused_room (disks c.args.store.now) (disks c.make_room.new.store) (c.make_room.ensures.room honest);
     }
 
 pub returns-in_err-needs_sync-clause-grows : goal.returns-in_err-needs_sync-clause-grows
-returns-in_err-needs_sync-clause-grows g c honest = grown_base (disks c.args.store.now) (disks c.make_room.new.store) (c.make_room.ensures.room honest)
+returns-in_err-needs_sync-clause-grows g c honest =
+    grown_base (disks c.args.store.now) (disks c.make_room.new.store) (c.make_room.ensures.room honest)
 
 pub returns-in_err-outbox-clause-disks : goal.returns-in_err-outbox-clause-disks
 returns-in_err-outbox-clause-disks g c honest =
     let m = g.M.Machine.meaning in
     let w = sym (ap (λ (y : GroupValue). y.needs_sync) c.group.view_is) in
     record {
-      ends = λ h n s heard. c.step_to_file.ensures.ends honest h n (c.in_ok-needs_sync.ensures.stays honest h n (subst (λ (w : Bool). GroupStays m h n c.args.node.now c.args.store.now w) w s)) heard;
+      ends = λ h n s heard. c.step_to_file.ensures.ends honest h n
+          (c.in_ok-needs_sync.ensures.stays honest h n
+          (subst (λ (w : Bool). GroupStays m h n c.args.node.now c.args.store.now w) w s)) heard;
       covers = λ genesis n x r every.
           let mine = subst (λ (w : Bool). Recalls c.args.node.now c.args.store.now w genesis n) w r in
-          c.step_to_file.ensures.covers honest genesis n x (c.in_ok-needs_sync.ensures.recalls honest genesis n mine) (c.make_room.ensures.covers honest genesis n x mine every);
-      room = within_first 132704 (disks c.args.store.now) (disks c.make_room.new.store) (disks c.step_to_file.new.store) (refused_room (disks c.args.store.now) (disks c.make_room.new.store) (c.make_room.ensures.room honest)) (c.step_to_file.ensures.room honest (c.in_ok-needs_sync.ensures.small honest));
+          c.step_to_file.ensures.covers honest genesis n x (c.in_ok-needs_sync.ensures.recalls honest genesis n mine)
+          (c.make_room.ensures.covers honest genesis n x mine every);
+      room = within_first 132704 (disks c.args.store.now) (disks c.make_room.new.store)
+          (disks c.step_to_file.new.store)
+          (refused_room (disks c.args.store.now) (disks c.make_room.new.store) (c.make_room.ensures.room honest))
+          (c.step_to_file.ensures.room honest (c.in_ok-needs_sync.ensures.small honest));
     }
 
 pub returns-in_err-outbox-clause-grows : goal.returns-in_err-outbox-clause-grows
-returns-in_err-outbox-clause-grows g c honest = grown_then (disks c.args.store.now) (disks c.make_room.new.store) (disks c.step_to_file.new.store) (c.make_room.ensures.room honest) (c.step_to_file.ensures.grows honest)
+returns-in_err-outbox-clause-grows g c honest =
+    grown_then (disks c.args.store.now) (disks c.make_room.new.store) (disks c.step_to_file.new.store)
+    (c.make_room.ensures.room honest) (c.step_to_file.ensures.grows honest)
 
 pub returns-in_err-add-clause-disks : goal.returns-in_err-add-clause-disks
 returns-in_err-add-clause-disks g c honest =
     let m = g.M.Machine.meaning in
     let w = sym (ap (λ (y : GroupValue). y.needs_sync) c.group.view_is) in
     record {
-      ends = λ h n s heard. c.step_to_file.ensures.ends honest h n (c.in_ok-needs_sync.ensures.stays honest h n (subst (λ (w : Bool). GroupStays m h n c.args.node.now c.args.store.now w) w s)) heard;
+      ends = λ h n s heard. c.step_to_file.ensures.ends honest h n
+          (c.in_ok-needs_sync.ensures.stays honest h n
+          (subst (λ (w : Bool). GroupStays m h n c.args.node.now c.args.store.now w) w s)) heard;
       covers = λ genesis n x r every.
           let mine = subst (λ (w : Bool). Recalls c.args.node.now c.args.store.now w genesis n) w r in
-          c.step_to_file.ensures.covers honest genesis n x (c.in_ok-needs_sync.ensures.recalls honest genesis n mine) (c.make_room.ensures.covers honest genesis n x mine every);
-      room = within_first 132704 (disks c.args.store.now) (disks c.make_room.new.store) (disks c.step_to_file.new.store) (refused_room (disks c.args.store.now) (disks c.make_room.new.store) (c.make_room.ensures.room honest)) (c.step_to_file.ensures.room honest (c.in_ok-needs_sync.ensures.small honest));
+          c.step_to_file.ensures.covers honest genesis n x (c.in_ok-needs_sync.ensures.recalls honest genesis n mine)
+          (c.make_room.ensures.covers honest genesis n x mine every);
+      room = within_first 132704 (disks c.args.store.now) (disks c.make_room.new.store)
+          (disks c.step_to_file.new.store)
+          (refused_room (disks c.args.store.now) (disks c.make_room.new.store) (c.make_room.ensures.room honest))
+          (c.step_to_file.ensures.room honest (c.in_ok-needs_sync.ensures.small honest));
     }
 
 pub returns-in_err-add-clause-grows : goal.returns-in_err-add-clause-grows
-returns-in_err-add-clause-grows g c honest = grown_then (disks c.args.store.now) (disks c.make_room.new.store) (disks c.step_to_file.new.store) (c.make_room.ensures.room honest) (c.step_to_file.ensures.grows honest)
+returns-in_err-add-clause-grows g c honest =
+    grown_then (disks c.args.store.now) (disks c.make_room.new.store) (disks c.step_to_file.new.store)
+    (c.make_room.ensures.room honest) (c.step_to_file.ensures.grows honest)
 
 pub returns-clause-disks : goal.returns-clause-disks
 returns-clause-disks g c honest =
     let m = g.M.Machine.meaning in
     let w = sym (ap (λ (y : GroupValue). y.needs_sync) c.group.view_is) in
     record {
-      ends = λ h n s heard. c.step_to_file.ensures.ends honest h n (c.in_ok-needs_sync.ensures.stays honest h n (subst (λ (w : Bool). GroupStays m h n c.args.node.now c.args.store.now w) w s)) heard;
+      ends = λ h n s heard. c.step_to_file.ensures.ends honest h n
+          (c.in_ok-needs_sync.ensures.stays honest h n
+          (subst (λ (w : Bool). GroupStays m h n c.args.node.now c.args.store.now w) w s)) heard;
       covers = λ genesis n x r every.
           let mine = subst (λ (w : Bool). Recalls c.args.node.now c.args.store.now w genesis n) w r in
-          c.step_to_file.ensures.covers honest genesis n x (c.in_ok-needs_sync.ensures.recalls honest genesis n mine) (c.make_room.ensures.covers honest genesis n x mine every);
-      room = within_first 132704 (disks c.args.store.now) (disks c.make_room.new.store) (disks c.step_to_file.new.store) (refused_room (disks c.args.store.now) (disks c.make_room.new.store) (c.make_room.ensures.room honest)) (c.step_to_file.ensures.room honest (c.in_ok-needs_sync.ensures.small honest));
+          c.step_to_file.ensures.covers honest genesis n x (c.in_ok-needs_sync.ensures.recalls honest genesis n mine)
+          (c.make_room.ensures.covers honest genesis n x mine every);
+      room = within_first 132704 (disks c.args.store.now) (disks c.make_room.new.store)
+          (disks c.step_to_file.new.store)
+          (refused_room (disks c.args.store.now) (disks c.make_room.new.store) (c.make_room.ensures.room honest))
+          (c.step_to_file.ensures.room honest (c.in_ok-needs_sync.ensures.small honest));
     }
 
 pub returns-clause-grows : goal.returns-clause-grows
-returns-clause-grows g c honest = grown_then (disks c.args.store.now) (disks c.make_room.new.store) (disks c.step_to_file.new.store) (c.make_room.ensures.room honest) (c.step_to_file.ensures.grows honest)
+returns-clause-grows g c honest =
+    grown_then (disks c.args.store.now) (disks c.make_room.new.store) (disks c.step_to_file.new.store)
+    (c.make_room.ensures.room honest) (c.step_to_file.ensures.grows honest)
 
 -- ---- what it has done
 
@@ -129,7 +169,9 @@ returns-clause-exact g c honest = record {
   mid = c.make_room.new.node;
   between = c.make_room.new.store;
   needs_sync = c.in_ok-needs_sync.needs_sync;
-  room = subst (λ (w : Bool). MakesRoom g.D.LogDisk.is_metered c.args.node.now c.args.store.now w c.make_room.new.node c.make_room.new.store c.in_ok-needs_sync.needs_sync) (ap (λ (y : GroupValue). y.needs_sync) c.group.view_is) (c.in_ok-needs_sync.ensures.exact honest);
+  room = subst (λ (w : Bool). MakesRoom g.D.LogDisk.is_metered c.args.node.now c.args.store.now w c.make_room.new.node
+      c.make_room.new.store c.in_ok-needs_sync.needs_sync) (ap (λ (y : GroupValue). y.needs_sync) c.group.view_is)
+      (c.in_ok-needs_sync.ensures.exact honest);
   out = c.in_ok-outbox.outbox;
   steps = c.in_ok-outbox.ensures.exact honest;
   adds = c.in_ok-add.ensures;
@@ -162,9 +204,12 @@ returns-in_err-outbox-clause-refused g c =
     err_as _ _ _ c.from_residual-in_err-outbox.ensures.1 (record {
       told = was.told;
       only = was.only;
-      calls = λ metered honest. let d = (before.exact honest).calls metered in refused_on d.0 d.2 _ _ (was.calls metered honest);
-      earlier = λ is alive further. was.earlier is before.alive.store_alive (omega (arith, further, before.alive.further));
-      second = λ honest is alive less. second_after c.args.node.now c.make_room.new.node c.args.store.now c.make_room.new.store (before.exact honest).rebases (was.earlier is before.alive.store_alive) less;
+      calls = λ metered honest. let d = (before.exact honest).calls metered in
+          refused_on d.0 d.2 _ _ (was.calls metered honest);
+      earlier =
+          λ is alive further. was.earlier is before.alive.store_alive (omega (arith, further, before.alive.further));
+      second = λ honest is alive less. second_after c.args.node.now c.make_room.new.node c.args.store.now
+          c.make_room.new.store (before.exact honest).rebases (was.earlier is before.alive.store_alive) less;
       file = λ honest. tt;
       stays = λ honest. spared_all _ _ tt;
       halts = was.halts;
@@ -176,7 +221,8 @@ returns-in_err-add-clause-refused g c =
     err_as _ _ fault.NoMemory c.from_residual-in_err-add.ensures.1 (record {
       told = tt;
       only = tt;
-      calls = λ metered honest. let first = (c.in_ok-needs_sync.ensures.exact honest).calls metered in (_, passes_on first.0 first.2 _ ((c.in_ok-outbox.ensures.exact honest).calls metered));
+      calls = λ metered honest. let first = (c.in_ok-needs_sync.ensures.exact honest).calls metered in
+          (_, passes_on first.0 first.2 _ ((c.in_ok-outbox.ensures.exact honest).calls metered));
       earlier = λ is alive further. cc is;
       second = λ honest is alive less. absurd (cc is);
       file = λ honest. tt;

@@ -6,22 +6,30 @@ use Rattle.lk_replica.proofs.grouping.sync_if_waiting.Goals as goal
 -- ---- nothing waits for a sync
 
 pub returns-then-not-needs_sync-clause-settles : goal.returns-then-not-needs_sync-clause-settles
-returns-then-not-needs_sync-clause-settles g c honest = settled_still c.args.store.now c.flush.new.self c.args.needs_sync (cc c.if-not-needs_sync.true) (c.in_ok-flush.ensures.ok honest)
+returns-then-not-needs_sync-clause-settles g c honest =
+    settled_still c.args.store.now c.flush.new.self c.args.needs_sync (cc c.if-not-needs_sync.true)
+    (c.in_ok-flush.ensures.ok honest)
 
 pub returns-in_err-flush-clause-any : goal.returns-in_err-flush-clause-any
-returns-in_err-flush-clause-any g c honest ks ls holds = same_keeps c.args.store.now c.flush.new.self (c.flush.ensures.disks honest) c.flush.ensures.file.0 ks ls holds
+returns-in_err-flush-clause-any g c honest ks ls holds =
+    same_keeps c.args.store.now c.flush.new.self (c.flush.ensures.disks honest) c.flush.ensures.file.0 ks ls holds
 
 pub returns-then-not-needs_sync-clause-any : goal.returns-then-not-needs_sync-clause-any
-returns-then-not-needs_sync-clause-any g c honest ks ls holds = same_keeps c.args.store.now c.flush.new.self (c.flush.ensures.disks honest) c.flush.ensures.file.0 ks ls holds
+returns-then-not-needs_sync-clause-any g c honest ks ls holds =
+    same_keeps c.args.store.now c.flush.new.self (c.flush.ensures.disks honest) c.flush.ensures.file.0 ks ls holds
 
 pub returns-in_err-flush-clause-room : goal.returns-in_err-flush-clause-room
-returns-in_err-flush-clause-room g c honest = same_within 0 c.args.store.now c.flush.new.self (c.flush.ensures.disks honest) c.flush.ensures.file.0
+returns-in_err-flush-clause-room g c honest =
+    same_within 0 c.args.store.now c.flush.new.self (c.flush.ensures.disks honest) c.flush.ensures.file.0
 
 pub returns-then-not-needs_sync-clause-room : goal.returns-then-not-needs_sync-clause-room
-returns-then-not-needs_sync-clause-room g c honest = same_within 0 c.args.store.now c.flush.new.self (c.flush.ensures.disks honest) c.flush.ensures.file.0
+returns-then-not-needs_sync-clause-room g c honest =
+    same_within 0 c.args.store.now c.flush.new.self (c.flush.ensures.disks honest) c.flush.ensures.file.0
 
 pub returns-then-not-needs_sync-clause-metered : goal.returns-then-not-needs_sync-clause-metered
-returns-then-not-needs_sync-clause-metered g c metered = settled_none c.args.store.now.meter c.flush.new.self.meter c.args.needs_sync (cc c.if-not-needs_sync.true) (c.in_ok-flush.ensures.metered metered)
+returns-then-not-needs_sync-clause-metered g c metered =
+    settled_none c.args.store.now.meter c.flush.new.self.meter c.args.needs_sync (cc c.if-not-needs_sync.true)
+    (c.in_ok-flush.ensures.metered metered)
 
 pub returns-in_err-flush-clause-refused : goal.returns-in_err-flush-clause-refused
 returns-in_err-flush-clause-refused g c =
@@ -31,13 +39,16 @@ returns-in_err-flush-clause-refused g c =
       calls = λ metered honest. refused_after _ _ _ (was.metered metered);
       earlier = λ is alive less. sync_not_failed _ (was.refuses.1 alive) is;
       file = c.flush.ensures.file;
-      stays = λ honest. sync_spares c.args.store.now c.flush.new.self _ (λ dead. (c.flush.ensures.refuses.0 dead).0) was.refuses.1;
+      stays = λ honest. sync_spares c.args.store.now c.flush.new.self
+          _ (λ dead. (c.flush.ensures.refuses.0 dead).0) was.refuses.1;
     })
 
 -- ---- something waits
 
 pub returns-clause-metered : goal.returns-clause-metered
-returns-clause-metered g c metered = settled_once c.args.store.now.meter c.sync.new.self.meter c.args.needs_sync (cc c.if-not-needs_sync.false) (c.in_ok-sync.ensures.metered metered)
+returns-clause-metered g c metered =
+    settled_once c.args.store.now.meter c.sync.new.self.meter c.args.needs_sync (cc c.if-not-needs_sync.false)
+    (c.in_ok-sync.ensures.metered metered)
 
 pub returns-in_err-sync-clause-refused : goal.returns-in_err-sync-clause-refused
 returns-in_err-sync-clause-refused g c =
@@ -47,5 +58,6 @@ returns-in_err-sync-clause-refused g c =
       calls = λ metered honest. refused_after _ _ _ (was.metered metered);
       earlier = λ is alive less. sync_not_failed _ (was.refuses.1 alive) is;
       file = c.sync.ensures.file;
-      stays = λ honest. sync_spares c.args.store.now c.sync.new.self _ (λ dead. (c.sync.ensures.refuses.0 dead).0) was.refuses.1;
+      stays = λ honest. sync_spares c.args.store.now c.sync.new.self
+          _ (λ dead. (c.sync.ensures.refuses.0 dead).0) was.refuses.1;
     })

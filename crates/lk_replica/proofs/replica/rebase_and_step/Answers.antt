@@ -3,7 +3,8 @@ use Rattle.lk_log.specs.StoreValue.{disks}
 use Rattle.lk_log.proofs.Room.{within_first, refused_room}
 use Rattle.lk_replica.proofs.replica.rebase_and_step.Goals as goal
 use Rattle.lk_disk.proofs.Devices.{passes_on}
-use Rattle.lk_recovery.proofs.Recoveries.{err_as, refused_on, grown_then, spared_more, left_after, file_after, second_after}
+use Rattle.lk_recovery.proofs.Recoveries.{err_as, refused_on, grown_then, spared_more, left_after, file_after}
+use Rattle.lk_recovery.proofs.Recoveries.{second_after}
 use Rattle.lk_replica.proofs.Refusals.{store_told, store_only, store_awake}
 
 pub returns-clause-goes : goal.returns-clause-goes
@@ -12,15 +13,24 @@ returns-clause-goes g c honest h n f heard =
 
 pub returns-clause-syncs : goal.returns-clause-syncs
 returns-clause-syncs g c honest genesis n x shown =
-    c.in_ok-outbox.ensures.syncs honest genesis n x ((c.in_ok-rebase_if_due.ensures.done honest).remembers genesis n shown)
+    c.in_ok-outbox.ensures.syncs honest genesis n x
+    ((c.in_ok-rebase_if_due.ensures.done honest).remembers genesis n shown)
 
 pub returns-clause-exact : goal.returns-clause-exact
 returns-clause-exact g c honest =
-    let e = c.in_ok-outbox.ensures.exact honest in (c.rebase_if_due.new.node, c.rebase_if_due.new.store, (c.in_ok-rebase_if_due.ensures.done honest).rebases, e.stepped, e.steps, e.writes)
+    let e = c.in_ok-outbox.ensures.exact honest in (
+      c.rebase_if_due.new.node,
+      c.rebase_if_due.new.store,
+      (c.in_ok-rebase_if_due.ensures.done honest).rebases,
+      e.stepped,
+      e.steps,
+      e.writes,
+    )
 
 pub returns-clause-calls : goal.returns-clause-calls
 returns-clause-calls g c metered honest =
-    let d = (c.in_ok-rebase_if_due.ensures.done honest).calls metered in (d.0, d.1, passes_on d.0 d.2 _ ((c.in_ok-outbox.ensures.exact honest).calls metered))
+    let d = (c.in_ok-rebase_if_due.ensures.done honest).calls metered in
+    (d.0, d.1, passes_on d.0 d.2 _ ((c.in_ok-outbox.ensures.exact honest).calls metered))
 
 pub returns-clause-alive : goal.returns-clause-alive
 returns-clause-alive g c =
@@ -29,7 +39,8 @@ returns-clause-alive g c =
       store_alive = on.store_alive;
       awake = on.awake;
       runs = λ none. on.runs (c.in_ok-rebase_if_due.ensures.alive.runs none);
-      remembers = λ honest genesis n shown. on.remembers honest genesis n ((c.in_ok-rebase_if_due.ensures.done honest).remembers genesis n shown);
+      remembers = λ honest genesis n shown. on.remembers honest genesis n
+          ((c.in_ok-rebase_if_due.ensures.done honest).remembers genesis n shown);
     }
 
 -- ---- at every exit
@@ -51,11 +62,14 @@ returns-in_err-outbox-clause-disks g c honest =
     let later = c.step_to_disk.ensures.disks honest in
     record {
       ends = λ h n f heard. later.ends h n (between.fits h n f) heard;
-      covers = λ genesis n x shown every. later.covers genesis n x (between.remembers genesis n shown) (first.covers genesis n x shown every);
-      room = within_first 132704 (disks c.args.store.now) (disks c.rebase_if_due.new.store) (disks c.step_to_disk.new.store)
+      covers = λ genesis n x shown every. later.covers genesis n x (between.remembers genesis n shown)
+          (first.covers genesis n x shown every);
+      room = within_first 132704 (disks c.args.store.now) (disks c.rebase_if_due.new.store)
+          (disks c.step_to_disk.new.store)
           (refused_room (disks c.args.store.now) (disks c.rebase_if_due.new.store) first.room)
           (later.room between.short);
-      grows = grown_then (disks c.args.store.now) (disks c.rebase_if_due.new.store) (disks c.step_to_disk.new.store) first.room later.grows;
+      grows = grown_then (disks c.args.store.now) (disks c.rebase_if_due.new.store)
+          (disks c.step_to_disk.new.store) first.room later.grows;
     }
 
 pub returns-clause-disks : goal.returns-clause-disks
@@ -65,11 +79,14 @@ returns-clause-disks g c honest =
     let later = c.step_to_disk.ensures.disks honest in
     record {
       ends = λ h n f heard. later.ends h n (between.fits h n f) heard;
-      covers = λ genesis n x shown every. later.covers genesis n x (between.remembers genesis n shown) (first.covers genesis n x shown every);
-      room = within_first 132704 (disks c.args.store.now) (disks c.rebase_if_due.new.store) (disks c.step_to_disk.new.store)
+      covers = λ genesis n x shown every. later.covers genesis n x (between.remembers genesis n shown)
+          (first.covers genesis n x shown every);
+      room = within_first 132704 (disks c.args.store.now) (disks c.rebase_if_due.new.store)
+          (disks c.step_to_disk.new.store)
           (refused_room (disks c.args.store.now) (disks c.rebase_if_due.new.store) first.room)
           (later.room between.short);
-      grows = grown_then (disks c.args.store.now) (disks c.rebase_if_due.new.store) (disks c.step_to_disk.new.store) first.room later.grows;
+      grows = grown_then (disks c.args.store.now) (disks c.rebase_if_due.new.store)
+          (disks c.step_to_disk.new.store) first.room later.grows;
     }
 
 -- ---- what a refusal leaves
@@ -96,14 +113,19 @@ returns-in_err-outbox-clause-refused g c =
     err_as _ _ _ c.from_residual-in_err-outbox.ensures.1 (record {
       told = was.told;
       only = was.only;
-      calls = λ metered honest. let d = (before.done honest).calls metered in refused_on d.0 d.2 _ _ (was.calls metered honest);
-      earlier = λ is alive further. was.earlier is before.alive.store_alive (omega (arith, further, before.alive.further));
+      calls = λ metered honest. let d = (before.done honest).calls metered in
+          refused_on d.0 d.2 _ _ (was.calls metered honest);
+      earlier =
+          λ is alive further. was.earlier is before.alive.store_alive (omega (arith, further, before.alive.further));
       second = λ honest is alive less.
-          second_after c.args.node.now c.rebase_if_due.new.node c.args.store.now c.rebase_if_due.new.store (before.done honest).rebases (was.earlier is before.alive.store_alive) less;
+          second_after c.args.node.now c.rebase_if_due.new.node c.args.store.now c.rebase_if_due.new.store
+          (before.done honest).rebases (was.earlier is before.alive.store_alive) less;
       file = λ honest.
-          file_after c.args.node.now c.rebase_if_due.new.node c.args.store.now c.rebase_if_due.new.store c.step_to_disk.new.store (before.done honest).rebases (was.file honest);
+          file_after c.args.node.now c.rebase_if_due.new.node c.args.store.now c.rebase_if_due.new.store
+          c.step_to_disk.new.store (before.done honest).rebases (was.file honest);
       stays = λ honest.
-          spared_more _ _ _ (left_after c.args.node.now c.rebase_if_due.new.node c.args.store.now c.rebase_if_due.new.store c.step_to_disk.new.store (before.done honest).rebases) (was.stays honest);
+          spared_more _ _ _ (left_after c.args.node.now c.rebase_if_due.new.node c.args.store.now
+          c.rebase_if_due.new.store c.step_to_disk.new.store (before.done honest).rebases) (was.stays honest);
       halts = was.halts;
       awake = λ wakes other. was.awake (c.rebase_if_due.ensures.wakes ∙ wakes) other;
     })

@@ -9,10 +9,13 @@ pub returns-in-Err-NotUp-clause-passes : goal.returns-in-Err-NotUp-clause-passes
 returns-in-Err-NotUp-clause-passes g c =
     let by = c.in-Err-NotUp.ensures.passed_by NotUp (search rules) tt in
     on_ok_weaker c.apply-in-Err-NotUp.result
-    (λ does. passes_again g.R.MemoryReplica.behaves c.args.world.now c.apply.new.world c.apply-in-Err-NotUp.new.world _ (search rules) by.0 by.1.0 does) c.apply-in-Err-NotUp.ensures.does
+    (λ does. passes_again g.R.MemoryReplica.behaves c.args.world.now c.apply.new.world c.apply-in-Err-NotUp.new.world
+    _ (search rules) by.0 by.1.0 does) c.apply-in-Err-NotUp.ensures.does
 
 pub returns-in-Err-NotUp-clause-adds : goal.returns-in-Err-NotUp-clause-adds
 returns-in-Err-NotUp-clause-adds g c =
     let by = c.in-Err-NotUp.ensures.passed_by NotUp (search rules) tt in
     on_ok_weaker c.apply-in-Err-NotUp.result
-    (λ adds. adds_on g.R.MemoryReplica.behaves c.args.world.now c.apply.new.world c.apply-in-Err-NotUp.new.world c.args.transcript.now c.apply.new.self c.apply-in-Err-NotUp.new.self ([], by.1) (_, adds)) c.apply-in-Err-NotUp.ensures.adds
+    (λ adds. adds_on g.R.MemoryReplica.behaves c.args.world.now c.apply.new.world c.apply-in-Err-NotUp.new.world
+    c.args.transcript.now c.apply.new.self c.apply-in-Err-NotUp.new.self ([], by.1) (_, adds))
+    c.apply-in-Err-NotUp.ensures.adds

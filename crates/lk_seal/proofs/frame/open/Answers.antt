@@ -14,7 +14,8 @@ returns-then-frame-lt-OVERHEAD-clause-none c _ d e =
 
 pub returns-then-not-has_head-clause-none : goal.returns-then-not-has_head-clause-none
 returns-then-not-has_head-clause-none c _ d e =
-    let front : take 4 c.args.frame.now ≡ head c.args.scope.now.purpose = ap (take 4) e ∙ head-sealed c.args.key.now c.args.scope.now d in
+    let front : take 4 c.args.frame.now ≡ head c.args.scope.now.purpose = ap (take 4) e
+    ∙ head-sealed c.args.key.now c.args.scope.now d in
     grind arith
 
 pub returns-then-not-is_same-clause-none : goal.returns-then-not-is_same-clause-none
@@ -22,7 +23,8 @@ returns-then-not-is_same-clause-none c _ d e =
     let whole = rest c.args.frame.now in
     let behind : drop 36 c.args.frame.now ≡ d = ap (drop 36) e ∙ drop-sealed c.args.key.now c.args.scope.now d in
     let tag : c.tag_in.result ≡ take 32 (drop 4 c.args.frame.now) =
-    c.tag_in.ensures ∙ ap (seal_tag c.args.key.now c.args.scope.now) (whole ∙ behind) ∙ sym (tag-sealed c.args.key.now c.args.scope.now d) ∙ ap (λ (l : List ℕ). take 32 (drop 4 l)) (sym e) in
+    c.tag_in.ensures ∙ ap (seal_tag c.args.key.now c.args.scope.now) (whole ∙ behind)
+    ∙ sym (tag-sealed c.args.key.now c.args.scope.now d) ∙ ap (λ (l : List ℕ). take 32 (drop 4 l)) (sym e) in
     grind arith
 
 pub returns-clause-some : goal.returns-clause-some
@@ -32,7 +34,8 @@ returns-clause-some c =
     let same : c.tag_in.result ≡ take 32 (drop 4 c.args.frame.now) = grind arith in
     let tag : take 32 (drop 4 c.args.frame.now) ≡ seal_tag c.args.key.now c.args.scope.now (drop 36 c.args.frame.now) =
     sym same ∙ c.tag_in.ensures ∙ ap (seal_tag c.args.key.now c.args.scope.now) whole in
-    frame-parts c.args.key.now c.args.scope.now c.args.frame.now front tag ∙ ap (sealed c.args.key.now c.args.scope.now) (sym whole)
+    frame-parts c.args.key.now c.args.scope.now c.args.frame.now front tag
+    ∙ ap (sealed c.args.key.now c.args.scope.now) (sym whole)
 
 pub returns-then-frame-lt-OVERHEAD-clause-opens_not : goal.returns-then-frame-lt-OVERHEAD-clause-opens_not
 returns-then-frame-lt-OVERHEAD-clause-opens_not c is = opens_not _ _ _ (returns-then-frame-lt-OVERHEAD-clause-none c is)

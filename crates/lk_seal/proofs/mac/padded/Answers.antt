@@ -15,6 +15,8 @@ pub returns : goal.returns
 returns c =
     let done = c.bytes.auto.i-end in
     let e : c.bytes.i ≡ 64 = omega arith in
-    let mixed : take c.bytes.i c.bytes.mixed ≡ c.bytes.mixed = take_all c.bytes.i c.bytes.mixed (omega (arith, c.bytes.invariant.0)) in
-    let block : take c.bytes.i c.args.block.now ≡ c.args.block.now = take_all c.bytes.i c.args.block.now (omega (arith, c.told-block)) in
+    let mixed : take c.bytes.i c.bytes.mixed ≡ c.bytes.mixed =
+    take_all c.bytes.i c.bytes.mixed (omega (arith, c.bytes.invariant.0)) in
+    let block : take c.bytes.i c.args.block.now ≡ c.args.block.now =
+    take_all c.bytes.i c.args.block.now (omega (arith, c.told-block)) in
     sym mixed ∙ c.bytes.invariant.1 ∙ ap (with_pad c.args.pad) block

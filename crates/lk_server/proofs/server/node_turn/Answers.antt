@@ -18,11 +18,17 @@ returns-clause-turn g c =
     let o = c.fill_group.ensures.others in
     let t = c.in_ok-fill_group.ensures.takes (cc c.if-not-branch.false) in
     let e = c.end_group.ensures in
-    subst (λ (s : ServerValue _). (frames : List (SocketAddr × List ℕ)) × HasReceived tells frames c.args.server.now s × TakesTurn r.Says tells frames c.args.server.now s × KeepsOf c.args.server.now.node c.args.server.now.addresses.seals frames c.args.buffer.now c.fill_group.new.buffer) (sym c.note_sync.ensures) (
+    subst (λ (s : ServerValue _). (frames : List (SocketAddr × List ℕ)) × HasReceived tells frames c.args.server.now s
+    × TakesTurn r.Says tells frames c.args.server.now s
+    × KeepsOf c.args.server.now.node c.args.server.now.addresses.seals frames c.args.buffer.now
+    c.fill_group.new.buffer) (sym c.note_sync.ensures) (
       t.0,
       received_on tells t.0 c.args.server.now c.fill_group.new.self c.end_group.new.self e.still t.1.received,
-      inl (turn_of r.Says r.Gathers tells t.0 c.begin_group-group.result c.fill_group.new.group c.args.server.now c.fill_group.new.self c.end_group.new.self c.begin_group-group.ensures t.1 c.in_ok-end_group.ensures.gives
-          (ap (λ (s : ServerValue _). s.sent) o) (ap (λ (s : ServerValue _). s.socket_failures) o) (same_by c.args.server.now c.fill_group.new.self o) e.addresses e.received e.ticks e.same c.in_ok-end_group.ensures.alive),
+      inl (turn_of r.Says r.Gathers tells t.0 c.begin_group-group.result c.fill_group.new.group c.args.server.now
+          c.fill_group.new.self c.end_group.new.self c.begin_group-group.ensures t.1 c.in_ok-end_group.ensures.gives
+          (ap (λ (s : ServerValue _). s.sent) o) (ap (λ (s : ServerValue _). s.socket_failures) o)
+          (same_by c.args.server.now c.fill_group.new.self o) e.addresses e.received e.ticks e.same
+          c.in_ok-end_group.ensures.alive),
       t.2,
     )
 
@@ -36,8 +42,11 @@ returns-in_err-end_group-clause-ends g c =
     on_err c.from_residual-in_err-end_group.result (
       t.0,
       received_on tells t.0 c.args.server.now c.fill_group.new.self c.end_group.new.self e.still t.1.received,
-      last_of r.Says r.Gathers tells t.0 c.begin_group-group.result c.fill_group.new.group c.args.server.now c.fill_group.new.self c.end_group.new.self c.begin_group-group.ensures t.1 c.in_err-end_group.ensures.silent
-          (ap (λ (s : ServerValue _). s.sent) o) (ap (λ (s : ServerValue _). s.socket_failures) o) (same_by c.args.server.now c.fill_group.new.self o) e.addresses e.ticks e.same c.in_err-end_group.ensures.broken,
+      last_of r.Says r.Gathers tells t.0 c.begin_group-group.result c.fill_group.new.group c.args.server.now
+          c.fill_group.new.self c.end_group.new.self c.begin_group-group.ensures t.1 c.in_err-end_group.ensures.silent
+          (ap (λ (s : ServerValue _). s.sent) o) (ap (λ (s : ServerValue _). s.socket_failures) o)
+          (same_by c.args.server.now c.fill_group.new.self o) e.addresses e.ticks e.same
+          c.in_err-end_group.ensures.broken,
     )
 
 pub returns-in_err-fill_group-clause-ends : goal.returns-in_err-fill_group-clause-ends
@@ -48,6 +57,8 @@ returns-in_err-fill_group-clause-ends g c =
     on_err c.from_residual.result (
       e.0,
       e.1.received,
-      last_within r.Says r.Gathers g.S.DatagramSocket.is_telling e.0 c.begin_group-group.result c.args.server.now c.fill_group.new.self c.begin_group-group.ensures e.1
-          (ap (λ (s : ServerValue _). s.sent) o) (ap (λ (s : ServerValue _). s.socket_failures) o) (same_by c.args.server.now c.fill_group.new.self o) c.in_err-fill_group.ensures.broken,
+      last_within r.Says r.Gathers g.S.DatagramSocket.is_telling e.0 c.begin_group-group.result c.args.server.now
+          c.fill_group.new.self c.begin_group-group.ensures e.1
+          (ap (λ (s : ServerValue _). s.sent) o) (ap (λ (s : ServerValue _). s.socket_failures) o)
+          (same_by c.args.server.now c.fill_group.new.self o) c.in_err-fill_group.ensures.broken,
     )

@@ -17,6 +17,18 @@ returns-clause-err g c =
     let begun = c.in_ok-server.server in
     let begins = c.in_ok-server.ensures.begun in
     or_later _ c.serve_turns.result (λ ended. elim ended.1 [
-      | inl breaks ↦ inl (record { begun = begun; begins = begins; sealed = record { are = c.in_ok-server.ensures.seals; whose = c.requires }; ended = ended.0; breaks = breaks })
-      | inr leaves ↦ inr (record { begun = begun; begins = begins; sealed = record { are = c.in_ok-server.ensures.seals; whose = c.requires }; ended = ended.0; leaves = leaves })
+      | inl breaks ↦ inl (record {
+        begun = begun;
+        begins = begins;
+        sealed = record { are = c.in_ok-server.ensures.seals; whose = c.requires };
+        ended = ended.0;
+        breaks = breaks;
+      })
+      | inr leaves ↦ inr (record {
+        begun = begun;
+        begins = begins;
+        sealed = record { are = c.in_ok-server.ensures.seals; whose = c.requires };
+        ended = ended.0;
+        leaves = leaves;
+      })
     ]) c.serve_turns.ensures.err

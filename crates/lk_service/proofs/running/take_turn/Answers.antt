@@ -9,14 +9,16 @@ returns-in-Ok-clause-turn g c =
     let t = c.in-Ok.ensures.turn in
     let e = c.end_turn.ensures in
     on_ok_weaker c.end_turn.result (λ goes.
-    turn_taken GoesOn t.0 c.args.buffer.now c.node_turn.new.buffer c.args.server.now c.node_turn.new.server c.end_turn.new.server t.1 t.2 t.3 e.acts c.node_turn.ensures.network e.failure goes) e.goes_on
+    turn_taken GoesOn t.0 c.args.buffer.now c.node_turn.new.buffer c.args.server.now c.node_turn.new.server
+    c.end_turn.new.server t.1 t.2 t.3 e.acts c.node_turn.ensures.network e.failure goes) e.goes_on
 
 pub returns-in-Ok-clause-ends : goal.returns-in-Ok-clause-ends
 returns-in-Ok-clause-ends g c =
     let t = c.in-Ok.ensures.turn in
     let e = c.end_turn.ensures in
     on_err_weaker c.end_turn.result (λ leaves.
-    inr (turn_taken LeavesOff t.0 c.args.buffer.now c.node_turn.new.buffer c.args.server.now c.node_turn.new.server c.end_turn.new.server t.1 t.2 t.3 e.acts c.node_turn.ensures.network e.failure leaves)) e.leaves
+    inr (turn_taken LeavesOff t.0 c.args.buffer.now c.node_turn.new.buffer c.args.server.now c.node_turn.new.server
+    c.end_turn.new.server t.1 t.2 t.3 e.acts c.node_turn.ensures.network e.failure leaves)) e.leaves
 
 pub returns-in-Err-clause-ends : goal.returns-in-Err-clause-ends
 returns-in-Err-clause-ends g c =

@@ -8,14 +8,22 @@ use Rattle.lk_service.proofs.Turning.{on_err, turns_end}
 use Rattle.lk_service.proofs.running.take_turns.Goals as goal
 
 pub turns-init : goal.turns-init
-turns-init g c = (search rules, search rules, record { states = []; are = refl; chain = refl }, record { states = []; are = refl; chain = refl })
+turns-init g c = (
+  search rules,
+  search rules,
+  record { states = []; are = refl; chain = refl },
+  record { states = []; are = refl; chain = refl },
+)
 
 pub turns-preserved : goal.turns-preserved
 turns-preserved g c =
     let i = c.turns.invariant in
     let e = c.in_ok-take_turn.ensures in
-    let turn = subst₂ (λ (kept : Option ReceivedProbe) (told : Option Reported). TakesTurnWith _ g.S.DatagramSocket.is_telling kept told GoesOn c.turns.server c.take_turn.new.server) i.0 i.1 e.turn in
-    let warning = subst (λ (before : Option (List ℕ)). Warns c.args.plan.now.header.node c.args.plan.now.port c.take_turn.new.server c.turns.reminder c.warn_if_due.new.reminder before (g.E.Write.contents c.warn_if_due.new.err)) e.quiet c.warn_if_due.ensures in
+    let turn = subst₂ (λ (kept : Option ReceivedProbe) (told : Option Reported). TakesTurnWith
+    _ g.S.DatagramSocket.is_telling kept told GoesOn c.turns.server c.take_turn.new.server) i.0 i.1 e.turn in
+    let warning = subst (λ (before : Option (List ℕ)). Warns c.args.plan.now.header.node c.args.plan.now.port
+    c.take_turn.new.server c.turns.reminder c.warn_if_due.new.reminder before
+    (g.E.Write.contents c.warn_if_due.new.err)) e.quiet c.warn_if_due.ensures in
     (e.spent.0, e.spent.1, repeats_more i.2 turn, repeats_more i.3 (record { turn = turn; warning = warning }))
 
 pub returns-clause-ok : goal.returns-clause-ok
@@ -33,7 +41,9 @@ returns-in_err-take_turn-clause-err g c =
     let i = c.turns.invariant in
     let tells = g.S.DatagramSocket.is_telling in
     on_err c.from_residual.result (turns_end 281474976710656 c.turns-test.true i.2
-    (subst₂ (λ (kept : Option ReceivedProbe) (told : Option Reported). EndsTurn _ tells c.turns.server c.take_turn.new.server ⊎ TakesTurnWith _ tells kept told LeavesOff c.turns.server c.take_turn.new.server) i.0 i.1 c.in_err-take_turn.ensures.ends))
+    (subst₂ (λ (kept : Option ReceivedProbe) (told : Option Reported). EndsTurn _ tells c.turns.server
+    c.take_turn.new.server ⊎ TakesTurnWith _ tells kept told LeavesOff c.turns.server c.take_turn.new.server) i.0 i.1
+    c.in_err-take_turn.ensures.ends))
 
 pub returns-in_err-take_turn-clause-warned : goal.returns-in_err-take_turn-clause-warned
 returns-in_err-take_turn-clause-warned g c =
@@ -44,5 +54,7 @@ returns-in_err-take_turn-clause-warned g c =
       fewer = c.turns-test.true;
       last = _;
       turns = i.3;
-      ends = subst₂ (λ (kept : Option ReceivedProbe) (told : Option Reported). EndsTurn _ tells c.turns.server c.take_turn.new.server ⊎ TakesTurnWith _ tells kept told LeavesOff c.turns.server c.take_turn.new.server) i.0 i.1 c.in_err-take_turn.ensures.ends;
+      ends = subst₂ (λ (kept : Option ReceivedProbe) (told : Option Reported). EndsTurn _ tells c.turns.server
+          c.take_turn.new.server ⊎ TakesTurnWith _ tells kept told LeavesOff c.turns.server c.take_turn.new.server) i.0
+          i.1 c.in_err-take_turn.ensures.ends;
     })

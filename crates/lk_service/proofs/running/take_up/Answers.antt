@@ -17,6 +17,9 @@ returns-in_err-revived-clause-refused g c =
     if_err_is _ c.from_residual.result left c.from_residual.ensures.1 (record {
       among = (looked.cause.0, looked.cause.1);
       cause = λ honest. looked.refused honest;
-      stays_down = λ honest. record { fits = λ h n whose lawful fit. (looked.fits honest h n whose lawful fit).1; room = looked.room honest };
+      stays_down = λ honest. record {
+        fits = λ h n whose lawful fit. (looked.fits honest h n whose lawful fit).1;
+        room = looked.room honest;
+      };
       comes_back = λ honest h n whose lawful fit. (looked.fits honest h n whose lawful fit).0;
     })

@@ -15,11 +15,23 @@ returns-clause-holds g c =
     let p = c.args.parts.now in
     let q = scene_of c.add_request.new.parts in
     let a = c.in_ok-add_request.ensures.ok in
-    let asks : IsClientRequest a.datagram = record { client = c.args.request.now.client; cluster = p.genesis.cluster; request = c.args.request.now; from = a.from; spelled = a.spelled } in
-    subst (λ z. Holds g.R.MemoryReplica.Shows (disks_by g.R.MemoryReplica.behaves) g.R.MemoryReplica.meaning z q.seats q.sent q.trace) (sym a.adds.genesis)
-    (subst (λ z. Holds g.R.MemoryReplica.Shows (disks_by g.R.MemoryReplica.behaves) g.R.MemoryReplica.meaning p.genesis z q.sent q.trace) (sym a.seats)
-    (subst₂ (λ l k. Holds g.R.MemoryReplica.Shows (disks_by g.R.MemoryReplica.behaves) g.R.MemoryReplica.meaning p.genesis p.seats.items l k) (sym a.adds.sent) (sym a.adds.trace)
-    (asked_holds _ _ _ p.genesis p.seats.items p.sent.items p.trace.items c.requires c.args.request.now a.datagram asks refl)))
+    let asks : IsClientRequest a.datagram =
+    record {
+      client = c.args.request.now.client;
+      cluster = p.genesis.cluster;
+      request = c.args.request.now;
+      from = a.from;
+      spelled = a.spelled;
+    } in
+    subst (λ z. Holds g.R.MemoryReplica.Shows
+    (disks_by g.R.MemoryReplica.behaves) g.R.MemoryReplica.meaning z q.seats q.sent q.trace) (sym a.adds.genesis)
+    (subst (λ z. Holds g.R.MemoryReplica.Shows
+    (disks_by g.R.MemoryReplica.behaves) g.R.MemoryReplica.meaning p.genesis z q.sent q.trace) (sym a.seats)
+    (subst₂ (λ l k. Holds g.R.MemoryReplica.Shows
+    (disks_by g.R.MemoryReplica.behaves) g.R.MemoryReplica.meaning p.genesis p.seats.items l k)
+    (sym a.adds.sent) (sym a.adds.trace)
+    (asked_holds _ _ _ p.genesis p.seats.items p.sent.items p.trace.items c.requires
+    c.args.request.now a.datagram asks refl)))
 
 pub returns-then-not-has_room-clause-err : goal.returns-then-not-has_room-clause-err
 returns-then-not-has_room-clause-err g c =
@@ -31,7 +43,8 @@ pub returns-in_err-add_request-clause-err : goal.returns-in_err-add_request-clau
 returns-in_err-add_request-clause-err g c =
     let u : IsSeatOf c.args.parts.now.seats.items c.in-Some.field-0 c.args.number = search rules in
     let room : HasRoom c.args.parts.now.sent.items = search rules in
-    let k : IsRefused g.R.MemoryReplica.behaves (scene_of c.args.parts.now) (event.Client c.args.number c.args.request.now) WorldMemory (scene_of c.add_request.new.parts) =
+    let k : IsRefused g.R.MemoryReplica.behaves (scene_of c.args.parts.now)
+    (event.Client c.args.number c.args.request.now) WorldMemory (scene_of c.add_request.new.parts) =
     inr (refl, ((u.0.life, (c.in-Some.field-0, u.0, u.1, u.2, refl)), room), c.in_err-add_request.ensures.err) in
     search rules
 

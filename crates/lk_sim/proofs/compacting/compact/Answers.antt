@@ -14,7 +14,8 @@ compact_at-requires-clause-up g c =
 pub returns-in_err-compact_at-clause-err : goal.returns-in_err-compact_at-clause-err
 returns-in_err-compact_at-clause-err g c =
     let u : IsUpAt c.args.parts.now.seats.items c.in_ok-i.i c.args.number = search rules in
-    let k : IsRefused g.R.MemoryReplica.behaves (scene_of c.args.parts.now) (event.Compact c.args.number) WorldMemory (scene_of c.compact_at.new.parts) =
+    let k : IsRefused g.R.MemoryReplica.behaves (scene_of c.args.parts.now) (event.Compact c.args.number) WorldMemory
+    (scene_of c.compact_at.new.parts) =
     inr (refl, (u.1, (c.in_ok-i.i, u.0, u.2, u.3, u.4)), c.in_err-compact_at.ensures.halted c.args.number u) in
     search rules
 

@@ -5,7 +5,8 @@ use Rattle.lk_world_nodes.specs.Seats.{At}
 use Rattle.lk_world_nodes.specs.declared.seat.Life.TheVariants.{Up}
 use Rattle.lk_sim.specs.Worlds.{scene_of}
 use Rattle.lk_sim.proofs.Explaining.{lawful}
-use Rattle.lk_sim.proofs.Doing.{at_same, compacted, packed_cases, packed_none, wanted, since, halted_holds, settled_holds, given_up_holds}
+use Rattle.lk_sim.proofs.Doing.{at_same, compacted, packed_cases, packed_none, wanted, since, halted_holds}
+use Rattle.lk_sim.proofs.Doing.{settled_holds, given_up_holds}
 use Rattle.lk_sim.proofs.compacting.compact_at.Goals as goal
 
 pub returns-in_err-outcome-clause-holds : goal.returns-in_err-outcome-clause-holds
@@ -13,11 +14,15 @@ returns-in_err-outcome-clause-holds g c =
     let p = c.args.parts.now in
     let s = c.index_mut.result.now in
     let at : At p.seats.items c.args.i s = (search rules, sym c.index_mut.ensures.value) in
-    let v = since _ g.R.MemoryReplica.behaves _ p.genesis p.seats.items p.sent.items p.trace.items c.requires.holds c.args.i s c.compact_node.new.seat at c.compact_node.ensures.number None in
+    let v = since _ g.R.MemoryReplica.behaves _ p.genesis p.seats.items p.sent.items p.trace.items c.requires.holds
+    c.args.i s c.compact_node.new.seat at c.compact_node.ensures.number None in
     let u = c.requires.up.1 in
     let k = c.in_err-outcome.ensures.wants u.1 (rw (at_same _ _ _ _ at u.2) u.4) in
-    halted_holds _ g.R.MemoryReplica.behaves _ p.genesis p.seats.items p.sent.items p.trace.items c.requires.holds c.args.i s c.compact_node.new.seat at c.compact_node.ensures.number None c.compact_node.new.seat c.compact_node.ensures.number _ k.down
-    (v.views s.number) (c.in_err-outcome.ensures.falls _ (v.views s.number) (lawful _ _ _ _ _ _ _ v) (v.seated c.args.i s at) _ k.down)
+    halted_holds _ g.R.MemoryReplica.behaves _ p.genesis p.seats.items p.sent.items p.trace.items c.requires.holds
+    c.args.i s c.compact_node.new.seat at c.compact_node.ensures.number None c.compact_node.new.seat
+    c.compact_node.ensures.number _ k.down
+    (v.views s.number) (c.in_err-outcome.ensures.falls _ (v.views s.number) (lawful _ _ _ _ _ _ _ v)
+    (v.seated c.args.i s at) _ k.down)
 
 pub returns-in_err-outcome-clause-halted : goal.returns-in_err-outcome-clause-halted
 returns-in_err-outcome-clause-halted g c n u =
@@ -26,7 +31,9 @@ returns-in_err-outcome-clause-halted g c n u =
     let at : At p.seats.items c.args.i s = (search rules, sym c.index_mut.ensures.value) in
     let up : s.life ≡ Up u.1 = rw (at_same _ _ _ _ at u.2) u.4 in
     let k = c.in_err-outcome.ensures.wants u.1 up in
-    let h = wanted (scene_of p) (LeftByCompacting g.R.MemoryReplica.behaves) (FailsToCompact g.R.MemoryReplica.behaves u.1) c.args.i n s c.compact_node.new.seat at (rw (at_same _ _ _ _ at u.2) u.3) c.compact_node.ensures.number k
+    let h = wanted (scene_of p) (LeftByCompacting g.R.MemoryReplica.behaves)
+    (FailsToCompact g.R.MemoryReplica.behaves u.1) c.args.i n s c.compact_node.new.seat at
+    (rw (at_same _ _ _ _ at u.2) u.3) c.compact_node.ensures.number k
     (u.1, k.ends.0, k.number, up, k.ends.1, k.ends.3, k.want) in
     search rules
 
@@ -35,10 +42,12 @@ returns-in_err-finish_call-clause-holds g c =
     let p = c.args.parts.now in
     let s = c.index_mut.result.now in
     let at : At p.seats.items c.args.i s = (search rules, sym c.index_mut.ensures.value) in
-    let v = since _ g.R.MemoryReplica.behaves _ p.genesis p.seats.items p.sent.items p.trace.items c.requires.holds c.args.i s c.compact_node.new.seat at c.compact_node.ensures.number None in
+    let v = since _ g.R.MemoryReplica.behaves _ p.genesis p.seats.items p.sent.items p.trace.items c.requires.holds
+    c.args.i s c.compact_node.new.seat at c.compact_node.ensures.number None in
     let u = c.requires.up.1 in
     let e = c.in_ok-outcome.ensures in
-    given_up_holds _ g.R.MemoryReplica.behaves _ p.genesis p.seats.items p.sent.items p.trace.items c.requires.holds c.args.i s c.compact_node.new.seat at c.compact_node.ensures.number None _ _
+    given_up_holds _ g.R.MemoryReplica.behaves _ p.genesis p.seats.items p.sent.items p.trace.items c.requires.holds
+    c.args.i s c.compact_node.new.seat at c.compact_node.ensures.number None _ _
     (e.goes _ (v.views s.number) (lawful _ _ _ _ _ _ _ v) (v.seated c.args.i s at))
     (e.falls _ (v.views s.number) (lawful _ _ _ _ _ _ _ v) (v.seated c.args.i s at))
     (packed_cases g.R.MemoryReplica.behaves _ _ _ _ _ _ (e.exact u.1 (rw (at_same _ _ _ _ at u.2) u.4)))
@@ -50,17 +59,20 @@ returns-in_err-finish_call-clause-halted g c n u =
     let s = c.index_mut.result.now in
     let at : At p.seats.items c.args.i s = (search rules, sym c.index_mut.ensures.value) in
     let up : s.life ≡ Up u.1 = rw (at_same _ _ _ _ at u.2) u.4 in
-    absurd (packed_none g.R.MemoryReplica.behaves u.1 _ _ _ _ _ c.in_err-finish_call.ensures.wants (c.in_ok-outcome.ensures.exact u.1 up))
+    absurd (packed_none g.R.MemoryReplica.behaves u.1 _ _ _ _ _ c.in_err-finish_call.ensures.wants
+    (c.in_ok-outcome.ensures.exact u.1 up))
 
 pub returns-clause-holds : goal.returns-clause-holds
 returns-clause-holds g c =
     let p = c.args.parts.now in
     let s = c.index_mut.result.now in
     let at : At p.seats.items c.args.i s = (search rules, sym c.index_mut.ensures.value) in
-    let v = since _ g.R.MemoryReplica.behaves _ p.genesis p.seats.items p.sent.items p.trace.items c.requires.holds c.args.i s c.compact_node.new.seat at c.compact_node.ensures.number None in
+    let v = since _ g.R.MemoryReplica.behaves _ p.genesis p.seats.items p.sent.items p.trace.items c.requires.holds
+    c.args.i s c.compact_node.new.seat at c.compact_node.ensures.number None in
     let u = c.requires.up.1 in
     let e = c.in_ok-outcome.ensures in
-    settled_holds _ g.R.MemoryReplica.behaves _ p.genesis p.seats.items p.sent.items p.trace.items c.requires.holds c.args.i s c.compact_node.new.seat at c.compact_node.ensures.number None _ _
+    settled_holds _ g.R.MemoryReplica.behaves _ p.genesis p.seats.items p.sent.items p.trace.items c.requires.holds
+    c.args.i s c.compact_node.new.seat at c.compact_node.ensures.number None _ _
     (e.goes _ (v.views s.number) (lawful _ _ _ _ _ _ _ v) (v.seated c.args.i s at))
     (e.falls _ (v.views s.number) (lawful _ _ _ _ _ _ _ v) (v.seated c.args.i s at))
     (packed_cases g.R.MemoryReplica.behaves _ _ _ _ _ _ (e.exact u.1 (rw (at_same _ _ _ _ at u.2) u.4)))
@@ -72,5 +84,7 @@ returns-clause-compacted g c n u =
     let s = c.index_mut.result.now in
     let at : At p.seats.items c.args.i s = (search rules, sym c.index_mut.ensures.value) in
     let up : s.life ≡ Up u.1 = rw (at_same _ _ _ _ at u.2) u.4 in
-    compacted g.R.MemoryReplica.behaves (scene_of p) (scene_of c.finish_call.new.parts) _ _ c.args.i n s c.compact_node.new.seat u.1 _ _ _ _ at (rw (at_same _ _ _ _ at u.2) u.3) up c.compact_node.ensures.number
+    compacted g.R.MemoryReplica.behaves (scene_of p)
+    (scene_of c.finish_call.new.parts) _ _ c.args.i n s c.compact_node.new.seat u.1 _ _ _ _ at
+    (rw (at_same _ _ _ _ at u.2) u.3) up c.compact_node.ensures.number
     c.in_ok-finish_call.ensures.ok c.in_ok-outcome.ensures.told (c.in_ok-outcome.ensures.exact u.1 up)

@@ -15,7 +15,8 @@ give-requires-clause-heard g c =
     let p = c.args.parts.now in
     let b = c.in_ok-bytes.ensures in
     let same : c.deref.result.now ≡ c.in_ok-bytes.bytes.items = search rules in
-    heard_delivered _ _ _ p.genesis p.seats.items p.sent.items p.trace.items c.requires c.args.k b.0 b.1 c.of.result (c.of.ensures ∙ same ∙ b.2)
+    heard_delivered _ _ _ p.genesis p.seats.items p.sent.items p.trace.items c.requires c.args.k b.0 b.1 c.of.result
+    (c.of.ensures ∙ same ∙ b.2)
 
 pub returns-in_err-give-clause-err : goal.returns-in_err-give-clause-err
 returns-in_err-give-clause-err g c =
@@ -25,10 +26,17 @@ returns-in_err-give-clause-err g c =
     let u : IsUpAt p.seats.items c.in_ok-i.i n × HasRoom p.sent.items = search rules in
     let b = c.in_ok-bytes.ensures in
     let same : c.deref.result.now ≡ c.in_ok-bytes.bytes.items = search rules in
-    let bytes : c.of.result ≡ d.0.bytes = c.of.ensures ∙ same ∙ b.2 ∙ ap (λ (z : Datagram). z.bytes) (one_datagram p.sent.items c.args.k b.0 d.0 b.1 d.1) in
-    let halted = subst (λ l. IsHalted (LeftBy g.R.MemoryReplica.behaves (Some l)) (scene_of p) (scene_of c.give.new.parts) n) bytes (c.in_err-give.ensures.halted n u.0) in
-    let k : IsRefused g.R.MemoryReplica.behaves (scene_of p) (event.Deliver c.args.k) WorldMemory (scene_of c.give.new.parts) =
-    inr (refl, (d.0, n, d.1, d.2, ((u.0.1, (c.in_ok-i.i, u.0.0, u.0.2, u.0.3, u.0.4)), u.1)), inr (n, d.0, d.1, d.2, halted)) in
+    let bytes : c.of.result ≡ d.0.bytes = c.of.ensures ∙ same ∙ b.2
+    ∙ ap (λ (z : Datagram). z.bytes) (one_datagram p.sent.items c.args.k b.0 d.0 b.1 d.1) in
+    let halted = subst (λ l. IsHalted (LeftBy g.R.MemoryReplica.behaves (Some l)) (scene_of p)
+    (scene_of c.give.new.parts) n) bytes (c.in_err-give.ensures.halted n u.0) in
+    let k : IsRefused g.R.MemoryReplica.behaves (scene_of p) (event.Deliver c.args.k) WorldMemory
+    (scene_of c.give.new.parts) =
+    inr (
+      refl,
+      (d.0, n, d.1, d.2, ((u.0.1, (c.in_ok-i.i, u.0.0, u.0.2, u.0.3, u.0.4)), u.1)),
+      inr (n, d.0, d.1, d.2, halted),
+    ) in
     search rules
 
 pub returns-clause-ok : goal.returns-clause-ok
@@ -39,13 +47,15 @@ returns-clause-ok g c =
     let u : IsUpAt p.seats.items c.in_ok-i.i n × HasRoom p.sent.items = search rules in
     let b = c.in_ok-bytes.ensures in
     let same : c.deref.result.now ≡ c.in_ok-bytes.bytes.items = search rules in
-    let bytes : c.of.result ≡ d.0.bytes = c.of.ensures ∙ same ∙ b.2 ∙ ap (λ (z : Datagram). z.bytes) (one_datagram p.sent.items c.args.k b.0 d.0 b.1 d.1) in (
+    let bytes : c.of.result ≡ d.0.bytes = c.of.ensures ∙ same ∙ b.2
+    ∙ ap (λ (z : Datagram). z.bytes) (one_datagram p.sent.items c.args.k b.0 d.0 b.1 d.1) in (
       (d.0, n, d.1, d.2, ((u.0.1, (c.in_ok-i.i, u.0.0, u.0.2, u.0.3, u.0.4)), u.1)),
       record {
         datagram = d.0;
         stands = d.1;
         node = n;
         bound = d.2;
-        given = subst (λ l. IsGiven g.R.MemoryReplica.behaves (scene_of p) (scene_of c.give.new.parts) n (Some l) []) bytes (c.in_ok-give.ensures.given n u.0);
+        given = subst (λ l. IsGiven g.R.MemoryReplica.behaves (scene_of p) (scene_of c.give.new.parts) n (Some l) [])
+            bytes (c.in_ok-give.ensures.given n u.0);
       },
     )

@@ -20,7 +20,8 @@ give-requires-clause-up g c =
 pub give-requires-clause-heard : goal.give-requires-clause-heard
 give-requires-clause-heard g c =
     let p = c.args.parts.now in
-    heard_asked p.genesis p.sent.items c.make_room.new.trace.items c.of-viewed.result c.in_ok-asked.asked c.in_ok-asked.ensures.ok
+    heard_asked p.genesis p.sent.items c.make_room.new.trace.items c.of-viewed.result
+    c.in_ok-asked.asked c.in_ok-asked.ensures.ok
 
 pub returns-in_err-make_room-clause-err : goal.returns-in_err-make_room-clause-err
 returns-in_err-make_room-clause-err g c =
@@ -29,12 +30,18 @@ returns-in_err-make_room-clause-err g c =
     let l = c.args.bytes.now in
     let u : IsUpAt p.seats.items c.in_ok-i.i n = search rules in
     let room : HasRoom p.sent.items = search rules in
-    let a : Asks l c.in_ok-asked.asked = subst (λ (b : List ℕ). Asks b c.in_ok-asked.asked) c.of-viewed.ensures c.in_ok-asked.ensures.ok in
+    let a : Asks l c.in_ok-asked.asked =
+    subst (λ (b : List ℕ). Asks b c.in_ok-asked.asked) c.of-viewed.ensures c.in_ok-asked.ensures.ok in
     let m = c.in_err-make_room.ensures.memory in
     let new : Scene g.row.R.Denot = record (scene_of p) { trace = c.make_room.new.trace.items } in
     let same : new ≡ scene_of p = ap (λ (t : List Note). record (scene_of p) { trace = t }) c.make_room.ensures.same in
-    err_as _ WorldMemory (λ e. IsNotInjected g.R.MemoryReplica.behaves (scene_of p) n l e new) c.from_residual-in_err-make_room.ensures.1
-    (inr (refl, (((u.1, (c.in_ok-i.i, u.0, u.2, u.3, u.4)), room), asked_unforged l c.in_ok-asked.asked a), inl (same, (m.0, subst (Asks l) m.1 a))))
+    err_as _ WorldMemory (λ e. IsNotInjected g.R.MemoryReplica.behaves (scene_of p) n l e new)
+    c.from_residual-in_err-make_room.ensures.1
+    (inr (
+      refl,
+      (((u.1, (c.in_ok-i.i, u.0, u.2, u.3, u.4)), room), asked_unforged l c.in_ok-asked.asked a),
+      inl (same, (m.0, subst (Asks l) m.1 a)),
+    ))
 
 pub returns-in_err-give-clause-err : goal.returns-in_err-give-clause-err
 returns-in_err-give-clause-err g c =
@@ -44,10 +51,15 @@ returns-in_err-give-clause-err g c =
     let u : IsUpAt p.seats.items c.in_ok-i.i n = search rules in
     let room : HasRoom p.sent.items = search rules in
     let new : Scene g.row.R.Denot = scene_of c.give.new.parts in
-    let a : Asks l c.in_ok-asked.asked = subst (λ (b : List ℕ). Asks b c.in_ok-asked.asked) c.of-viewed.ensures c.in_ok-asked.ensures.ok in
-    let of_it = subst (λ (b : List ℕ). IsHalted (LeftBy g.R.MemoryReplica.behaves (Some b)) (record (scene_of p) { trace = c.make_room.new.trace.items }) new n) c.of-viewed.ensures (c.in_err-give.ensures.halted n u) in
-    let halted = subst (λ (t : List Note). IsHalted (LeftBy g.R.MemoryReplica.behaves (Some l)) (record (scene_of p) { trace = t }) new n) c.make_room.ensures.same of_it in
-    err_as _ WorldMemory (λ e. IsNotInjected g.R.MemoryReplica.behaves (scene_of p) n l e new) c.from_residual-in_err-give.ensures.1
+    let a : Asks l c.in_ok-asked.asked =
+    subst (λ (b : List ℕ). Asks b c.in_ok-asked.asked) c.of-viewed.ensures c.in_ok-asked.ensures.ok in
+    let of_it = subst (λ (b : List ℕ). IsHalted (LeftBy g.R.MemoryReplica.behaves (Some b))
+    (record (scene_of p) { trace = c.make_room.new.trace.items }) new n) c.of-viewed.ensures
+    (c.in_err-give.ensures.halted n u) in
+    let halted = subst (λ (t : List Note). IsHalted (LeftBy g.R.MemoryReplica.behaves (Some l))
+    (record (scene_of p) { trace = t }) new n) c.make_room.ensures.same of_it in
+    err_as _ WorldMemory (λ e. IsNotInjected g.R.MemoryReplica.behaves (scene_of p) n l e new)
+    c.from_residual-in_err-give.ensures.1
     (inr (refl, (((u.1, (c.in_ok-i.i, u.0, u.2, u.3, u.4)), room), asked_unforged l c.in_ok-asked.asked a), inr halted))
 
 pub returns-clause-ok : goal.returns-clause-ok
@@ -55,12 +67,17 @@ returns-clause-ok g c =
     let p = c.args.parts.now in
     let u : IsUpAt p.seats.items c.in_ok-i.i c.args.number = search rules in
     let room : HasRoom p.sent.items = search rules in
-    let a : Asks c.args.bytes.now c.in_ok-asked.asked = subst (λ (b : List ℕ). Asks b c.in_ok-asked.asked) c.of-viewed.ensures c.in_ok-asked.ensures.ok in
-    let of_it = subst (λ (b : List ℕ). IsGiven g.R.MemoryReplica.behaves (record (scene_of p) { trace = c.make_room.new.trace.items }) (scene_of c.give.new.parts) c.args.number (Some b) (asked_note c.in_ok-asked.asked)) c.of-viewed.ensures (c.in_ok-give.ensures.given c.args.number u) in (
+    let a : Asks c.args.bytes.now c.in_ok-asked.asked =
+    subst (λ (b : List ℕ). Asks b c.in_ok-asked.asked) c.of-viewed.ensures c.in_ok-asked.ensures.ok in
+    let of_it = subst (λ (b : List ℕ). IsGiven g.R.MemoryReplica.behaves
+    (record (scene_of p) { trace = c.make_room.new.trace.items }) (scene_of c.give.new.parts) c.args.number (Some b)
+    (asked_note c.in_ok-asked.asked)) c.of-viewed.ensures (c.in_ok-give.ensures.given c.args.number u) in (
       (((u.1, (c.in_ok-i.i, u.0, u.2, u.3, u.4)), room), asked_unforged c.args.bytes.now c.in_ok-asked.asked a),
       record {
         request = c.in_ok-asked.asked;
         asks = a;
-        given = subst (λ (l : List Note). IsGiven g.R.MemoryReplica.behaves (record (scene_of p) { trace = l }) (scene_of c.give.new.parts) c.args.number (Some c.args.bytes.now) (asked_note c.in_ok-asked.asked)) c.make_room.ensures.same of_it;
+        given = subst (λ (l : List Note). IsGiven g.R.MemoryReplica.behaves (record (scene_of p) { trace = l })
+            (scene_of c.give.new.parts) c.args.number (Some c.args.bytes.now) (asked_note c.in_ok-asked.asked))
+            c.make_room.ensures.same of_it;
       },
     )

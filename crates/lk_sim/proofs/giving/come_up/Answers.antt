@@ -6,7 +6,8 @@ use Rattle.lk_world_nodes.specs.Seats.{At}
 use Rattle.lk_world_nodes.specs.declared.seat.Life.TheVariants.{Down}
 use Rattle.lk_sim.specs.Worlds.{scene_of}
 use Rattle.lk_sim.proofs.Explaining.{lawful}
-use Rattle.lk_sim.proofs.Doing.{StopsOn, at_same, back, revived_cases, revived_left, wanted, since, halted_holds, settled_holds, given_up_holds, given_up}
+use Rattle.lk_sim.proofs.Doing.{StopsOn, at_same, back, revived_cases, revived_left, wanted, since, halted_holds}
+use Rattle.lk_sim.proofs.Doing.{settled_holds, given_up_holds, given_up}
 use Rattle.lk_sim.proofs.giving.come_up.Goals as goal
 
 pub returns-in_err-outcome-clause-holds : goal.returns-in_err-outcome-clause-holds
@@ -14,10 +15,14 @@ returns-in_err-outcome-clause-holds g c =
     let p = c.args.parts.now in
     let s = c.index_mut.result.now in
     let at : At p.seats.items c.args.i s = (search rules, sym c.index_mut.ensures.value) in
-    let v = since _ g.R.MemoryReplica.behaves _ p.genesis p.seats.items p.sent.items p.trace.items c.requires.holds c.args.i s c.revive.new.seat at c.revive.ensures.number None in
-    let k = c.in_err-outcome.ensures.wants c.requires.down.1.1 (rw (at_same _ _ _ _ at c.requires.down.1.2) c.requires.down.1.4) in
-    halted_holds _ g.R.MemoryReplica.behaves _ p.genesis p.seats.items p.sent.items p.trace.items c.requires.holds c.args.i s c.revive.new.seat at c.revive.ensures.number None c.revive.new.seat c.revive.ensures.number _ k.down
-    (v.views s.number) (c.in_err-outcome.ensures.falls _ (v.views s.number) refl (lawful _ _ _ _ _ _ _ v) (v.seated c.args.i s at) _ k.down)
+    let v = since _ g.R.MemoryReplica.behaves _ p.genesis p.seats.items p.sent.items p.trace.items c.requires.holds
+    c.args.i s c.revive.new.seat at c.revive.ensures.number None in
+    let k = c.in_err-outcome.ensures.wants c.requires.down.1.1
+    (rw (at_same _ _ _ _ at c.requires.down.1.2) c.requires.down.1.4) in
+    halted_holds _ g.R.MemoryReplica.behaves _ p.genesis p.seats.items p.sent.items p.trace.items c.requires.holds
+    c.args.i s c.revive.new.seat at c.revive.ensures.number None c.revive.new.seat c.revive.ensures.number _ k.down
+    (v.views s.number) (c.in_err-outcome.ensures.falls _ (v.views s.number) refl (lawful _ _ _ _ _ _ _ v)
+    (v.seated c.args.i s at) _ k.down)
 
 pub returns-in_err-outcome-clause-halted : goal.returns-in_err-outcome-clause-halted
 returns-in_err-outcome-clause-halted g c n d =
@@ -27,8 +32,15 @@ returns-in_err-outcome-clause-halted g c n d =
     let is : s.number ≡ n = rw (at_same _ _ _ _ at d.2) d.3 in
     let down : s.life ≡ Down d.1 = rw (at_same _ _ _ _ at d.2) d.4 in
     let k = c.in_err-outcome.ensures.wants d.1 down in
-    let h = wanted (scene_of p) (LeftByRevival g.R.MemoryReplica.behaves (header_of p.genesis n)) (StaysDown g.R.MemoryReplica.behaves d.1 (header_of p.genesis s.number)) c.args.i n s c.revive.new.seat at is c.revive.ensures.number k
-    (d.1, Err (k.number, k.left), down, subst (λ z. g.R.MemoryReplica.behaves.Revives d.1 (header_of p.genesis z) (Err (k.number, k.left))) is k.ends.0, (refl, k.want)) in
+    let h = wanted (scene_of p) (LeftByRevival g.R.MemoryReplica.behaves (header_of p.genesis n))
+    (StaysDown g.R.MemoryReplica.behaves d.1 (header_of p.genesis s.number)) c.args.i n s c.revive.new.seat at is
+    c.revive.ensures.number k (
+      d.1,
+      Err (k.number, k.left),
+      down,
+      subst (λ z. g.R.MemoryReplica.behaves.Revives d.1 (header_of p.genesis z) (Err (k.number, k.left))) is k.ends.0,
+      (refl, k.want),
+    ) in
     search rules
 
 pub returns-in_err-finish_call-clause-holds : goal.returns-in_err-finish_call-clause-holds
@@ -36,10 +48,12 @@ returns-in_err-finish_call-clause-holds g c =
     let p = c.args.parts.now in
     let s = c.index_mut.result.now in
     let at : At p.seats.items c.args.i s = (search rules, sym c.index_mut.ensures.value) in
-    let v = since _ g.R.MemoryReplica.behaves _ p.genesis p.seats.items p.sent.items p.trace.items c.requires.holds c.args.i s c.revive.new.seat at c.revive.ensures.number None in
+    let v = since _ g.R.MemoryReplica.behaves _ p.genesis p.seats.items p.sent.items p.trace.items c.requires.holds
+    c.args.i s c.revive.new.seat at c.revive.ensures.number None in
     let d = c.requires.down.1 in
     let e = c.in_ok-outcome.ensures in
-    given_up_holds _ g.R.MemoryReplica.behaves _ p.genesis p.seats.items p.sent.items p.trace.items c.requires.holds c.args.i s c.revive.new.seat at c.revive.ensures.number None _ _
+    given_up_holds _ g.R.MemoryReplica.behaves _ p.genesis p.seats.items p.sent.items p.trace.items c.requires.holds
+    c.args.i s c.revive.new.seat at c.revive.ensures.number None _ _
     (e.goes _ (v.views s.number) refl (lawful _ _ _ _ _ _ _ v) (v.seated c.args.i s at))
     (e.falls _ (v.views s.number) refl (lawful _ _ _ _ _ _ _ v) (v.seated c.args.i s at))
     (revived_cases g.R.MemoryReplica.behaves _ _ _ _ _ _ _ (e.exact d.1 (rw (at_same _ _ _ _ at d.2) d.4)))
@@ -52,8 +66,13 @@ returns-in_err-finish_call-clause-halted g c n d =
     let at : At p.seats.items c.args.i s = (search rules, sym c.index_mut.ensures.value) in
     let is : s.number ≡ n = rw (at_same _ _ _ _ at d.2) d.3 in
     let down : s.life ≡ Down d.1 = rw (at_same _ _ _ _ at d.2) d.4 in
-    let k = given_up g.R.MemoryReplica.behaves (scene_of p) (scene_of c.finish_call.new.parts) (LeftByRevival g.R.MemoryReplica.behaves (header_of p.genesis n)) _ _ c.args.i n s c.revive.new.seat at (rw (at_same _ _ _ _ at d.2) d.3) c.revive.ensures.number
-    (subst (λ z. StopsOn g.R.MemoryReplica.behaves (LeftByRevival g.R.MemoryReplica.behaves (header_of p.genesis z) s.life) c.revive.new.seat.life) is (revived_left g.R.MemoryReplica.behaves d.1 _ _ _ _ _ _ _ c.in_err-finish_call.ensures.wants down (c.in_ok-outcome.ensures.exact d.1 down))) c.in_err-finish_call.ensures.err in
+    let k = given_up g.R.MemoryReplica.behaves (scene_of p) (scene_of c.finish_call.new.parts)
+    (LeftByRevival g.R.MemoryReplica.behaves (header_of p.genesis n)) _ _ c.args.i n s c.revive.new.seat at
+    (rw (at_same _ _ _ _ at d.2) d.3) c.revive.ensures.number
+    (subst (λ z. StopsOn g.R.MemoryReplica.behaves
+    (LeftByRevival g.R.MemoryReplica.behaves (header_of p.genesis z) s.life) c.revive.new.seat.life) is
+    (revived_left g.R.MemoryReplica.behaves d.1 _ _ _ _ _ _ _ c.in_err-finish_call.ensures.wants down
+    (c.in_ok-outcome.ensures.exact d.1 down))) c.in_err-finish_call.ensures.err in
     search rules
 
 pub returns-clause-holds : goal.returns-clause-holds
@@ -61,10 +80,12 @@ returns-clause-holds g c =
     let p = c.args.parts.now in
     let s = c.index_mut.result.now in
     let at : At p.seats.items c.args.i s = (search rules, sym c.index_mut.ensures.value) in
-    let v = since _ g.R.MemoryReplica.behaves _ p.genesis p.seats.items p.sent.items p.trace.items c.requires.holds c.args.i s c.revive.new.seat at c.revive.ensures.number None in
+    let v = since _ g.R.MemoryReplica.behaves _ p.genesis p.seats.items p.sent.items p.trace.items c.requires.holds
+    c.args.i s c.revive.new.seat at c.revive.ensures.number None in
     let d = c.requires.down.1 in
     let e = c.in_ok-outcome.ensures in
-    settled_holds _ g.R.MemoryReplica.behaves _ p.genesis p.seats.items p.sent.items p.trace.items c.requires.holds c.args.i s c.revive.new.seat at c.revive.ensures.number None _ _
+    settled_holds _ g.R.MemoryReplica.behaves _ p.genesis p.seats.items p.sent.items p.trace.items c.requires.holds
+    c.args.i s c.revive.new.seat at c.revive.ensures.number None _ _
     (e.goes _ (v.views s.number) refl (lawful _ _ _ _ _ _ _ v) (v.seated c.args.i s at))
     (e.falls _ (v.views s.number) refl (lawful _ _ _ _ _ _ _ v) (v.seated c.args.i s at))
     (revived_cases g.R.MemoryReplica.behaves _ _ _ _ _ _ _ (e.exact d.1 (rw (at_same _ _ _ _ at d.2) d.4)))
@@ -75,9 +96,15 @@ returns-clause-back g c n d =
     let p = c.args.parts.now in
     let s = c.index_mut.result.now in
     let at : At p.seats.items c.args.i s = (search rules, sym c.index_mut.ensures.value) in
-    let v = since _ g.R.MemoryReplica.behaves _ p.genesis p.seats.items p.sent.items p.trace.items c.requires.holds c.args.i s c.revive.new.seat at c.revive.ensures.number None in
-    let goes = c.in_ok-outcome.ensures.goes _ (v.views s.number) refl (lawful _ _ _ _ _ _ _ v) (v.seated c.args.i s at) in
+    let v = since _ g.R.MemoryReplica.behaves _ p.genesis p.seats.items p.sent.items p.trace.items c.requires.holds
+    c.args.i s c.revive.new.seat at c.revive.ensures.number None in
+    let goes = c.in_ok-outcome.ensures.goes _ (v.views s.number) refl (lawful _ _ _ _ _ _ _ v)
+    (v.seated c.args.i s at) in
     let is : s.number ≡ n = rw (at_same _ _ _ _ at d.2) d.3 in
     let down : s.life ≡ Down d.1 = rw (at_same _ _ _ _ at d.2) d.4 in
-    back g.R.MemoryReplica.behaves (scene_of p) (scene_of c.finish_call.new.parts) _ _ c.args.i n s c.revive.new.seat d.1 _ _ _ _ at is down c.revive.ensures.number (λ q up x e. ((goes q up).goes.noted x e).0)
-    c.in_ok-finish_call.ensures.ok (c.in_ok-outcome.ensures.told _ (v.views s.number) refl (lawful _ _ _ _ _ _ _ v) (v.seated c.args.i s at)) (c.in_ok-outcome.ensures.exact d.1 down)
+    back g.R.MemoryReplica.behaves (scene_of p)
+    (scene_of c.finish_call.new.parts) _ _ c.args.i n s c.revive.new.seat d.1 _ _ _ _ at is down
+    c.revive.ensures.number (λ q up x e. ((goes q up).goes.noted x e).0)
+    c.in_ok-finish_call.ensures.ok
+    (c.in_ok-outcome.ensures.told _ (v.views s.number) refl (lawful _ _ _ _ _ _ _ v) (v.seated c.args.i s at))
+    (c.in_ok-outcome.ensures.exact d.1 down)

@@ -12,7 +12,8 @@ use Rattle.lk_world_nodes.specs.declared.seat.Life.TheVariants.{Up}
 use Rattle.lk_sim.specs.Worlds.{scene_of}
 use Rattle.lk_sim.proofs.Explaining.{lawful}
 use Rattle.lk_sim.proofs.Doing.{at_same, wanted, given_up}
-use Rattle.lk_sim.proofs.GivenTogether.{all_heard, down_holds, settled_steps_hold, given_up_still, given_together, group_left, all_own}
+use Rattle.lk_sim.proofs.GivenTogether.{all_heard, down_holds, settled_steps_hold, given_up_still, given_together}
+use Rattle.lk_sim.proofs.GivenTogether.{group_left, all_own}
 use Rattle.lk_sim.proofs.group.give_all.Goals as goal
 
 pub returns-in_err-outcome-clause-holds : goal.returns-in_err-outcome-clause-holds
@@ -24,9 +25,12 @@ returns-in_err-outcome-clause-holds g c =
     let b = g.R.MemoryReplica.behaves in
     let u = c.requires.up.1 in
     let k = c.in_err-outcome.ensures.wants u.1 (rw (at_same _ _ _ _ at u.2) u.4) in
-    let left = c.step_all.ensures.leaves _ (w.views s.number) (lawful _ _ _ _ _ _ _ w) (w.seated c.args.i s at) (all_heard _ _ _ p.genesis p.seats.items p.sent.items p.trace.items w _ c.requires.heard) in
-    down_holds _ b _ p.genesis p.seats.items p.sent.items p.trace.items w c.args.i s c.step_all.new.seat at c.step_all.ensures.number c.step_all.new.seat c.step_all.ensures.number _ k.down
-    (subst (λ (l : Life g.row.R.Denot). DisksFit g.R.MemoryReplica.meaning (happened p.genesis p.sent.items p.trace.items) c.step_all.new.seat.number (disk_of (device_in b l))) k.down left.0)
+    let left = c.step_all.ensures.leaves _ (w.views s.number) (lawful _ _ _ _ _ _ _ w) (w.seated c.args.i s at)
+    (all_heard _ _ _ p.genesis p.seats.items p.sent.items p.trace.items w _ c.requires.heard) in
+    down_holds _ b _ p.genesis p.seats.items p.sent.items p.trace.items w c.args.i s c.step_all.new.seat at
+    c.step_all.ensures.number c.step_all.new.seat c.step_all.ensures.number _ k.down
+    (subst (λ (l : Life g.row.R.Denot). DisksFit g.R.MemoryReplica.meaning
+    (happened p.genesis p.sent.items p.trace.items) c.step_all.new.seat.number (disk_of (device_in b l))) k.down left.0)
     (subst (λ (l : Life g.row.R.Denot). AreShort (disk_of (device_in b l))) k.down left.1)
 
 pub returns-in_err-outcome-clause-halted : goal.returns-in_err-outcome-clause-halted
@@ -37,7 +41,9 @@ returns-in_err-outcome-clause-halted g c n u =
     let up : s.life ≡ Up u.1 = rw (at_same _ _ _ _ at u.2) u.4 in
     let given = map heard_by c.args.inputs.items in
     let k = c.in_err-outcome.ensures.wants u.1 up in
-    let h = wanted (scene_of p) (LeftByGroup g.R.MemoryReplica.behaves given) (BreaksTogether g.R.MemoryReplica.behaves u.1 given) c.args.i n s c.step_all.new.seat at (rw (at_same _ _ _ _ at u.2) u.3) c.step_all.ensures.number k
+    let h = wanted (scene_of p) (LeftByGroup g.R.MemoryReplica.behaves given)
+    (BreaksTogether g.R.MemoryReplica.behaves u.1 given) c.args.i n s c.step_all.new.seat at
+    (rw (at_same _ _ _ _ at u.2) u.3) c.step_all.ensures.number k
     (u.1, k.ends.0, Err k.number, up, k.ends.1, k.ends.3, k.want) in
     search rules
 
@@ -47,8 +53,11 @@ returns-in_err-finish_group-clause-holds g c =
     let s = c.index_mut.result.now in
     let at : At p.seats.items c.args.i s = (search rules, sym c.index_mut.ensures.value) in
     let w = c.requires.holds in
-    let left = c.step_all.ensures.leaves _ (w.views s.number) (lawful _ _ _ _ _ _ _ w) (w.seated c.args.i s at) (all_heard _ _ _ p.genesis p.seats.items p.sent.items p.trace.items w _ c.requires.heard) in
-    given_up_still _ g.R.MemoryReplica.behaves _ p.genesis p.seats.items p.sent.items p.trace.items w c.args.i s c.step_all.new.seat at c.step_all.ensures.number p.ended [] [] None None (scene_of c.finish_group.new.parts) left.0 left.1 c.in_err-finish_group.ensures.err
+    let left = c.step_all.ensures.leaves _ (w.views s.number) (lawful _ _ _ _ _ _ _ w) (w.seated c.args.i s at)
+    (all_heard _ _ _ p.genesis p.seats.items p.sent.items p.trace.items w _ c.requires.heard) in
+    given_up_still _ g.R.MemoryReplica.behaves _ p.genesis p.seats.items p.sent.items p.trace.items w c.args.i s
+    c.step_all.new.seat at c.step_all.ensures.number p.ended [] [] None None
+    (scene_of c.finish_group.new.parts) left.0 left.1 c.in_err-finish_group.ensures.err
 
 pub returns-in_err-finish_group-clause-halted : goal.returns-in_err-finish_group-clause-halted
 returns-in_err-finish_group-clause-halted g c n u =
@@ -57,8 +66,11 @@ returns-in_err-finish_group-clause-halted g c n u =
     let at : At p.seats.items c.args.i s = (search rules, sym c.index_mut.ensures.value) in
     let up : s.life ≡ Up u.1 = rw (at_same _ _ _ _ at u.2) u.4 in
     let b = g.R.MemoryReplica.behaves in
-    let k = given_up b (scene_of p) (scene_of c.finish_group.new.parts) (LeftByGroup b (map heard_by c.args.inputs.items)) _ _ c.args.i n s c.step_all.new.seat at (rw (at_same _ _ _ _ at u.2) u.3) c.step_all.ensures.number
-    (group_left b g.met.R.MemoryReplica.traps_alone u.1 _ _ _ _ _ _ _ c.in_err-finish_group.ensures.wants up (c.in_ok-outcome.ensures.exact u.1 up)) c.in_err-finish_group.ensures.err in
+    let k = given_up b (scene_of p) (scene_of c.finish_group.new.parts)
+    (LeftByGroup b (map heard_by c.args.inputs.items)) _ _ c.args.i n s c.step_all.new.seat at
+    (rw (at_same _ _ _ _ at u.2) u.3) c.step_all.ensures.number
+    (group_left b g.met.R.MemoryReplica.traps_alone u.1 _ _ _ _ _ _ _ c.in_err-finish_group.ensures.wants up
+    (c.in_ok-outcome.ensures.exact u.1 up)) c.in_err-finish_group.ensures.err in
     search rules
 
 pub returns-clause-holds : goal.returns-clause-holds
@@ -70,9 +82,13 @@ returns-clause-holds g c =
     let u = c.requires.up.1 in
     let up : s.life ≡ Up u.1 = rw (at_same _ _ _ _ at u.2) u.4 in
     let f = (w.seated c.args.i s at).up u.1 up in
-    let left = c.step_all.ensures.leaves _ (w.views s.number) (lawful _ _ _ _ _ _ _ w) (w.seated c.args.i s at) (all_heard _ _ _ p.genesis p.seats.items p.sent.items p.trace.items w _ c.requires.heard) in
-    settled_steps_hold _ g.R.MemoryReplica.behaves _ p.genesis p.seats.items p.sent.items p.trace.items w c.args.i s c.step_all.new.seat at c.step_all.ensures.number p.ended _ _ _ _ (scene_of c.finish_group.new.parts) u.1 _ _ _ up c.requires.heard
-    (c.in_ok-outcome.ensures.goes u.1 up p.genesis f.holding f.shown) left.0 left.1 (c.in_ok-outcome.ensures.exact u.1 up) c.in_ok-finish_group.ensures.ok
+    let left = c.step_all.ensures.leaves _ (w.views s.number) (lawful _ _ _ _ _ _ _ w) (w.seated c.args.i s at)
+    (all_heard _ _ _ p.genesis p.seats.items p.sent.items p.trace.items w _ c.requires.heard) in
+    settled_steps_hold _ g.R.MemoryReplica.behaves _ p.genesis p.seats.items p.sent.items p.trace.items w c.args.i s
+    c.step_all.new.seat at c.step_all.ensures.number p.ended _ _ _ _ (scene_of c.finish_group.new.parts) u.1
+    _ _ _ up c.requires.heard
+    (c.in_ok-outcome.ensures.goes u.1 up p.genesis f.holding f.shown) left.0 left.1
+    (c.in_ok-outcome.ensures.exact u.1 up) c.in_ok-finish_group.ensures.ok
 
 pub returns-clause-given : goal.returns-clause-given
 returns-clause-given g c n u =
@@ -83,6 +99,10 @@ returns-clause-given g c n u =
     let up : s.life ≡ Up u.1 = rw (at_same _ _ _ _ at u.2) u.4 in
     let f = (w.seated c.args.i s at).up u.1 up in
     let k = c.in_ok-finish_group.ensures.ok in
-    given_together g.R.MemoryReplica.behaves (scene_of p) (scene_of c.finish_group.new.parts) _ _ c.args.i n s c.step_all.new.seat u.1 _ _ _ _ _ at (rw (at_same _ _ _ _ at u.2) u.3) up c.step_all.ensures.number
-    (λ q. all_own _ _ _ p.genesis p.seats.items p.sent.items p.trace.items k.notes w c.args.i s at _ u.1 q.after _ _ q.all up c.requires.heard (c.in_ok-outcome.ensures.goes u.1 up p.genesis f.holding f.shown q.after q.up) k.tells)
+    given_together g.R.MemoryReplica.behaves (scene_of p)
+    (scene_of c.finish_group.new.parts) _ _ c.args.i n s c.step_all.new.seat u.1 _ _ _ _ _ at
+    (rw (at_same _ _ _ _ at u.2) u.3) up c.step_all.ensures.number
+    (λ q. all_own _ _ _ p.genesis p.seats.items p.sent.items p.trace.items k.notes w c.args.i s at _ u.1 q.after
+    _ _ q.all up c.requires.heard
+    (c.in_ok-outcome.ensures.goes u.1 up p.genesis f.holding f.shown q.after q.up) k.tells)
     k c.in_ok-outcome.ensures.told (c.in_ok-outcome.ensures.exact u.1 up)

@@ -21,8 +21,10 @@ give_all-requires-clause-heard g c =
     let p = c.args.parts.now in
     let n = c.args.number in
     let turns = c.args.turns.now in
-    let for_it = subst (λ (l : List Datagram). AreFor l n turns) c.deref-2.ensures.value (c.are_for.ensures.0 (cc c.if-not-are_for.false)) in
-    let same : map heard_by c.in_ok-inputs.inputs.items ≡ map (given_by p.sent.items) turns = c.in_ok-inputs.ensures.ok ∙ ap (map copied) c.deref-4.ensures.value ∙ c.in_ok-bytes.ensures.ok in
+    let for_it = subst (λ (l : List Datagram). AreFor l n turns) c.deref-2.ensures.value
+    (c.are_for.ensures.0 (cc c.if-not-are_for.false)) in
+    let same : map heard_by c.in_ok-inputs.inputs.items ≡ map (given_by p.sent.items) turns = c.in_ok-inputs.ensures.ok
+    ∙ ap (map copied) c.deref-4.ensures.value ∙ c.in_ok-bytes.ensures.ok in
     were_brought p.sent.items n turns c.in_ok-inputs.inputs.items for_it same
 
 pub returns-in_err-give_all-clause-err : goal.returns-in_err-give_all-clause-err
@@ -32,11 +34,16 @@ returns-in_err-give_all-clause-err g c =
     let turns = c.args.turns.now in
     let b = g.R.MemoryReplica.behaves in
     let u : IsUpAt p.seats.items c.in_ok-i.i n = search rules in
-    let for_it = subst (λ (l : List Datagram). AreFor l n turns) c.deref-2.ensures.value (c.are_for.ensures.0 (cc c.if-not-are_for.false)) in
-    let room = subst (λ (l : List Datagram). HasRoom l) c.deref-3.ensures.value (c.has_room.ensures.0 (cc c.if-not-has_room.false)) in
-    let same : map heard_by c.in_ok-inputs.inputs.items ≡ map (given_by p.sent.items) turns = c.in_ok-inputs.ensures.ok ∙ ap (map copied) c.deref-4.ensures.value ∙ c.in_ok-bytes.ensures.ok in
-    let halted = subst (λ (l : List (Option (List _))). IsHalted (LeftByGroup b l) (scene_of p) (scene_of c.give_all.new.parts) n) same (c.in_err-give_all.ensures.halted n u) in
-    err_as _ WorldMemory (λ e. IsNotGrouped b (scene_of p) n turns e (scene_of c.give_all.new.parts)) c.from_residual-in_err-give_all.ensures.1
+    let for_it = subst (λ (l : List Datagram). AreFor l n turns) c.deref-2.ensures.value
+    (c.are_for.ensures.0 (cc c.if-not-are_for.false)) in
+    let room = subst (λ (l : List Datagram). HasRoom l) c.deref-3.ensures.value
+    (c.has_room.ensures.0 (cc c.if-not-has_room.false)) in
+    let same : map heard_by c.in_ok-inputs.inputs.items ≡ map (given_by p.sent.items) turns = c.in_ok-inputs.ensures.ok
+    ∙ ap (map copied) c.deref-4.ensures.value ∙ c.in_ok-bytes.ensures.ok in
+    let halted = subst (λ (l : List (Option (List _))). IsHalted (LeftByGroup b l) (scene_of p)
+    (scene_of c.give_all.new.parts) n) same (c.in_err-give_all.ensures.halted n u) in
+    err_as _ WorldMemory (λ e. IsNotGrouped b (scene_of p) n turns e (scene_of c.give_all.new.parts))
+    c.from_residual-in_err-give_all.ensures.1
     (inr (refl, (((u.1, (c.in_ok-i.i, u.0, u.2, u.3, u.4)), room), for_it), inr halted))
 
 pub returns-clause-ok : goal.returns-clause-ok
@@ -46,7 +53,13 @@ returns-clause-ok g c =
     let turns = c.args.turns.now in
     let b = g.R.MemoryReplica.behaves in
     let u : IsUpAt p.seats.items c.in_ok-i.i n = search rules in
-    let for_it = subst (λ (l : List Datagram). AreFor l n turns) c.deref-2.ensures.value (c.are_for.ensures.0 (cc c.if-not-are_for.false)) in
-    let room = subst (λ (l : List Datagram). HasRoom l) c.deref-3.ensures.value (c.has_room.ensures.0 (cc c.if-not-has_room.false)) in
-    let same : map heard_by c.in_ok-inputs.inputs.items ≡ map (given_by p.sent.items) turns = c.in_ok-inputs.ensures.ok ∙ ap (map copied) c.deref-4.ensures.value ∙ c.in_ok-bytes.ensures.ok in
-    ((((u.1, (c.in_ok-i.i, u.0, u.2, u.3, u.4)), room), for_it), subst (λ (l : List (Option (List _))). IsGivenTogether b (scene_of p) (scene_of c.give_all.new.parts) n l) same (c.in_ok-give_all.ensures.given n u))
+    let for_it = subst (λ (l : List Datagram). AreFor l n turns) c.deref-2.ensures.value
+    (c.are_for.ensures.0 (cc c.if-not-are_for.false)) in
+    let room = subst (λ (l : List Datagram). HasRoom l) c.deref-3.ensures.value
+    (c.has_room.ensures.0 (cc c.if-not-has_room.false)) in
+    let same : map heard_by c.in_ok-inputs.inputs.items ≡ map (given_by p.sent.items) turns = c.in_ok-inputs.ensures.ok
+    ∙ ap (map copied) c.deref-4.ensures.value ∙ c.in_ok-bytes.ensures.ok in (
+      (((u.1, (c.in_ok-i.i, u.0, u.2, u.3, u.4)), room), for_it),
+      subst (λ (l : List (Option (List _))). IsGivenTogether b (scene_of p) (scene_of c.give_all.new.parts) n l) same
+          (c.in_ok-give_all.ensures.given n u),
+    )

@@ -17,8 +17,12 @@ returns-in-Inject-clause-err g c =
     let n = c.in-Inject.number in
     let same : c.deref-in-Inject.result.now ≡ c.in-Inject.bytes.items = c.deref-in-Inject.ensures.value in
     rw c.in-Inject.is
-    (if_err _ _ c.inject.result (λ e k. injected_refused g.R.MemoryReplica.behaves (scene_of p) (scene_of c.inject.new.parts) n c.in-Inject.bytes e k)
-    (subst (λ (l : List ℕ). IfErr c.inject.result (λ e. IsNotInjected g.R.MemoryReplica.behaves (scene_of p) n l e (scene_of c.inject.new.parts))) same c.inject.ensures.err))
+    (if_err _ _ c.inject.result
+    (λ e k. injected_refused g.R.MemoryReplica.behaves (scene_of p)
+    (scene_of c.inject.new.parts) n c.in-Inject.bytes e k)
+    (subst (λ (l : List ℕ). IfErr c.inject.result
+    (λ e. IsNotInjected g.R.MemoryReplica.behaves (scene_of p) n l e (scene_of c.inject.new.parts)))
+    same c.inject.ensures.err))
 
 pub returns-in-Group-clause-ok : goal.returns-in-Group-clause-ok
 returns-in-Group-clause-ok g c =
@@ -27,7 +31,10 @@ returns-in-Group-clause-ok g c =
     let b = g.R.MemoryReplica.behaves in
     let same : c.deref.result.now ≡ c.in-Group.turns.items = c.deref.ensures.value in
     rw c.in-Group.is
-    (subst (λ (l : List Turn). OnOk c.group.result (MayGroup (scene_of p) n l × IsGivenTogether b (scene_of p) (scene_of c.group.new.parts) n (map (given_by p.sent.items) l))) same c.group.ensures.ok)
+    (subst (λ (l : List Turn). OnOk c.group.result
+    (MayGroup (scene_of p) n l
+    × IsGivenTogether b (scene_of p) (scene_of c.group.new.parts) n (map (given_by p.sent.items) l))) same
+    c.group.ensures.ok)
 
 pub returns-in-Group-clause-err : goal.returns-in-Group-clause-err
 returns-in-Group-clause-err g c =
@@ -35,8 +42,11 @@ returns-in-Group-clause-err g c =
     let n = c.in-Group.number in
     let same : c.deref.result.now ≡ c.in-Group.turns.items = c.deref.ensures.value in
     rw c.in-Group.is
-    (if_err _ _ c.group.result (λ e k. group_refused g.R.MemoryReplica.behaves (scene_of p) (scene_of c.group.new.parts) n c.in-Group.turns e k)
-    (subst (λ (l : List Turn). IfErr c.group.result (λ e. IsNotGrouped g.R.MemoryReplica.behaves (scene_of p) n l e (scene_of c.group.new.parts))) same c.group.ensures.err))
+    (if_err _ _ c.group.result
+    (λ e k. group_refused g.R.MemoryReplica.behaves (scene_of p) (scene_of c.group.new.parts) n c.in-Group.turns e k)
+    (subst (λ (l : List Turn). IfErr c.group.result
+    (λ e. IsNotGrouped g.R.MemoryReplica.behaves (scene_of p) n l e (scene_of c.group.new.parts)))
+    same c.group.ensures.err))
 
 pub returns-in-Tick-clause-ok : goal.returns-in-Tick-clause-ok
 returns-in-Tick-clause-ok g c = search rules

@@ -8,7 +8,9 @@ use Rattle.lk_sim.proofs.happening.happen_all.Goals as goal
 pub returns-in-Err-clause-runs : goal.returns-in-Err-clause-runs
 returns-in-Err-clause-runs g c =
     let i = c.events.i in
-    let at : slice_get c.args.events.now i ≡ Some c.index-events-i.result = slice_get_read c.args.events.now (length c.args.events.now) i c.index-events-i.result refl (search rules) (search rules) in
+    let at : slice_get c.args.events.now i ≡ Some c.index-events-i.result =
+    slice_get_read c.args.events.now (length c.args.events.now) i c.index-events-i.result refl
+    (search rules) (search rules) in
     record {
       last = scene_of c.events.parts;
       passes = c.events.invariant.1;
@@ -18,10 +20,15 @@ returns-in-Err-clause-runs g c =
 pub events-preserved : goal.events-preserved
 events-preserved g c =
     let i = c.events.i in
-    let at : slice_get c.args.events.now i ≡ Some c.index-events-i.result = slice_get_read c.args.events.now (length c.args.events.now) i c.index-events-i.result refl (search rules) (search rules) in (
+    let at : slice_get c.args.events.now i ≡ Some c.index-events-i.result =
+    slice_get_read c.args.events.now (length c.args.events.now) i c.index-events-i.result refl
+    (search rules) (search rules) in (
       c.happen.ensures.holds,
-      subst (λ k. Passes g.R.MemoryReplica.behaves (take k c.args.events.now) (scene_of c.args.parts.now) (scene_of c.happen.new.parts)) (sym (add-one i))
-          (passes_next g.R.MemoryReplica.behaves c.args.events.now i c.index-events-i.result (scene_of c.args.parts.now) (scene_of c.events.parts) (scene_of c.happen.new.parts) at c.events.invariant.1 (search rules)),
+      subst (λ k. Passes g.R.MemoryReplica.behaves (take k c.args.events.now) (scene_of c.args.parts.now)
+          (scene_of c.happen.new.parts)) (sym (add-one i))
+          (passes_next g.R.MemoryReplica.behaves c.args.events.now i c.index-events-i.result
+          (scene_of c.args.parts.now) (scene_of c.events.parts)
+          (scene_of c.happen.new.parts) at c.events.invariant.1 (search rules)),
     )
 
 pub returns-clause-runs : goal.returns-clause-runs
@@ -29,6 +36,7 @@ returns-clause-runs g c =
     let all : c.events.i ≡ length c.args.events.now = search rules in
     record {
       last = scene_of c.events.parts;
-      passes = subst (λ k. Passes g.R.MemoryReplica.behaves (take k c.args.events.now) (scene_of c.args.parts.now) (scene_of c.events.parts)) all c.events.invariant.1;
+      passes = subst (λ k. Passes g.R.MemoryReplica.behaves (take k c.args.events.now) (scene_of c.args.parts.now)
+          (scene_of c.events.parts)) all c.events.invariant.1;
       stops = (refl, refl);
     }

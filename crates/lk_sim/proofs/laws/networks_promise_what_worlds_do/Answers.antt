@@ -5,4 +5,5 @@ use Rattle.lk_sim.proofs.laws.networks_promise_what_worlds_do.Goals as goal
 pub returns : goal.returns
 returns g c genesis scenes last all =
     let r = g.R.MemoryReplica in
-    promises_of r.Shows r.behaves r.whole r.meaning g.met.R.MemoryReplica.sums_up last (network_holds r.Shows (disks_by r.behaves) r.meaning genesis scenes last all)
+    promises_of r.Shows r.behaves r.whole r.meaning g.met.R.MemoryReplica.sums_up last
+    (network_holds r.Shows (disks_by r.behaves) r.meaning genesis scenes last all)

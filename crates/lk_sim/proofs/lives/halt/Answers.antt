@@ -12,7 +12,8 @@ returns-clause-holds g c =
     let w = c.requires in
     let s = c.index_mut.result.now in
     let at : At p.seats.items c.in_ok-i.i s = (search rules, sym c.index_mut.ensures.value) in
-    went_down _ _ _ p.genesis p.seats.items p.sent.items p.trace.items w c.in_ok-i.i s c.stop.new.seat at c.stop.ensures.number
+    went_down _ _ _ p.genesis p.seats.items p.sent.items p.trace.items w c.in_ok-i.i s
+    c.stop.new.seat at c.stop.ensures.number
     (c.stop.ensures.fits _ (w.views s.number) (w.seated c.in_ok-i.i s at))
 
 pub returns-clause-ok : goal.returns-clause-ok
@@ -31,7 +32,9 @@ returns-clause-ok g c =
         up = u.4;
         next = c.stop.new.seat;
         turns = record { place = c.in_ok-i.i; at = u.2; number = rw same c.stop.ensures.number; seats = refl };
-        down = c.stop.ensures.stopped ∙ ap (λ (z : Life g.row.R.Denot). Down (stopped_on c.args.x c.args.y (device_in g.R.MemoryReplica.behaves z))) up;
+        down = c.stop.ensures.stopped
+            ∙ ap (λ (z : Life g.row.R.Denot). Down
+            (stopped_on c.args.x c.args.y (device_in g.R.MemoryReplica.behaves z))) up;
         adds = record { genesis = refl; sent = sym (append-nil _); trace = sym (append-nil _) };
         ended = refl;
       },

@@ -14,7 +14,8 @@ come_up-requires-clause-down g c =
 pub returns-in_err-come_up-clause-err : goal.returns-in_err-come_up-clause-err
 returns-in_err-come_up-clause-err g c =
     let d : IsDownAt c.args.parts.now.seats.items c.in_ok-i.i c.args.number = search rules in
-    let k : IsRefused g.R.MemoryReplica.behaves (scene_of c.args.parts.now) (event.Restart c.args.number) WorldMemory (scene_of c.come_up.new.parts) =
+    let k : IsRefused g.R.MemoryReplica.behaves (scene_of c.args.parts.now) (event.Restart c.args.number) WorldMemory
+    (scene_of c.come_up.new.parts) =
     inr (refl, (d.1, (c.in_ok-i.i, d.0, d.2, d.3, d.4)), c.in_err-come_up.ensures.halted c.args.number d) in
     search rules
 

@@ -6,4 +6,5 @@ use Rattle.lk_state.specs.Packed.{session_text}
 use Rattle.lk_state.proofs.packing.put_sessions.Given as goal
 
 abbrev pub invariant-loop-session : goal.invariant-loop-session
-invariant-loop-session l = l.out.items ≡ l.fn.out.items ++ (two (length l.sessions) ++ flat_map session_text (take l.session-index l.sessions))
+invariant-loop-session l =
+    l.out.items ≡ l.fn.out.items ++ (two (length l.sessions) ++ flat_map session_text (take l.session-index l.sessions))

@@ -5,4 +5,5 @@ use Rattle.lk_fields.specs.Fields.{one, members}
 use Rattle.lk_state.proofs.packing.put_window.Given as goal
 
 abbrev pub invariant-loop-place : goal.invariant-loop-place
-invariant-loop-place l = l.out.items ≡ l.fn.out.items ++ (one (length l.places) ++ flat_map members (take l.place-index l.places))
+invariant-loop-place l =
+    l.out.items ≡ l.fn.out.items ++ (one (length l.places) ++ flat_map members (take l.place-index l.places))

@@ -7,6 +7,7 @@ use Rattle.lk_state.proofs.unpacking.many_sessions.Given as goal
 
 abbrev pub invariant-loop : goal.invariant-loop
 invariant-loop l = record {
-  read : with_front l.sessions.items (many read_session (l.count - l.counter) l.rest) ≡ many read_session l.count l.bytes;
+  read : with_front l.sessions.items (many read_session (l.count - l.counter) l.rest)
+      ≡ many read_session l.count l.bytes;
   count : length l.sessions.items ≡ l.counter;
 }

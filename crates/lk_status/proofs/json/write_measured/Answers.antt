@@ -7,5 +7,9 @@ use Rattle.lk_status.proofs.json.write_measured.Goals as goal
 
 pub returns : goal.returns
 returns g c =
-    let reporting = subst (λ (n : ℕ). Appends (g.W.Write.contents c.args.out.now) (g.W.Write.contents c.write_counts.new.out) (counts_part n (length c.as_slice-members.result.now))) c.count_reporting.ensures.value c.in_ok-write_counts.ensures in
-    subst (λ (ms : List Member). Appends (g.W.Write.contents c.args.out.now) (g.W.Write.contents c.write_counts.new.out) (counts_part (count_reporting ms c.args.reports.now) (length ms))) c.as_slice-members.ensures.value reporting
+    let reporting = subst (λ (n : ℕ). Appends (g.W.Write.contents c.args.out.now)
+    (g.W.Write.contents c.write_counts.new.out) (counts_part n (length c.as_slice-members.result.now)))
+    c.count_reporting.ensures.value c.in_ok-write_counts.ensures in
+    subst (λ (ms : List Member). Appends (g.W.Write.contents c.args.out.now)
+    (g.W.Write.contents c.write_counts.new.out) (counts_part (count_reporting ms c.args.reports.now) (length ms)))
+    c.as_slice-members.ensures.value reporting

@@ -5,4 +5,5 @@ use Rattle.lk_status.proofs.json.write_more_numbers.Given as goal
 
 -- those so far were written
 abbrev pub invariant-members : goal.invariant-members
-invariant-members g l = Appends (g.W.Write.contents l.fn.out) (g.W.Write.contents l.out) (more_numbers (take l.member-index l.members))
+invariant-members g l =
+    Appends (g.W.Write.contents l.fn.out) (g.W.Write.contents l.out) (more_numbers (take l.member-index l.members))

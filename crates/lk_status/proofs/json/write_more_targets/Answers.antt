@@ -12,10 +12,13 @@ pub targets-preserved : goal.targets-preserved
 targets-preserved g c =
     let t = c.target-item.result in
     let text = λ (token : ℕ) (t : Target). 44 ∷ object_of c.args.reports.now token t in
-    let written : Appends (g.W.Write.contents c.targets.out) (g.W.Write.contents c.write_next.new.out) (text c.targets.token t) = search rules in
+    let written : Appends (g.W.Write.contents c.targets.out) (g.W.Write.contents c.write_next.new.out)
+    (text c.targets.token t) = search rules in
     targets_more text _ _ _ _ c.targets.token c.args.targets.now c.targets.target-index t
-    (next_target c.args.targets.now c.targets.target-index t c.targets-test.true c.target-item.is) c.targets.invariant written
+    (next_target c.args.targets.now c.targets.target-index t c.targets-test.true c.target-item.is)
+    c.targets.invariant written
 
 pub returns : goal.returns
 returns g c =
-    targets_done (λ (token : ℕ) (t : Target). 44 ∷ object_of c.args.reports.now token t) _ _ _ c.targets.token c.args.targets.now c.targets.target-index c.targets-test.false c.targets.invariant
+    targets_done (λ (token : ℕ) (t : Target). 44 ∷ object_of c.args.reports.now token t) _ _ _ c.targets.token
+    c.args.targets.now c.targets.target-index c.targets-test.false c.targets.invariant

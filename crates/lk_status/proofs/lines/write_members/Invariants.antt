@@ -5,4 +5,5 @@ use Rattle.lk_status.proofs.lines.write_members.Given as goal
 
 -- the members so far were written
 abbrev pub invariant-members : goal.invariant-members
-invariant-members g l = Appends (g.W.Write.contents l.fn.out) (g.W.Write.contents l.out) (members_text (take l.member-index l.members))
+invariant-members g l =
+    Appends (g.W.Write.contents l.fn.out) (g.W.Write.contents l.out) (members_text (take l.member-index l.members))

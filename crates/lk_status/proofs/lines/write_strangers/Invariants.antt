@@ -7,4 +7,5 @@ use Rattle.lk_status.proofs.lines.write_strangers.Given as goal
 
 -- those so far were written
 abbrev pub invariant-all : goal.invariant-all
-invariant-all g l = Appends (g.W.Write.contents l.fn.out) (g.W.Write.contents l.out) (codes "; genesis differs:" ++ flat_map (stranger_word l.measure) (take l.report-index l.reports))
+invariant-all g l = Appends (g.W.Write.contents l.fn.out) (g.W.Write.contents l.out)
+    (codes "; genesis differs:" ++ flat_map (stranger_word l.measure) (take l.report-index l.reports))

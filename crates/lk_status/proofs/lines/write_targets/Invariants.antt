@@ -7,4 +7,5 @@ use Rattle.lk_status.proofs.lines.write_targets.Given as goal
 abbrev pub invariant-targets : goal.invariant-targets
 invariant-targets g l =
     (text : List ℕ) × Appends (g.W.Write.contents l.initial.out) (g.W.Write.contents l.out) text
-    × (text ++ target_lines l.token (drop l.target-index l.targets) l.reports l.most ≡ target_lines l.fn.first l.targets l.reports l.most)
+    × (text ++ target_lines l.token (drop l.target-index l.targets) l.reports l.most
+    ≡ target_lines l.fn.first l.targets l.reports l.most)

@@ -17,5 +17,6 @@ all-preserved g c =
 
 pub returns : goal.returns
 returns g c =
-    subst (λ (l : List Field). Appends (g.W.Write.contents c.args.out.now) (g.W.Write.contents c.all.out) (flat_map (field_text c.args.reports.now) l))
+    subst (λ (l : List Field). Appends (g.W.Write.contents c.args.out.now) (g.W.Write.contents c.all.out)
+    (flat_map (field_text c.args.reports.now) l))
     (take_all c.all.field-index c.args.fields.now c.all-test.false) c.all.invariant

@@ -6,4 +6,5 @@ use Rattle.lk_status.proofs.prometheus.write_fields.Given as goal
 
 -- those so far were written
 abbrev pub invariant-all : goal.invariant-all
-invariant-all g l = Appends (g.W.Write.contents l.fn.out) (g.W.Write.contents l.out) (flat_map (field_text l.reports) (take l.field-index l.fields))
+invariant-all g l = Appends (g.W.Write.contents l.fn.out) (g.W.Write.contents l.out)
+    (flat_map (field_text l.reports) (take l.field-index l.fields))

@@ -7,5 +7,6 @@ use Rattle.lk_status.proofs.prometheus.write_genesis.Goals as goal
 
 pub returns : goal.returns
 returns g c =
-    subst (λ (is : Bool). Appends (g.W.Write.contents c.args.out.now) (g.W.Write.contents c.write_flag.new.out) (gauge_text c.args.cluster (codes "one_genesis") (codes "Whether all nodes tell one genesis.") (flag is)))
+    subst (λ (is : Bool). Appends (g.W.Write.contents c.args.out.now) (g.W.Write.contents c.write_flag.new.out)
+    (gauge_text c.args.cluster (codes "one_genesis") (codes "Whether all nodes tell one genesis.") (flag is)))
     c.has_one_genesis.ensures c.in_ok-write_flag.ensures

@@ -19,5 +19,6 @@ all-preserved g c =
 
 pub returns : goal.returns
 returns g c =
-    subst (λ (l : List Report). Appends (g.W.Write.contents c.args.out.now) (g.W.Write.contents c.all.out) (flat_map (sample_line c.args.field) l))
+    subst (λ (l : List Report). Appends (g.W.Write.contents c.args.out.now) (g.W.Write.contents c.all.out)
+    (flat_map (sample_line c.args.field) l))
     (take_all c.all.report-index c.args.reports.now c.all-test.false) c.all.invariant

@@ -6,4 +6,5 @@ use Rattle.lk_status.proofs.prometheus.write_samples.Given as goal
 
 -- those so far were written
 abbrev pub invariant-all : goal.invariant-all
-invariant-all g l = Appends (g.W.Write.contents l.fn.out) (g.W.Write.contents l.out) (flat_map (sample_line l.field) (take l.report-index l.reports))
+invariant-all g l = Appends (g.W.Write.contents l.fn.out) (g.W.Write.contents l.out)
+    (flat_map (sample_line l.field) (take l.report-index l.reports))

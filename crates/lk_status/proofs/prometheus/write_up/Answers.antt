@@ -7,5 +7,8 @@ use Rattle.lk_status.proofs.prometheus.write_up.Goals as goal
 
 pub returns : goal.returns
 returns g c =
-    let lines = subst (λ (ts : List Target). Appends (g.W.Write.contents c.write_head.new.out) (g.W.Write.contents c.write_up_lines.new.out) (up_lines c.args.inquiry.now.cluster c.args.first ts c.args.reports.now)) c.as_slice.ensures.value c.in_ok-write_up_lines.ensures in
+    let lines = subst (λ (ts : List Target). Appends (g.W.Write.contents c.write_head.new.out)
+    (g.W.Write.contents c.write_up_lines.new.out)
+    (up_lines c.args.inquiry.now.cluster c.args.first ts c.args.reports.now)) c.as_slice.ensures.value
+    c.in_ok-write_up_lines.ensures in
     appends_more _ _ _ _ _ c.in_ok-write_head.ensures lines

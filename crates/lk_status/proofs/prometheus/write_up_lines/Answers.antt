@@ -13,11 +13,17 @@ pub targets-preserved : goal.targets-preserved
 targets-preserved g c =
     let t = c.target-item.result in
     let text = λ (token : ℕ) (t : Target). up_line c.args.cluster t.port (has_token token c.args.reports.now) in
-    let is_up = subst (λ (is : Bool). Appends (g.W.Write.contents c.targets.out) (g.W.Write.contents c.write_up_line.new.out) (up_line c.args.cluster c.get.result is)) c.is_answered.ensures c.in_ok-write_up_line.ensures in
-    let written = subst (λ (port : ℕ). Appends (g.W.Write.contents c.targets.out) (g.W.Write.contents c.write_up_line.new.out) (up_line c.args.cluster port (has_token c.targets.token c.args.reports.now))) c.get.ensures.value is_up in
+    let is_up = subst (λ (is : Bool). Appends (g.W.Write.contents c.targets.out)
+    (g.W.Write.contents c.write_up_line.new.out) (up_line c.args.cluster c.get.result is)) c.is_answered.ensures
+    c.in_ok-write_up_line.ensures in
+    let written = subst (λ (port : ℕ). Appends (g.W.Write.contents c.targets.out)
+    (g.W.Write.contents c.write_up_line.new.out)
+    (up_line c.args.cluster port (has_token c.targets.token c.args.reports.now))) c.get.ensures.value is_up in
     targets_more text _ _ _ _ c.targets.token c.args.targets.now c.targets.target-index t
-    (next_target c.args.targets.now c.targets.target-index t c.targets-test.true c.target-item.is) c.targets.invariant written
+    (next_target c.args.targets.now c.targets.target-index t c.targets-test.true c.target-item.is)
+    c.targets.invariant written
 
 pub returns : goal.returns
 returns g c =
-    targets_done (λ (token : ℕ) (t : Target). up_line c.args.cluster t.port (has_token token c.args.reports.now)) _ _ _ c.targets.token c.args.targets.now c.targets.target-index c.targets-test.false c.targets.invariant
+    targets_done (λ (token : ℕ) (t : Target). up_line c.args.cluster t.port (has_token token c.args.reports.now))
+    _ _ _ c.targets.token c.args.targets.now c.targets.target-index c.targets-test.false c.targets.invariant

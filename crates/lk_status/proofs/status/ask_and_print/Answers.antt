@@ -13,6 +13,10 @@ returns-in-Ok g c =
     let failures = g.S.DatagramSocket.failures in
     let tells = g.S.DatagramSocket.is_telling in
     let round = c.in_ok-round.round in
-    let served = subst (λ (rs : List Report). IsTrue c.in-Ok.is_served ↔ IsServed rs) c.deref.ensures.value c.in-Ok.ensures.served in
-    subst (λ (is : Bool). Shows sent coming failures tells c.args.plan.now is c.round_of.new.socket) (sym c.are_both.ensures)
-    (shows sent coming failures tells c.args.plan.now c.round_of.new.socket round.first round.reports.items c.in-Ok.is_served round.is_ready c.in_ok-round.ensures.heard served c.in_ok-round.ensures.ready c.in_ok-round.ensures.waited)
+    let served = subst (λ (rs : List Report). IsTrue c.in-Ok.is_served ↔ IsServed rs) c.deref.ensures.value
+    c.in-Ok.ensures.served in
+    subst (λ (is : Bool). Shows sent coming failures tells c.args.plan.now is c.round_of.new.socket)
+    (sym c.are_both.ensures)
+    (shows sent coming failures tells c.args.plan.now c.round_of.new.socket round.first round.reports.items
+    c.in-Ok.is_served round.is_ready c.in_ok-round.ensures.heard served c.in_ok-round.ensures.ready
+    c.in_ok-round.ensures.waited)

@@ -3,4 +3,8 @@ use Rattle.lk_status.proofs.Writing.{appends_kept}
 use Rattle.lk_status.proofs.status.print.Goals as goal
 
 pub returns-clause-printed : goal.returns-clause-printed
-returns-clause-printed g c = (option_copied c.measure_in.result, c.measure_in.ensures, appends_kept _ _ _ _ c.in_ok-write_form.ensures c.in_ok-flush.ensures.bytes)
+returns-clause-printed g c = (
+  option_copied c.measure_in.result,
+  c.measure_in.ensures,
+  appends_kept _ _ _ _ c.in_ok-write_form.ensures c.in_ok-flush.ensures.bytes,
+)

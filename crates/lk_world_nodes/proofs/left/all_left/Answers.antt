@@ -18,5 +18,8 @@ seats-preserved g c =
 pub returns : goal.returns
 returns g c =
     let all = λ (l : List (Seat g.row.R.Denot)). map (left_of g.R.MemoryReplica.behaves) l in
-    let none : c.seats.seat-iterator.rest.items ≡ [] = nil_from_length c.seats.seat-iterator.rest.items (sym c.seats.seat-iterator.rest.ok.0 ∙ c.in-None.ensures.steps.0) in
-    sym (append-nil c.seats.nodes.items) ∙ ap (λ (l : List (Seat g.row.R.Denot)). c.seats.nodes.items ++ all l) (sym none) ∙ c.seats.invariant
+    let none : c.seats.seat-iterator.rest.items ≡ [] =
+    nil_from_length c.seats.seat-iterator.rest.items
+    (sym c.seats.seat-iterator.rest.ok.0 ∙ c.in-None.ensures.steps.0) in
+    sym (append-nil c.seats.nodes.items)
+    ∙ ap (λ (l : List (Seat g.row.R.Denot)). c.seats.nodes.items ++ all l) (sym none) ∙ c.seats.invariant

@@ -4,4 +4,5 @@ use Rattle.lk_world_nodes.specs.Told.{Tells}
 use Rattle.lk_world_nodes.proofs.notes.add_notes.Given as goal
 
 abbrev pub invariant-loop-datagram : goal.invariant-loop-datagram
-invariant-loop-datagram l = (more : List Note) × (l.notes.items ≡ l.fn.notes.items ++ more) × Tells (take l.datagram-index l.batch) more
+invariant-loop-datagram l =
+    (more : List Note) × (l.notes.items ≡ l.fn.notes.items ++ more) × Tells (take l.datagram-index l.batch) more

@@ -14,9 +14,17 @@ pub returns-then-is_wanting-clause-fits : goal.returns-then-is_wanting-clause-fi
 returns-then-is_wanting-clause-fits g c h w f short =
     down_fits _ _ _ h w _ c.trap.new.self refl
     (stopped_fit _ h c.args.seat.now.number (disk_of c.args.device) (disk_of c.trap.new.self)
-    (elim [ A ↦ (0, ap (λ (d : Memory). d.a) c.trap.ensures ∙ ap (λ (d : Memory). d.a) c.stop.ensures.after) | B ↦ (0, ap (λ (d : Memory). d.b) c.trap.ensures ∙ ap (λ (d : Memory). d.b) c.stop.ensures.after) ]) f)
+    (elim [
+      | A ↦ (0, ap (λ (d : Memory). d.a) c.trap.ensures ∙ ap (λ (d : Memory). d.a) c.stop.ensures.after)
+      | B ↦
+          (0, ap (λ (d : Memory). d.b) c.trap.ensures ∙ ap (λ (d : Memory). d.b) c.stop.ensures.after)
+    ]) f)
     (kept_short (disk_of c.args.device) (disk_of c.trap.new.self)
-    (elim [ A ↦ (0, ap (λ (d : Memory). d.a) c.trap.ensures ∙ ap (λ (d : Memory). d.a) c.stop.ensures.after) | B ↦ (0, ap (λ (d : Memory). d.b) c.trap.ensures ∙ ap (λ (d : Memory). d.b) c.stop.ensures.after) ]) short)
+    (elim [
+      | A ↦ (0, ap (λ (d : Memory). d.a) c.trap.ensures ∙ ap (λ (d : Memory). d.a) c.stop.ensures.after)
+      | B ↦
+          (0, ap (λ (d : Memory). d.b) c.trap.ensures ∙ ap (λ (d : Memory). d.b) c.stop.ensures.after)
+    ]) short)
 
 pub returns-clause-fits : goal.returns-clause-fits
 returns-clause-fits g c h w f short =
@@ -27,9 +35,12 @@ returns-clause-fits g c h w f short =
     (elim [ A ↦ ap (λ (z : Memory). z.a) c.trap-2.ensures | B ↦ ap (λ (z : Memory). z.b) c.trap-2.ensures ]) short)
 
 pub returns-then-is_wanting-clause-halted : goal.returns-then-is_wanting-clause-halted
-returns-then-is_wanting-clause-halted g c = ap Down (c.trap.ensures ∙ ap (λ (d : Memory). record d { meter = trapped Off d.meter }) c.stop.ensures.after)
+returns-then-is_wanting-clause-halted g c =
+    ap Down (c.trap.ensures ∙ ap (λ (d : Memory). record d { meter = trapped Off d.meter }) c.stop.ensures.after)
 
 pub returns-clause-told : goal.returns-clause-told
 returns-clause-told g c sound =
     told_as _ _ (ap Some c.ended_by.ensures)
-    (told_by c.stopping-stop.result _ c.number.result (subst IsNumberOfEnd (sym c.number.ensures) (told_fault c.args.fault c.args.device (c.is_wanting.ensures.no_want c.if-is_wanting.false) sound)))
+    (told_by c.stopping-stop.result _ c.number.result
+    (subst IsNumberOfEnd (sym c.number.ensures)
+    (told_fault c.args.fault c.args.device (c.is_wanting.ensures.no_want c.if-is_wanting.false) sound)))

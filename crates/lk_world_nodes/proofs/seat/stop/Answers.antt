@@ -13,7 +13,8 @@ use Rattle.lk_world_nodes.proofs.seat.stop.Goals as goal
 pub returns-clause-fits : goal.returns-clause-fits
 returns-clause-fits g c h w f =
     down_fits _ _ _ h w _ c.trap.new.self refl
-    (subst (λ k. DisksFit g.R.MemoryReplica.meaning h k (disk_of c.trap.new.self)) (sym c.take_device-device.ensures.number)
+    (subst (λ k. DisksFit g.R.MemoryReplica.meaning h k (disk_of c.trap.new.self))
+    (sym c.take_device-device.ensures.number)
     (stopped_fit _ h c.args.seat.now.number (disk_of c.take_device-device.result) (disk_of c.trap.new.self)
     (elim [
       | A ↦ (c.args.x, ap (λ (d : Memory). d.a) c.trap.ensures ∙ ap (λ (d : Memory). d.a) c.stop.ensures.after)
@@ -29,4 +30,5 @@ returns-clause-fits g c h w f =
 
 pub returns-clause-stopped : goal.returns-clause-stopped
 returns-clause-stopped g c =
-    ap Down (c.trap.ensures ∙ ap (λ (d : Memory). record d { meter = trapped Off d.meter }) c.stop.ensures.after) ∙ ap (λ (d : Memory). Down (stopped_on c.args.x c.args.y d)) c.take_device-device.ensures.is
+    ap Down (c.trap.ensures ∙ ap (λ (d : Memory). record d { meter = trapped Off d.meter }) c.stop.ensures.after)
+    ∙ ap (λ (d : Memory). Down (stopped_on c.args.x c.args.y d)) c.take_device-device.ensures.is

@@ -8,7 +8,8 @@ use Rattle.lk_world_nodes.specs.declared.seat.Life.TheVariants.{Up, Down}
 pub returns-in-Up-clause-fits : goal.returns-in-Up-clause-fits
 returns-in-Up-clause-fits g c h w f =
     let is : c.args.seat.now.life ≡ Up c.in-Up.replica = search rules in
-    subst (λ (m : Memory). DisksFit g.R.MemoryReplica.meaning h c.args.seat.now.number (disk_of m)) (sym c.into_disks.ensures.is) (f.up c.in-Up.replica is).left
+    subst (λ (m : Memory). DisksFit g.R.MemoryReplica.meaning h c.args.seat.now.number (disk_of m))
+    (sym c.into_disks.ensures.is) (f.up c.in-Up.replica is).left
 
 pub returns-in-Down-clause-fits : goal.returns-in-Down-clause-fits
 returns-in-Down-clause-fits g c h w f =

@@ -10,7 +10,14 @@ use Rattle.lk_acceptor.proofs.acceptor.Acceptor.forget.Goals as goal
 pub invariant_of-self : goal.invariant_of-self
 invariant_of-self c = (
   c.self.invariant.0,
-  subst (AllByRecursion IsVote) (sym c.forget_to.ensures) (ranges_above c.args.position c.self.inside.votes.items c.self.invariant.1),
-  subst (λ (l : List Vote). IsOrdered (record { promised = c.self.inside.promised; votes = l; snapshot_position = c.args.position })) (sym c.forget_to.ensures)
-      (rest_kept (record { promised = c.self.inside.promised; votes = c.self.inside.votes.items; snapshot_position = c.self.inside.snapshot_position }) c.args.position c.self.invariant.2),
+  subst (AllByRecursion IsVote) (sym c.forget_to.ensures)
+      (ranges_above c.args.position c.self.inside.votes.items c.self.invariant.1),
+  subst (λ (l : List Vote). IsOrdered
+      (record { promised = c.self.inside.promised; votes = l; snapshot_position = c.args.position }))
+      (sym c.forget_to.ensures)
+      (rest_kept (record {
+        promised = c.self.inside.promised;
+        votes = c.self.inside.votes.items;
+        snapshot_position = c.self.inside.snapshot_position;
+      }) c.args.position c.self.invariant.2),
 )

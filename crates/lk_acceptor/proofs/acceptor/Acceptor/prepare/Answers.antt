@@ -16,7 +16,8 @@ unwrap-promise-requires c =
     let all = c.deref.ensures.value ∙ ap (λ (a : AcceptorValue). a.state.votes) c.self.view_is in
     let votes = c.in_ok-votes.ensures.ok ∙ ap (votes_from c.args.first) all in
     c.of.ensures.some.1 (subst (λ (l : List Vote). IsTrue (are_votes_from c.args.first l)) (sym votes)
-    (from_fits now.state.snapshot_position c.args.first now.alpha now.state.votes (omega (arith, grants.above)) alpha kept.rising grants.near))
+    (from_fits now.state.snapshot_position c.args.first now.alpha now.state.votes
+    (omega (arith, grants.above)) alpha kept.rising grants.near))
 
 pub returns-then-not-grants_prepare-clause-answer : goal.returns-then-not-grants_prepare-clause-answer
 returns-then-not-grants_prepare-clause-answer c = search rules

@@ -16,17 +16,31 @@ returns-then-holds-clause-state c =
     let kept = subst (λ (a : AcceptorValue). IsOrdered a.state) c.self.view_is c.self.invariant.2 in
     let votes = c.deref.ensures.value ∙ ap (λ (a : AcceptorValue). a.state.votes) c.self.view_is in
     let listed = subst (λ (l : List Vote). Contains l c.args.vote.now) votes (c.holds.ensures.0 c.if-holds.true) in
-    ap (with_state c.args.self.now) (sym (still_kept c.args.self.now.state c.args.vote.now kept c.requires.ballot listed))
+    ap (with_state c.args.self.now)
+    (sym (still_kept c.args.self.now.state c.args.vote.now kept c.requires.ballot listed))
 
 pub invariant_of-self-2 : goal.invariant_of-self-2
 invariant_of-self-2 c =
-    let state : AcceptorState = record { promised = c.self.inside.promised; votes = c.self.inside.votes.items; snapshot_position = c.self.inside.snapshot_position } in
-    let most = subst (λ (a : AcceptorValue). IsAtMost a.state.promised c.args.vote.now.ballot) (sym c.self.view_is) c.requires.ballot in
-    let above = subst (λ (a : AcceptorValue). a.state.snapshot_position < c.args.vote.now.position) (sym c.self.view_is) c.requires.above in
-    let votes = ap (λ (v : Vote). votes_with v c.self.inside.votes.items) (sym c.copy.ensures) ∙ sym c.in_ok-keep_vote.ensures.ok in (
+    let state : AcceptorState =
+    record {
+      promised = c.self.inside.promised;
+      votes = c.self.inside.votes.items;
+      snapshot_position = c.self.inside.snapshot_position;
+    } in
+    let most = subst (λ (a : AcceptorValue). IsAtMost a.state.promised c.args.vote.now.ballot)
+    (sym c.self.view_is) c.requires.ballot in
+    let above = subst (λ (a : AcceptorValue). a.state.snapshot_position < c.args.vote.now.position)
+    (sym c.self.view_is) c.requires.above in
+    let votes = ap (λ (v : Vote). votes_with v c.self.inside.votes.items) (sym c.copy.ensures)
+    ∙ sym c.in_ok-keep_vote.ensures.ok in (
       c.self.invariant.0,
-      subst (AllByRecursion IsVote) votes (ranges_with c.args.vote.now c.self.inside.votes.items c.facts.ensures c.self.invariant.1),
-      subst IsOrdered (λ i. record { promised = sym c.get-self-inside.ensures.value i; votes = votes i; snapshot_position = c.self.inside.snapshot_position })
+      subst (AllByRecursion IsVote) votes
+          (ranges_with c.args.vote.now c.self.inside.votes.items c.facts.ensures c.self.invariant.1),
+      subst IsOrdered (λ i. record {
+        promised = sym c.get-self-inside.ensures.value i;
+        votes = votes i;
+        snapshot_position = c.self.inside.snapshot_position;
+      })
           (vote_kept state c.args.vote.now most above c.self.invariant.2),
     )
 

@@ -8,4 +8,5 @@ pub returns : goal.returns
 returns g c honest =
     let b = c.self.inside in
     let f = g.F.AppendFile.file b.below in
-    subst (λ (v : BufferedValue). LeavesNoMore (left_of f) (left_of (known_of v))) c.self.view_is (leaves_no_more b.is_short b.size b.pending.items f (c.self.invariant honest).1)
+    subst (λ (v : BufferedValue). LeavesNoMore (left_of f) (left_of (known_of v))) c.self.view_is
+    (leaves_no_more b.is_short b.size b.pending.items f (c.self.invariant honest).1)

@@ -10,5 +10,6 @@ returns c = (
       c.if-self-other.false c.if-self-other-2.false
       ((members_decide c.self.inside.genesis.members c.other.inside.genesis.members).0 (sym c.eq.ensures ∙ t))
       ∙ c.other.view_is,
-  λ e. c.eq.ensures ∙ (members_decide c.self.inside.genesis.members c.other.inside.genesis.members).1 (ap (λ (h : HeaderValue). h.members) (c.self.view_is ∙ e ∙ sym c.other.view_is)),
+  λ e. c.eq.ensures ∙ (members_decide c.self.inside.genesis.members c.other.inside.genesis.members).1
+      (ap (λ (h : HeaderValue). h.members) (c.self.view_is ∙ e ∙ sym c.other.view_is)),
 )

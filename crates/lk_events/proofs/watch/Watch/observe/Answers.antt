@@ -8,5 +8,11 @@ returns c = record {
   timed = c.put_times.new.self;
   times = c.put_times.ensures;
   news = c.observe.ensures.news;
-  becomes = ap (λ (story : Story). let w : Watch = record { story = story; quiet = c.put_times.new.self.quiet; lag = c.put_times.new.self.lag; slots = c.observe.new.slots } in w) c.observe.ensures.told;
+  becomes = ap (λ (story : Story). let w : Watch =
+      record {
+        story = story;
+        quiet = c.put_times.new.self.quiet;
+        lag = c.put_times.new.self.lag;
+        slots = c.observe.new.slots;
+      } in w) c.observe.ensures.told;
 }

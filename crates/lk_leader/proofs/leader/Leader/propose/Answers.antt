@@ -7,9 +7,12 @@ use Rattle.lk_leader.proofs.leader.Leader.propose.Goals as goal
 
 pub returns-in_default-next-clause-none : goal.returns-in_default-next-clause-none
 returns-in_default-next-clause-none c = λ none.
-    let term : c.args.self.now.term ≡ Some c.in-Some.term = ap (λ (l : LeaderValue). l.term) (sym c.self.view_is) ∙ c.in-Some.is in
-    let waits : c.args.self.now.waiting ≡ c.self.inside.waiting = ap (λ (l : LeaderValue). l.waiting) (sym c.self.view_is) in (
-      ap (λ (o : Option TermValue). record { term = o; waiting = c.self.inside.waiting }) (sym c.in-Some.is) ∙ c.self.view_is,
+    let term : c.args.self.now.term ≡ Some c.in-Some.term = ap (λ (l : LeaderValue). l.term) (sym c.self.view_is)
+    ∙ c.in-Some.is in
+    let waits : c.args.self.now.waiting ≡ c.self.inside.waiting =
+    ap (λ (l : LeaderValue). l.waiting) (sym c.self.view_is) in (
+      ap (λ (o : Option TermValue). record { term = o; waiting = c.self.inside.waiting }) (sym c.in-Some.is)
+          ∙ c.self.view_is,
       λ i v h.
           let same : h.0 ≡ c.in-Some.term = cc (h.1, term) in
           c.in_default-next.ensures i v

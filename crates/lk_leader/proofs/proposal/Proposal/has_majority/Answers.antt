@@ -8,5 +8,6 @@ pub returns : goal.returns
 returns c =
     let nodes : c.as_slice-2.result.now ≡ members_among c.args.set.now c.args.self.now.accepted =
     c.as_slice-2.ensures.value ∙ c.members_of.ensures
-    ∙ ap (members_among c.args.set.now) (c.as_slice.ensures.value ∙ ap (λ (p : ProposalValue). p.accepted) c.self.view_is) in
+    ∙ ap (members_among c.args.set.now)
+    (c.as_slice.ensures.value ∙ ap (λ (p : ProposalValue). p.accepted) c.self.view_is) in
     rw nodes at c.is_majority.ensures

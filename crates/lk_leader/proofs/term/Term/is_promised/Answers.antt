@@ -8,5 +8,6 @@ pub returns : goal.returns
 returns c =
     let nodes : c.as_slice.result.now ≡ promisers c.args.set.now c.args.position c.args.self.now.reports =
     c.as_slice.ensures.value ∙ c.promisers.ensures
-    ∙ ap (promisers c.args.set.now c.args.position) (c.deref.ensures.value ∙ ap (λ (t : TermValue). t.reports) c.self.view_is) in
+    ∙ ap (promisers c.args.set.now c.args.position)
+    (c.deref.ensures.value ∙ ap (λ (t : TermValue). t.reports) c.self.view_is) in
     rw nodes at c.is_majority.ensures

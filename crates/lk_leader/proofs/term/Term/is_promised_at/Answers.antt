@@ -7,10 +7,15 @@ use Rattle.lk_leader.proofs.term.Term.is_promised_at.Goals as goal
 
 pub returns-in-Some : goal.returns-in-Some
 returns-in-Some c = (
-  λ yes. record { set = c.in-Some.set.now; members = ((c.in-Some.ensures.some.0 refl).0, c.in-Some.ensures.value); promised = c.is_promised.ensures.0 yes },
+  λ yes. record {
+    set = c.in-Some.set.now;
+    members = ((c.in-Some.ensures.some.0 refl).0, c.in-Some.ensures.value);
+    promised = c.is_promised.ensures.0 yes;
+  },
   λ at.
       let same : at.set ≡ c.in-Some.set.now = cc (at.members.1, c.in-Some.ensures.value) in
-      c.is_promised.ensures.1 (subst (λ (set : List Member). IsMajority (promisers set c.args.position c.args.self.now.reports) set) same at.promised),
+      c.is_promised.ensures.1 (subst
+      (λ (set : List Member). IsMajority (promisers set c.args.position c.args.self.now.reports) set) same at.promised),
 )
 
 pub returns-in-None : goal.returns-in-None

@@ -9,7 +9,9 @@ use Rattle.lk_leader.proofs.TermLaws.{positions, refilled, found-at, positions-s
 use Rattle.lk_leader.proofs.term.Term.record_accepted.Goals as goal
 
 pub returns-in_default-clause-proposed : goal.returns-in_default-clause-proposed
-returns-in_default-clause-proposed c = λ p found is. absurd (not-found c.args.position c.args.self.now.proposals p (sym c.place_of.ensures ∙ c.in_default.is) found)
+returns-in_default-clause-proposed c =
+    λ p found is. absurd (not-found c.args.position c.args.self.now.proposals p
+    (sym c.place_of.ensures ∙ c.in_default.is) found)
 
 pub invariant_of-self : goal.invariant_of-self
 invariant_of-self c =
@@ -17,12 +19,16 @@ invariant_of-self c =
     let k : ℕ = c.in-Some.index in
     let d : ProposalValue = c.index-deref_mut-index.result in
     let same : xs ≡ c.args.self.now.proposals = ap (λ (t : TermValue). t.proposals) c.self.view_is in
-    let place : position (λ (q : ProposalValue). eqb q.position c.args.position) xs ≡ Some k = ap (position (λ (q : ProposalValue). eqb q.position c.args.position)) same ∙ sym c.place_of.ensures ∙ c.in-Some.is in
+    let place : position (λ (q : ProposalValue). eqb q.position c.args.position) xs ≡ Some k =
+    ap (position (λ (q : ProposalValue). eqb q.position c.args.position)) same
+    ∙ sym c.place_of.ensures ∙ c.in-Some.is in
     let found = position-Some (λ (q : ProposalValue). eqb q.position c.args.position) xs k d place in
-    let item : get_or c.deref_mut.result.now k d ≡ get_or xs k d = ap (λ (l : List ProposalValue). get_or l k d) c.deref_mut.ensures.value in
+    let item : get_or c.deref_mut.result.now k d ≡ get_or xs k d =
+    ap (λ (l : List ProposalValue). get_or l k d) c.deref_mut.ensures.value in
     subst (IsDistinct nat_eq)
     (sym (ap positions (refilled xs c.deref_mut.result.now k c.record_accepted.new.self c.deref_mut.ensures.value)
-    ∙ positions-set xs k d c.record_accepted.new.self found.0 (c.record_accepted.ensures.position ∙ ap (λ (q : ProposalValue). q.position) item)))
+    ∙ positions-set xs k d c.record_accepted.new.self found.0
+    (c.record_accepted.ensures.position ∙ ap (λ (q : ProposalValue). q.position) item)))
     c.self.invariant
 
 pub returns-clause-proposed : goal.returns-clause-proposed
@@ -33,20 +39,28 @@ returns-clause-proposed c = λ p at is.
     let k : ℕ = c.in-Some.index in
     let d : ProposalValue = c.index-deref_mut-index.result in
     let same : xs ≡ ps = ap (λ (t : TermValue). t.proposals) c.self.view_is in
-    let place : position (λ (q : ProposalValue). eqb q.position c.args.position) ps ≡ Some k = sym c.place_of.ensures ∙ c.in-Some.is in
+    let place : position (λ (q : ProposalValue). eqb q.position c.args.position) ps ≡ Some k = sym c.place_of.ensures
+    ∙ c.in-Some.is in
     let found = position-Some (λ (q : ProposalValue). eqb q.position c.args.position) ps k d place in
-    let item : get_or c.deref_mut.result.now k d ≡ get_or ps k d = ap (λ (l : List ProposalValue). get_or l k d) (c.deref_mut.ensures.value ∙ same) in
+    let item : get_or c.deref_mut.result.now k d ≡ get_or ps k d =
+    ap (λ (l : List ProposalValue). get_or l k d) (c.deref_mut.ensures.value ∙ same) in
     let first = found-at set c.args.node c.args.position ps k d found.0 found.1 found.2 in
     let this : p ≡ get_or c.deref_mut.result.now k d = cc (at, first.0, item) in
     let told = c.record_accepted.ensures.same (ap (λ (q : ProposalValue). q.command) (sym this) ∙ is) in
-    let list : refill (length xs) xs (slice_set c.deref_mut.result.now k c.record_accepted.new.self) ≡ heard_at set c.args.node c.args.position ps =
+    let list : refill (length xs) xs (slice_set c.deref_mut.result.now k c.record_accepted.new.self)
+    ≡ heard_at set c.args.node c.args.position ps =
     refilled xs c.deref_mut.result.now k c.record_accepted.new.self c.deref_mut.ensures.value
     ∙ ap (λ (l : List ProposalValue). slice_set l k c.record_accepted.new.self) same
     ∙ ap (λ (q : ProposalValue). slice_set ps k q) (told.0 ∙ ap (heard set c.args.node) item)
     ∙ first.1 in (
-      ap (λ (l : List ProposalValue). record { ballot = c.self.inside.ballot; reports = c.self.inside.reports.items; proposals = l }) list
+      ap (λ (l : List ProposalValue). record {
+        ballot = c.self.inside.ballot;
+        reports = c.self.inside.reports.items;
+        proposals = l;
+      }) list
           ∙ ap (with_proposals (heard_at set c.args.node c.args.position ps)) c.self.view_is,
-      subst (λ (q : ProposalValue). IsTrue c.record_accepted.result ↔ GainsMajority set c.args.node q) (sym this) told.1,
+      subst (λ (q : ProposalValue). IsTrue c.record_accepted.result ↔ GainsMajority set c.args.node q)
+          (sym this) told.1,
     )
 
 pub returns-clause-other : goal.returns-clause-other
@@ -57,14 +71,23 @@ returns-clause-other c = λ no.
     let k : ℕ = c.in-Some.index in
     let d : ProposalValue = c.index-deref_mut-index.result in
     let same : xs ≡ ps = ap (λ (t : TermValue). t.proposals) c.self.view_is in
-    let place : position (λ (q : ProposalValue). eqb q.position c.args.position) ps ≡ Some k = sym c.place_of.ensures ∙ c.in-Some.is in
+    let place : position (λ (q : ProposalValue). eqb q.position c.args.position) ps ≡ Some k = sym c.place_of.ensures
+    ∙ c.in-Some.is in
     let found = position-Some (λ (q : ProposalValue). eqb q.position c.args.position) ps k d place in
-    let item : get_or c.deref_mut.result.now k d ≡ get_or ps k d = ap (λ (l : List ProposalValue). get_or l k d) (c.deref_mut.ensures.value ∙ same) in
+    let item : get_or c.deref_mut.result.now k d ≡ get_or ps k d =
+    ap (λ (l : List ProposalValue). get_or l k d) (c.deref_mut.ensures.value ∙ same) in
     let first = found-at set c.args.node c.args.position ps k d found.0 found.1 found.2 in
-    let told = c.record_accepted.ensures.other (λ e. no (get_or ps k d) first.0 (ap (λ (q : ProposalValue). q.command) (sym item) ∙ e)) in
+    let told = c.record_accepted.ensures.other
+    (λ e. no (get_or ps k d) first.0 (ap (λ (q : ProposalValue). q.command) (sym item) ∙ e)) in
     let list : refill (length xs) xs (slice_set c.deref_mut.result.now k c.record_accepted.new.self) ≡ ps =
     refilled xs c.deref_mut.result.now k c.record_accepted.new.self c.deref_mut.ensures.value
     ∙ ap (λ (l : List ProposalValue). slice_set l k c.record_accepted.new.self) same
     ∙ ap (λ (q : ProposalValue). slice_set ps k q) (told.0 ∙ item)
-    ∙ set-own ps k d in
-    (ap (λ (l : List ProposalValue). record { ballot = c.self.inside.ballot; reports = c.self.inside.reports.items; proposals = l }) (list ∙ sym same) ∙ c.self.view_is, told.1)
+    ∙ set-own ps k d in (
+      ap (λ (l : List ProposalValue). record {
+        ballot = c.self.inside.ballot;
+        reports = c.self.inside.reports.items;
+        proposals = l;
+      }) (list ∙ sym same) ∙ c.self.view_is,
+      told.1,
+    )

@@ -10,18 +10,22 @@ use Rattle.lk_leader.proofs.waiting.Waiting.first_new.Goals as goal
 
 pub returns-then-not-is_under_way : goal.returns-then-not-is_under_way
 returns-then-not-is_under_way c =
-    first-at c.args.executed c.args.proposals.now c.args.self.now c.loop-index.index c.request_at-request.result c.request_at-request.ensures c.loop-index.invariant
+    first-at c.args.executed c.args.proposals.now c.args.self.now c.loop-index.index c.request_at-request.result
+    c.request_at-request.ensures c.loop-index.invariant
     (λ under. true≢false (sym (c.is_under_way.ensures.1 under) ∙ c.if-not-is_under_way.true))
 
 pub loop-index-preserved : goal.loop-index-preserved
 loop-index-preserved c = λ r h.
     let more = take-one c.args.self.now c.loop-index.index c.request_at-request.result c.request_at-request.ensures in
-    elim (Contains-push_cases (take c.loop-index.index c.args.self.now) c.request_at-request.result r (subst (λ (l : List RequestValue). Contains l r) more h)) [
+    elim (Contains-push_cases (take c.loop-index.index c.args.self.now) c.request_at-request.result r
+    (subst (λ (l : List RequestValue). Contains l r) more h)) [
       | inl old ↦ c.loop-index.invariant r old
-      | inr is ↦ subst (λ (q : RequestValue). IsUnderWay c.args.executed c.args.proposals.now (Request q)) is (c.is_under_way.ensures.0 c.if-not-is_under_way.false)
+      | inr is ↦ subst (λ (q : RequestValue). IsUnderWay c.args.executed c.args.proposals.now (Request q)) is
+          (c.is_under_way.ensures.0 c.if-not-is_under_way.false)
     ]
 
 pub returns : goal.returns
 returns c = λ r h.
     let end : length c.args.self.now ≤ c.loop-index.index = omega (arith, c.len-index-end.ensures) in
-    c.loop-index.invariant r (subst (λ (l : List RequestValue). Contains l r) (sym (take_all c.loop-index.index c.args.self.now end)) h)
+    c.loop-index.invariant r
+    (subst (λ (l : List RequestValue). Contains l r) (sym (take_all c.loop-index.index c.args.self.now end)) h)

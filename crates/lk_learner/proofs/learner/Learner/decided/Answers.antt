@@ -25,10 +25,19 @@ returns-clause-kept g c = λ t.
     let i : ℕ = c.args.position in
     let p : Pair = (i, c.args.command.now) in
     let ps : List Pair = c.self.inside.pairs.items in
-    let place : c.place_of-place.result ≡ before i ps = c.place_of-place.ensures.place ∙ ap (before i) c.as_slice.ensures.value in
+    let place : c.place_of-place.result ≡ before i ps = c.place_of-place.ensures.place
+    ∙ ap (before i) c.as_slice.ensures.value in
     let pair : c.new.result ≡ p = c.new.ensures ∙ ap (λ (v : Command). (i, v)) c.copy.ensures in
-    let items : c.insert.new.self.items ≡ with_pair p ps = c.insert.ensures.items ∙ ap (λ (k : ℕ). insert ps k c.new.result) place ∙ ap (insert ps (before i ps)) pair ∙ inserted p ps in
-    ap (λ (qs : List Pair). record { whole = c.self.inside.whole; snapshot_position = c.self.inside.snapshot_position; snapshot = c.self.inside.snapshot.items; served = c.self.inside.served.items; pairs = qs; gathered = c.self.inside.gathered }) items
+    let items : c.insert.new.self.items ≡ with_pair p ps = c.insert.ensures.items
+    ∙ ap (λ (k : ℕ). insert ps k c.new.result) place ∙ ap (insert ps (before i ps)) pair ∙ inserted p ps in
+    ap (λ (qs : List Pair). record {
+      whole = c.self.inside.whole;
+      snapshot_position = c.self.inside.snapshot_position;
+      snapshot = c.self.inside.snapshot.items;
+      served = c.self.inside.served.items;
+      pairs = qs;
+      gathered = c.self.inside.gathered;
+    }) items
     ∙ ap (keeping p) c.self.view_is
 
 pub invariant_of-self : goal.invariant_of-self
@@ -36,11 +45,21 @@ invariant_of-self g c =
     let i : ℕ = c.args.position in
     let p : Pair = (i, c.args.command.now) in
     let ps : List Pair = c.self.inside.pairs.items in
-    let place : c.place_of-place.result ≡ before i ps = c.place_of-place.ensures.place ∙ ap (before i) c.as_slice.ensures.value in
+    let place : c.place_of-place.result ≡ before i ps = c.place_of-place.ensures.place
+    ∙ ap (before i) c.as_slice.ensures.value in
     let pair : c.new.result ≡ p = c.new.ensures ∙ ap (λ (v : Command). (i, v)) c.copy.ensures in
-    let items : c.insert.new.self.items ≡ with_pair p ps = c.insert.ensures.items ∙ ap (λ (k : ℕ). insert ps k c.new.result) place ∙ ap (insert ps (before i ps)) pair ∙ inserted p ps in
-    let view = ap (λ (qs : List Pair). record { whole = c.self.inside.whole; snapshot_position = c.self.inside.snapshot_position; snapshot = c.self.inside.snapshot.items; served = c.self.inside.served.items; pairs = qs; gathered = c.self.inside.gathered }) items
+    let items : c.insert.new.self.items ≡ with_pair p ps = c.insert.ensures.items
+    ∙ ap (λ (k : ℕ). insert ps k c.new.result) place ∙ ap (insert ps (before i ps)) pair ∙ inserted p ps in
+    let view = ap (λ (qs : List Pair). record {
+      whole = c.self.inside.whole;
+      snapshot_position = c.self.inside.snapshot_position;
+      snapshot = c.self.inside.snapshot.items;
+      served = c.self.inside.served.items;
+      pairs = qs;
+      gathered = c.self.inside.gathered;
+    }) items
     ∙ ap (keeping p) c.self.view_is in
     let l : LearnerValue = c.args.self.now in
     let learner : IsLearner l = subst IsLearner c.self.view_is c.self.invariant in
-    subst IsLearner (sym view) (keeping_fits i c.args.command.now l learner (c.is_wanted.ensures.0 c.if-not-is_wanted.false))
+    subst IsLearner (sym view)
+    (keeping_fits i c.args.command.now l learner (c.is_wanted.ensures.0 c.if-not-is_wanted.false))

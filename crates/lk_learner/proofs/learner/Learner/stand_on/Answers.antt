@@ -6,9 +6,27 @@ use Rattle.lk_learner.proofs.learner.Learner.stand_on.Goals as goal
 
 pub invariant_of-self : goal.invariant_of-self
 invariant_of-self g c =
-    let old : LearnerValue = record { whole = c.self.inside.whole; snapshot_position = c.self.inside.snapshot_position; snapshot = c.self.inside.snapshot.items; served = c.self.inside.served.items; pairs = c.self.inside.pairs.items; gathered = c.self.inside.gathered } in
-    let above : executed old ≤ c.args.whole.roster.executed = subst (λ (l : LearnerValue). executed l ≤ c.args.whole.roster.executed) (sym c.self.view_is) c.requires.above in
-    let sets : length c.args.whole.roster.sets ≡ alpha old = subst (λ (l : LearnerValue). length c.args.whole.roster.sets ≡ alpha l) (sym c.self.view_is) c.requires.sets in
-    let left : c.forget_to.new.pairs.items ≡ pairs_above c.args.whole.roster.executed c.self.inside.pairs.items = c.forget_to.ensures ∙ ap (λ (i : ℕ). pairs_above i c.self.inside.pairs.items) c.executed.ensures in
-    subst IsLearner (sym (λ i. record { whole = c.args.whole; snapshot_position = c.executed-self-inside.ensures i; snapshot = c.requires.text i; served = c.new.ensures.items i; pairs = left i; gathered = None }))
+    let old : LearnerValue =
+    record {
+      whole = c.self.inside.whole;
+      snapshot_position = c.self.inside.snapshot_position;
+      snapshot = c.self.inside.snapshot.items;
+      served = c.self.inside.served.items;
+      pairs = c.self.inside.pairs.items;
+      gathered = c.self.inside.gathered;
+    } in
+    let above : executed old ≤ c.args.whole.roster.executed =
+    subst (λ (l : LearnerValue). executed l ≤ c.args.whole.roster.executed) (sym c.self.view_is) c.requires.above in
+    let sets : length c.args.whole.roster.sets ≡ alpha old =
+    subst (λ (l : LearnerValue). length c.args.whole.roster.sets ≡ alpha l) (sym c.self.view_is) c.requires.sets in
+    let left : c.forget_to.new.pairs.items ≡ pairs_above c.args.whole.roster.executed c.self.inside.pairs.items =
+    c.forget_to.ensures ∙ ap (λ (i : ℕ). pairs_above i c.self.inside.pairs.items) c.executed.ensures in
+    subst IsLearner (sym (λ i. record {
+      whole = c.args.whole;
+      snapshot_position = c.executed-self-inside.ensures i;
+      snapshot = c.requires.text i;
+      served = c.new.ensures.items i;
+      pairs = left i;
+      gathered = None;
+    }))
     (installed_fits c.args.whole old c.self.invariant above sets c.facts.ensures.some c.facts.ensures.short)

@@ -10,6 +10,8 @@ use Rattle.lk_locks.proofs.table.LockTable.held.Goals as goal
 pub loop-name-init : goal.loop-name-init
 loop-name-init c =
     let listed : c.into_iter-name-iterator.result ≡ map.entries c.args.self.now.names =
-    c.into_iter-name-iterator.ensures.into_iter_gives ∙ c.iter-name-items.ensures.rest ∙ sym (entries_are nat_list_cmp_total c.self.inside.slots.entries c.self.invariant.0) ∙ ap (λ (t : Table). map.entries t.names) c.self.view_is in
+    c.into_iter-name-iterator.ensures.into_iter_gives ∙ c.iter-name-items.ensures.rest
+    ∙ sym (entries_are nat_list_cmp_total c.self.inside.slots.entries c.self.invariant.0)
+    ∙ ap (λ (t : Table). map.entries t.names) c.self.view_is in
     let none : c.new-held.result.items ≡ [] = search rules in
     ap (λ (found : List Entry). found ++ held_in c.into_iter-name-iterator.result) none ∙ ap held_in listed

@@ -13,9 +13,14 @@ use Rattle.lk_locks.proofs.table.LockTable.put_names.Goals as goal
 pub loop-name-init : goal.loop-name-init
 loop-name-init c =
     let listed : c.into_iter-name-iterator.result ≡ map.entries c.args.self.now.names =
-    c.into_iter-name-iterator.ensures.into_iter_gives ∙ c.iter-name-items.ensures.rest ∙ sym (entries_are nat_list_cmp_total c.self.inside.slots.entries c.self.invariant.0) ∙ ap (λ (t : Table). map.entries t.names) c.self.view_is in
+    c.into_iter-name-iterator.ensures.into_iter_gives ∙ c.iter-name-items.ensures.rest
+    ∙ sym (entries_are nat_list_cmp_total c.self.inside.slots.entries c.self.invariant.0)
+    ∙ ap (λ (t : Table). map.entries t.names) c.self.view_is in
     let wrote = c.in_ok-put_u16.ensures.ok in
     record {
-      so_far = ap (λ (t : List ℕ). t ++ flat_map (entry c.args.self.now.raised) c.into_iter-name-iterator.result) wrote ∙ begun c.args.self.now.raised c.args.self.now.names c.args.out.now.items c.len.result c.into_iter-name-iterator.result c.len.ensures.len listed;
-      keeps = keeps_behind c.args.out.now.items c.put_u16.new.out.items c.put_u16.new.out.items (two c.len.result) wrote (keeps_same _ _ refl);
+      so_far = ap (λ (t : List ℕ). t ++ flat_map (entry c.args.self.now.raised) c.into_iter-name-iterator.result) wrote
+          ∙ begun c.args.self.now.raised c.args.self.now.names c.args.out.now.items c.len.result
+          c.into_iter-name-iterator.result c.len.ensures.len listed;
+      keeps = keeps_behind c.args.out.now.items c.put_u16.new.out.items c.put_u16.new.out.items
+          (two c.len.result) wrote (keeps_same _ _ refl);
     }

@@ -6,4 +6,8 @@ use Rattle.lk_locks.specs.Packed.{entry, entries}
 use Rattle.lk_locks.proofs.table.LockTable.put_names.Given as goal
 
 abbrev pub invariant-loop-name : goal.invariant-loop-name
-invariant-loop-name l = record { so_far : l.out.items ++ flat_map (entry l.fn.self.raised) l.name-iterator ≡ l.fn.out.items ++ entries l.fn.self.raised (map.entries l.fn.self.names); keeps : Keeps l.fn.out.items l.out.items }
+invariant-loop-name l = record {
+  so_far : l.out.items ++ flat_map (entry l.fn.self.raised) l.name-iterator
+      ≡ l.fn.out.items ++ entries l.fn.self.raised (map.entries l.fn.self.names);
+  keeps : Keeps l.fn.out.items l.out.items;
+}

@@ -4,7 +4,10 @@ use Rattle.lk_locks.specs.PackedLaws.{raised_are_names}
 use Rattle.lk_locks.proofs.table.LockTable.raise_version.Goals as goal
 
 pub invariant_of-self : goal.invariant_of-self
-invariant_of-self c = (c.self.invariant.0, raised_are_names c.self.inside.raised (map.from_entries c.self.inside.slots.entries) c.self.invariant.1)
+invariant_of-self c = (
+  c.self.invariant.0,
+  raised_are_names c.self.inside.raised (map.from_entries c.self.inside.slots.entries) c.self.invariant.1,
+)
 
 pub returns-then-self-clause-answer : goal.returns-then-self-clause-answer
 returns-then-self-clause-answer c = search rules

@@ -25,9 +25,11 @@ pub returns-then-self-clause-metered : goal.returns-then-self-clause-metered
 returns-then-self-clause-metered g c metered = (0, start)
 
 pub returns-in_err-flush-clause-metered : goal.returns-in_err-flush-clause-metered
-returns-in_err-flush-clause-metered g c metered = absurd (let passed : false ≡ true = c.in_err-flush.ensures.metered metered in cc passed)
+returns-in_err-flush-clause-metered g c metered =
+    absurd (let passed : false ≡ true = c.in_err-flush.ensures.metered metered in cc passed)
 
 pub returns-clause-metered : goal.returns-clause-metered
 returns-clause-metered g c metered =
-    subst (λ (m : Meter). Passes m (g.D.LogDisk.meter c.flush.new.self) 0) (ap (λ (s : StoreValue). s.meter) c.self.view_is)
+    subst (λ (m : Meter). Passes m (g.D.LogDisk.meter c.flush.new.self) 0)
+    (ap (λ (s : StoreValue). s.meter) c.self.view_is)
     (subst (λ (m : Meter). Passes (g.D.LogDisk.meter c.self.inside.device) m 0) (sym c.flush.ensures.uncounted) start)

@@ -12,12 +12,14 @@ returns-then-self-clause-metered g c metered = (0, start)
 
 pub returns-in_err-length-clause-metered : goal.returns-in_err-length-clause-metered
 returns-in_err-length-clause-metered g c metered =
-    subst (λ (s : StoreValue). IsMetered s.meter (g.D.LogDisk.meter c.length.new.self) 0 c.from_residual.result) c.self.view_is
+    subst (λ (s : StoreValue). IsMetered s.meter (g.D.LogDisk.meter c.length.new.self) 0 c.from_residual.result)
+    c.self.view_is
     (refused _ _ 0 _ Device c.from_residual.ensures.1 (read_breaks _ _ (c.in_err-length.ensures.metered metered)))
 
 pub returns-clause-metered : goal.returns-clause-metered
 returns-clause-metered g c metered =
-    subst (λ (s : StoreValue). Passes s.meter (g.D.LogDisk.meter c.length.new.self) 0) c.self.view_is (read_passes _ _ (c.in_ok-length.ensures.metered metered))
+    subst (λ (s : StoreValue). Passes s.meter (g.D.LogDisk.meter c.length.new.self) 0) c.self.view_is
+    (read_passes _ _ (c.in_ok-length.ensures.metered metered))
 
 pub returns-clause-value : goal.returns-clause-value
 returns-clause-value g c = search rules

@@ -6,7 +6,9 @@ use Rattle.lk_disk.specs.Meters.{start}
 
 -- nothing was written
 pub returns-then-self-clause-any : goal.returns-then-self-clause-any
-returns-then-self-clause-any g c honest ks ls holds = keeps_at c.args.self.now.live c.args.self.now.live_disk c.args.self.now.other_disk ks ls (plain c.args.entries.now) holds.on
+returns-then-self-clause-any g c honest ks ls holds =
+    keeps_at c.args.self.now.live c.args.self.now.live_disk c.args.self.now.other_disk ks ls
+    (plain c.args.entries.now) holds.on
 
 pub returns-then-self-clause-metered : goal.returns-then-self-clause-metered
 returns-then-self-clause-metered g c metered = (0, start)

@@ -16,33 +16,61 @@ use Rattle.lk_log.specs.declared.fault.StoreFault.TheVariants.{NoMemory}
 
 pub returns-then-self-clause-any : goal.returns-then-self-clause-any
 returns-then-self-clause-any g c honest ks ls holds =
-    keeps_still c.args.self.now.live c.args.self.now.live_disk c.args.self.now.other_disk ks ls (next_base c.args.self.now c.args.standing.now) holds.on
+    keeps_still c.args.self.now.live c.args.self.now.live_disk c.args.self.now.other_disk ks ls
+    (next_base c.args.self.now c.args.standing.now) holds.on
 
 pub spelled_parts-requires : goal.spelled_parts-requires
 spelled_parts-requires g c =
-    let b : BaseValue = record { generation = c.self.inside.generation + 1; format = 2; header = c.self.inside.header; standing = c.args.standing.now } in
-    base_fits b refl (omega arith, omega (arith, c.if-self-ge-MAX_COUNT.false)) c.facts.ensures c.facts-2.ensures.promised c.facts-2.ensures.position c.facts-2.ensures.votes c.facts-2.ensures.pairs c.requires
+    let b : BaseValue = record {
+      generation = c.self.inside.generation + 1;
+      format = 2;
+      header = c.self.inside.header;
+      standing = c.args.standing.now;
+    } in
+    base_fits b refl (omega arith, omega (arith, c.if-self-ge-MAX_COUNT.false)) c.facts.ensures
+    c.facts-2.ensures.promised c.facts-2.ensures.position c.facts-2.ensures.votes c.facts-2.ensures.pairs c.requires
 
 pub returns-in_err-bytes-clause-any : goal.returns-in_err-bytes-clause-any
 returns-in_err-bytes-clause-any g c honest ks ls holds =
     let mine = subst (λ (s : StoreValue). Holds s ks ls) (sym c.self.view_is) holds in
-    keeps_still c.self.inside.live (g.D.LogDisk.disk c.self.inside.device c.self.inside.live) (g.D.LogDisk.disk c.self.inside.device (other c.self.inside.live)) ks ls (next_base c.args.self.now c.args.standing.now) mine.on
+    keeps_still c.self.inside.live (g.D.LogDisk.disk c.self.inside.device c.self.inside.live)
+    (g.D.LogDisk.disk c.self.inside.device (other c.self.inside.live)) ks ls
+    (next_base c.args.self.now c.args.standing.now) mine.on
 
 pub returns-in_err-switch_files-clause-any : goal.returns-in_err-switch_files-clause-any
 returns-in_err-switch_files-clause-any g c honest ks ls holds =
     let mine = subst (λ (s : StoreValue). Holds s ks ls) (sym c.self.view_is) holds in
     let new = g.D.LogDisk.disk c.switch_files.new.device in
-    let b : BaseValue = record { generation = c.self.inside.generation + 1; format = 2; header = c.self.inside.header; standing = c.args.standing.now } in
-    let fits = base_fits b refl (omega arith, omega (arith, c.if-self-ge-MAX_COUNT.false)) c.facts.ensures c.facts-2.ensures.promised c.facts-2.ensures.position c.facts-2.ensures.votes c.facts-2.ensures.pairs c.requires in
-    subst (λ (s : StoreValue). KeepsOrIs (pick c.self.inside.live (new c.self.inside.live) (new (other c.self.inside.live))) ks ls (next_base s c.args.standing.now)) c.self.view_is
-    (keeps_pick c.self.inside.live new ks ls b (c.switch_files.ensures.any honest b ks ls mine.on (omega (arith, mine.generation_is)) refl fits (c.deref.ensures ∙ c.in_ok-bytes.ensures)))
+    let b : BaseValue = record {
+      generation = c.self.inside.generation + 1;
+      format = 2;
+      header = c.self.inside.header;
+      standing = c.args.standing.now;
+    } in
+    let fits = base_fits b refl
+    (omega arith, omega (arith, c.if-self-ge-MAX_COUNT.false)) c.facts.ensures c.facts-2.ensures.promised
+    c.facts-2.ensures.position c.facts-2.ensures.votes c.facts-2.ensures.pairs c.requires in
+    subst (λ (s : StoreValue). KeepsOrIs
+    (pick c.self.inside.live (new c.self.inside.live) (new (other c.self.inside.live))) ks ls
+    (next_base s c.args.standing.now)) c.self.view_is
+    (keeps_pick c.self.inside.live new ks ls b
+    (c.switch_files.ensures.any honest b ks ls mine.on (omega (arith, mine.generation_is)) refl fits
+    (c.deref.ensures ∙ c.in_ok-bytes.ensures)))
 
 pub returns-clause-base : goal.returns-clause-base
 returns-clause-base g c honest ks ls holds =
     let new = g.D.LogDisk.disk c.switch_files.new.device in
-    let b : BaseValue = record { generation = c.self.inside.generation + 1; format = 2; header = c.self.inside.header; standing = c.args.standing.now } in
-    let fits = base_fits b refl (omega arith, omega (arith, c.if-self-ge-MAX_COUNT.false)) c.facts.ensures c.facts-2.ensures.promised c.facts-2.ensures.position c.facts-2.ensures.votes c.facts-2.ensures.pairs c.requires in
-    let is : b ≡ next_base c.args.self.now c.args.standing.now = ap (λ (s : StoreValue). next_base s c.args.standing.now) c.self.view_is in
+    let b : BaseValue = record {
+      generation = c.self.inside.generation + 1;
+      format = 2;
+      header = c.self.inside.header;
+      standing = c.args.standing.now;
+    } in
+    let fits = base_fits b refl
+    (omega arith, omega (arith, c.if-self-ge-MAX_COUNT.false)) c.facts.ensures c.facts-2.ensures.promised
+    c.facts-2.ensures.position c.facts-2.ensures.votes c.facts-2.ensures.pairs c.requires in
+    let is : b ≡ next_base c.args.self.now c.args.standing.now =
+    ap (λ (s : StoreValue). next_base s c.args.standing.now) c.self.view_is in
     subst (λ (x : BaseValue). Holds (record {
       live_disk = new c.other-self-inside.result;
       other_disk = new (other c.other-self-inside.result);
@@ -55,7 +83,8 @@ returns-clause-base g c honest ks ls holds =
       failed = false;
     }) (Base x ∷ []) []) is
     (record {
-      on = held_at new c.self.inside.live c.other-self-inside.result (Base b ∷ []) c.other-self-inside.ensures (c.in_ok-switch_files.ensures.holds honest b refl fits (c.deref.ensures ∙ c.in_ok-bytes.ensures));
+      on = held_at new c.self.inside.live c.other-self-inside.result (Base b ∷ []) c.other-self-inside.ensures
+          (c.in_ok-switch_files.ensures.holds honest b refl fits (c.deref.ensures ∙ c.in_ok-bytes.ensures));
       generation_is = refl;
       format_is = refl;
       header_is = refl;
@@ -65,10 +94,21 @@ pub returns-clause-any : goal.returns-clause-any
 returns-clause-any g c honest ks ls holds =
     let mine = subst (λ (s : StoreValue). Holds s ks ls) (sym c.self.view_is) holds in
     let new = g.D.LogDisk.disk c.switch_files.new.device in
-    let b : BaseValue = record { generation = c.self.inside.generation + 1; format = 2; header = c.self.inside.header; standing = c.args.standing.now } in
-    let fits = base_fits b refl (omega arith, omega (arith, c.if-self-ge-MAX_COUNT.false)) c.facts.ensures c.facts-2.ensures.promised c.facts-2.ensures.position c.facts-2.ensures.votes c.facts-2.ensures.pairs c.requires in
-    subst (λ (s : StoreValue). KeepsOrIs (pick c.other-self-inside.result (new c.other-self-inside.result) (new (other c.other-self-inside.result))) ks ls (next_base s c.args.standing.now)) c.self.view_is
-    (keeps_pick c.other-self-inside.result new ks ls b (c.switch_files.ensures.any honest b ks ls mine.on (omega (arith, mine.generation_is)) refl fits (c.deref.ensures ∙ c.in_ok-bytes.ensures)))
+    let b : BaseValue = record {
+      generation = c.self.inside.generation + 1;
+      format = 2;
+      header = c.self.inside.header;
+      standing = c.args.standing.now;
+    } in
+    let fits = base_fits b refl
+    (omega arith, omega (arith, c.if-self-ge-MAX_COUNT.false)) c.facts.ensures c.facts-2.ensures.promised
+    c.facts-2.ensures.position c.facts-2.ensures.votes c.facts-2.ensures.pairs c.requires in
+    subst (λ (s : StoreValue). KeepsOrIs
+    (pick c.other-self-inside.result (new c.other-self-inside.result) (new (other c.other-self-inside.result))) ks ls
+    (next_base s c.args.standing.now)) c.self.view_is
+    (keeps_pick c.other-self-inside.result new ks ls b
+    (c.switch_files.ensures.any honest b ks ls mine.on (omega (arith, mine.generation_is)) refl fits
+    (c.deref.ensures ∙ c.in_ok-bytes.ensures)))
 
 pub returns-then-self-clause-room : goal.returns-then-self-clause-room
 returns-then-self-clause-room g c honest = within_same 49152 (disks c.args.self.now) (disks c.args.self.now) (λ s. refl)
@@ -83,32 +123,60 @@ pub returns-in_err-switch_files-clause-room : goal.returns-in_err-switch_files-c
 returns-in_err-switch_files-clause-room g c honest =
     let old = g.D.LogDisk.disk c.self.inside.device in
     let new = g.D.LogDisk.disk c.switch_files.new.device in
-    let b : BaseValue = record { generation = c.self.inside.generation + 1; format = 2; header = c.self.inside.header; standing = c.args.standing.now } in
-    let fits = base_fits b refl (omega arith, omega (arith, c.if-self-ge-MAX_COUNT.false)) c.facts.ensures c.facts-2.ensures.promised c.facts-2.ensures.position c.facts-2.ensures.votes c.facts-2.ensures.pairs c.requires in
-    let few : length c.deref.result.now ≤ 49152 = omega (arith, ap length (c.deref.ensures ∙ c.in_ok-bytes.ensures), spelling_room (Base b) fits) in
+    let b : BaseValue = record {
+      generation = c.self.inside.generation + 1;
+      format = 2;
+      header = c.self.inside.header;
+      standing = c.args.standing.now;
+    } in
+    let fits = base_fits b refl
+    (omega arith, omega (arith, c.if-self-ge-MAX_COUNT.false)) c.facts.ensures c.facts-2.ensures.promised
+    c.facts-2.ensures.position c.facts-2.ensures.votes c.facts-2.ensures.pairs c.requires in
+    let few : length c.deref.result.now ≤ 49152 =
+    omega (arith, ap length (c.deref.ensures ∙ c.in_ok-bytes.ensures), spelling_room (Base b) fits) in
     let live = c.self.inside.live in
     subst (λ (s : StoreValue). StaysWithin 49152 (disks s) (pick live (new live) (new (other live)))) c.self.view_is
-    (within_from 49152 live old (pick live (new live) (new (other live))) (within_pick 49152 live old new (c.switch_files.ensures.room honest few)))
+    (within_from 49152 live old (pick live (new live) (new (other live)))
+    (within_pick 49152 live old new (c.switch_files.ensures.room honest few)))
 
 pub returns-clause-room : goal.returns-clause-room
 returns-clause-room g c honest =
     let old = g.D.LogDisk.disk c.self.inside.device in
     let new = g.D.LogDisk.disk c.switch_files.new.device in
-    let b : BaseValue = record { generation = c.self.inside.generation + 1; format = 2; header = c.self.inside.header; standing = c.args.standing.now } in
-    let fits = base_fits b refl (omega arith, omega (arith, c.if-self-ge-MAX_COUNT.false)) c.facts.ensures c.facts-2.ensures.promised c.facts-2.ensures.position c.facts-2.ensures.votes c.facts-2.ensures.pairs c.requires in
-    let few : length c.deref.result.now ≤ 49152 = omega (arith, ap length (c.deref.ensures ∙ c.in_ok-bytes.ensures), spelling_room (Base b) fits) in
+    let b : BaseValue = record {
+      generation = c.self.inside.generation + 1;
+      format = 2;
+      header = c.self.inside.header;
+      standing = c.args.standing.now;
+    } in
+    let fits = base_fits b refl
+    (omega arith, omega (arith, c.if-self-ge-MAX_COUNT.false)) c.facts.ensures c.facts-2.ensures.promised
+    c.facts-2.ensures.position c.facts-2.ensures.votes c.facts-2.ensures.pairs c.requires in
+    let few : length c.deref.result.now ≤ 49152 =
+    omega (arith, ap length (c.deref.ensures ∙ c.in_ok-bytes.ensures), spelling_room (Base b) fits) in
     let live = c.other-self-inside.result in
     subst (λ (s : StoreValue). StaysWithin 49152 (disks s) (pick live (new live) (new (other live)))) c.self.view_is
-    (within_from 49152 c.self.inside.live old (pick live (new live) (new (other live))) (within_pick 49152 live old new (c.switch_files.ensures.room honest few)))
+    (within_from 49152 c.self.inside.live old (pick live (new live) (new (other live)))
+    (within_pick 49152 live old new (c.switch_files.ensures.room honest few)))
 
 pub returns-clause-left : goal.returns-clause-left
 returns-clause-left g c honest =
     let new = g.D.LogDisk.disk c.switch_files.new.device in
-    let b : BaseValue = record { generation = c.self.inside.generation + 1; format = 2; header = c.self.inside.header; standing = c.args.standing.now } in
-    let fits = base_fits b refl (omega arith, omega (arith, c.if-self-ge-MAX_COUNT.false)) c.facts.ensures c.facts-2.ensures.promised c.facts-2.ensures.position c.facts-2.ensures.votes c.facts-2.ensures.pairs c.requires in
-    let few : length c.deref.result.now ≤ 49152 = omega (arith, ap length (c.deref.ensures ∙ c.in_ok-bytes.ensures), spelling_room (Base b) fits) in (
-      left_at new c.self.inside.live c.other-self-inside.result c.other-self-inside.ensures (c.in_ok-switch_files.ensures.left honest),
-      subst (λ (k : Side). length (contents (new k)) ≤ 49152) (sym c.other-self-inside.ensures) (c.in_ok-switch_files.ensures.short honest few),
+    let b : BaseValue = record {
+      generation = c.self.inside.generation + 1;
+      format = 2;
+      header = c.self.inside.header;
+      standing = c.args.standing.now;
+    } in
+    let fits = base_fits b refl
+    (omega arith, omega (arith, c.if-self-ge-MAX_COUNT.false)) c.facts.ensures c.facts-2.ensures.promised
+    c.facts-2.ensures.position c.facts-2.ensures.votes c.facts-2.ensures.pairs c.requires in
+    let few : length c.deref.result.now ≤ 49152 =
+    omega (arith, ap length (c.deref.ensures ∙ c.in_ok-bytes.ensures), spelling_room (Base b) fits) in (
+      left_at new c.self.inside.live c.other-self-inside.result c.other-self-inside.ensures
+          (c.in_ok-switch_files.ensures.left honest),
+      subst (λ (k : Side). length (contents (new k)) ≤ 49152) (sym c.other-self-inside.ensures)
+          (c.in_ok-switch_files.ensures.short honest few),
     )
 
 -- ---- which calls were made
@@ -119,4 +187,5 @@ returns-then-self-clause-metered g c metered honest = (0, start)
 pub returns-in_err-bytes-clause-metered : goal.returns-in_err-bytes-clause-metered
 returns-in_err-bytes-clause-metered g c metered honest =
     let now = g.D.LogDisk.meter c.self.inside.device in
-    subst (λ (s : StoreValue). IsMetered s.meter now rebase_calls c.from_residual.result) c.self.view_is (refused now now rebase_calls _ NoMemory c.from_residual.ensures.1 (0, start))
+    subst (λ (s : StoreValue). IsMetered s.meter now rebase_calls c.from_residual.result) c.self.view_is
+    (refused now now rebase_calls _ NoMemory c.from_residual.ensures.1 (0, start))

@@ -28,11 +28,14 @@ returns-in_err-sync-clause-any g c honest ks ls holds =
     let new = g.D.LogDisk.disk c.sync.new.self in
     let live = c.self.inside.live in
     stands_at live (new live) (new (other live)) ks ls
-    (grows_holds (new live) (new (other live)) ks ls (holds_same (old live) (old (other live)) (new live) (new (other live)) ks ls mine.on (c.in_err-sync.ensures.err honest) (c.sync.ensures.beside honest)))
+    (grows_holds (new live) (new (other live)) ks ls
+    (holds_same (old live) (old (other live)) (new live) (new (other live)) ks ls mine.on
+    (c.in_err-sync.ensures.err honest) (c.sync.ensures.beside honest)))
 
 pub returns-in_err-sync-clause-metered : goal.returns-in_err-sync-clause-metered
 returns-in_err-sync-clause-metered g c metered =
-    subst (λ (s : StoreValue). IsMetered s.meter (g.D.LogDisk.meter c.sync.new.self) 1 c.from_residual.result) c.self.view_is
+    subst (λ (s : StoreValue). IsMetered s.meter (g.D.LogDisk.meter c.sync.new.self) 1 c.from_residual.result)
+    c.self.view_is
     (refused _ _ 1 _ Device c.from_residual.ensures.1 (call_breaks _ _ (c.in_err-sync.ensures.metered metered)))
 
 pub returns-clause-synced : goal.returns-clause-synced
@@ -43,7 +46,8 @@ returns-clause-synced g c honest ks ls holds =
     let live = c.self.inside.live in
     let some : 0 < generation ks = omega (arith, mine.on.older.less) in
     record {
-      on = holds_sync (old live) (old (other live)) (new live) (new (other live)) ks ls mine.on (c.in_ok-sync.ensures.ok honest) (c.sync.ensures.beside honest);
+      on = holds_sync (old live) (old (other live)) (new live) (new (other live)) ks ls mine.on
+          (c.in_ok-sync.ensures.ok honest) (c.sync.ensures.beside honest);
       generation_is = mine.generation_is ∙ sym (generation-append ks ls some);
       format_is = mine.format_is ∙ sym (format-append ks ls some);
       header_is = header_more ks ls c.self.inside.header mine.header_is;
@@ -56,8 +60,10 @@ returns-clause-any g c honest ks ls holds =
     let new = g.D.LogDisk.disk c.sync.new.self in
     let live = c.self.inside.live in
     stands_at live (new live) (new (other live)) ks ls
-    (grows_synced (old live) (old (other live)) (new live) (new (other live)) ks ls mine.on (c.in_ok-sync.ensures.ok honest) (c.sync.ensures.beside honest))
+    (grows_synced (old live) (old (other live)) (new live) (new (other live)) ks ls mine.on
+    (c.in_ok-sync.ensures.ok honest) (c.sync.ensures.beside honest))
 
 pub returns-clause-metered : goal.returns-clause-metered
 returns-clause-metered g c metered =
-    subst (λ (s : StoreValue). Passes s.meter (g.D.LogDisk.meter c.sync.new.self) 1) c.self.view_is (call_passes _ _ (c.in_ok-sync.ensures.metered metered))
+    subst (λ (s : StoreValue). Passes s.meter (g.D.LogDisk.meter c.sync.new.self) 1) c.self.view_is
+    (call_passes _ _ (c.in_ok-sync.ensures.metered metered))

@@ -7,10 +7,14 @@ pub with_member-set-requires-clause-rises : goal.with_member-set-requires-clause
 with_member-set-requires-clause-rises c =
     let same = ap length (c.as_slice.ensures.value ∙ c.newest.ensures.value ∙ sym c.newest-2.ensures.value) in
     let room : length c.newest-2.result.now < 7 = omega (arith, same, c.if-as_slice-ge-MAX_MEMBERS.false) in
-    let above : c.args.self.now.greatest < c.args.node = omega (arith, c.get.ensures.value, c.get-2.ensures.value, c.greatest.ensures, c.if-get.false) in
-    AreMembers-push c.args.self.now.greatest c.newest-2.result.now _ c.newest-2.ensures.fits room c.newest-2.ensures.bound above
+    let above : c.args.self.now.greatest < c.args.node =
+    omega (arith, c.get.ensures.value, c.get-2.ensures.value, c.greatest.ensures, c.if-get.false) in
+    AreMembers-push c.args.self.now.greatest c.newest-2.result.now _ c.newest-2.ensures.fits room
+    c.newest-2.ensures.bound above
 
 pub advance-requires-clause-bound : goal.advance-requires-clause-bound
 advance-requires-clause-bound c =
-    let above : c.args.self.now.greatest < c.args.node = omega (arith, c.get.ensures.value, c.get-2.ensures.value, c.greatest.ensures, c.if-get.false) in
-    rw c.with_member-set.ensures (nodes_below-push c.args.self.now.greatest c.newest-2.result.now _ c.newest-2.ensures.bound above)
+    let above : c.args.self.now.greatest < c.args.node =
+    omega (arith, c.get.ensures.value, c.get-2.ensures.value, c.greatest.ensures, c.if-get.false) in
+    rw c.with_member-set.ensures
+    (nodes_below-push c.args.self.now.greatest c.newest-2.result.now _ c.newest-2.ensures.bound above)

@@ -15,5 +15,7 @@ returns-clause-sums c = λ genesis L e.
     let all : RosterValue = roster_after genesis L in
     let told = c.in_ok-ahead.ensures in
     let executed_is : c.self.inside.executed ≡ length L = ap (λ (v : RosterValue). v.executed) (c.self.view_is ∙ e) in
-    let at : c.args.position ≡ length L + 1 + c.in_ok-ahead.ahead = omega (arith, told, executed_is, c.get.ensures.value, c.get-nearest.ensures.value) in
-    weaker c.get-2.result _ _ (λ set h. sets_from-get genesis L c.args.position c.in_ok-ahead.ahead set.now c.self.inside.window (ap (λ (v : RosterValue). v.sets) (c.self.view_is ∙ e)) h at) c.get-2.ensures.value
+    let at : c.args.position ≡ length L + 1 + c.in_ok-ahead.ahead =
+    omega (arith, told, executed_is, c.get.ensures.value, c.get-nearest.ensures.value) in
+    weaker c.get-2.result _ _ (λ set h. sets_from-get genesis L c.args.position c.in_ok-ahead.ahead set.now
+    c.self.inside.window (ap (λ (v : RosterValue). v.sets) (c.self.view_is ∙ e)) h at) c.get-2.ensures.value

@@ -7,5 +7,7 @@ use Rattle.lk_messages.proofs.promise.Votes.to_vec.Goals as goal
 
 pub loop-preserved : goal.loop-preserved
 loop-preserved c =
-    ap (λ (vs : List Vote). with_front vs (many read_vote (c.self.inside.count - (c.loop.counter + 1)) c.in-Some.after.now)) c.in_ok-push.ensures.items
-    ∙ goes_on read_vote c.loop.list.items c.self.inside.count c.loop.counter c.loop.rest.now c.in-Some.vote c.in-Some.after.now (Some (c.args.self.now, [])) c.loop-test.true c.in-Some.ensures.parsed c.loop.invariant
+    ap (λ (vs : List Vote). with_front vs
+    (many read_vote (c.self.inside.count - (c.loop.counter + 1)) c.in-Some.after.now)) c.in_ok-push.ensures.items
+    ∙ goes_on read_vote c.loop.list.items c.self.inside.count c.loop.counter c.loop.rest.now c.in-Some.vote
+    c.in-Some.after.now (Some (c.args.self.now, [])) c.loop-test.true c.in-Some.ensures.parsed c.loop.invariant

@@ -11,12 +11,21 @@ use Rattle.lk_node.proofs.node.Node.decide.Goals as goal
 pub returns-clause-goes_on : goal.returns-clause-goes_on
 returns-clause-goes_on g c = λ at.
     let m : Meaning = g.M.Machine.meaning in
-    let noted : c.note.new.self ≡ with_note (note.Counted c.node.result c.args.position c.args.members c.args.command.now) c.args.out.now =
-    c.in_ok-note.ensures ∙ ap (λ (v : Command). with_note (note.Counted c.node.result c.args.position c.args.members v) c.args.out.now) c.copy.ensures in
-    subst (λ (o : OutboxValue). GoesOn m (λ h. ChosenAt h.genesis h.sent c.args.position c.args.command.now) c.args.self.now c.execute.new.self c.args.out.now o) (sym c.in_ok-add_letters.ensures)
-    (decides_goes_on m c.args.members c.args.position c.args.command.now c.node.result c.args.self.now c.learn.new.self c.execute.new.self c.args.out.now c.learn.new.out c.execute.new.out c.in_ok-letters.letters.items
+    let noted : c.note.new.self
+    ≡ with_note (note.Counted c.node.result c.args.position c.args.members c.args.command.now) c.args.out.now =
+    c.in_ok-note.ensures ∙ ap (λ (v : Command). with_note
+    (note.Counted c.node.result c.args.position c.args.members v) c.args.out.now) c.copy.ensures in
+    subst (λ (o : OutboxValue). GoesOn m
+    (λ h. ChosenAt h.genesis h.sent c.args.position c.args.command.now) c.args.self.now c.execute.new.self
+    c.args.out.now o) (sym c.in_ok-add_letters.ensures)
+    (decides_goes_on m c.args.members c.args.position c.args.command.now c.node.result c.args.self.now c.learn.new.self
+    c.execute.new.self c.args.out.now c.learn.new.out c.execute.new.out c.in_ok-letters.letters.items
     at c.in_ok-letters.ensures
-    (subst (λ (o : OutboxValue). Learns (c.args.position, c.args.command.now) c.args.self.now o c.learn.new.self c.learn.new.out) noted c.in_ok-learn.ensures.exact)
+    (subst (λ (o : OutboxValue). Learns
+    (c.args.position, c.args.command.now) c.args.self.now o c.learn.new.self c.learn.new.out) noted
+    c.in_ok-learn.ensures.exact)
     c.in_ok-execute.ensures.exact.0
-    (subst (λ (o : OutboxValue). GoesOn m (λ h. ChosenAt h.genesis h.sent c.args.position c.args.command.now) c.args.self.now c.learn.new.self o c.learn.new.out) noted c.in_ok-learn.ensures.goes_on)
+    (subst (λ (o : OutboxValue). GoesOn m
+    (λ h. ChosenAt h.genesis h.sent c.args.position c.args.command.now) c.args.self.now c.learn.new.self o
+    c.learn.new.out) noted c.in_ok-learn.ensures.goes_on)
     c.in_ok-execute.ensures.goes_on)

@@ -12,11 +12,17 @@ pub returns : goal.returns
 returns g c = record {
   nodes = c.in_ok-others.others.items;
   others = c.in_ok-others.ensures;
-  fits = subst (λ (n : NodeValue). IsMessage (saying n.header (decided_message (c.args.position, c.args.command.now)))) c.self.view_is
-      (subst (λ (m : NodeMessage). IsMessage (saying c.self.inside.header m)) c.in_ok-message.ensures c.in_ok-letters.ensures.fits);
+  fits = subst (λ (n : NodeValue). IsMessage (saying n.header (decided_message (c.args.position, c.args.command.now))))
+      c.self.view_is
+      (subst (λ (m : NodeMessage). IsMessage (saying c.self.inside.header m)) c.in_ok-message.ensures
+      c.in_ok-letters.ensures.fits);
   comes_to = c.in_ok-letters.ensures.letters
-      ∙ ap (λ (r : RosterValue). letters_to c.self.inside.header r.sets c.in_ok-message.message c.deref.result.now) c.roster.ensures
-      ∙ ap (λ (m : NodeMessage). letters_to c.self.inside.header c.args.self.now.learner.whole.roster.sets m c.deref.result.now) c.in_ok-message.ensures
-      ∙ ap (λ (ns : List ℕ). letters_to c.self.inside.header c.args.self.now.learner.whole.roster.sets (decided_message (c.args.position, c.args.command.now)) ns) c.deref.ensures.value
-      ∙ ap (λ (n : NodeValue). letters_to n.header c.args.self.now.learner.whole.roster.sets (decided_message (c.args.position, c.args.command.now)) c.in_ok-others.others.items) c.self.view_is;
+      ∙ ap (λ (r : RosterValue). letters_to c.self.inside.header r.sets c.in_ok-message.message c.deref.result.now)
+      c.roster.ensures
+      ∙ ap (λ (m : NodeMessage). letters_to c.self.inside.header c.args.self.now.learner.whole.roster.sets m
+      c.deref.result.now) c.in_ok-message.ensures
+      ∙ ap (λ (ns : List ℕ). letters_to c.self.inside.header c.args.self.now.learner.whole.roster.sets
+      (decided_message (c.args.position, c.args.command.now)) ns) c.deref.ensures.value
+      ∙ ap (λ (n : NodeValue). letters_to n.header c.args.self.now.learner.whole.roster.sets
+      (decided_message (c.args.position, c.args.command.now)) c.in_ok-others.others.items) c.self.view_is;
 }

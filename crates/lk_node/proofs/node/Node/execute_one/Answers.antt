@@ -6,4 +6,5 @@ use Rattle.lk_node.proofs.node.Node.execute_one.Goals as goal
 
 pub returns-clause-goes_on : goal.returns-clause-goes_on
 returns-clause-goes_on g c =
-    one_goes_on _ _ true c.args.self.now c.args.out.now c.leave_outside.new.self c.reply_if_answered.new.out (subst (λ (k : NodeValue). IsLearner k.learner) c.self.view_is c.facts.ensures) (search rules)
+    one_goes_on _ _ true c.args.self.now c.args.out.now c.leave_outside.new.self c.reply_if_answered.new.out
+    (subst (λ (k : NodeValue). IsLearner k.learner) c.self.view_is c.facts.ensures) (search rules)

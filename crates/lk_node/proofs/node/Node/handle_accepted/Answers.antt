@@ -12,18 +12,29 @@ use Rattle.lk_node.proofs.node.Node.handle_accepted.Goals as goal
 pub returns-in_default-clause-goes_on : goal.returns-in_default-clause-goes_on
 returns-in_default-clause-goes_on g c =
     let m : Meaning = g.M.Machine.meaning in
-    subst (λ (o : OutboxValue). GoesOn m (λ h. HasSent h.genesis h.sent c.args.from (kinds.Accepted c.args.vote.now)) c.args.self.now c.count_vote.new.self nothing o) (sym c.new-out.ensures)
-    (only_heard_goes_on m c.args.from c.args.vote.now c.args.self.now c.count_vote.new.self nothing c.in_default.ensures)
+    subst (λ (o : OutboxValue). GoesOn m
+    (λ h. HasSent h.genesis h.sent c.args.from (kinds.Accepted c.args.vote.now)) c.args.self.now c.count_vote.new.self
+    nothing o) (sym c.new-out.ensures)
+    (only_heard_goes_on m c.args.from c.args.vote.now c.args.self.now c.count_vote.new.self
+    nothing c.in_default.ensures)
 
 pub returns-clause-exact : goal.returns-clause-exact
 returns-clause-exact g c =
     let m : Meaning = g.M.Machine.meaning in
-    hears_accepted m c.args.from c.args.vote.now c.args.self.now c.count_vote.new.self c.decide.new.self c.in-Some.members c.decide.new.out c.in-Some.ensures
-    (subst (λ (o : OutboxValue). Decides m c.in-Some.members (c.args.vote.now.position, c.args.vote.now.command) c.count_vote.new.self o c.decide.new.self c.decide.new.out) c.new-out.ensures c.in_ok-decide.ensures.exact)
+    hears_accepted m c.args.from c.args.vote.now c.args.self.now c.count_vote.new.self c.decide.new.self
+    c.in-Some.members c.decide.new.out c.in-Some.ensures
+    (subst (λ (o : OutboxValue). Decides m c.in-Some.members
+    (c.args.vote.now.position, c.args.vote.now.command) c.count_vote.new.self o c.decide.new.self c.decide.new.out)
+    c.new-out.ensures c.in_ok-decide.ensures.exact)
 
 pub returns-clause-goes_on : goal.returns-clause-goes_on
 returns-clause-goes_on g c =
     let m : Meaning = g.M.Machine.meaning in
-    accepted_goes_on m c.args.from c.args.vote.now c.args.self.now c.count_vote.new.self c.decide.new.self c.in-Some.members nothing c.decide.new.out c.in-Some.ensures
-    (subst (λ (o : OutboxValue). GoesOn m (λ h. ChosenAt h.genesis h.sent c.args.vote.now.position c.args.vote.now.command) c.count_vote.new.self c.decide.new.self o c.decide.new.out) c.new-out.ensures
-    (c.in_ok-decide.ensures.goes_on (are_members c.args.from c.args.vote.now c.args.self.now c.count_vote.new.self c.in-Some.members c.in-Some.ensures)))
+    accepted_goes_on m c.args.from c.args.vote.now c.args.self.now c.count_vote.new.self c.decide.new.self
+    c.in-Some.members nothing c.decide.new.out c.in-Some.ensures
+    (subst (λ (o : OutboxValue). GoesOn m
+    (λ h. ChosenAt h.genesis h.sent c.args.vote.now.position c.args.vote.now.command) c.count_vote.new.self
+    c.decide.new.self o c.decide.new.out) c.new-out.ensures
+    (c.in_ok-decide.ensures.goes_on
+    (are_members c.args.from c.args.vote.now c.args.self.now c.count_vote.new.self
+    c.in-Some.members c.in-Some.ensures)))

@@ -9,5 +9,6 @@ use Rattle.lk_node.proofs.node.Node.handle_decided.Given as goal
 abbrev pub invariant-pairs : goal.invariant-pairs
 invariant-pairs g l =
     TakesPairs g.M.Machine.meaning l.decided.first l.decided.commands l.fn.self nothing l.index l.self l.out
-    × ((from : ℕ) → GoesOn g.M.Machine.meaning (λ h. HasSent h.genesis h.sent from (kinds.Decided l.decided)) l.fn.self l.self nothing l.out)
+    × ((from : ℕ) → GoesOn g.M.Machine.meaning
+    (λ h. HasSent h.genesis h.sent from (kinds.Decided l.decided)) l.fn.self l.self nothing l.out)
     × (l.rest ≡ drop l.index l.decided.commands)

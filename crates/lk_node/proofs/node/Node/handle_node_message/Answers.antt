@@ -13,18 +13,27 @@ use Rattle.lk_node.proofs.node.Node.handle_node_message.Goals as goal
 
 pub returns-in-Decided-clause-goes_on : goal.returns-in-Decided-clause-goes_on
 returns-in-Decided-clause-goes_on g c =
-    subst (λ (x : NodeMessageRef). IfOk c.handle_decided.result (λ o. GoesOn g.M.Machine.meaning (λ h. HasSent h.genesis h.sent c.args.from (shown_node x)) c.args.self.now c.handle_decided.new.self nothing o))
+    subst (λ (x : NodeMessageRef). IfOk c.handle_decided.result
+    (λ o. GoesOn g.M.Machine.meaning
+    (λ h. HasSent h.genesis h.sent c.args.from (shown_node x)) c.args.self.now c.handle_decided.new.self nothing o))
     (sym c.in-Decided.is) (c.handle_decided.ensures.goes_on c.args.from)
 
 pub returns-in-Part-clause-goes_on : goal.returns-in-Part-clause-goes_on
 returns-in-Part-clause-goes_on g c =
-    subst (λ (x : NodeMessageRef). IfOk c.handle_part.result (λ o. GoesOn g.M.Machine.meaning (λ h. HasSent h.genesis h.sent c.args.from (shown_node x)) c.args.self.now c.handle_part.new.self nothing o))
+    subst (λ (x : NodeMessageRef). IfOk c.handle_part.result
+    (λ o. GoesOn g.M.Machine.meaning
+    (λ h. HasSent h.genesis h.sent c.args.from (shown_node x)) c.args.self.now c.handle_part.new.self nothing o))
     (sym c.in-Part.is) (c.handle_part.ensures.goes_on c.args.from)
 
 pub returns-in-Accepted-clause-exact : goal.returns-in-Accepted-clause-exact
 returns-in-Accepted-clause-exact g c =
     let m : Meaning = g.M.Machine.meaning in
     let vote : Vote = c.in-Accepted.vote in
-    let heard : IfOk c.handle_accepted.result (λ o. HearsAccepted m c.args.from vote c.args.self.now c.handle_accepted.new.self o) =
-    subst (λ (v : Vote). IfOk c.handle_accepted.result (λ o. HearsAccepted m c.args.from v c.args.self.now c.handle_accepted.new.self o)) c.vote-in-Accepted.ensures.value c.handle_accepted.ensures.exact in
-    subst (λ (x : NodeMessageRef). IfOk c.handle_accepted.result (λ o. HearsNode m g.M.Machine.IsText c.args.self.now c.args.from (shown_node x) c.handle_accepted.new.self o)) (sym c.in-Accepted.is) heard
+    let heard : IfOk c.handle_accepted.result
+    (λ o. HearsAccepted m c.args.from vote c.args.self.now c.handle_accepted.new.self o) =
+    subst (λ (v : Vote). IfOk c.handle_accepted.result
+    (λ o. HearsAccepted m c.args.from v c.args.self.now c.handle_accepted.new.self o)) c.vote-in-Accepted.ensures.value
+    c.handle_accepted.ensures.exact in
+    subst (λ (x : NodeMessageRef). IfOk c.handle_accepted.result
+    (λ o. HearsNode m g.M.Machine.IsText c.args.self.now c.args.from (shown_node x) c.handle_accepted.new.self o))
+    (sym c.in-Accepted.is) heard

@@ -4,4 +4,5 @@ use Rattle.lk_node.proofs.node.Node.handle_promise.Goals as goal
 
 pub returns-clause-goes_on : goal.returns-clause-goes_on
 returns-clause-goes_on g c =
-    promise_goes_on _ c.args.self.now c.keep_promise.new.self c.args.from c.args.promise.now c.new.result (c.in_ok-keep_promise.ensures, c.new.ensures)
+    promise_goes_on _ c.args.self.now c.keep_promise.new.self c.args.from c.args.promise.now c.new.result
+    (c.in_ok-keep_promise.ensures, c.new.ensures)

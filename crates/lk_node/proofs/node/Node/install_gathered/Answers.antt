@@ -13,8 +13,13 @@ pub returns-clause-goes_on : goal.returns-clause-goes_on
 returns-clause-goes_on g c =
     let m : Meaning = g.M.Machine.meaning in
     let are : AreSessions c.args.self.now.learner.whole.sessions =
-    subst (λ (node : NodeValue). AreSessions node.learner.whole.sessions) c.self.view_is (subst (λ (w : WholeValue). AreSessions w.sessions) c.whole.ensures c.facts.ensures.fits.sessions) in
-    takes_up_goes_on m (λ h. Unit {0}) c.args.self.now c.reply_to_all_waiting.new.self c.execute.new.self c.reply_to_all_waiting.new.out c.execute.new.out are
-    (subst (λ (o : OutboxValue). SettlesAll c.args.self.now.learner.whole.sessions c.args.self.now o c.reply_to_all_waiting.new.self c.reply_to_all_waiting.new.out)
+    subst (λ (node : NodeValue). AreSessions node.learner.whole.sessions) c.self.view_is
+    (subst (λ (w : WholeValue). AreSessions w.sessions) c.whole.ensures c.facts.ensures.fits.sessions) in
+    takes_up_goes_on m (λ h. Unit {0}) c.args.self.now c.reply_to_all_waiting.new.self c.execute.new.self
+    c.reply_to_all_waiting.new.out c.execute.new.out are
+    (subst (λ (o : OutboxValue). SettlesAll c.args.self.now.learner.whole.sessions c.args.self.now o
+    c.reply_to_all_waiting.new.self c.reply_to_all_waiting.new.out)
     (c.rebase_store.ensures ∙ ap with_rebase c.new-out.ensures) c.in_ok-reply_to_all_waiting.ensures)
-    (subst (λ (node : NodeValue). GoesOn m (λ h. Unit {0}) node c.execute.new.self c.reply_to_all_waiting.new.out c.execute.new.out) c.leave_outside.ensures c.in_ok-execute.ensures.goes_on)
+    (subst (λ (node : NodeValue). GoesOn m
+    (λ h. Unit {0}) node c.execute.new.self c.reply_to_all_waiting.new.out c.execute.new.out) c.leave_outside.ensures
+    c.in_ok-execute.ensures.goes_on)

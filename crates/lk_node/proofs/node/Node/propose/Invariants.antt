@@ -5,7 +5,8 @@ use Rattle.lk_node.proofs.node.Node.propose.Given as goal
 
 abbrev pub invariant-votes : goal.invariant-votes
 invariant-votes g l =
-    GoesOn g.M.Machine.meaning (λ h. Unit {0}) l.fn.self l.self l.fn.out l.out × Continues l.fn.self l.self l.fn.out l.out
+    GoesOn g.M.Machine.meaning (λ h. Unit {0}) l.fn.self l.self l.fn.out l.out
+    × Continues l.fn.self l.self l.fn.out l.out
 
 abbrev pub decreases-votes : goal.decreases-votes
 decreases-votes g l = left_open l.self

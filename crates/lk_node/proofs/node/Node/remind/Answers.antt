@@ -10,10 +10,14 @@ pub returns-clause-goes_on : goal.returns-clause-goes_on
 returns-clause-goes_on g c =
     let m : Meaning = g.M.Machine.meaning in
     let Any : History → Type 0 = λ h. Unit {0} in
-    then_goes_on m Any c.args.self.now c.propose.new.self c.propose.new.self nothing c.propose.new.out c.send_lead.new.out
-    (then_goes_on m Any c.args.self.now c.args.self.now c.propose.new.self nothing c.resend_accepts.new.out c.propose.new.out
-    (then_goes_on m Any c.args.self.now c.args.self.now c.args.self.now nothing c.resend_prepares_of_term.new.out c.resend_accepts.new.out
-    (subst (λ (o : OutboxValue). GoesOn m Any c.args.self.now c.args.self.now o c.resend_prepares_of_term.new.out) c.new-out.ensures c.in_ok-resend_prepares_of_term.ensures.goes_on)
+    then_goes_on m Any c.args.self.now c.propose.new.self c.propose.new.self nothing
+    c.propose.new.out c.send_lead.new.out
+    (then_goes_on m Any c.args.self.now c.args.self.now c.propose.new.self nothing
+    c.resend_accepts.new.out c.propose.new.out
+    (then_goes_on m Any c.args.self.now c.args.self.now c.args.self.now nothing
+    c.resend_prepares_of_term.new.out c.resend_accepts.new.out
+    (subst (λ (o : OutboxValue). GoesOn m Any c.args.self.now c.args.self.now o c.resend_prepares_of_term.new.out)
+    c.new-out.ensures c.in_ok-resend_prepares_of_term.ensures.goes_on)
     c.in_ok-resend_accepts.ensures.goes_on)
     c.in_ok-propose.ensures.goes_on)
     c.in_ok-send_lead.ensures.goes_on

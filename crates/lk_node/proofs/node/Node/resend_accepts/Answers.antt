@@ -17,17 +17,28 @@ ahead-init g c = (none_offered, rests_here _ _ c.args.self.now c.args.out.now)
 pub ahead-preserved : goal.ahead-preserved
 ahead-preserved g c =
     let m : Meaning = g.M.Machine.meaning in
-    let So : OutboxValue → Type 0 = λ o. OffersFirst c.args.self.now c.args.ballot c.args.out.now (c.ahead.ahead + 1) o × GoesOn m (λ h. Unit {0}) c.args.self.now c.args.self.now c.args.out.now o in
+    let So : OutboxValue → Type 0 = λ o. OffersFirst c.args.self.now c.args.ballot c.args.out.now (c.ahead.ahead + 1) o
+    × GoesOn m (λ h. Unit {0}) c.args.self.now c.args.self.now c.args.out.now o in
     let next : c.get-next.result ≡ executed c.args.self.now.learner =
-    c.get-next.ensures.value ∙ c.executed.ensures ∙ ap (λ (w : WholeValue). w.roster.executed) c.whole.ensures ∙ ap (λ (k : NodeValue). executed k.learner) c.self.view_is in
+    c.get-next.ensures.value ∙ c.executed.ensures ∙ ap (λ (w : WholeValue). w.roster.executed) c.whole.ensures
+    ∙ ap (λ (k : NodeValue). executed k.learner) c.self.view_is in
     elim c.match-of.branch [
       | in-Some+in_ok-resend_accept_of_term w ↦
-          let at : w.in-Some.position ≡ executed c.args.self.now.learner + 1 + c.ahead.ahead = (let is = w.in-Some.ensures.value in omega (arith, next, is, c.from.ensures)) in
+          let at : w.in-Some.position ≡ executed c.args.self.now.learner + 1 + c.ahead.ahead =
+          (let is = w.in-Some.ensures.value in omega (arith, next, is, c.from.ensures)) in
           subst So (sym w.out-is) (
-            one_offered c.ahead.invariant.0 (inl (subst (λ (i : ℕ). OffersAgain c.args.self.now c.args.ballot i c.ahead.out w.resend_accept_of_term.new.out) at w.in_ok-resend_accept_of_term.ensures.exact)),
-            then_goes_on m _ c.args.self.now c.args.self.now c.args.self.now c.args.out.now c.ahead.out w.resend_accept_of_term.new.out c.ahead.invariant.1 w.in_ok-resend_accept_of_term.ensures.goes_on,
+            one_offered c.ahead.invariant.0
+                (inl (subst (λ (i : ℕ). OffersAgain c.args.self.now c.args.ballot i c.ahead.out
+                w.resend_accept_of_term.new.out) at w.in_ok-resend_accept_of_term.ensures.exact)),
+            then_goes_on m _ c.args.self.now c.args.self.now c.args.self.now c.args.out.now c.ahead.out
+                w.resend_accept_of_term.new.out c.ahead.invariant.1 w.in_ok-resend_accept_of_term.ensures.goes_on,
           )
       | in_default w ↦
-          let far : c.get-next.result + 1 + c.from.result ≤ max_count → ⊥ = λ near. (let some = w.in_default.ensures.some.1 (omega arith, near) in cc some) in
-          subst So (sym w.out-is) (one_offered c.ahead.invariant.0 (inr (omega (arith, next, far, c.from.ensures), refl)), c.ahead.invariant.1)
+          let far : c.get-next.result + 1 + c.from.result ≤ max_count
+          → ⊥ = λ near. (let some = w.in_default.ensures.some.1 (omega arith, near) in cc some) in
+          subst So (sym w.out-is) (
+            one_offered c.ahead.invariant.0
+                (inr (omega (arith, next, far, c.from.ensures), refl)),
+            c.ahead.invariant.1,
+          )
     ]

@@ -3,4 +3,5 @@ use Rattle.lk_node.proofs.Reminders.{lead_goes_on}
 use Rattle.lk_node.proofs.node.Node.send_lead.Goals as goal
 
 pub returns-clause-goes_on : goal.returns-clause-goes_on
-returns-clause-goes_on g c = lead_goes_on _ _ c.args.self.now c.args.ballot c.args.out.now c.send_to_all.new.out (search rules)
+returns-clause-goes_on g c =
+    lead_goes_on _ _ c.args.self.now c.args.ballot c.args.out.now c.send_to_all.new.out (search rules)

@@ -1,4 +1,5 @@
-use Rattle.std.proofs.Common.{ℕ, ◌≡◌, ◌∙◌, ◌∷◌, [], ◌++◌, List, length, map, Contains, refl, sym, ap, subst, inl, inr, append_assoc, append-nil, arith}
+use Rattle.std.proofs.Common.{ℕ, ◌≡◌, ◌∙◌, ◌∷◌, [], ◌++◌, List, length, map, Contains, refl, sym, ap, subst, inl, inr}
+use Rattle.std.proofs.Common.{append_assoc, append-nil, arith}
 use Rattle.std.specs.Vec.Iter.{into_iter_items}
 use Rattle.std.proofs.lemmas.List.Elements.{Contains-push_cases}
 use Rattle.lk_messages.specs.Grammar.{IsMessage}
@@ -18,8 +19,11 @@ map_push f (y ∷ xs) x = ap (λ l. f y ∷ l) (map_push f xs x)
 
 -- with one more of them
 sent_more : (node : NodeValue) (other : ℕ) (ps : List PartValue) (p : PartValue)
-    → with_letter (letter_to node (kinds.Part p) other) (sending_parts node other ps nothing) ≡ sending_parts node other (ps ++ p ∷ []) nothing
-sent_more node other ps p = ap (λ (ls : List LetterValue). with_letters ls nothing) (map_push (λ (q : PartValue). letter_to node (kinds.Part q) other) ps p)
+    → with_letter (letter_to node (kinds.Part p) other) (sending_parts node other ps nothing)
+    ≡ sending_parts node other (ps ++ p ∷ []) nothing
+sent_more node other ps p =
+    ap (λ (ls : List LetterValue). with_letters ls nothing)
+    (map_push (λ (q : PartValue). letter_to node (kinds.Part q) other) ps p)
 
 nothing_left : (l : List PartValue) → length l ≡ 0 → l ≡ []
 nothing_left [] h = refl
@@ -31,10 +35,13 @@ parts-preserved g c =
     let x : PartValue = c.in-Some.part in
     let steps : into_iter_items at.part-iterator ≡ x ∷ into_iter_items c.next.new.self = c.in-Some.ensures.steps.0 in (
       append_assoc at.yielded (x ∷ []) _ ∙ rw (← steps) at.invariant.0,
-      c.in_ok-send_to_node.ensures.said ∙ ap (with_letter (letter_to c.args.self.now (kinds.Part x) c.args.other)) at.invariant.1 ∙ sent_more c.args.self.now c.args.other at.yielded x,
+      c.in_ok-send_to_node.ensures.said
+          ∙ ap (with_letter (letter_to c.args.self.now (kinds.Part x) c.args.other)) at.invariant.1
+          ∙ sent_more c.args.self.now c.args.other at.yielded x,
       λ p h. elim (Contains-push_cases at.yielded x p h) [
         | inl old ↦ at.invariant.2 p old
-        | inr is ↦ subst (λ (q : PartValue). IsMessage (saying c.args.self.now.header (kinds.Part q))) is c.in_ok-send_to_node.ensures.fits
+        | inr is ↦ subst (λ (q : PartValue). IsMessage (saying c.args.self.now.header (kinds.Part q))) is
+            c.in_ok-send_to_node.ensures.fits
       ],
       let was = at.invariant.3 in
           let gone = c.in-Some.ensures.steps.1 in
@@ -47,5 +54,6 @@ returns-clause-fits g c =
     let at = c.parts in
     let none = c.in-None.ensures.steps in
     let empty : into_iter_items at.part-iterator ≡ [] = nothing_left _ (sym at.invariant.3 ∙ none.0) in
-    let all = sym (append-nil at.yielded) ∙ rw empty at at.invariant.0 ∙ c.into_iter-part-iterator.ensures.into_iter_gives.0 in
+    let all = sym (append-nil at.yielded) ∙ rw empty at at.invariant.0
+    ∙ c.into_iter-part-iterator.ensures.into_iter_gives.0 in
     λ p h. at.invariant.2 p (subst (λ (l : List PartValue). Contains l p) (sym all) h)

@@ -8,8 +8,25 @@ use Rattle.lk_node.proofs.node.Node.standing.Goals as goal
 
 pub returns-clause-may : goal.returns-clause-may
 returns-clause-may g c =
-    let was : NodeValue = record { header = c.self.inside.header; acceptor = c.self.inside.acceptor; learner = c.self.inside.learner; leader = c.self.inside.leader; ticks = c.self.inside.ticks; rounds = c.self.inside.rounds; known = c.self.inside.known; halted = c.self.inside.halted } in
-    let held : StandingValue = record { promised = c.promised.result; position = c.executed-executed.result; snapshot = c.in_ok-snapshot.snapshot.items; votes = c.in_ok-votes.votes.items; pairs = c.in_ok-pairs.pairs.items } in
+    let was : NodeValue = record {
+      header = c.self.inside.header;
+      acceptor = c.self.inside.acceptor;
+      learner = c.self.inside.learner;
+      leader = c.self.inside.leader;
+      ticks = c.self.inside.ticks;
+      rounds = c.self.inside.rounds;
+      known = c.self.inside.known;
+      halted = c.self.inside.halted;
+    } in
+    let held : StandingValue =
+    record {
+      promised = c.promised.result;
+      position = c.executed-executed.result;
+      snapshot = c.in_ok-snapshot.snapshot.items;
+      votes = c.in_ok-votes.votes.items;
+      pairs = c.in_ok-pairs.pairs.items;
+    } in
     let is : held ≡ standing_of was = search rules in
     let same = ap (λ (t : List ℕ). length t) c.in_ok-pack_now.ensures.text in
-    subst MayBegin (sym is) (may_begin was c.facts.ensures c.facts-2.ensures c.self.invariant.1 (omega (arith, same, c.in_ok-pack_now.ensures.some)) (omega (arith, same, c.in_ok-pack_now.ensures.room)))
+    subst MayBegin (sym is) (may_begin was c.facts.ensures c.facts-2.ensures c.self.invariant.1
+    (omega (arith, same, c.in_ok-pack_now.ensures.some)) (omega (arith, same, c.in_ok-pack_now.ensures.room)))

@@ -11,7 +11,8 @@ returns-then-at-lt-ROOM-clause-strangers c =
     let es : Entries = c.self.inside.entries in
     let within : c.entry_for-at.result < length es = grind (arith, common_steps) in
     let read : c.index-self-at.result ≡ slice_index_or es c.entry_for-at.result c.index-self-at.result = search rules in
-    let is : slice_get es c.entry_for-at.result ≡ Some c.index-self-at.result = read_there es c.entry_for-at.result c.index-self-at.result c.index-self-at.result within read in
+    let is : slice_get es c.entry_for-at.result ≡ Some c.index-self-at.result =
+    read_there es c.entry_for-at.result c.index-self-at.result c.index-self-at.result within read in
     let met : c.having_met.result ≡ having_met c.args.place c.args.binds c.index-self-at.result = search rules in
     let same : es ≡ c.args.self.now = search rules in
     ap (λ (n : Neighbour). is_stranger (slice_set es c.entry_for-at.result (Some n))) met

@@ -24,7 +24,8 @@ returns-clause-goes g c h n fits =
     let m : Meaning = g.M.Machine.meaning in
     let own = c.args.self.now in
     on_ok _ _ c.compact.result
-    (λ done. on_device (λ d. Goes m h n (Stands m c.compact.new.self.node c.compact.new.self.store h.genesis n) d [] []) c.compact.new.self.store
+    (λ done. on_device (λ d. Goes m h n
+    (Stands m c.compact.new.self.node c.compact.new.self.store h.genesis n) d [] []) c.compact.new.self.store
     (done.goes h n (off_device (λ d. NodeFits m h n (Stands m own.node own.store h.genesis n) d) own.store fits)))
     (c.compact.ensures.done tt)
 
@@ -33,35 +34,42 @@ returns-clause-ends g c h n fits =
     let m : Meaning = g.M.Machine.meaning in
     let own = c.args.self.now in
     on_device (DisksFit m h n) c.compact.new.self.store
-    ((c.compact.ensures.disks tt).ends h n (off_device (λ d. NodeFits m h n (Stands m own.node own.store h.genesis n) d) own.store fits) tt)
+    ((c.compact.ensures.disks tt).ends h n
+    (off_device (λ d. NodeFits m h n (Stands m own.node own.store h.genesis n) d) own.store fits) tt)
 
 pub returns-clause-covers : goal.returns-clause-covers
 returns-clause-covers g c genesis n held x shown every =
     let m : Meaning = g.M.Machine.meaning in
     on_device (λ d. AllCover m genesis n d x) c.compact.new.self.store
-    ((c.compact.ensures.disks tt).covers genesis n x (remembered m genesis n held c.args.self.now.node c.args.self.now.store shown) (off_device (λ d. AllCover m genesis n d x) c.args.self.now.store every))
+    ((c.compact.ensures.disks tt).covers genesis n x
+    (remembered m genesis n held c.args.self.now.node c.args.self.now.store shown)
+    (off_device (λ d. AllCover m genesis n d x) c.args.self.now.store every))
 
 pub returns-clause-stands : goal.returns-clause-stands
 returns-clause-stands g c genesis n held shown =
     let m : Meaning = g.M.Machine.meaning in
     on_ok _ _ c.compact.result
-    (λ done. on_device (λ d. AllStandAt m genesis n d (executed c.compact.new.self.node.learner) held.view.done) c.compact.new.self.store (done.stands genesis n held shown))
+    (λ done. on_device (λ d. AllStandAt m genesis n d (executed c.compact.new.self.node.learner) held.view.done)
+    c.compact.new.self.store (done.stands genesis n held shown))
     (c.compact.ensures.done tt)
 
 pub returns-clause-room : goal.returns-clause-room
 returns-clause-room g c =
     on_device (λ d. StaysWithin 49152 (disk_of (device_of c.args.self.now.store)) d) c.compact.new.self.store
-    (on_device (λ d. StaysWithin 49152 d (disks c.compact.new.self.store)) c.args.self.now.store (c.compact.ensures.disks tt).room)
+    (on_device (λ d. StaysWithin 49152 d (disks c.compact.new.self.store)) c.args.self.now.store
+    (c.compact.ensures.disks tt).room)
 
 pub returns-clause-exact : goal.returns-clause-exact
 returns-clause-exact g c =
     let m : Meaning = g.M.Machine.meaning in
-    compacted m c.args.self.now c.compact.new.self c.compact.result (c.compact.ensures.done tt) c.compact.ensures.becomes c.compact.ensures.alive
+    compacted m c.args.self.now c.compact.new.self c.compact.result
+    (c.compact.ensures.done tt) c.compact.ensures.becomes c.compact.ensures.alive
 
 pub returns-clause-refused : goal.returns-clause-refused
 returns-clause-refused g c =
     let m : Meaning = g.M.Machine.meaning in
-    refused m c.args.self.now c.compact.new.self c.compact.result c.compact.ensures.cause c.compact.ensures.refused c.compact.ensures.wakes c.compact.ensures.last
+    refused m c.args.self.now c.compact.new.self c.compact.result c.compact.ensures.cause c.compact.ensures.refused
+    c.compact.ensures.wakes c.compact.ensures.last
 
 pub returns-clause-told : goal.returns-clause-told
 returns-clause-told g c = told c.args.self.now c.compact.new.self c.compact.result c.compact.ensures.refused

@@ -27,28 +27,36 @@ returns-in-Ok-clause-goes g c h n fits heard =
     let own = c.args.self.now in
     let all = c.in_ok-notes.ensures.gives.letters in
     let by = c.in_ok-notes.ensures.gives.holds tt in
-    let went = by.goes h n (off_device (λ d. NodeFits m h n (Stands m own.node own.store h.genesis n) d) own.store fits) heard in
-    let letters : c.take.new.post.letters ≡ all = by.taken.sent.1 tt ∙ ap (λ (p : MemoryPostValue). p.letters ++ by.taken.out.letters) c.empty_post-post.ensures ∙ by.taken.sent.0 in
+    let went = by.goes h n (off_device
+    (λ d. NodeFits m h n (Stands m own.node own.store h.genesis n) d) own.store fits) heard in
+    let letters : c.take.new.post.letters ≡ all = by.taken.sent.1 tt
+    ∙ ap (λ (p : MemoryPostValue). p.letters ++ by.taken.out.letters) c.empty_post-post.ensures ∙ by.taken.sent.0 in
     let is : c.number-node.result ≡ n = c.number-node.ensures ∙ ap (λ (w : HeaderValue). w.node) fits.shown.whose in
     let batch : c.in-Ok.sent.items ≡ batch_of n all = c.in-Ok.ensures.ok ∙ (λ i. batch_of (is i) (letters i)) in
-    subst (λ (ds : List Datagram). Goes m h n (Stands m c.take.new.self.node c.take.new.self.store h.genesis n) (disk_of (device_of c.take.new.self.store)) c.in_ok-notes.notes.items ds) (sym batch)
-    (on_device (λ d. Goes m h n (Stands m c.take.new.self.node c.take.new.self.store h.genesis n) d c.in_ok-notes.notes.items (batch_of n all)) c.take.new.self.store went)
+    subst (λ (ds : List Datagram). Goes m h n (Stands m c.take.new.self.node c.take.new.self.store h.genesis n)
+    (disk_of (device_of c.take.new.self.store)) c.in_ok-notes.notes.items ds) (sym batch)
+    (on_device (λ d. Goes m h n
+    (Stands m c.take.new.self.node c.take.new.self.store h.genesis n) d c.in_ok-notes.notes.items (batch_of n all))
+    c.take.new.self.store went)
 
 pub returns-in-Ok-clause-syncs : goal.returns-in-Ok-clause-syncs
 returns-in-Ok-clause-syncs g c genesis n held x shown =
     let m : Meaning = g.M.Machine.meaning in
     let all = c.in_ok-notes.ensures.gives.letters in
     let by = c.in_ok-notes.ensures.gives.holds tt in
-    let letters : c.take.new.post.letters ≡ all = by.taken.sent.1 tt ∙ ap (λ (p : MemoryPostValue). p.letters ++ by.taken.out.letters) c.empty_post-post.ensures ∙ by.taken.sent.0 in
+    let letters : c.take.new.post.letters ≡ all = by.taken.sent.1 tt
+    ∙ ap (λ (p : MemoryPostValue). p.letters ++ by.taken.out.letters) c.empty_post-post.ensures ∙ by.taken.sent.0 in
     let is : c.number-node.result ≡ n = c.number-node.ensures ∙ ap (λ (w : HeaderValue). w.node) shown.whose in
     let batch : c.in-Ok.sent.items ≡ batch_of n all = c.in-Ok.ensures.ok ∙ (λ i. batch_of (is i) (letters i)) in
     λ d listed said. on_device (λ z. AllCover m genesis n z x) c.take.new.self.store
-    (by.syncs genesis n x (remembered m genesis n held c.args.self.now.node c.args.self.now.store shown) d (subst (λ (ds : List Datagram). Contains ds d) batch listed) said)
+    (by.syncs genesis n x (remembered m genesis n held c.args.self.now.node c.args.self.now.store shown) d
+    (subst (λ (ds : List Datagram). Contains ds d) batch listed) said)
 
 pub returns-in-Ok-clause-exact : goal.returns-in-Ok-clause-exact
 returns-in-Ok-clause-exact g c =
     let taken = (c.in_ok-notes.ensures.gives.holds tt).taken in
-    let letters : c.take.new.post.letters ≡ taken.out.letters = taken.sent.1 tt ∙ ap (λ (p : MemoryPostValue). p.letters ++ taken.out.letters) c.empty_post-post.ensures in
+    let letters : c.take.new.post.letters ≡ taken.out.letters = taken.sent.1 tt
+    ∙ ap (λ (p : MemoryPostValue). p.letters ++ taken.out.letters) c.empty_post-post.ensures in
     record {
       input = c.args.input;
       given = refl;
@@ -78,35 +86,48 @@ returns-in_err-notes-clause-ends g c h n fits heard =
     let m : Meaning = g.M.Machine.meaning in
     let own = c.args.self.now in
     on_err c.from_residual.result _ (on_device (DisksFit m h n) c.take.new.self.store
-    ((c.take.ensures.disks tt).ends h n (off_device (λ d. NodeFits m h n (Stands m own.node own.store h.genesis n) d) own.store fits) heard))
+    ((c.take.ensures.disks tt).ends h n
+    (off_device (λ d. NodeFits m h n (Stands m own.node own.store h.genesis n) d) own.store fits) heard))
 
 pub returns-in-Err-clause-ends : goal.returns-in-Err-clause-ends
 returns-in-Err-clause-ends g c h n fits heard =
     let m : Meaning = g.M.Machine.meaning in
     let own = c.args.self.now in
     on_device (DisksFit m h n) c.take.new.self.store
-    ((c.take.ensures.disks tt).ends h n (off_device (λ d. NodeFits m h n (Stands m own.node own.store h.genesis n) d) own.store fits) heard)
+    ((c.take.ensures.disks tt).ends h n
+    (off_device (λ d. NodeFits m h n (Stands m own.node own.store h.genesis n) d) own.store fits) heard)
 
 pub returns-in_err-notes-clause-covers : goal.returns-in_err-notes-clause-covers
 returns-in_err-notes-clause-covers g c genesis n held x shown every =
     let m : Meaning = g.M.Machine.meaning in
-    on_device (λ d. AllCover m genesis n d x) c.take.new.self.store ((c.take.ensures.disks tt).covers genesis n x (remembered m genesis n held c.args.self.now.node c.args.self.now.store shown) (off_device (λ d. AllCover m genesis n d x) c.args.self.now.store every))
+    on_device (λ d. AllCover m genesis n d x) c.take.new.self.store
+    ((c.take.ensures.disks tt).covers genesis n x
+    (remembered m genesis n held c.args.self.now.node c.args.self.now.store shown)
+    (off_device (λ d. AllCover m genesis n d x) c.args.self.now.store every))
 
 pub returns-in-Ok-clause-covers : goal.returns-in-Ok-clause-covers
 returns-in-Ok-clause-covers g c genesis n held x shown every =
     let m : Meaning = g.M.Machine.meaning in
-    on_device (λ d. AllCover m genesis n d x) c.take.new.self.store ((c.take.ensures.disks tt).covers genesis n x (remembered m genesis n held c.args.self.now.node c.args.self.now.store shown) (off_device (λ d. AllCover m genesis n d x) c.args.self.now.store every))
+    on_device (λ d. AllCover m genesis n d x) c.take.new.self.store
+    ((c.take.ensures.disks tt).covers genesis n x
+    (remembered m genesis n held c.args.self.now.node c.args.self.now.store shown)
+    (off_device (λ d. AllCover m genesis n d x) c.args.self.now.store every))
 
 pub returns-in-Err-clause-covers : goal.returns-in-Err-clause-covers
 returns-in-Err-clause-covers g c genesis n held x shown every =
     let m : Meaning = g.M.Machine.meaning in
-    on_device (λ d. AllCover m genesis n d x) c.take.new.self.store ((c.take.ensures.disks tt).covers genesis n x (remembered m genesis n held c.args.self.now.node c.args.self.now.store shown) (off_device (λ d. AllCover m genesis n d x) c.args.self.now.store every))
+    on_device (λ d. AllCover m genesis n d x) c.take.new.self.store
+    ((c.take.ensures.disks tt).covers genesis n x
+    (remembered m genesis n held c.args.self.now.node c.args.self.now.store shown)
+    (off_device (λ d. AllCover m genesis n d x) c.args.self.now.store every))
 
 pub returns-in_err-notes-clause-told : goal.returns-in_err-notes-clause-told
-returns-in_err-notes-clause-told g c = err_as (λ e. IsNumberOfCalls (fault_number e)) _ _ c.from_residual.ensures.1 c.in_err-notes.ensures.refused.told
+returns-in_err-notes-clause-told g c =
+    err_as (λ e. IsNumberOfCalls (fault_number e)) _ _ c.from_residual.ensures.1 c.in_err-notes.ensures.refused.told
 
 pub returns-in_err-notes-clause-refused : goal.returns-in_err-notes-clause-refused
 returns-in_err-notes-clause-refused g c =
     let own = c.args.self.now in
     let new = c.take.new.self in
-    err_as (λ e. IsRefused ⊤ ⊤ own new (fault_number e) × IsOfLast own (fault_number e)) _ _ c.from_residual.ensures.1 (c.in_err-notes.ensures.refused, c.in_err-notes.ensures.last tt)
+    err_as (λ e. IsRefused ⊤ ⊤ own new (fault_number e) × IsOfLast own (fault_number e)) _ _ c.from_residual.ensures.1
+    (c.in_err-notes.ensures.refused, c.in_err-notes.ensures.last tt)

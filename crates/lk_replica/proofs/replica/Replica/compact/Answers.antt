@@ -17,13 +17,19 @@ use Rattle.lk_replica.proofs.replica.Replica.compact.Goals as goal
 pub returns-clause-done : goal.returns-clause-done
 returns-clause-done g c honest =
     let m : Meaning = g.M.Machine.meaning in
-    subst (λ (r : ReplicaValue). HasSwitchedFiles m g.D.LogDisk.is_metered r.node r.store c.write_base.new.node c.write_base.new.store) c.self.view_is (c.in_ok-write_base.ensures.done honest)
+    subst (λ (r : ReplicaValue). HasSwitchedFiles m g.D.LogDisk.is_metered r.node r.store c.write_base.new.node
+    c.write_base.new.store) c.self.view_is (c.in_ok-write_base.ensures.done honest)
 
 pub returns-clause-becomes : goal.returns-clause-becomes
-returns-clause-becomes g c = subst (λ (r : ReplicaValue). StandsOnBase r.node r.store c.write_base.new.node c.write_base.new.store) c.self.view_is c.in_ok-write_base.ensures.becomes
+returns-clause-becomes g c =
+    subst (λ (r : ReplicaValue). StandsOnBase r.node r.store c.write_base.new.node c.write_base.new.store)
+    c.self.view_is c.in_ok-write_base.ensures.becomes
 
 pub invariant_of-self-2 : goal.invariant_of-self-2
-invariant_of-self-2 g c = (λ alive. c.in_ok-write_base.ensures.becomes.runs (c.self.invariant.0 c.if-self.false), c.write_base.ensures.format_stays c.self.invariant.1)
+invariant_of-self-2 g c = (
+  λ alive. c.in_ok-write_base.ensures.becomes.runs (c.self.invariant.0 c.if-self.false),
+  c.write_base.ensures.format_stays c.self.invariant.1,
+)
 
 -- ---- at every exit
 
@@ -38,12 +44,16 @@ returns-then-self-clause-disks g c honest = record {
 pub returns-in_err-write_base-clause-disks : goal.returns-in_err-write_base-clause-disks
 returns-in_err-write_base-clause-disks g c honest =
     let m : Meaning = g.M.Machine.meaning in
-    subst (λ (r : ReplicaValue). LeavesDisks m (λ h. ⊤) 49152 r.node r.store (disks c.write_base.new.store)) c.self.view_is (leaves_safe m c.self.inside.node c.self.inside.store c.write_base.new.store (c.write_base.ensures.disks honest))
+    subst (λ (r : ReplicaValue). LeavesDisks m (λ h. ⊤) 49152 r.node r.store (disks c.write_base.new.store))
+    c.self.view_is (leaves_safe m c.self.inside.node c.self.inside.store c.write_base.new.store
+    (c.write_base.ensures.disks honest))
 
 pub returns-clause-disks : goal.returns-clause-disks
 returns-clause-disks g c honest =
     let m : Meaning = g.M.Machine.meaning in
-    subst (λ (r : ReplicaValue). LeavesDisks m (λ h. ⊤) 49152 r.node r.store (disks c.write_base.new.store)) c.self.view_is (leaves_safe m c.self.inside.node c.self.inside.store c.write_base.new.store (c.write_base.ensures.disks honest))
+    subst (λ (r : ReplicaValue). LeavesDisks m (λ h. ⊤) 49152 r.node r.store (disks c.write_base.new.store))
+    c.self.view_is (leaves_safe m c.self.inside.node c.self.inside.store c.write_base.new.store
+    (c.write_base.ensures.disks honest))
 
 -- ---- where it was refused
 
@@ -51,7 +61,8 @@ pub returns-then-self-clause-refused : goal.returns-then-self-clause-refused
 returns-then-self-clause-refused g c = record {
   of_store = inr (inr refl);
   calls = λ metered honest. (0, start);
-  earlier = λ number alive store_alive less. let both : true ≡ false = sym c.if-self.true ∙ ap (λ (r : ReplicaValue). r.failed) c.self.view_is ∙ alive in cc both;
+  earlier = λ number alive store_alive less. let both : true ≡ false = sym c.if-self.true
+      ∙ ap (λ (r : ReplicaValue). r.failed) c.self.view_is ∙ alive in cc both;
   once = λ ended. (refl, refl);
   rests = refl;
   file = (refl, refl, refl, refl);
@@ -63,5 +74,9 @@ pub returns-in_err-write_base-clause-refused : goal.returns-in_err-write_base-cl
 returns-in_err-write_base-clause-refused g c =
     let node = c.write_base.new.node in
     let store = c.write_base.new.store in
-    subst (λ (r : ReplicaValue). IfErr c.from_residual.result (λ e. IsNotCompacted g.D.LogDisk.is_honest g.D.LogDisk.is_metered r (record { node = node; store = store; failed = true }) (fault_number e))) c.self.view_is
-    (not_compacted_by_parts g.D.LogDisk.is_honest g.D.LogDisk.is_metered _ _ (record { node = c.self.inside.node; store = c.self.inside.store; failed = c.self.inside.failed }) node store c.from_residual.ensures.1 c.if-self.false c.in_err-write_base.ensures.refused)
+    subst (λ (r : ReplicaValue). IfErr c.from_residual.result
+    (λ e. IsNotCompacted g.D.LogDisk.is_honest g.D.LogDisk.is_metered r
+    (record { node = node; store = store; failed = true }) (fault_number e))) c.self.view_is
+    (not_compacted_by_parts g.D.LogDisk.is_honest g.D.LogDisk.is_metered
+    _ _ (record { node = c.self.inside.node; store = c.self.inside.store; failed = c.self.inside.failed }) node store
+    c.from_residual.ensures.1 c.if-self.false c.in_err-write_base.ensures.refused)

@@ -25,15 +25,19 @@ returns-clause-goes g c honest =
       noted = a.noted;
       said = a.said;
       are = λ genesis k r h n f heard sent among.
-          let mine = subst (λ (k : ReplicaValue). NodeFits m h n (Stands m k.node (as_sent w k.store) h.genesis n) (disks (as_sent w k.store))) (sym c.self.view_is) f in
+          let mine = subst (λ (k : ReplicaValue). NodeFits m h n (Stands m k.node (as_sent w k.store) h.genesis n)
+          (disks (as_sent w k.store))) (sym c.self.view_is) f in
           let was = subst (λ (x : ReplicaValue). Recalls x.node x.store w genesis k) (sym c.self.view_is) r in
-          goes_as_sent m h n c.step_in_group.new.node c.step_in_group.new.store c.step_in_group.new.group.needs_sync a.notes (batch_of n sent)
+          goes_as_sent m h n c.step_in_group.new.node c.step_in_group.new.store c.step_in_group.new.group.needs_sync
+          a.notes (batch_of n sent)
           (a.are h n (as_gathered m genesis k c.self.inside.node c.self.inside.store w was h n mine) heard sent among);
     }
 
 pub returns-clause-keeps : goal.returns-clause-keeps
 returns-clause-keeps g c honest =
-    subst (λ (k : ReplicaValue). KeepsGroup g.M.Machine.meaning (λ h. InputFits h c.args.input) k.node k.store c.args.group.now c.step_in_group.new.node c.step_in_group.new.store c.step_in_group.new.group) c.self.view_is (c.in_ok-step_in_group.ensures.keeps honest)
+    subst (λ (k : ReplicaValue). KeepsGroup g.M.Machine.meaning
+    (λ h. InputFits h c.args.input) k.node k.store c.args.group.now c.step_in_group.new.node c.step_in_group.new.store
+    c.step_in_group.new.group) c.self.view_is (c.in_ok-step_in_group.ensures.keeps honest)
 
 -- ---- what is on the disks
 
@@ -45,30 +49,42 @@ returns-then-self-clause-disks g c honest = record {
 }
 
 pub returns-then-self-clause-grows : goal.returns-then-self-clause-grows
-returns-then-self-clause-grows g c honest = grown_none (disks c.args.self.now.store) (disks c.args.self.now.store) (λ s. refl)
+returns-then-self-clause-grows g c honest =
+    grown_none (disks c.args.self.now.store) (disks c.args.self.now.store) (λ s. refl)
 
 pub returns-in_err-step_in_group-clause-disks : goal.returns-in_err-step_in_group-clause-disks
 returns-in_err-step_in_group-clause-disks g c honest =
-    subst (λ (k : ReplicaValue). LeavesInGroup g.M.Machine.meaning (λ h. InputFits h c.args.input) 132704 k.node k.store c.args.group.now.needs_sync (disks c.step_in_group.new.store)) c.self.view_is (c.step_in_group.ensures.disks honest)
+    subst (λ (k : ReplicaValue). LeavesInGroup g.M.Machine.meaning
+    (λ h. InputFits h c.args.input) 132704 k.node k.store c.args.group.now.needs_sync
+    (disks c.step_in_group.new.store)) c.self.view_is (c.step_in_group.ensures.disks honest)
 
 pub returns-in_err-step_in_group-clause-grows : goal.returns-in_err-step_in_group-clause-grows
-returns-in_err-step_in_group-clause-grows g c honest = subst (λ (k : ReplicaValue). GrowsFromBase (disks k.store) (disks c.step_in_group.new.store)) c.self.view_is (c.step_in_group.ensures.grows honest)
+returns-in_err-step_in_group-clause-grows g c honest =
+    subst (λ (k : ReplicaValue). GrowsFromBase (disks k.store) (disks c.step_in_group.new.store)) c.self.view_is
+    (c.step_in_group.ensures.grows honest)
 
 pub returns-clause-disks : goal.returns-clause-disks
 returns-clause-disks g c honest =
-    subst (λ (k : ReplicaValue). LeavesInGroup g.M.Machine.meaning (λ h. InputFits h c.args.input) 132704 k.node k.store c.args.group.now.needs_sync (disks c.step_in_group.new.store)) c.self.view_is (c.step_in_group.ensures.disks honest)
+    subst (λ (k : ReplicaValue). LeavesInGroup g.M.Machine.meaning
+    (λ h. InputFits h c.args.input) 132704 k.node k.store c.args.group.now.needs_sync
+    (disks c.step_in_group.new.store)) c.self.view_is (c.step_in_group.ensures.disks honest)
 
 pub returns-clause-grows : goal.returns-clause-grows
-returns-clause-grows g c honest = subst (λ (k : ReplicaValue). GrowsFromBase (disks k.store) (disks c.step_in_group.new.store)) c.self.view_is (c.step_in_group.ensures.grows honest)
+returns-clause-grows g c honest =
+    subst (λ (k : ReplicaValue). GrowsFromBase (disks k.store) (disks c.step_in_group.new.store)) c.self.view_is
+    (c.step_in_group.ensures.grows honest)
 
 pub invariant_of-self-2 : goal.invariant_of-self-2
-invariant_of-self-2 g c = (λ lives. c.in_ok-step_in_group.ensures.runs (c.self.invariant.0 c.if-self.false), c.step_in_group.ensures.format)
+invariant_of-self-2 g c =
+    (λ lives. c.in_ok-step_in_group.ensures.runs (c.self.invariant.0 c.if-self.false), c.step_in_group.ensures.format)
 
 -- ---- what it has done
 
 pub returns-clause-exact : goal.returns-clause-exact
 returns-clause-exact g c honest =
-    subst (λ (r : ReplicaValue). IsGathered g.M.Machine.meaning g.M.Machine.IsText g.D.LogDisk.is_metered r.node r.store c.args.group.now c.args.input c.step_in_group.new.node c.step_in_group.new.store c.step_in_group.new.group) c.self.view_is (c.in_ok-step_in_group.ensures.exact honest)
+    subst (λ (r : ReplicaValue). IsGathered g.M.Machine.meaning g.M.Machine.IsText g.D.LogDisk.is_metered r.node
+    r.store c.args.group.now c.args.input c.step_in_group.new.node c.step_in_group.new.store c.step_in_group.new.group)
+    c.self.view_is (c.in_ok-step_in_group.ensures.exact honest)
 
 pub returns-clause-alive : goal.returns-clause-alive
 returns-clause-alive g c = (refl, c.in_ok-step_in_group.ensures.alive.0, c.in_ok-step_in_group.ensures.alive.1)
@@ -79,8 +95,11 @@ returns-then-self-clause-refused g c = record {
   no_send = λ is. omega (arith, is);
   failures = refl;
   calls = λ metered honest. (0, start);
-  earlier = λ number alive store_alive further. let both : true ≡ false = sym c.if-self.true ∙ ap (λ (r : ReplicaValue). r.failed) c.self.view_is ∙ alive in cc both;
-  second = λ honest number alive store_alive less. absurd (let both : true ≡ false = sym c.if-self.true ∙ ap (λ (r : ReplicaValue). r.failed) c.self.view_is ∙ alive in cc both);
+  earlier = λ number alive store_alive further. let both : true ≡ false = sym c.if-self.true
+      ∙ ap (λ (r : ReplicaValue). r.failed) c.self.view_is ∙ alive in cc both;
+  second = λ honest number alive store_alive less. absurd
+      (let both : true ≡ false = sym c.if-self.true ∙ ap (λ (r : ReplicaValue). r.failed) c.self.view_is ∙ alive in
+      cc both);
   once = λ ended. (refl, refl);
   ends = sym (ap (λ (r : ReplicaValue). r.failed) c.self.view_is) ∙ c.if-self.true;
   halts = λ number. absurd (omega (arith, number));
@@ -89,5 +108,11 @@ returns-then-self-clause-refused g c = record {
 
 pub returns-in_err-step_in_group-clause-refused : goal.returns-in_err-step_in_group-clause-refused
 returns-in_err-step_in_group-clause-refused g c =
-    subst (λ (r : ReplicaValue). IfErr c.from_residual.result (λ e. IsRefusedInGroup g.D.LogDisk.is_honest g.D.LogDisk.is_metered r (record { node = c.step_in_group.new.node; store = c.step_in_group.new.store; failed = true }) (fault_number e))) c.self.view_is
-    (group_refused g.D.LogDisk.is_honest g.D.LogDisk.is_metered _ _ (record { node = c.self.inside.node; store = c.self.inside.store; failed = c.self.inside.failed }) c.step_in_group.new.node c.step_in_group.new.store c.from_residual.ensures.1 c.if-self.false c.in_err-step_in_group.ensures.cause c.in_err-step_in_group.ensures.refused)
+    subst (λ (r : ReplicaValue). IfErr c.from_residual.result
+    (λ e. IsRefusedInGroup g.D.LogDisk.is_honest g.D.LogDisk.is_metered r
+    (record { node = c.step_in_group.new.node; store = c.step_in_group.new.store; failed = true }) (fault_number e)))
+    c.self.view_is
+    (group_refused g.D.LogDisk.is_honest g.D.LogDisk.is_metered
+    _ _ (record { node = c.self.inside.node; store = c.self.inside.store; failed = c.self.inside.failed })
+    c.step_in_group.new.node c.step_in_group.new.store c.from_residual.ensures.1 c.if-self.false
+    c.in_err-step_in_group.ensures.cause c.in_err-step_in_group.ensures.refused)

@@ -11,35 +11,46 @@ use Rattle.lk_node.specs.Keeping.{Stands}
 use Rattle.lk_node.specs.Packing.{standing_of}
 use Rattle.lk_node.specs.Served.{text}
 use Rattle.lk_node_io.specs.Faults.{fault_number, RefusedAfter}
-use Rattle.lk_recovery.proofs.Recoveries.{before_fits, refused_on, goes_fit, then_goes, taken_keeps, revival_calls, renew_left, given_renew, last_old, of_last_old, not_of_store, given_fit, given_cover, given_room}
+use Rattle.lk_recovery.proofs.Recoveries.{before_fits, refused_on, goes_fit, then_goes, taken_keeps, revival_calls}
+use Rattle.lk_recovery.proofs.Recoveries.{renew_left, given_renew, last_old, of_last_old, not_of_store, given_fit}
+use Rattle.lk_recovery.proofs.Recoveries.{given_cover, given_room}
 use Rattle.lk_replica.proofs.replica.Replica.revive.Goals as goal
 
 pub invariant_of-result : goal.invariant_of-result
-invariant_of-result g c = (λ alive. c.in-Ok-renew.ensures.ready.runs c.in-Ok.ensures.ready.runs, c.in-Ok-renew.ensures.ready.format)
+invariant_of-result g c =
+    (λ alive. c.in-Ok-renew.ensures.ready.runs c.in-Ok.ensures.ready.runs, c.in-Ok-renew.ensures.ready.format)
 
 pub returns-in-Ok-renew-clause-fits : goal.returns-in-Ok-renew-clause-fits
 returns-in-Ok-renew-clause-fits g c honest h n is lawful before =
     let m : Meaning = g.M.Machine.meaning in
     let goes = c.in-Ok.ensures.fits honest h n is lawful before in
-    let fits = goes_fit m h n (Stands m c.in-Ok.up.node c.in-Ok.up.store h.genesis n) (disks c.in-Ok.up.store) c.in-Ok.up.notes.items lawful goes in
-    then_goes m h n (Stands m c.in-Ok.up.node c.in-Ok.up.store h.genesis n) (Stands m c.renew.new.node c.renew.new.store h.genesis n) (disks c.in-Ok.up.store) (disks c.renew.new.store) c.in-Ok.up.notes.items goes
+    let fits = goes_fit m h n (Stands m c.in-Ok.up.node c.in-Ok.up.store h.genesis n)
+    (disks c.in-Ok.up.store) c.in-Ok.up.notes.items lawful goes in
+    then_goes m h n (Stands m c.in-Ok.up.node c.in-Ok.up.store h.genesis n)
+    (Stands m c.renew.new.node c.renew.new.store h.genesis n) (disks c.in-Ok.up.store)
+    (disks c.renew.new.store) c.in-Ok.up.notes.items goes
     ((c.in-Ok-renew.ensures.renewed honest).goes h n fits)
 
 pub returns-in-Ok-renew-clause-covers : goal.returns-in-Ok-renew-clause-covers
 returns-in-Ok-renew-clause-covers g c honest genesis n x is every =
     let m : Meaning = g.M.Machine.meaning in
-    let keeps = taken_keeps m g.M.Machine.IsText (g.D.LogDisk.disk c.args.device) genesis n c.args.header.now c.in-Ok.up.node c.in-Ok.up.store c.in-Ok.up.notes.items is c.in-Ok.ensures.ready.whose (c.in-Ok.ensures.exact honest).0 in
+    let keeps = taken_keeps m g.M.Machine.IsText
+    (g.D.LogDisk.disk c.args.device) genesis n c.args.header.now c.in-Ok.up.node c.in-Ok.up.store
+    c.in-Ok.up.notes.items is c.in-Ok.ensures.ready.whose (c.in-Ok.ensures.exact honest).0 in
     (c.renew.ensures.safe honest).covers genesis n x keeps (c.in-Ok.ensures.covers honest genesis n x is every)
 
 pub returns-in-Ok-renew-clause-metered : goal.returns-in-Ok-renew-clause-metered
 returns-in-Ok-renew-clause-metered g c metered honest =
     let m : Meaning = g.M.Machine.meaning in
     let t = (c.in-Ok.ensures.exact honest).0 in
-    revival_calls (g.D.LogDisk.disk c.args.device) (g.D.LogDisk.meter c.args.device) c.in-Ok.up.store.meter c.renew.new.store.meter c.args.header.now (text m t.genesis []) c.in-Ok.up.store t.standing t.opens
+    revival_calls (g.D.LogDisk.disk c.args.device)
+    (g.D.LogDisk.meter c.args.device) c.in-Ok.up.store.meter c.renew.new.store.meter c.args.header.now
+    (text m t.genesis []) c.in-Ok.up.store t.standing t.opens
     (c.in-Ok.ensures.metered metered honest) (c.in-Ok-renew.ensures.metered metered honest)
 
 pub returns-in-Ok-renew-clause-remembers : goal.returns-in-Ok-renew-clause-remembers
-returns-in-Ok-renew-clause-remembers g c honest genesis n is = (c.in-Ok-renew.ensures.renewed honest).remembers genesis n (c.in-Ok.ensures.remembers honest genesis n is)
+returns-in-Ok-renew-clause-remembers g c honest genesis n is =
+    (c.in-Ok-renew.ensures.renewed honest).remembers genesis n (c.in-Ok.ensures.remembers honest genesis n is)
 
 pub returns-in-Ok-renew-clause-exact : goal.returns-in-Ok-renew-clause-exact
 returns-in-Ok-renew-clause-exact g c honest =
@@ -51,7 +62,8 @@ returns-in-Ok-renew-clause-exact g c honest =
         takes = t;
         renews = (c.in-Ok-renew.ensures.renewed honest).renews;
         further = λ last.
-            let was = of_last_old (seen (g.D.LogDisk.disk c.args.device)) c.args.header.now (text m t.genesis []) c.in-Ok.up.store t.standing t.opens last in
+            let was = of_last_old (seen (g.D.LogDisk.disk c.args.device)) c.args.header.now
+            (text m t.genesis []) c.in-Ok.up.store t.standing t.opens last in
             absurd (cc (c.in-Ok-renew.ensures.last was.0 was.1).1);
         alive = refl;
         store_alive = c.in-Ok-renew.ensures.ready.alive c.in-Ok.ensures.ready.store_alive;
@@ -74,17 +86,22 @@ returns-in-Ok-renew-clause-ready g c = record {
 pub returns-in-Err-renew-clause-fits : goal.returns-in-Err-renew-clause-fits
 returns-in-Err-renew-clause-fits g c honest h n is lawful before =
     let m : Meaning = g.M.Machine.meaning in
-    let fits = goes_fit m h n (Stands m c.in-Ok.up.node c.in-Ok.up.store h.genesis n) (disks c.in-Ok.up.store) c.in-Ok.up.notes.items lawful (c.in-Ok.ensures.fits honest h n is lawful before) in (
+    let fits = goes_fit m h n (Stands m c.in-Ok.up.node c.in-Ok.up.store h.genesis n)
+    (disks c.in-Ok.up.store) c.in-Ok.up.notes.items lawful (c.in-Ok.ensures.fits honest h n is lawful before) in (
       c.in-Err-renew.ensures.refused.of_store,
-      given_fit m h n c.renew.new.store (g.D.LogDisk.disk c.into_disks.result) c.into_disks.ensures.live_disk c.into_disks.ensures.other_disk
+      given_fit m h n c.renew.new.store
+          (g.D.LogDisk.disk c.into_disks.result) c.into_disks.ensures.live_disk c.into_disks.ensures.other_disk
           ((c.renew.ensures.safe honest).fits h n (before_fits m h n c.in-Ok.up.node c.in-Ok.up.store fits)),
     )
 
 pub returns-in-Err-renew-clause-covers : goal.returns-in-Err-renew-clause-covers
 returns-in-Err-renew-clause-covers g c honest genesis n x is every =
     let m : Meaning = g.M.Machine.meaning in
-    let keeps = taken_keeps m g.M.Machine.IsText (g.D.LogDisk.disk c.args.device) genesis n c.args.header.now c.in-Ok.up.node c.in-Ok.up.store c.in-Ok.up.notes.items is c.in-Ok.ensures.ready.whose (c.in-Ok.ensures.exact honest).0 in
-    given_cover m genesis n x c.renew.new.store (g.D.LogDisk.disk c.into_disks.result) c.into_disks.ensures.live_disk c.into_disks.ensures.other_disk
+    let keeps = taken_keeps m g.M.Machine.IsText
+    (g.D.LogDisk.disk c.args.device) genesis n c.args.header.now c.in-Ok.up.node c.in-Ok.up.store
+    c.in-Ok.up.notes.items is c.in-Ok.ensures.ready.whose (c.in-Ok.ensures.exact honest).0 in
+    given_cover m genesis n x c.renew.new.store
+    (g.D.LogDisk.disk c.into_disks.result) c.into_disks.ensures.live_disk c.into_disks.ensures.other_disk
     ((c.renew.ensures.safe honest).covers genesis n x keeps (c.in-Ok.ensures.covers honest genesis n x is every))
 
 pub returns-in-Err-renew-clause-stays_err : goal.returns-in-Err-renew-clause-stays_err
@@ -92,9 +109,13 @@ returns-in-Err-renew-clause-stays_err g c honest genesis is =
     let m : Meaning = g.M.Machine.meaning in
     let old = g.D.LogDisk.disk c.args.device in
     let t = (c.in-Ok.ensures.exact honest).0 in
-    let holds = opens_holds (seen old) c.args.header.now (text m t.genesis []) c.in-Ok.up.store t.standing t.opens c.in-Ok.ensures.ready.whose in
-    given_renew old c.args.header.now (text m genesis []) c.renew.new.store (g.D.LogDisk.disk c.into_disks.result) c.into_disks.ensures.live_disk c.into_disks.ensures.other_disk
-    (renew_left old (disks c.renew.new.store) c.args.header.now (text m t.genesis []) (text m genesis []) c.in-Ok.up.store t.standing (standing_of c.in-Ok.up.node) t.opens c.in-Err-renew.ensures.refused.old
+    let holds = opens_holds (seen old) c.args.header.now
+    (text m t.genesis []) c.in-Ok.up.store t.standing t.opens c.in-Ok.ensures.ready.whose in
+    given_renew old c.args.header.now (text m genesis []) c.renew.new.store
+    (g.D.LogDisk.disk c.into_disks.result) c.into_disks.ensures.live_disk c.into_disks.ensures.other_disk
+    (renew_left old (disks c.renew.new.store) c.args.header.now (text m t.genesis [])
+    (text m genesis []) c.in-Ok.up.store t.standing
+    (standing_of c.in-Ok.up.node) t.opens c.in-Err-renew.ensures.refused.old
     (c.in-Err-renew.ensures.left honest t.opens.entries [] holds))
 
 pub returns-in-Err-renew-clause-refused : goal.returns-in-Err-renew-clause-refused
@@ -108,13 +129,19 @@ returns-in-Err-renew-clause-refused g c honest =
       wrong = λ ten. absurd (not_of_store number 10 by (omega arith) (omega arith) ten);
       last = λ eleven. elim (cases_lt c.in-Ok.up.store.generation max_count) [
         | inl less ↦ absurd (c.in-Err-renew.ensures.refused.earlier c.in-Ok.ensures.ready.store_alive less eleven)
-        | inr most ↦ last_old (seen (g.D.LogDisk.disk c.args.device)) c.args.header.now (text m t.genesis []) c.in-Ok.up.store t.standing t.opens c.in-Err-renew.ensures.refused.old most
+        | inr most ↦ last_old (seen (g.D.LogDisk.disk c.args.device)) c.args.header.now
+            (text m t.genesis []) c.in-Ok.up.store t.standing t.opens c.in-Err-renew.ensures.refused.old most
       ];
       last_revives = λ eleven. record {
         genesis = t.genesis;
         began = t.began;
         standing = t.standing;
-        stands = record { entries = t.opens.entries; found = t.opens.found; header = t.opens.header; stands = t.opens.stands };
+        stands = record {
+          entries = t.opens.entries;
+          found = t.opens.found;
+          header = t.opens.header;
+          stands = t.opens.stands;
+        };
         whole = t.restores.whole;
         may = t.restores.may;
       };
@@ -125,11 +152,15 @@ returns-in-Err-renew-clause-refused g c honest =
 pub returns-in-Err-renew-clause-metered : goal.returns-in-Err-renew-clause-metered
 returns-in-Err-renew-clause-metered g c metered honest =
     let o = c.in-Ok.ensures.metered metered honest in
-    subst (λ (z : Meter). RefusedAfter (fault_number c.in-Err-renew.fault) (g.D.LogDisk.meter c.args.device) z) (sym c.into_disks.ensures.meter)
-    (refused_on o.0 o.2 c.renew.new.store.meter (fault_number c.in-Err-renew.fault) (c.in-Err-renew.ensures.metered metered honest))
+    subst (λ (z : Meter). RefusedAfter (fault_number c.in-Err-renew.fault) (g.D.LogDisk.meter c.args.device) z)
+    (sym c.into_disks.ensures.meter)
+    (refused_on o.0 o.2 c.renew.new.store.meter (fault_number c.in-Err-renew.fault)
+    (c.in-Err-renew.ensures.metered metered honest))
 
 pub returns-in-Err-renew-clause-room : goal.returns-in-Err-renew-clause-room
 returns-in-Err-renew-clause-room g c honest =
     let old = g.D.LogDisk.disk c.args.device in
-    given_room 49152 old c.renew.new.store (g.D.LogDisk.disk c.into_disks.result) c.into_disks.ensures.live_disk c.into_disks.ensures.other_disk
-    (within_first 49152 old (disks c.in-Ok.up.store) (disks c.renew.new.store) (c.in-Ok.ensures.room honest) (c.renew.ensures.safe honest).room)
+    given_room 49152 old c.renew.new.store
+    (g.D.LogDisk.disk c.into_disks.result) c.into_disks.ensures.live_disk c.into_disks.ensures.other_disk
+    (within_first 49152 old (disks c.in-Ok.up.store) (disks c.renew.new.store) (c.in-Ok.ensures.room honest)
+    (c.renew.ensures.safe honest).room)

@@ -18,7 +18,9 @@ pub returns-clause-exact : goal.returns-clause-exact
 returns-clause-exact g c honest =
     let done = c.in_ok-sync_if_waiting.ensures in
     let metered = g.D.LogDisk.is_metered in
-    subst (λ (r : ReplicaValue). IsSettled metered r c.args.needs_sync (record { node = c.self.inside.node; store = c.sync_if_waiting.new.store; failed = false })) c.self.view_is (record {
+    subst (λ (r : ReplicaValue). IsSettled metered r c.args.needs_sync
+    (record { node = c.self.inside.node; store = c.sync_if_waiting.new.store; failed = false })) c.self.view_is
+    (record {
       lived = c.if-self.false;
       node = refl;
       settles = done.settles honest;
@@ -35,13 +37,21 @@ returns-then-self-clause-disks g c honest = record {
 
 pub returns-in_err-sync_if_waiting-clause-disks : goal.returns-in_err-sync_if_waiting-clause-disks
 returns-in_err-sync_if_waiting-clause-disks g c honest =
-    subst (λ (r : ReplicaValue). LeavesInGroup g.M.Machine.meaning (λ h. ⊤) 0 r.node r.store c.args.needs_sync (disks c.sync_if_waiting.new.store)) c.self.view_is
-    (ended_in_group g.M.Machine.meaning (record { node = c.self.inside.node; store = c.self.inside.store; failed = c.self.inside.failed }) c.args.needs_sync c.sync_if_waiting.new.store (c.sync_if_waiting.ensures.any honest) (c.sync_if_waiting.ensures.room honest))
+    subst (λ (r : ReplicaValue). LeavesInGroup g.M.Machine.meaning (λ h. ⊤) 0 r.node r.store c.args.needs_sync
+    (disks c.sync_if_waiting.new.store)) c.self.view_is
+    (ended_in_group g.M.Machine.meaning
+    (record { node = c.self.inside.node; store = c.self.inside.store; failed = c.self.inside.failed })
+    c.args.needs_sync c.sync_if_waiting.new.store (c.sync_if_waiting.ensures.any honest)
+    (c.sync_if_waiting.ensures.room honest))
 
 pub returns-clause-disks : goal.returns-clause-disks
 returns-clause-disks g c honest =
-    subst (λ (r : ReplicaValue). LeavesInGroup g.M.Machine.meaning (λ h. ⊤) 0 r.node r.store c.args.needs_sync (disks c.sync_if_waiting.new.store)) c.self.view_is
-    (ended_in_group g.M.Machine.meaning (record { node = c.self.inside.node; store = c.self.inside.store; failed = c.self.inside.failed }) c.args.needs_sync c.sync_if_waiting.new.store (c.sync_if_waiting.ensures.any honest) (c.sync_if_waiting.ensures.room honest))
+    subst (λ (r : ReplicaValue). LeavesInGroup g.M.Machine.meaning (λ h. ⊤) 0 r.node r.store c.args.needs_sync
+    (disks c.sync_if_waiting.new.store)) c.self.view_is
+    (ended_in_group g.M.Machine.meaning
+    (record { node = c.self.inside.node; store = c.self.inside.store; failed = c.self.inside.failed })
+    c.args.needs_sync c.sync_if_waiting.new.store (c.sync_if_waiting.ensures.any honest)
+    (c.sync_if_waiting.ensures.room honest))
 
 pub returns-then-self-clause-refused : goal.returns-then-self-clause-refused
 returns-then-self-clause-refused g c = record {
@@ -49,8 +59,11 @@ returns-then-self-clause-refused g c = record {
   no_send = λ is. omega (arith, is);
   failures = refl;
   calls = λ metered honest. (0, start);
-  earlier = λ number alive store_alive further. let both : true ≡ false = sym c.if-self.true ∙ ap (λ (r : ReplicaValue). r.failed) c.self.view_is ∙ alive in cc both;
-  second = λ honest number alive store_alive less. absurd (let both : true ≡ false = sym c.if-self.true ∙ ap (λ (r : ReplicaValue). r.failed) c.self.view_is ∙ alive in cc both);
+  earlier = λ number alive store_alive further. let both : true ≡ false = sym c.if-self.true
+      ∙ ap (λ (r : ReplicaValue). r.failed) c.self.view_is ∙ alive in cc both;
+  second = λ honest number alive store_alive less. absurd
+      (let both : true ≡ false = sym c.if-self.true ∙ ap (λ (r : ReplicaValue). r.failed) c.self.view_is ∙ alive in
+      cc both);
   once = λ ended. (refl, refl);
   ends = sym (ap (λ (r : ReplicaValue). r.failed) c.self.view_is) ∙ c.if-self.true;
   halts = λ number. absurd (omega (arith, number));
@@ -60,8 +73,14 @@ returns-then-self-clause-refused g c = record {
 pub returns-in_err-sync_if_waiting-clause-refused : goal.returns-in_err-sync_if_waiting-clause-refused
 returns-in_err-sync_if_waiting-clause-refused g c =
     let was = c.in_err-sync_if_waiting.ensures.refused in
-    subst (λ (r : ReplicaValue). IfErr c.from_residual.result (λ e. IsRefusedInGroup g.D.LogDisk.is_honest g.D.LogDisk.is_metered r (record { node = c.self.inside.node; store = c.sync_if_waiting.new.store; failed = true }) (fault_number e))) c.self.view_is
-    (group_refused g.D.LogDisk.is_honest g.D.LogDisk.is_metered _ _ (record { node = c.self.inside.node; store = c.self.inside.store; failed = c.self.inside.failed }) c.self.inside.node c.sync_if_waiting.new.store c.from_residual.ensures.1 c.if-self.false c.in_err-sync_if_waiting.ensures.cause
+    subst (λ (r : ReplicaValue). IfErr c.from_residual.result
+    (λ e. IsRefusedInGroup g.D.LogDisk.is_honest g.D.LogDisk.is_metered r
+    (record { node = c.self.inside.node; store = c.sync_if_waiting.new.store; failed = true }) (fault_number e)))
+    c.self.view_is
+    (group_refused g.D.LogDisk.is_honest g.D.LogDisk.is_metered
+    _ _ (record { node = c.self.inside.node; store = c.self.inside.store; failed = c.self.inside.failed })
+    c.self.inside.node c.sync_if_waiting.new.store c.from_residual.ensures.1 c.if-self.false
+    c.in_err-sync_if_waiting.ensures.cause
     (record {
       told = store_told _ was.of_store;
       only = store_only _ was.of_store;

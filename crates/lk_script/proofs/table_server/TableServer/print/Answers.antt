@@ -4,7 +4,9 @@ use Rattle.lk_script.proofs.PrintLaws.{on_ok}
 use Rattle.lk_script.proofs.table_server.TableServer.print.Goals as goal
 
 pub returns-in-Err-clause-ok : goal.returns-in-Err-clause-ok
-returns-in-Err-clause-ok c = on_ok c.print-in-Err.result _ _ c.print-in-Err.ensures.ok (λ text L sums. (L, rw text (unreadable (rw c.deref.ensures.value at c.in-Err.ensures.bad)), sums))
+returns-in-Err-clause-ok c =
+    on_ok c.print-in-Err.result _ _ c.print-in-Err.ensures.ok
+    (λ text L sums. (L, rw text (unreadable (rw c.deref.ensures.value at c.in-Err.ensures.bad)), sums))
 
 pub returns-in-Ok-None-clause-ok : goal.returns-in-Ok-None-clause-ok
 returns-in-Ok-None-clause-ok c = on_ok c.print.result _ _ c.print.ensures.ok

@@ -5,4 +5,7 @@ pub returns : goal.returns
 returns g c =
     let m = g.M.Machine in
     let d = g.D.LogDisk in
-    record { begins = gathers_nothing m.meaning m.IsText d.is_honest d.is_metered c.args.self.now c.new.result c.new.ensures }
+    record {
+      begins = gathers_nothing m.meaning m.IsText d.is_honest d.is_metered c.args.self.now
+          c.new.result c.new.ensures;
+    }

@@ -7,24 +7,33 @@ pub returns-else-ticks_after-clause-takes : goal.returns-else-ticks_after-clause
 returns-else-ticks_after-clause-takes g c =
     let gathers = g.R.ServedReplica.Gathers in
     let replica : c.self.inside.replica ≡ c.args.self.now.replica = search rules in
-    takes_one gathers c.args.datagram c.args.group.now c.add_input.new.group c.args.self.now c.add_input.new.self (gathers_from gathers _ _ _ _ _ _ replica c.in_ok-add_input.ensures.gathers) (search rules) (search rules) (search rules) (search rules)
+    takes_one gathers c.args.datagram c.args.group.now c.add_input.new.group c.args.self.now c.add_input.new.self
+    (gathers_from gathers _ _ _ _ _ _ replica c.in_ok-add_input.ensures.gathers) (search rules) (search rules)
+    (search rules) (search rules)
 
 pub returns-in_ok-add_tick-clause-takes : goal.returns-in_ok-add_tick-clause-takes
 returns-in_ok-add_tick-clause-takes g c =
     let gathers = g.R.ServedReplica.Gathers in
     let replica : c.self.inside.replica ≡ c.args.self.now.replica = search rules in
-    takes_tick gathers c.args.datagram c.args.group.now c.add_input.new.group c.add_tick.new.group c.args.self.now c.add_tick.new.self c.add_input.new.self.replica
-    (gathers_from gathers _ _ _ _ _ _ replica c.in_ok-add_input.ensures.gathers) c.in_ok-add_tick.ensures.gathers (search rules) (search rules) (search rules) c.add_input.new.self.ticks (search rules) c.add_tick.ensures.ticks
+    takes_tick gathers c.args.datagram c.args.group.now c.add_input.new.group c.add_tick.new.group c.args.self.now
+    c.add_tick.new.self c.add_input.new.self.replica
+    (gathers_from gathers _ _ _ _ _ _ replica c.in_ok-add_input.ensures.gathers) c.in_ok-add_tick.ensures.gathers
+    (search rules) (search rules) (search rules) c.add_input.new.self.ticks (search rules) c.add_tick.ensures.ticks
 
 pub returns-in_err-add_input-clause-ends : goal.returns-in_err-add_input-clause-ends
 returns-in_err-add_input-clause-ends g c =
     let r = g.R.ServedReplica in
     let replica : c.self.inside.replica ≡ c.args.self.now.replica = search rules in
-    on_err c.from_residual.result (ends_one r.Says r.Gathers c.args.datagram c.args.group.now c.args.self.now c.add_input.new.self (silent_from r.Says r.Gathers _ _ _ _ _ replica c.in_err-add_input.ensures.silent) (search rules))
+    on_err c.from_residual.result
+    (ends_one r.Says r.Gathers c.args.datagram c.args.group.now c.args.self.now c.add_input.new.self
+    (silent_from r.Says r.Gathers _ _ _ _ _ replica c.in_err-add_input.ensures.silent) (search rules))
 
 pub returns-in_err-add_tick-clause-ends : goal.returns-in_err-add_tick-clause-ends
 returns-in_err-add_tick-clause-ends g c =
     let r = g.R.ServedReplica in
     let replica : c.self.inside.replica ≡ c.args.self.now.replica = search rules in
-    on_err c.from_residual-in_err-add_tick.result (ends_tick r.Says r.Gathers c.args.datagram c.args.group.now c.add_input.new.group c.args.self.now c.add_tick.new.self c.add_input.new.self.replica c.add_input.new.self.received c.add_input.new.self.pace
-    (gathers_from r.Gathers _ _ _ _ _ _ replica c.in_ok-add_input.ensures.gathers) c.in_err-add_tick.ensures.silent (search rules) (search rules) (search rules) c.add_input.new.self.ticks (search rules) c.add_tick.ensures.ticks)
+    on_err c.from_residual-in_err-add_tick.result
+    (ends_tick r.Says r.Gathers c.args.datagram c.args.group.now c.add_input.new.group c.args.self.now
+    c.add_tick.new.self c.add_input.new.self.replica c.add_input.new.self.received c.add_input.new.self.pace
+    (gathers_from r.Gathers _ _ _ _ _ _ replica c.in_ok-add_input.ensures.gathers) c.in_err-add_tick.ensures.silent
+    (search rules) (search rules) (search rules) c.add_input.new.self.ticks (search rules) c.add_tick.ensures.ticks)

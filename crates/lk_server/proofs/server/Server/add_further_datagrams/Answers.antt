@@ -10,7 +10,8 @@ pub datagrams-init : goal.datagrams-init
 datagrams-init g c = (
   [],
   refl,
-  socket_nothing g.R.ServedReplica.Gathers g.S.DatagramSocket.is_telling c.args.group.now c.args.group.now c.args.self.now c.args.self.now refl refl,
+  socket_nothing g.R.ServedReplica.Gathers g.S.DatagramSocket.is_telling c.args.group.now c.args.group.now
+      c.args.self.now c.args.self.now refl refl,
   refl,
   keeps_still c.args.self.now.node c.args.self.now.addresses.seals c.args.buffer.now c.args.buffer.now refl refl,
 )
@@ -22,10 +23,21 @@ datagrams-preserved g c =
     let new = c.add_next_datagram.new.self in (
       i.0 ++ t.0 ∷ [],
       omega (arith, i.1, length-append i.0 (t.0 ∷ [])),
-      socket_more g.R.ServedReplica.Gathers g.S.DatagramSocket.is_telling i.0 (t.0 ∷ []) c.args.group.now c.datagrams.group c.add_next_datagram.new.group c.args.self.now c.datagrams.self new (ap (λ (s : ServerValue _). s.cluster) i.3) i.2 t.1,
+      socket_more g.R.ServedReplica.Gathers g.S.DatagramSocket.is_telling i.0
+          (t.0 ∷ []) c.args.group.now c.datagrams.group c.add_next_datagram.new.group c.args.self.now c.datagrams.self
+          new (ap (λ (s : ServerValue _). s.cluster) i.3) i.2 t.1,
       c.add_next_datagram.ensures.others
-          ∙ ap (λ (s : ServerValue _). record s { replica = new.replica; failed = new.failed; received = new.received; ticks = new.ticks; addresses = new.addresses; coming = new.coming }) i.3,
-      keeps_more c.args.self.now.node c.datagrams.self.node c.args.self.now.addresses.seals c.datagrams.self.addresses.seals i.0 (t.0 ∷ []) c.args.buffer.now c.datagrams.buffer c.add_next_datagram.new.buffer
+          ∙ ap (λ (s : ServerValue _). record s {
+            replica = new.replica;
+            failed = new.failed;
+            received = new.received;
+            ticks = new.ticks;
+            addresses = new.addresses;
+            coming = new.coming;
+          }) i.3,
+      keeps_more c.args.self.now.node c.datagrams.self.node c.args.self.now.addresses.seals
+          c.datagrams.self.addresses.seals i.0
+          (t.0 ∷ []) c.args.buffer.now c.datagrams.buffer c.add_next_datagram.new.buffer
           (ap (λ (s : ServerValue _). s.node) i.3) (ap (λ (c : Filter). c.seals) i.2.takes.network.1) i.4 t.2,
     )
 
@@ -35,8 +47,10 @@ returns-then-not-branch-clause-takes g c =
     let n = c.in_ok-add_next_datagram.ensures.none (cc c.if-not-branch.true) in (
       i.0,
       omega (arith, i.1, c.datagrams-test.true),
-      socket_still g.R.ServedReplica.Gathers g.S.DatagramSocket.is_telling i.0 c.args.group.now c.datagrams.group c.add_next_datagram.new.group c.args.self.now c.datagrams.self c.add_next_datagram.new.self i.2 n.2 n.1 n.0,
-      keeps_on c.args.self.now.node c.args.self.now.addresses.seals i.0 c.args.buffer.now c.datagrams.buffer c.add_next_datagram.new.buffer i.4 n.3 n.4,
+      socket_still g.R.ServedReplica.Gathers g.S.DatagramSocket.is_telling i.0 c.args.group.now c.datagrams.group
+          c.add_next_datagram.new.group c.args.self.now c.datagrams.self c.add_next_datagram.new.self i.2 n.2 n.1 n.0,
+      keeps_on c.args.self.now.node c.args.self.now.addresses.seals i.0 c.args.buffer.now c.datagrams.buffer
+          c.add_next_datagram.new.buffer i.4 n.3 n.4,
     )
 
 pub returns-clause-takes : goal.returns-clause-takes
@@ -51,5 +65,7 @@ returns-in_err-add_next_datagram-clause-ends g c =
     on_err c.from_residual.result (
       i.0 ++ e.0 ∷ [],
       omega (arith, i.1, c.datagrams-test.true, length-append i.0 (e.0 ∷ [])),
-      ends_further g.R.ServedReplica.Says g.R.ServedReplica.Gathers g.S.DatagramSocket.is_telling i.0 (e.0 ∷ []) c.args.group.now c.datagrams.group c.args.self.now c.datagrams.self c.add_next_datagram.new.self (ap (λ (s : ServerValue _). s.cluster) i.3) i.2 e.1,
+      ends_further g.R.ServedReplica.Says g.R.ServedReplica.Gathers g.S.DatagramSocket.is_telling i.0
+          (e.0 ∷ []) c.args.group.now c.datagrams.group c.args.self.now c.datagrams.self c.add_next_datagram.new.self
+          (ap (λ (s : ServerValue _). s.cluster) i.3) i.2 e.1,
     )

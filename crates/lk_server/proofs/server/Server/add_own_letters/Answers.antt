@@ -12,25 +12,36 @@ letters-preserved g c =
       i.0 ++ t.0 ∷ [],
       i.1 ∙ ap (λ l. i.0 ++ l) t.1 ∙ sym (append_assoc i.0 (t.0 ∷ []) new.own),
       omega (arith, i.2, length-append i.0 (t.0 ∷ [])),
-      own_goes g.R.ServedReplica.Gathers i.0 t.0 c.args.group.now c.letters.group c.add_own_letter.new.group c.args.self.now c.letters.self new i.3 t.2,
-      c.add_own_letter.ensures.others ∙ ap (λ (s : ServerValue _). record s { replica = new.replica; failed = new.failed; received = new.received; ticks = new.ticks; own = new.own }) i.4,
+      own_goes g.R.ServedReplica.Gathers i.0 t.0 c.args.group.now c.letters.group c.add_own_letter.new.group
+          c.args.self.now c.letters.self new i.3 t.2,
+      c.add_own_letter.ensures.others
+          ∙ ap (λ (s : ServerValue _). record s {
+            replica = new.replica;
+            failed = new.failed;
+            received = new.received;
+            ticks = new.ticks;
+            own = new.own;
+          }) i.4,
     )
 
 pub returns-then-not-branch-clause-takes : goal.returns-then-not-branch-clause-takes
 returns-then-not-branch-clause-takes g c =
     let i = c.letters.invariant in
     let n = c.in_ok-add_own_letter.ensures.none (cc c.if-not-branch.true) in
-    own_stops g.R.ServedReplica.Gathers i.0 c.args.group.now c.letters.group c.add_own_letter.new.group c.args.self.now c.letters.self c.add_own_letter.new.self i.1 (omega (arith, i.2, c.letters-test.true)) i.3 n.0 n.1 n.2
+    own_stops g.R.ServedReplica.Gathers i.0 c.args.group.now c.letters.group c.add_own_letter.new.group c.args.self.now
+    c.letters.self c.add_own_letter.new.self i.1 (omega (arith, i.2, c.letters-test.true)) i.3 n.0 n.1 n.2
 
 pub returns-clause-takes : goal.returns-clause-takes
 returns-clause-takes g c =
     let i = c.letters.invariant in
     let all : c.letters.counter ≡ 63 = omega arith in
-    own_fills g.R.ServedReplica.Gathers i.0 c.args.group.now c.letters.group c.args.self.now c.letters.self i.1 (i.2 ∙ all) i.3
+    own_fills g.R.ServedReplica.Gathers i.0 c.args.group.now c.letters.group c.args.self.now
+    c.letters.self i.1 (i.2 ∙ all) i.3
 
 pub returns-in_err-add_own_letter-clause-ends : goal.returns-in_err-add_own_letter-clause-ends
 returns-in_err-add_own_letter-clause-ends g c =
     let i = c.letters.invariant in
     let e = c.in_err-add_own_letter.ensures.ends in
     on_err c.from_residual.result
-    (own_breaks g.R.ServedReplica.Says g.R.ServedReplica.Gathers i.0 e.0 c.args.group.now c.letters.group c.args.self.now c.letters.self c.add_own_letter.new.self i.1 (omega (arith, i.2, c.letters-test.true)) e.1 i.3 e.2)
+    (own_breaks g.R.ServedReplica.Says g.R.ServedReplica.Gathers i.0 e.0 c.args.group.now c.letters.group
+    c.args.self.now c.letters.self c.add_own_letter.new.self i.1 (omega (arith, i.2, c.letters-test.true)) e.1 i.3 e.2)

@@ -9,4 +9,10 @@ abbrev pub invariant-letters : goal.invariant-letters
 invariant-letters g l =
     (taken : List LetterValue) × (l.fn.self.own ≡ taken ++ l.self.own) × (length taken ≡ l.counter)
     × TakesAll g.R.ServedReplica.Gathers (datagrams_in taken []) l.fn.group l.group l.fn.self l.self
-    × (l.self ≡ record l.fn.self { replica = l.self.replica; failed = l.self.failed; received = l.self.received; ticks = l.self.ticks; own = l.self.own })
+    × (l.self ≡ record l.fn.self {
+      replica = l.self.replica;
+      failed = l.self.failed;
+      received = l.self.received;
+      ticks = l.self.ticks;
+      own = l.self.own;
+    })

@@ -13,28 +13,37 @@ pub returns-clause-takes : goal.returns-clause-takes
 returns-clause-takes g c = λ yes.
     let beside : is_beside (heard c.args.self.now.addresses.seals c.in-Some.frame.now) ≡ false = search rules in
     let known : is_stranger c.args.self.now.addresses.neighbours c.in-Some.from ≡ false = search rules in
-    let apart : is_filtered_out (filter_of c.args.self.now.addresses) (c.in-Some.from, c.in-Some.frame.now) ≡ false = is_not_out (filter_of c.args.self.now.addresses) (c.in-Some.from, c.in-Some.frame.now) beside known in (
+    let apart : is_filtered_out (filter_of c.args.self.now.addresses) (c.in-Some.from, c.in-Some.frame.now) ≡ false =
+    is_not_out (filter_of c.args.self.now.addresses) (c.in-Some.from, c.in-Some.frame.now) beside known in (
       (c.in-Some.from, c.in-Some.frame.now),
       c.in-Some.ensures.some,
       apart,
-      heard_one g.R.ServedReplica.Gathers (c.in-Some.from, c.in-Some.frame.now) (c.in-Some.from, c.of-viewed.result) c.args.group.now c.add_datagram.new.group c.args.self.now c.record_sender-came.new.self c.add_datagram.new.self
-          (search rules) apart (search rules) (search rules) (search rules) (search rules) (search rules) (search rules) (search rules) c.in_ok-add_datagram.ensures.takes,
+      heard_one g.R.ServedReplica.Gathers (c.in-Some.from, c.in-Some.frame.now)
+          (c.in-Some.from, c.of-viewed.result) c.args.group.now c.add_datagram.new.group c.args.self.now
+          c.record_sender-came.new.self c.add_datagram.new.self
+          (search rules) apart (search rules) (search rules) (search rules) (search rules) (search rules)
+          (search rules) (search rules) c.in_ok-add_datagram.ensures.takes,
     )
 
 pub returns-in_err-add_datagram-clause-ends : goal.returns-in_err-add_datagram-clause-ends
 returns-in_err-add_datagram-clause-ends g c =
     let beside : is_beside (heard c.args.self.now.addresses.seals c.in-Some.frame.now) ≡ false = search rules in
     let known : is_stranger c.args.self.now.addresses.neighbours c.in-Some.from ≡ false = search rules in
-    let apart : is_filtered_out (filter_of c.args.self.now.addresses) (c.in-Some.from, c.in-Some.frame.now) ≡ false = is_not_out (filter_of c.args.self.now.addresses) (c.in-Some.from, c.in-Some.frame.now) beside known in
+    let apart : is_filtered_out (filter_of c.args.self.now.addresses) (c.in-Some.from, c.in-Some.frame.now) ≡ false =
+    is_not_out (filter_of c.args.self.now.addresses) (c.in-Some.from, c.in-Some.frame.now) beside known in
     on_err c.from_residual.result (
       (c.in-Some.from, c.in-Some.frame.now),
       c.in-Some.ensures.some,
       apart,
-      ends_heard g.R.ServedReplica.Says g.R.ServedReplica.Gathers (c.in-Some.from, c.in-Some.frame.now) (c.in-Some.from, c.of-viewed.result) c.args.group.now c.args.self.now c.record_sender-came.new.self c.add_datagram.new.self
-          (search rules) apart (search rules) (search rules) (search rules) (search rules) (search rules) (search rules) (search rules) c.in_err-add_datagram.ensures.ends,
+      ends_heard g.R.ServedReplica.Says g.R.ServedReplica.Gathers (c.in-Some.from, c.in-Some.frame.now)
+          (c.in-Some.from, c.of-viewed.result) c.args.group.now c.args.self.now
+          c.record_sender-came.new.self c.add_datagram.new.self
+          (search rules) apart (search rules) (search rules) (search rules) (search rules) (search rules)
+          (search rules) (search rules) c.in_err-add_datagram.ensures.ends,
     )
 
 pub returns-in-Some-stranger-clause-kept : goal.returns-in-Some-stranger-clause-kept
 returns-in-Some-stranger-clause-kept g c = λ found.
     let beside : is_beside (heard c.args.self.now.addresses.seals c.in-Some.frame.now) ≡ false = search rules in
-    keeps_strange c.args.self.now.node c.args.self.now.addresses.seals (c.in-Some.from, c.in-Some.frame.now) c.args.buffer.now c.in-Some.ensures.some beside
+    keeps_strange c.args.self.now.node c.args.self.now.addresses.seals
+    (c.in-Some.from, c.in-Some.frame.now) c.args.buffer.now c.in-Some.ensures.some beside

@@ -16,8 +16,13 @@ returns-clause-acts g c =
     let r = c.readmit.ensures in
     let l = c.learn.ensures in
     let q = c.probe_next.ensures in
-    let answers = subst (λ (o : Option ReceivedProbe). AnswersKept shows tells o c.args.self.now c.answer.new.self) t.value a.answers in
-    let readmits = subst (λ (o : Option ReceivedProbe). ReadmitsKept o c.answer.new.self.addresses c.readmit.new.self.addresses) t.value r.readmits in
-    let learns = subst (λ (o : Option Reported). LearnsKept o c.readmit.new.self.addresses c.learn.new.self.addresses) (ap (λ (b : BufferValue). b.reported) t.rest) l.learns in
-    acted shows tells c.args.buffer.now.asked c.args.buffer.now.reported _ c.args.self.now c.answer.new.self c.readmit.new.self c.learn.new.self c.probe_next.new.self
-    answers a.others readmits r.network r.others learns l.network l.others c.now-now.ensures q.asks q.network q.still q.others
+    let answers = subst (λ (o : Option ReceivedProbe). AnswersKept shows tells o c.args.self.now c.answer.new.self)
+    t.value a.answers in
+    let readmits = subst (λ (o : Option ReceivedProbe). ReadmitsKept o c.answer.new.self.addresses
+    c.readmit.new.self.addresses) t.value r.readmits in
+    let learns = subst (λ (o : Option Reported). LearnsKept o c.readmit.new.self.addresses c.learn.new.self.addresses)
+    (ap (λ (b : BufferValue). b.reported) t.rest) l.learns in
+    acted shows tells c.args.buffer.now.asked c.args.buffer.now.reported _ c.args.self.now c.answer.new.self
+    c.readmit.new.self c.learn.new.self c.probe_next.new.self
+    answers a.others readmits r.network r.others learns l.network l.others c.now-now.ensures q.asks
+    q.network q.still q.others

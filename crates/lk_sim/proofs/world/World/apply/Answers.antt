@@ -17,5 +17,6 @@ returns-clause-packed g c =
     let old = scene_of c.self.inside.parts in
     let new = scene_of c.happen-result.new.parts in
     on_ok _ _ c.happen-result.result
-    (leaves_packed g.R.MemoryReplica.behaves g.R.MemoryReplica.Shows g.R.MemoryReplica.whole g.R.MemoryReplica.meaning g.met.R.MemoryReplica.packed old new c.self.invariant.0 c.args.event)
+    (leaves_packed g.R.MemoryReplica.behaves g.R.MemoryReplica.Shows g.R.MemoryReplica.whole g.R.MemoryReplica.meaning
+    g.met.R.MemoryReplica.packed old new c.self.invariant.0 c.args.event)
     c.happen-result.ensures.ok

@@ -5,7 +5,9 @@ use Rattle.lk_simulated_disk.proofs.disk_bytes.DiskBytes.stop.Goals as goal
 
 pub returns : goal.returns
 returns c =
-    let kept : c.min-kept.result ≡ min c.args.unsynced (length c.self.inside.bytes.items - c.self.inside.synced) = search rules in
-    kept_front c.args.unsynced c.self.inside.synced c.len-self-inside.result c.self.inside.bytes.items c.truncate.new.self.items
+    let kept : c.min-kept.result
+    ≡ min c.args.unsynced (length c.self.inside.bytes.items - c.self.inside.synced) = search rules in
+    kept_front c.args.unsynced c.self.inside.synced c.len-self-inside.result c.self.inside.bytes.items
+    c.truncate.new.self.items
     (c.truncate.ensures.items ∙ ap (λ k. take (c.self.inside.synced + k) c.self.inside.bytes.items) kept) (search rules)
     ∙ ap (kept_by c.args.unsynced) c.self.view_is

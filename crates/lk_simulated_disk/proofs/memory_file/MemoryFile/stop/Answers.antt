@@ -9,4 +9,5 @@ pub returns-clause-image : goal.returns-clause-image
 returns-clause-image c =
     let kept = keeps_image_of c.args.unsynced c.self.inside.shown c.self.inside.bytes in
     subst (λ (f : CountedFile). MayLeave (left_of f.file) (contents c.stop.new.self)) c.self.view_is
-    (subst (λ (d : Disk). MayLeave (left_of (file_showing c.self.inside.shown c.self.inside.bytes)) (contents d)) (sym c.stop.ensures) kept)
+    (subst (λ (d : Disk). MayLeave (left_of (file_showing c.self.inside.shown c.self.inside.bytes)) (contents d))
+    (sym c.stop.ensures) kept)

@@ -7,7 +7,9 @@ pub invariant_of-self-in-Raise-1 : goal.invariant_of-self-in-Raise-1
 invariant_of-self-in-Raise-1 g c = record {
   roster = c.facts-in-Raise.ensures;
   sessions = c.self.invariant.sessions;
-  text = subst g.M.Machine.IsText (sym (c.raise-answer.ensures.next c.args.client)) (g.met.M.Machine.next_is_text c.args.client Raising (g.M.Machine.text c.self.inside.machine) c.get.ensures.in_range c.self.invariant.text);
+  text = subst g.M.Machine.IsText (sym (c.raise-answer.ensures.next c.args.client))
+      (g.met.M.Machine.next_is_text c.args.client Raising
+      (g.M.Machine.text c.self.inside.machine) c.get.ensures.in_range c.self.invariant.text);
 }
 
 pub returns-in-Join-clause-ok : goal.returns-in-Join-clause-ok

@@ -10,4 +10,5 @@ pub returns-clause-last : goal.returns-clause-last
 returns-clause-last g c = λ genesis L e.
     let sessions_is = ap (λ (w : WholeValue). w.sessions) c.self.view_is in
     let last = seen_last g.M.Machine.meaning genesis L c.args.self.now c.args.client e in
-    c.of.ensures ∙ ap (λ (o : Option Session). seen_as o c.args.number) (c.get.ensures ∙ ap (session_of c.args.client) sessions_is ∙ last)
+    c.of.ensures ∙ ap (λ (o : Option Session). seen_as o c.args.number)
+    (c.get.ensures ∙ ap (session_of c.args.client) sessions_is ∙ last)

@@ -4,4 +4,5 @@ use Rattle.lk_transport.proofs.addresses.Addresses.place_of.Given as goal
 
 -- no place so far is the node's
 abbrev pub invariant-loop-place : goal.invariant-loop-place
-invariant-loop-place l = (l.at ≡ l.place-index) × (place_in l.self.nodes l.node ≡ l.at + place_in (drop l.place-index l.self.nodes) l.node)
+invariant-loop-place l =
+    (l.at ≡ l.place-index) × (place_in l.self.nodes l.node ≡ l.at + place_in (drop l.place-index l.self.nodes) l.node)

@@ -7,4 +7,5 @@ use Rattle.lk_fields.proofs.Spellings.{with_front}
 use Rattle.lk_wire.proofs.viewing.decided.end_of.Given as goal
 
 abbrev pub invariant-loop : goal.invariant-loop
-invariant-loop l = (front : List Command) × (with_front front (many read_command (l.count - l.counter) l.rest) ≡ many read_command l.count l.bytes)
+invariant-loop l = (front : List Command)
+    × (with_front front (many read_command (l.count - l.counter) l.rest) ≡ many read_command l.count l.bytes)
