@@ -1,5 +1,5 @@
 //! The promise holds of processes.
-ghost use Rattle.std.specs.Prelude.{◌≡◌, ◌≢◌, ℕ, true, false, Option, Some, List, [], ◌∷◌, ◌++◌, Contains};
+ghost use Rattle.std.specs.Prelude.{◌≡◌, ◌≢◌, ℕ, true, false, Option, Some, List, [], Contains};
 ghost use Rattle.std.specs.declared.net.socket_addr.SocketAddr.{SocketAddr};
 ghost use Rattle.lk_types.specs.declared.genesis.Genesis.{Genesis as GenesisValue};
 ghost use Rattle.lk_disk.specs.Disk.{Disk};
@@ -9,7 +9,6 @@ ghost use Rattle.lk_messages.specs.declared.message.NodeMessage.{NodeMessage};
 ghost use Rattle.lk_locks.specs.Meaning.{table_meaning};
 ghost use Rattle.lk_locks.specs.Packed.{IsTableText};
 ghost use Rattle.lk_agreement.specs.Datagrams.{HasSent};
-ghost use Rattle.lk_node_io.specs.Letters.{batch_of};
 ghost use Rattle.lk_node.specs.Leavings.{header_of};
 ghost use Rattle.lk_seal.specs.Seals.{key_list, heard};
 ghost use Rattle.lk_seal.specs.declared.seals.Seals.{Seals};
@@ -19,8 +18,8 @@ ghost use Rattle.lk_transport.specs.Posts.{all_filtered};
 ghost use Rattle.lk_server.specs.Servers.{ServerValue, Turn, LastTurn, IsIdle};
 ghost use Rattle.lk_transport.specs.declared.fault.ServiceFault.{ServiceFault};
 ghost use Rattle.lk_transport.specs.Chains.{Repeats};
-ghost use Rattle.lk_service.specs.Revivals.{IsBegun as IsTakenUp, IsNotTakenUp, IsRefusedWith};
-ghost use Rattle.lk_service.specs.Turns.{EndsEarly, Serves, TakesTurn};
+ghost use Rattle.lk_service.specs.Revivals.{IsNotTakenUp, IsRefusedWith};
+ghost use Rattle.lk_service.specs.Turns.{TakesTurn};
 ghost use Rattle.lk_sim.specs.Networks.{MayCome};
 ghost use Rattle.lk_world_nodes.specs.declared.seat.Life.TheVariants.{Up, Down};
 ghost use Rattle.lk_promise.specs.ComingBack.{IsExcused};
@@ -30,9 +29,12 @@ ghost use Rattle.lk_promise.specs.Linear.{IsLinearizable};
 ghost use Rattle.lk_promise.specs.Promise.{KeepsPromise};
 ghost use Rattle.lk_cluster.specs.Clusters.{Node, Cluster, IsReachable, ForgesNothing, IsBegun, Says, scene_of};
 ghost use Rattle.lk_cluster.specs.Clusters.{server_disks};
-ghost use Rattle.lk_cluster.specs.Continuing.{Continues, HasNode, MayAllCome, letters_of};
+ghost use Rattle.lk_cluster.specs.Continuing.{Continues, MayAllCome, letters_of};
 ghost use Rattle.lk_cluster.specs.Forgetting.{HasEmptyDisks, MustBeRemembered};
-ghost use Rattle.lk_cluster.specs.Sealing.{IsSealed, OnlyNodesSeal, OnlyNodesSealAll, OnlyNodesSealWhatComes};
+ghost use Rattle.lk_cluster.specs.Sealing.{IsSealed, OnlyNodesSeal, OnlyNodesSealWhatComes};
+ghost use Rattle.lk_cluster.specs.Services.{ForEachDown, ForEachUp, Service, BrokenService, letters_in_service};
+ghost use Rattle.lk_cluster.specs.Services.{letters_to_end, sent_before_end, MayComeInService, MayComeBeforeEnd};
+ghost use Rattle.lk_cluster.specs.Services.{OnlyNodesSealInService, OnlyNodesSealBeforeEnd};
 
 use lk_disk::LogDisk;
 use lk_locks::LockTable;
@@ -115,164 +117,128 @@ pub fn a_sealed_cluster_keeps_the_promise<D: LogDisk, S: DatagramSocket>()
 /// A server that starts from the disks of a node continues its cluster: the cluster in which that node is up is
 /// reachable too.
 pub fn a_start_continues_a_cluster<D: LogDisk, S: DatagramSocket>()
-    ensures { (genesis : GenesisValue) (cluster : Cluster)
-        → IsReachable ForgesNothing D.is_metered S.is_telling genesis cluster
-        → (place n : ℕ) (device : Memory) → HasNode cluster place n (Down device)
-        → (disks : Side → Disk) → ((s : Side) → disk_of device s ≡ disks s)
-        → (server : ServerValue ReplicaValue) → IsBegun cluster.genesis n disks server
-        → Continues ForgesNothing D.is_metered S.is_telling genesis cluster place n (Up server) [] }
+    ensures { ForEachDown ForgesNothing D.is_metered S.is_telling
+        (λ genesis cluster place n disks. (server : ServerValue ReplicaValue) → IsBegun cluster.genesis n disks server
+        → Continues ForgesNothing D.is_metered S.is_telling genesis cluster place n (Up server) []) }
 {}
 
 /// A rejected start continues its cluster: the node stays down, with the disks that the rejection has left. The
 /// contract of the program ensures such a rejection.
 pub fn a_refused_start_continues_a_cluster<D: LogDisk, S: DatagramSocket>()
-    ensures { D.is_honest → (genesis : GenesisValue) (cluster : Cluster)
-        → IsReachable ForgesNothing D.is_metered S.is_telling genesis cluster
-        → (place n : ℕ) (device : Memory) → HasNode cluster place n (Down device)
-        → (disks : Side → Disk) → ((s : Side) → disk_of device s ≡ disks s)
-        → (told : ServiceFault) (refused : IsRefusedWith table_meaning IsTableText D.is_honest disks
-        (header_of cluster.genesis n) told)
+    ensures { D.is_honest → ForEachDown ForgesNothing D.is_metered S.is_telling
+        (λ genesis cluster place n disks. (told : ServiceFault)
+        (refused : IsRefusedWith table_meaning IsTableText D.is_honest disks (header_of cluster.genesis n) told)
         → (left : Memory) → ((s : Side) → disk_of left s ≡ refused.left s)
-        → Continues ForgesNothing D.is_metered S.is_telling genesis cluster place n (Down left) [] }
+        → Continues ForgesNothing D.is_metered S.is_telling genesis cluster place n (Down left) []) }
 {}
 
 /// A turn of a server continues its cluster if what arrived in it is not forged. What the turn adds to the trace
 /// follows from what its replica says.
 pub fn a_turn_continues_a_cluster<D: LogDisk, S: DatagramSocket>()
-    ensures { (genesis : GenesisValue) (cluster : Cluster)
-        → IsReachable ForgesNothing D.is_metered S.is_telling genesis cluster
-        → (place n : ℕ) (server after : ServerValue ReplicaValue) → HasNode cluster place n (Up server)
-        → (came : List (SocketAddr × List ℕ)) → ForgesNothing cluster.genesis cluster.sent server came
+    ensures { ForEachUp ForgesNothing D.is_metered S.is_telling
+        (λ genesis cluster place n server. (after : ServerValue ReplicaValue) (came : List (SocketAddr × List ℕ))
+        → ForgesNothing cluster.genesis cluster.sent server came
         → (turn : Turn (Says D.is_metered) S.is_telling came server after) → after.replica.failed ≡ false
-        → Continues ForgesNothing D.is_metered S.is_telling genesis cluster place n (Up after) turn.hands_on.letters }
+        → Continues ForgesNothing D.is_metered S.is_telling genesis cluster place n (Up after) turn.hands_on.letters) }
 {}
 
 /// A turn of a server that has the key of the nodes continues its cluster whatever frames came in it.
 /// `turning::serve_turn` ensures such a turn, or an idle one.
 pub fn a_sealed_turn_continues_a_cluster<D: LogDisk, S: DatagramSocket>()
-    ensures { (genesis : GenesisValue) (cluster : Cluster)
-        → IsReachable IsSealed D.is_metered S.is_telling genesis cluster
-        → (place n : ℕ) (server after : ServerValue ReplicaValue) → HasNode cluster place n (Up server)
+    ensures { ForEachUp IsSealed D.is_metered S.is_telling
+        (λ genesis cluster place n server. (after : ServerValue ReplicaValue)
         → key_list server.addresses.seals.nodes ≢ [] → (frames : List (SocketAddr × List ℕ))
         → OnlyNodesSealWhatComes cluster.sent server.addresses.seals frames
-        → (turn : Turn (Says D.is_metered) S.is_telling
-        (all_filtered (filter_of server.addresses) frames) server after) → after.replica.failed ≡ false
-        → Continues IsSealed D.is_metered S.is_telling genesis cluster place n (Up after) turn.hands_on.letters }
+        → (turn : Turn (Says D.is_metered) S.is_telling (all_filtered (filter_of server.addresses) frames) server after)
+        → after.replica.failed ≡ false
+        → Continues IsSealed D.is_metered S.is_telling genesis cluster place n (Up after) turn.hands_on.letters) }
 {
     is_told_by_a_node();
 }
 
 /// An idle turn of a server continues its cluster, and gives nothing to be sent.
 pub fn an_idle_turn_continues_a_cluster<D: LogDisk, S: DatagramSocket>()
-    ensures { (genesis : GenesisValue) (cluster : Cluster)
-        → IsReachable ForgesNothing D.is_metered S.is_telling genesis cluster
-        → (place n : ℕ) (server after : ServerValue ReplicaValue) → HasNode cluster place n (Up server)
-        → (frames : List (SocketAddr × List ℕ)) → IsIdle S.is_telling frames server after
-        → Continues ForgesNothing D.is_metered S.is_telling genesis cluster place n (Up after) [] }
+    ensures { ForEachUp ForgesNothing D.is_metered S.is_telling
+        (λ genesis cluster place n server. (after : ServerValue ReplicaValue) (frames : List (SocketAddr × List ℕ))
+        → IsIdle S.is_telling frames server after
+        → Continues ForgesNothing D.is_metered S.is_telling genesis cluster place n (Up after) []) }
 {}
 
 /// A turn that ends a server continues its cluster: the node is then down, with the disks that its replica has left.
 pub fn a_last_turn_continues_a_cluster<D: LogDisk, S: DatagramSocket>()
-    ensures { (genesis : GenesisValue) (cluster : Cluster)
-        → IsReachable ForgesNothing D.is_metered S.is_telling genesis cluster
-        → (place n : ℕ) (server after : ServerValue ReplicaValue) → HasNode cluster place n (Up server)
-        → (came : List (SocketAddr × List ℕ)) → ForgesNothing cluster.genesis cluster.sent server came
+    ensures { ForEachUp ForgesNothing D.is_metered S.is_telling
+        (λ genesis cluster place n server. (after : ServerValue ReplicaValue) (came : List (SocketAddr × List ℕ))
+        → ForgesNothing cluster.genesis cluster.sent server came
         → (turn : LastTurn (Says D.is_metered) S.is_telling came server after) → after.replica.failed ≡ true
         → (left : Memory) → ((s : Side) → disk_of left s ≡ server_disks after s)
-        → Continues ForgesNothing D.is_metered S.is_telling genesis cluster place n (Down left) turn.hands_on.letters }
+        → Continues ForgesNothing D.is_metered S.is_telling genesis cluster place n (Down left) turn.hands_on.letters) }
 {}
 
 /// The turns of a process on an honest device continue its cluster, one after another, if nothing that arrived in any
 /// of them is forged.
 pub fn turns_continue_a_cluster<D: LogDisk + Drop, S: DatagramSocket>()
-    ensures { D.is_honest → (genesis : GenesisValue) (cluster : Cluster)
-        → IsReachable ForgesNothing D.is_metered S.is_telling genesis cluster
-        → (place n count : ℕ) (first last : ServerValue ReplicaValue) → HasNode cluster place n (Up first)
-        → (turns : Repeats (TakesTurn ⟦<Replica<LockTable, D> as ServedReplica>⟧.Says S.is_telling) count first last)
+    ensures { D.is_honest → ForEachUp ForgesNothing D.is_metered S.is_telling
+        (λ genesis cluster place n server. (count : ℕ) (last : ServerValue ReplicaValue)
+        (turns : Repeats (TakesTurn ⟦<Replica<LockTable, D> as ServedReplica>⟧.Says S.is_telling) count server last)
         → MayAllCome ⟦<Replica<LockTable, D> as ServedReplica>⟧.Says S.is_telling ForgesNothing cluster.genesis n
-        cluster.sent first turns.states last turns.chain
+        cluster.sent server turns.states last turns.chain
         → Continues ForgesNothing D.is_metered S.is_telling genesis cluster place n (Up last)
-        (letters_of ⟦<Replica<LockTable, D> as ServedReplica>⟧.Says S.is_telling first turns.states last turns.chain) }
+        (letters_of ⟦<Replica<LockTable, D> as ServedReplica>⟧.Says S.is_telling server turns.states last
+        turns.chain)) }
 {}
 
 /// A node that serves continues its cluster, from its start to its last turn. The contract of the program ensures such
 /// a service.
 pub fn a_service_continues_a_cluster<D: LogDisk + Drop, S: DatagramSocket>()
-    ensures { D.is_honest → (genesis : GenesisValue) (cluster : Cluster)
-        → IsReachable ForgesNothing D.is_metered S.is_telling genesis cluster
-        → (place n count : ℕ) (device : Memory) → HasNode cluster place n (Down device)
-        → (disks : Side → Disk) → ((s : Side) → disk_of device s ≡ disks s)
-        → (seals : Seals) (served : Serves (IsTakenUp table_meaning D.is_honest disks (header_of cluster.genesis n))
-        (header_of cluster.genesis n) seals ⟦<Replica<LockTable, D> as ServedReplica>⟧.Says S.is_telling count)
-        → MayAllCome ⟦<Replica<LockTable, D> as ServedReplica>⟧.Says S.is_telling ForgesNothing cluster.genesis n
-        cluster.sent served.begun served.turns.states served.ended served.turns.chain
+    ensures { D.is_honest → ForEachDown ForgesNothing D.is_metered S.is_telling
+        (λ genesis cluster place n disks. (count : ℕ) (seals : Seals)
+        (served : Service ⟦<Replica<LockTable, D> as ServedReplica>⟧.Says S.is_telling D.is_honest cluster n disks
+        seals count)
+        → MayComeInService ForgesNothing cluster n served
         → Continues ForgesNothing D.is_metered S.is_telling genesis cluster place n (Up served.ended)
-        (letters_of ⟦<Replica<LockTable, D> as ServedReplica>⟧.Says S.is_telling served.begun served.turns.states
-        served.ended served.turns.chain) }
+        (letters_in_service served)) }
 {}
 
 /// A node whose service breaks off continues its cluster: its last turn ends it, and it is down with the disks that
 /// its replica has left.
 pub fn a_service_that_breaks_off_continues_a_cluster<D: LogDisk + Drop, S: DatagramSocket>()
-    ensures { D.is_honest → (genesis : GenesisValue) (cluster : Cluster)
-        → IsReachable ForgesNothing D.is_metered S.is_telling genesis cluster
-        → (place n most : ℕ) (device : Memory) → HasNode cluster place n (Down device)
-        → (disks : Side → Disk) → ((s : Side) → disk_of device s ≡ disks s)
-        → (seals : Seals) (served : EndsEarly (IsTakenUp table_meaning D.is_honest disks (header_of cluster.genesis n))
-        (header_of cluster.genesis n) seals ⟦<Replica<LockTable, D> as ServedReplica>⟧.Says S.is_telling most)
-        → MayAllCome ⟦<Replica<LockTable, D> as ServedReplica>⟧.Says S.is_telling ForgesNothing cluster.genesis n
-        cluster.sent served.begun served.breaks.turns.states served.breaks.last served.breaks.turns.chain
-        → ForgesNothing cluster.genesis
-        (cluster.sent ++ batch_of n
-        (letters_of ⟦<Replica<LockTable, D> as ServedReplica>⟧.Says S.is_telling served.begun
-        served.breaks.turns.states served.breaks.last served.breaks.turns.chain))
-        served.breaks.last served.breaks.ends.came
+    ensures { D.is_honest → ForEachDown ForgesNothing D.is_metered S.is_telling
+        (λ genesis cluster place n disks. (most : ℕ) (seals : Seals)
+        (served : BrokenService ⟦<Replica<LockTable, D> as ServedReplica>⟧.Says S.is_telling D.is_honest cluster n
+        disks seals most)
+        → MayComeBeforeEnd ForgesNothing cluster n served
+        → ForgesNothing cluster.genesis (sent_before_end n cluster.sent served) served.breaks.last
+        served.breaks.ends.came
         → (left : Memory) → ((s : Side) → disk_of left s ≡ server_disks served.ended s)
         → Continues ForgesNothing D.is_metered S.is_telling genesis cluster place n (Down left)
-        (letters_of ⟦<Replica<LockTable, D> as ServedReplica>⟧.Says S.is_telling served.begun
-        served.breaks.turns.states served.breaks.last served.breaks.turns.chain
-        ++ served.breaks.ends.turn.hands_on.letters) }
+        (letters_to_end served)) }
 {}
 
 /// A node that serves with the nodes' key continues its cluster whatever frames arrive. The contract of the program
 /// ensures such a service.
 pub fn a_sealed_service_continues_a_cluster<D: LogDisk + Drop, S: DatagramSocket>()
-    ensures { D.is_honest → (genesis : GenesisValue) (cluster : Cluster)
-        → IsReachable IsSealed D.is_metered S.is_telling genesis cluster
-        → (place n count : ℕ) (device : Memory) → HasNode cluster place n (Down device)
-        → (disks : Side → Disk) → ((s : Side) → disk_of device s ≡ disks s)
-        → (seals : Seals) (served : Serves (IsTakenUp table_meaning D.is_honest disks (header_of cluster.genesis n))
-        (header_of cluster.genesis n) seals ⟦<Replica<LockTable, D> as ServedReplica>⟧.Says S.is_telling count)
-        → key_list seals.nodes ≢ []
-        → OnlyNodesSealAll ⟦<Replica<LockTable, D> as ServedReplica>⟧.Says S.is_telling seals n cluster.sent
-        served.begun served.turns.states served.ended served.turns.chain
+    ensures { D.is_honest → ForEachDown IsSealed D.is_metered S.is_telling
+        (λ genesis cluster place n disks. (count : ℕ) (seals : Seals)
+        (served : Service ⟦<Replica<LockTable, D> as ServedReplica>⟧.Says S.is_telling D.is_honest cluster n disks
+        seals count)
+        → key_list seals.nodes ≢ [] → OnlyNodesSealInService cluster n served
         → Continues IsSealed D.is_metered S.is_telling genesis cluster place n (Up served.ended)
-        (letters_of ⟦<Replica<LockTable, D> as ServedReplica>⟧.Says S.is_telling served.begun served.turns.states
-        served.ended served.turns.chain) }
+        (letters_in_service served)) }
 {
     is_told_by_a_node();
 }
 
 /// So does one whose service breaks off.
 pub fn a_sealed_service_that_breaks_off_continues_a_cluster<D: LogDisk + Drop, S: DatagramSocket>()
-    ensures { D.is_honest → (genesis : GenesisValue) (cluster : Cluster)
-        → IsReachable IsSealed D.is_metered S.is_telling genesis cluster
-        → (place n most : ℕ) (device : Memory) → HasNode cluster place n (Down device)
-        → (disks : Side → Disk) → ((s : Side) → disk_of device s ≡ disks s)
-        → (seals : Seals) (served : EndsEarly (IsTakenUp table_meaning D.is_honest disks (header_of cluster.genesis n))
-        (header_of cluster.genesis n) seals ⟦<Replica<LockTable, D> as ServedReplica>⟧.Says S.is_telling most)
-        → key_list seals.nodes ≢ []
-        → OnlyNodesSealAll ⟦<Replica<LockTable, D> as ServedReplica>⟧.Says S.is_telling seals n cluster.sent
-        served.begun served.breaks.turns.states served.breaks.last served.breaks.turns.chain
-        → OnlyNodesSealWhatComes
-        (cluster.sent ++ batch_of n
-        (letters_of ⟦<Replica<LockTable, D> as ServedReplica>⟧.Says S.is_telling served.begun
-        served.breaks.turns.states served.breaks.last served.breaks.turns.chain)) seals served.breaks.ends.frames
+    ensures { D.is_honest → ForEachDown IsSealed D.is_metered S.is_telling
+        (λ genesis cluster place n disks. (most : ℕ) (seals : Seals)
+        (served : BrokenService ⟦<Replica<LockTable, D> as ServedReplica>⟧.Says S.is_telling D.is_honest cluster n
+        disks seals most)
+        → key_list seals.nodes ≢ [] → OnlyNodesSealBeforeEnd cluster n served
+        → OnlyNodesSealWhatComes (sent_before_end n cluster.sent served) seals served.breaks.ends.frames
         → (left : Memory) → ((s : Side) → disk_of left s ≡ server_disks served.ended s)
         → Continues IsSealed D.is_metered S.is_telling genesis cluster place n (Down left)
-        (letters_of ⟦<Replica<LockTable, D> as ServedReplica>⟧.Says S.is_telling served.begun
-        served.breaks.turns.states served.breaks.last served.breaks.turns.chain
-        ++ served.breaks.ends.turn.hands_on.letters) }
+        (letters_to_end served)) }
 {
     is_told_by_a_node();
 }
@@ -281,13 +247,10 @@ pub fn a_sealed_service_that_breaks_off_continues_a_cluster<D: LogDisk + Drop, S
 /// its files, a restart is refused for nothing but memory or a call of the device that failed, or because a file of
 /// format 1 has no generation left. What a crash may leave is what recovery takes (Chen et al., FSCQ, 2015).
 pub fn a_restart_comes_back<D: LogDisk, S: DatagramSocket>()
-    ensures { D.is_honest → (genesis : GenesisValue) (cluster : Cluster)
-        → IsReachable ForgesNothing D.is_metered S.is_telling genesis cluster
-        → (place n : ℕ) (device : Memory) → HasNode cluster place n (Down device)
-        → (disks : Side → Disk) → ((s : Side) → disk_of device s ≡ disks s)
-        → (number : ℕ) (left : Side → Disk)
+    ensures { D.is_honest → ForEachDown ForgesNothing D.is_metered S.is_telling
+        (λ genesis cluster place n disks. (number : ℕ) (left : Side → Disk)
         → IsNotTakenUp table_meaning IsTableText D.is_honest disks (header_of cluster.genesis n) number left
-        → IsExcused disks number }
+        → IsExcused disks number) }
 {}
 
 /// No node of a cluster restarts with empty disks: a node that has sent a Prepare, a Promise, an Accept or an Accepted

@@ -26,6 +26,36 @@ pub record Finds {R : Type 0} (tells : Type 0) (found : TurnInput) (frames : Lis
   pub comes : tells → old.coming ≡ frames ++ new.coming
   pub same : record new { coming = old.coming } ≡ old
 
+-- ---- what a part of a turn may change: a datagram that the replica takes, a letter of the node to itself, what comes to
+-- the socket, and all that a turn takes
+
+abbrev pub ChangesAtDatagram : {R : Type 0} → ServerValue R → ServerValue R → Type 0
+ChangesAtDatagram old new =
+    new ≡ record old { replica = new.replica; failed = new.failed; received = new.received; ticks = new.ticks }
+
+abbrev pub ChangesAtLetter : {R : Type 0} → ServerValue R → ServerValue R → Type 0
+ChangesAtLetter old new =
+    new ≡ record old {
+      replica = new.replica; failed = new.failed; received = new.received; ticks = new.ticks; own = new.own }
+
+abbrev pub ChangesAtFrame : {R : Type 0} → ServerValue R → ServerValue R → Type 0
+ChangesAtFrame old new =
+    new ≡ record old {
+      replica = new.replica; failed = new.failed; received = new.received; ticks = new.ticks;
+      addresses = new.addresses }
+
+abbrev pub ChangesAtSocket : {R : Type 0} → ServerValue R → ServerValue R → Type 0
+ChangesAtSocket old new =
+    new ≡ record old {
+      replica = new.replica; failed = new.failed; received = new.received; ticks = new.ticks;
+      addresses = new.addresses; coming = new.coming }
+
+abbrev pub ChangesInGroup : {R : Type 0} → ServerValue R → ServerValue R → Type 0
+ChangesInGroup old new =
+    new ≡ record old {
+      replica = new.replica; failed = new.failed; received = new.received; ticks = new.ticks; own = new.own;
+      addresses = new.addresses; coming = new.coming }
+
 module _ {R : Type 0} (Gathers : Gatherings R) where
   -- these datagrams were taken into the group one after another, each counted, and where ticks go by datagrams a tick
   -- after every 64th, which is counted too

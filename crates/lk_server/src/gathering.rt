@@ -10,7 +10,7 @@ ghost use Rattle.lk_node_io.specs.Letters.{LetterValue};
 ghost use Rattle.lk_node.specs.Calls.{heard_by};
 ghost use Rattle.lk_served_replica.specs.Groups.{GathersMore, SaysNoMore};
 ghost use Rattle.lk_server.specs.Gatherings.{Finds, TakesAll, EndsWithin, TakesOwn, EndsOwn, TakesWaiting, TakesGroup};
-ghost use Rattle.lk_server.specs.Gatherings.{EndsGroup};
+ghost use Rattle.lk_server.specs.Gatherings.{EndsGroup, ChangesAtDatagram, ChangesAtLetter, ChangesInGroup};
 ghost use Rattle.lk_transport.specs.Kept.{KeepsOf};
 ghost use Rattle.lk_server.specs.Servers.{HasReceived, IsIdle, one_more_tick};
 
@@ -104,13 +104,7 @@ impl<R: ServedReplica, S: DatagramSocket + Drop> Server<R, S> {
     ) -> Result<(), GroupFault>
         ensures takes { OnOk result (TakesAll R.Gathers (datagram.entry ∷ []) group.old group.new self.old self.new) }
         ensures ends { OnErr result (EndsWithin R.Says R.Gathers (datagram.entry ∷ []) group.old self.old self.new) }
-        ensures others { self.new
-            ≡ record self.old {
-              replica = self.new.replica;
-              failed = self.new.failed;
-              received = self.new.received;
-              ticks = self.new.ticks;
-            } }
+        ensures others { ChangesAtDatagram self.old self.new }
         ensures broken { OnErr result (self.new.failed ≡ true) }
     {
         self.received = self.received.wrapping_add(1);
@@ -131,14 +125,7 @@ impl<R: ServedReplica, S: DatagramSocket + Drop> Server<R, S> {
         ensures ends { OnErr result
             ((l : LetterValue) × (self.old.own ≡ l ∷ self.new.own)
             × EndsWithin R.Says R.Gathers (l.bytes ∷ []) group.old self.old self.new) }
-        ensures others { self.new
-            ≡ record self.old {
-              replica = self.new.replica;
-              failed = self.new.failed;
-              received = self.new.received;
-              ticks = self.new.ticks;
-              own = self.new.own;
-            } }
+        ensures others { ChangesAtLetter self.old self.new }
         ensures broken { OnErr result (self.new.failed ≡ true) }
     {
         let Some(letter) = self.next_letter() else {
@@ -154,14 +141,7 @@ impl<R: ServedReplica, S: DatagramSocket + Drop> Server<R, S> {
     fn add_own_letters<L: Log>(&mut self, group: &mut Group, log: &L) -> Result<(), GroupFault>
         ensures takes { OnOk result (TakesOwn R.Gathers 63 group.old group.new self.old self.new) }
         ensures ends { OnErr result (EndsOwn R.Says R.Gathers 63 group.old self.old self.new) }
-        ensures others { self.new
-            ≡ record self.old {
-              replica = self.new.replica;
-              failed = self.new.failed;
-              received = self.new.received;
-              ticks = self.new.ticks;
-              own = self.new.own;
-            } }
+        ensures others { ChangesAtLetter self.old self.new }
         ensures broken { OnErr result (self.new.failed ≡ true) }
     {
         'letters: for _ in 0..FURTHER {
@@ -195,16 +175,7 @@ impl<R: ServedReplica, S: DatagramSocket + Drop> Server<R, S> {
         ensures ends { OnErr result
             ((frames : List (Address × List ℕ))
             × EndsGroup R.Says R.Gathers S.is_telling frames group.old self.old self.new) }
-        ensures others { self.new
-            ≡ record self.old {
-              replica = self.new.replica;
-              failed = self.new.failed;
-              received = self.new.received;
-              ticks = self.new.ticks;
-              own = self.new.own;
-              addresses = self.new.addresses;
-              coming = self.new.coming;
-            } }
+        ensures others { ChangesInGroup self.old self.new }
         ensures broken { OnErr result (self.new.failed ≡ true) }
     {
         if !self.add_own_letter(group, log)? {
@@ -233,16 +204,7 @@ impl<R: ServedReplica, S: DatagramSocket + Drop> Server<R, S> {
         ensures ends { OnErr result
             ((frames : List (Address × List ℕ))
             × EndsGroup R.Says R.Gathers S.is_telling frames group.old self.old self.new) }
-        ensures others { self.new
-            ≡ record self.old {
-              replica = self.new.replica;
-              failed = self.new.failed;
-              received = self.new.received;
-              ticks = self.new.ticks;
-              own = self.new.own;
-              addresses = self.new.addresses;
-              coming = self.new.coming;
-            } }
+        ensures others { ChangesInGroup self.old self.new }
         ensures broken { OnErr result (self.new.failed ≡ true) }
     {
         self.set_timeout(metronome.left());

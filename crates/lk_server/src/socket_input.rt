@@ -8,7 +8,7 @@ ghost use Rattle.std.specs.Prelude.{IfOk};
 ghost use Rattle.std.specs.declared.net.socket_addr.SocketAddr.{SocketAddr as Address};
 ghost use Rattle.lk_transport.specs.Addresses.{filter_of, IsSameFilter};
 ghost use Rattle.lk_server.specs.Gatherings.{Finds, TakesHeard, EndsHeard, TakesSocket, EndsSocket, TakesWaiting};
-ghost use Rattle.lk_server.specs.Gatherings.{EndsGroup};
+ghost use Rattle.lk_server.specs.Gatherings.{EndsGroup, ChangesAtFrame, ChangesAtSocket};
 ghost use Rattle.lk_transport.specs.Hearing.{listed};
 ghost use Rattle.lk_transport.specs.Posts.{Hears, is_filtered_out};
 ghost use Rattle.lk_transport.specs.Kept.{Keeps, KeepsOf};
@@ -113,14 +113,7 @@ impl<R: ServedReplica, S: DatagramSocket + Drop> Server<R, S> {
             (λ found. found ≡ TurnInput.Beside → Keeps self.old.node self.old.addresses.seals buffer.old buffer.new) }
         ensures rest { IfOk result (λ found. (found ≡ TurnInput.Beside → ⊥) → buffer.new ≡ buffer.old) }
         ensures spares { OnErr result (buffer.new ≡ buffer.old) }
-        ensures others { self.new
-            ≡ record self.old {
-              replica = self.new.replica;
-              failed = self.new.failed;
-              received = self.new.received;
-              ticks = self.new.ticks;
-              addresses = self.new.addresses;
-            } }
+        ensures others { ChangesAtFrame self.old self.new }
         ensures broken { OnErr result (self.new.failed ≡ true) }
     {
         let Some((frame, from)) = buffer.latest() else {
@@ -163,15 +156,7 @@ impl<R: ServedReplica, S: DatagramSocket + Drop> Server<R, S> {
         ensures ends { OnErr result
             ((frame : Address × List ℕ) × (is_filtered_out (filter_of self.old.addresses) frame ≡ false)
             × EndsSocket R.Says R.Gathers S.is_telling (frame ∷ []) group.old self.old self.new) }
-        ensures others { self.new
-            ≡ record self.old {
-              replica = self.new.replica;
-              failed = self.new.failed;
-              received = self.new.received;
-              ticks = self.new.ticks;
-              addresses = self.new.addresses;
-              coming = self.new.coming;
-            } }
+        ensures others { ChangesAtSocket self.old self.new }
         ensures broken { OnErr result (self.new.failed ≡ true) }
     {
         self.receive(buffer);
@@ -198,15 +183,7 @@ impl<R: ServedReplica, S: DatagramSocket + Drop> Server<R, S> {
         ensures ends { OnErr result
             ((frame : Address × List ℕ)
             × EndsSocket R.Says R.Gathers S.is_telling (frame ∷ []) group.old self.old self.new) }
-        ensures others { self.new
-            ≡ record self.old {
-              replica = self.new.replica;
-              failed = self.new.failed;
-              received = self.new.received;
-              ticks = self.new.ticks;
-              addresses = self.new.addresses;
-              coming = self.new.coming;
-            } }
+        ensures others { ChangesAtSocket self.old self.new }
         ensures broken { OnErr result (self.new.failed ≡ true) }
     {
         if group.letters().is_empty() {
@@ -236,15 +213,7 @@ impl<R: ServedReplica, S: DatagramSocket + Drop> Server<R, S> {
         ensures ends { OnErr result
             ((frames : List (Address × List ℕ)) × (length frames ≤ 63)
             × EndsSocket R.Says R.Gathers S.is_telling frames group.old self.old self.new) }
-        ensures others { self.new
-            ≡ record self.old {
-              replica = self.new.replica;
-              failed = self.new.failed;
-              received = self.new.received;
-              ticks = self.new.ticks;
-              addresses = self.new.addresses;
-              coming = self.new.coming;
-            } }
+        ensures others { ChangesAtSocket self.old self.new }
         ensures broken { OnErr result (self.new.failed ≡ true) }
     {
         'datagrams: for _ in 0..FURTHER {
@@ -277,15 +246,7 @@ impl<R: ServedReplica, S: DatagramSocket + Drop> Server<R, S> {
         ensures ends { OnErr result
             ((frames : List (Address × List ℕ))
             × EndsGroup R.Says R.Gathers S.is_telling frames group.old self.old self.new) }
-        ensures others { self.new
-            ≡ record self.old {
-              replica = self.new.replica;
-              failed = self.new.failed;
-              received = self.new.received;
-              ticks = self.new.ticks;
-              addresses = self.new.addresses;
-              coming = self.new.coming;
-            } }
+        ensures others { ChangesAtSocket self.old self.new }
         ensures broken { OnErr result (self.new.failed ≡ true) }
     {
         let found = self.add_first_datagram(buffer, group, log)?;

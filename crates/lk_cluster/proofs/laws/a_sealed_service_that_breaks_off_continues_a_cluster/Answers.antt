@@ -7,7 +7,7 @@ use Rattle.lk_cluster.proofs.Serving.{broken_service_continues}
 use Rattle.lk_cluster.proofs.laws.a_sealed_service_that_breaks_off_continues_a_cluster.Goals as goal
 
 pub returns : goal.returns
-returns g c honest genesis cluster all place n most device at disks same seals served key only
+returns g c honest genesis cluster all place n device at disks same most seals served key only
     last_only left same_left =
     let tells = g.S.DatagramSocket.is_telling in
     let b = served.breaks in
