@@ -1,4 +1,4 @@
--- Which states an acceptor has, and how they change.
+-- The states that an acceptor can have, and how they change.
 use Rattle.std.specs.Prelude.{ℕ, nat_lt, Contains, Option, Some, None, IsTrue, if◌then◌else◌}
 use Rattle.std.specs.List.{AllByRecursion}
 use Rattle.lk_types.specs.BallotValue.{BallotValue}

@@ -1,4 +1,4 @@
--- Some of the votes of an acceptor.
+-- Parts of an acceptor's list of votes: those at, from or above a position.
 use Rattle.std.specs.Prelude.{◌≡◌, ℕ, ◌≤◌, nat_lt, nat_le, List, Contains, filter}
 use Rattle.lk_types.specs.declared.vote.Vote.{Vote}
 

@@ -51,7 +51,7 @@ impl Model for Acceptor {
         }) };
 }
 
-// Each vote is in its range. The function does nothing.
+// Shows the prover that each vote is in its range. Has no effect.
 fn votes_facts(votes: &[Vote])
     ensures { AllByRecursion IsVote votes.now }
 {
@@ -61,7 +61,8 @@ fn votes_facts(votes: &[Vote])
 }
 
 impl Acceptor {
-    /// An acceptor that holds what a store stands for. The members are known `alpha` positions ahead, 1 to 16.
+    /// Creates an acceptor from what its store holds. The votes are above the snapshot, strictly rising by position,
+    /// and in ballots up to the promised one. The members are known `alpha` positions ahead, 1 to 16.
     pub fn new(
         alloc: Global,
         alpha: u8,
@@ -108,7 +109,7 @@ impl Acceptor {
         self.snapshot_position
     }
 
-    /// Each part is in its range, and the votes are in order. The function does nothing.
+    /// Shows the prover that each part is in its range, and the votes in order. Has no effect.
     pub fn facts(&self)
         ensures { IsAcceptor self.now }
     {
@@ -116,7 +117,8 @@ impl Acceptor {
         let _ = self.snapshot_position.get();
     }
 
-    // Whether a Prepare gets a promise.
+    // Whether a Prepare gets a Promise: its ballot is at least the promised one, `first` is above the snapshot, and
+    // each vote is less than 2 alpha above `first`, so at most 32 votes are reported.
     fn grants_prepare(&self, ballot: RealBallot, first: Position) -> bool
         ensures { IsTrue result ↔ GrantsPrepare self.now ballot first }
     {
@@ -127,7 +129,8 @@ impl Acceptor {
         lie_below(&self.votes, end)
     }
 
-    // Whether an Accept gets a vote.
+    // Whether an Accept gets an Accepted: its ballot is at least the promised one, its position is above the snapshot
+    // and at most 2 alpha above what is executed, and no vote of its ballot has another command there.
     fn grants_accept(&self, vote: &Vote, executed: Executed) -> bool
         ensures { IsTrue result ↔ GrantsAccept self.now executed vote.now }
     {
@@ -141,7 +144,7 @@ impl Acceptor {
         agree(&self.votes, vote)
     }
 
-    // Rejects a ballot.
+    // Returns a Nack of the ballot, with the promised ballot and how many positions are executed, and no entry.
     fn refusal(&self, ballot: RealBallot, executed: Executed) -> Response
         ensures { Refuses self.now executed ballot result self.now }
     {
@@ -156,7 +159,8 @@ impl Acceptor {
         }
     }
 
-    // Promises a ballot that is not below the promised one, and returns its entry if it is above.
+    // Promises a ballot that is not below the promised one. Returns the entry to write, `None` if it was promised
+    // already.
     fn promise_ballot(&mut self, ballot: RealBallot) -> Option<Entry>
         requires { IsAtMost self.old.state.promised ballot }
         ensures entry { (IsBelow self.old.state.promised ballot × (result ≡ Some (entry.Promise ballot)))
@@ -169,7 +173,8 @@ impl Acceptor {
         Some(self.own(ballot))
     }
 
-    // Keeps a vote that is granted, and returns its entry if it was not kept already.
+    // Keeps a vote that is granted, and promises its ballot. Returns the entry to write, `None` if it was kept already.
+    // A failed call changes nothing.
     fn vote(&mut self, vote: &Vote) -> Result<Option<Entry>, NoMemory>
         requires ballot { IsAtMost self.old.state.promised vote.now.ballot }
         requires above { self.old.state.snapshot_position < vote.now.position }
@@ -231,7 +236,8 @@ impl Acceptor {
         })
     }
 
-    /// Promises a ballot of the node's own, above the promised one, and returns its entry. Takes no memory.
+    /// Promises a ballot above the promised one, such as one that the node begins itself, and returns the entry to
+    /// write. Takes no memory.
     pub fn own(&mut self, ballot: RealBallot) -> Entry
         requires { IsBelow self.old.state.promised ballot }
         ensures entry { result ≡ entry.Promise ballot }
@@ -241,7 +247,8 @@ impl Acceptor {
         Entry::Promise(ballot)
     }
 
-    /// Forgets the votes up to a position that a snapshot has replaced. Takes no memory.
+    /// Forgets the votes up to a position, which a snapshot replaces, and records it as the snapshot's. Takes no
+    /// memory.
     pub fn forget(&mut self, position: Executed)
         requires { self.old.state.snapshot_position ≤ position }
         ensures { self.new ≡ with_state self.old (without_votes_to self.old.state position) }

@@ -1,5 +1,4 @@
-//! What follows from an acceptor's responses: laws about the definitions alone. A function without a body ensures each
-//! of them.
+//! Laws of an acceptor's responses, about the definitions alone: each is the contract of a function without a body.
 ghost use Rattle.std.specs.Prelude.{◌≡◌, ◌+◌, ◌≤◌, ℕ, List, length, Contains, IsTrue};
 ghost use Rattle.lk_types.specs.BallotValue.{BallotValue};
 ghost use Rattle.lk_types.specs.Ballots.{IsBelow};
@@ -15,7 +14,7 @@ ghost use Rattle.lk_acceptor.specs.Answers.{GrantsAccept, AnswersPrepare, Answer
 ghost use Rattle.lk_acceptor.specs.States.{IsOrdered, with_vote, without_votes_to, acceptor_with, with_written};
 ghost use Rattle.lk_acceptor.specs.declared.response.Response.{Response};
 
-/// What an Accept and a snapshot make of an acceptor is what a sound history permits.
+/// Keeping a granted vote, and forgetting votes that a snapshot replaces, are changes that the protocol permits.
 pub fn votes_are_taken_over()
     ensures vote { (a : AcceptorValue) (e : ℕ) (x : Vote) → IsOrdered a.state → GrantsAccept a e x
         → TakesVote a.state x (with_vote a.state x) }
@@ -23,7 +22,7 @@ pub fn votes_are_taken_over()
         → TakesSnapshot s i (without_votes_to s i) }
 {}
 
-/// A node whose acceptor is in the state that the call left may send the response, in every history.
+/// A node whose acceptor is in the state after the call may send the reply, in every history.
 pub fn an_answer_may_be_sent()
     ensures prepare { (genesis : Genesis) (sent : List Datagram) (w : View) (a : AcceptorValue) (e : ℕ)
         (b : BallotValue) (first : ℕ) (r : Response) (new : AcceptorValue)
@@ -33,7 +32,7 @@ pub fn an_answer_may_be_sent()
         → IsOrdered a.state → AnswersAccept a e x r new → w.acceptor ≡ new.state → MaySend genesis sent w r.reply }
 {}
 
-/// What the acceptor then holds covers the response.
+/// The state after the call covers the reply: it holds what the reply commits the node to.
 pub fn an_answer_is_covered()
     ensures prepare { (a : AcceptorValue) (e : ℕ) (b : BallotValue) (first : ℕ) (r : Response) (new : AcceptorValue)
         → AnswersPrepare a e b first r new → Covers new.state r.reply }
@@ -41,8 +40,8 @@ pub fn an_answer_is_covered()
         → AnswersAccept a e x r new → Covers new.state r.reply }
 {}
 
-/// What the acceptor then holds is what a store stands for that has the entry after those of what it held: without an
-/// entry nothing has changed.
+/// Applying the response's entry, if there is one, to the state before the call gives the state after it. So a restart
+/// recovers that state from the entries.
 pub fn entries_tell_what_is_held()
     ensures prepare { (a : AcceptorValue) (e : ℕ) (b : BallotValue) (first : ℕ) (r : Response) (new : AcceptorValue)
         → AnswersPrepare a e b first r new → new.state ≡ with_written r.entry a.state }
@@ -52,7 +51,7 @@ pub fn entries_tell_what_is_held()
         → with_promise s b ≡ acceptor_with (entry.Promise b) s }
 {}
 
-/// There is one response, one entry and one state after it.
+/// The state before the call and the message determine the response, its entry and the state after the call.
 pub fn there_is_one_answer()
     ensures prepare { (a : AcceptorValue) (e : ℕ) (b : BallotValue) (first : ℕ) (r q : Response)
         (new other : AcceptorValue)
@@ -61,8 +60,8 @@ pub fn there_is_one_answer()
         → AnswersAccept a e x r new → AnswersAccept a e x q other → (r ≡ q) × (new ≡ other) }
 {}
 
-/// Votes that rise by position within a stretch are no more than its positions, so they fit a promise, and a store's
-/// base.
+/// Votes that rise strictly by position within `n` positions are at most `n`, so they fit into a Promise and into a
+/// Base of the store.
 pub fn rising_votes_are_few()
     ensures { (low n : ℕ) (votes : List Vote) → IsTrue (are_votes_above low votes)
         → ((v : Vote) → Contains votes v → v.position ≤ low + n) → length votes ≤ n }

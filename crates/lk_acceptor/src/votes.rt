@@ -1,4 +1,4 @@
-// Votes in order of their positions.
+// Searches in, and copies of, votes that rise strictly by position.
 ghost use Rattle.std.specs.Prelude.{◌≡◌, ◌↔◌, nat_lt, Contains, IsTrue, OnErr, IfOk, MatchOption};
 ghost use Rattle.std.specs.List.{list_all};
 ghost use Rattle.lk_types.specs.declared.vote.Vote.{Vote as VoteValue};
@@ -10,7 +10,7 @@ use lk_entries::votes_below;
 use lk_types::{Executed, NoMemory, Position, Vote};
 use std::alloc::Global;
 
-// The vote at a position.
+// Returns the vote at a position, by binary search.
 fn vote_at(votes: &[Vote], position: Position) -> Option<&Vote>
     requires { AreRising votes.now }
     ensures { MatchOption result ((v : VoteValue) → IsVoteAt position votes.now v → ⊥)
@@ -20,7 +20,7 @@ fn vote_at(votes: &[Vote], position: Position) -> Option<&Vote>
     (vote.position == position).then_some(vote)
 }
 
-/// The votes at a position and above it.
+/// Copies the votes at a position and above it. Takes memory only if there are any.
 pub fn votes_from(alloc: Global, votes: &[Vote], first: Position) -> Result<Vec<Vote>, NoMemory>
     requires { AreRising votes.now }
     ensures ok { IfOk result (λ vs. vs.items ≡ votes_from first votes.now) }
@@ -34,7 +34,7 @@ pub fn votes_from(alloc: Global, votes: &[Vote], first: Position) -> Result<Vec<
     Ok(from)
 }
 
-/// The votes above a position.
+/// Copies the votes above a position. They may be in any order.
 pub fn votes_above(alloc: Global, votes: &[Vote], executed: Executed) -> Result<Vec<Vote>, NoMemory>
     ensures { IfOk result (λ vs. vs.items ≡ votes_above executed votes.now) }
 {
@@ -47,7 +47,7 @@ pub fn votes_above(alloc: Global, votes: &[Vote], executed: Executed) -> Result<
     Ok(above)
 }
 
-/// Whether each vote is below the end.
+/// Whether each vote is at a position below `end`. Only the last one is looked at, as positions rise.
 pub fn lie_below(votes: &[Vote], end: u64) -> bool
     requires { AreRising votes.now }
     ensures { result ≡ list_all (λ v. nat_lt v.position end) votes.now }
@@ -58,7 +58,7 @@ pub fn lie_below(votes: &[Vote], end: u64) -> bool
     }
 }
 
-// Whether the kept vote is this one.
+// Whether the two votes are the same.
 fn is_same(kept: &Vote, vote: &Vote) -> bool
     ensures { IsTrue result ↔ (kept.now ≡ vote.now) }
 {
@@ -83,7 +83,8 @@ fn agrees(kept: &Vote, vote: &Vote) -> bool
     kept.position != vote.position || kept.ballot != vote.ballot || kept.command == vote.command
 }
 
-/// Whether none of the votes is of the vote's ballot and position and has another command.
+/// Whether no kept vote is of this vote's position and ballot with another command: a ballot has one command for each
+/// position.
 pub fn agree(votes: &[Vote], vote: &Vote) -> bool
     requires { AreRising votes.now }
     ensures { IsTrue result ↔ ((v : VoteValue) → Contains votes.now v → Agrees v vote.now) }
@@ -94,7 +95,7 @@ pub fn agree(votes: &[Vote], vote: &Vote) -> bool
     }
 }
 
-/// Forgets the votes up to a position.
+/// Removes the votes up to a position. Takes no memory.
 pub fn forget_to(votes: &mut Vec<Vote>, position: Executed)
     ensures { votes.new.items ≡ votes_above position votes.old.items }
 {

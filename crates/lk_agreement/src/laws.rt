@@ -47,9 +47,9 @@ pub fn chosen_lists_grow()
         → Chosen genesis sent L → Chosen genesis sent (take k L) }
 {}
 
-/// A majority of the members that a chosen list names for a position has accepted its command there, and keeps it:
-/// each node of it does in every state that covers what the node has sent and stems from what was sent, so in every
-/// image of its disk.
+/// A majority of the members that a chosen list names for a position has accepted its command there, and keeps it. Each
+/// node of that majority keeps it in every state that covers what the node has sent and stems from what was sent, and
+/// so in every image of its disk.
 pub fn chosen_commands_are_kept()
     ensures { (genesis : Genesis) (sent : List Datagram) (L : List Command) (i : ℕ) (v : Command) → Sound genesis sent
         → Chosen genesis sent L → command_at L i ≡ Some v
@@ -84,7 +84,7 @@ pub fn what_is_heard_was_sent()
         → Contains sent d → Spells (said_by genesis n m) d.bytes → HasSent genesis sent n m }
 {}
 
-/// If nothing was sent, everything fits.
+/// The world in which nothing was sent fits: its history is sound, and every node fits it.
 pub fn the_start_fits()
     ensures { (genesis : Genesis) → WorldFits genesis start }
 {}
@@ -103,7 +103,8 @@ pub fn changes_keep_the_world()
         → Becomes genesis w.sent n (w.views n) new → WorldFits genesis (with_view w n new) }
 {}
 
-/// So does whatever a node is permitted to send in its present state, and a client's request.
+/// Whatever a node is permitted to send in its present state, and a client's request, leave the history sound and every
+/// node fitting.
 pub fn sends_keep_the_world()
     ensures node { (genesis : Genesis) (w : World) (n : ℕ) (batch : List Datagram) → WorldFits genesis w
         → MayPostAll genesis w.sent n (w.views n) batch → WorldFits genesis (with_sent w batch) }
@@ -111,7 +112,8 @@ pub fn sends_keep_the_world()
         → IsClientRequest d → WorldFits genesis (with_sent w (d ∷ [])) }
 {}
 
-/// So does a restart from any image that covers what its node has sent and stems from what was sent.
+/// A restart from any image that covers what its node has sent and stems from what was sent leaves the history sound
+/// and every node fitting.
 pub fn restarts_keep_the_world()
     ensures { (genesis : Genesis) (w : World) (n : ℕ) (image : View) → WorldFits genesis w
         → CoversSent genesis w.sent n image.acceptor → Stems genesis w.sent image → image.term ≡ None
@@ -168,9 +170,8 @@ pub fn slices_join()
         → IsSlice genesis sent text position (length (text (take position L))) offset bytes }
 {}
 
-/// What a world may do, at the least: nodes send what they may, clients ask, and nodes change, in any order. A node
-/// may stop at any time and restart from any image that covers what it has sent and stems from what was sent, and its
-/// term may end.
+/// What `Reaches` permits in any order: nodes send what they may, clients ask, and nodes change. A node may stop at any
+/// time and restart from any image that covers what it has sent and stems from what was sent, and its term may end.
 pub fn worlds_come_about()
     ensures begins { (genesis : Genesis) → Reaches genesis start }
     ensures sends { (genesis : Genesis) (w : World) (n : ℕ) (batch : List Datagram) → Reaches genesis w
@@ -196,8 +197,8 @@ pub fn every_world_agrees()
         → IsKept genesis w.sent L i v (λ n state. state ≡ w.views n) }
 {}
 
-/// Such worlds are reachable, and members change in them: node 1 alone decides the first command of a chosen list,
-/// which makes node 2 a member, and both decide the second.
+/// The laws are not vacuous: some world is reachable in which members change. Node 1 alone decides the first command of
+/// a chosen list, which makes node 2 a member, and both decide the second.
 pub fn members_change_in_some_world()
     ensures some { (genesis : Genesis) × (w : World) × (L : List Command) × MembersChange genesis w L }
     ensures plain { (genesis : Genesis) × (w : World) × (L : List Command) × Reaches genesis w

@@ -1,4 +1,5 @@
-//! What was sent, what is chosen, and why chosen lists agree.
+//! Agreement in Multi-Paxos: definitions of what was sent, promised, accepted and chosen, and laws by which chosen
+//! lists agree.
 #![tactic(auto)]
 
 pub mod laws;

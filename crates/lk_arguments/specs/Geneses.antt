@@ -1,4 +1,4 @@
--- Members and a genesis, in words.
+-- How words spell members and a genesis.
 use Rattle.std.specs.Prelude.{◌≡◌, ◌≤◌, ℕ, List, [], ◌∷◌, ◌++◌, None}
 use Rattle.std.specs.Fmt.{decimal}
 use Rattle.lk_types.specs.Genesis.{genesis_fault}

@@ -1,4 +1,4 @@
--- Words.
+-- Words without a given byte, and digits without a sign or leading zeros.
 use Rattle.std.specs.Prelude.{◌≡◌, ◌==◌, ◌&&◌, not, ℕ, Bool, List, [], ◌∷◌, false}
 use Rattle.std.specs.List.{list_any}
 

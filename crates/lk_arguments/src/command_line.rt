@@ -13,8 +13,8 @@ fn add_word(text: &mut Vec<u8>, is_first: bool, word: &str) -> Result<bool, Allo
     Ok(!word.as_bytes().contains(&b' '))
 }
 
-/// Reads the words of a command line as the words of a script, or returns `None` if they are no operation. Fails if it
-/// is out of memory.
+/// Joins the words of a command line by spaces, and reads them as an operation. `None` if they are none, or a word has
+/// a space in it. Fails if it is out of memory.
 pub fn operation_of<'a>(alloc: Global, words: &'a [&'a str]) -> Result<Option<Op>, AllocError> {
     let mut text = Vec::new(alloc);
     for (at, word) in words.iter().enumerate() {

@@ -1,4 +1,4 @@
-//! A genesis in words.
+//! Reads a genesis, `CLUSTER,ALPHA,NODE:PORT,..`.
 
 ghost use Rattle.std.specs.Prelude.{◌≡◌, ℕ, List, IfSome, IsNone};
 ghost use Rattle.lk_types.specs.declared.member.Member.{Member as MemberValue};
@@ -10,8 +10,7 @@ use crate::word::split_at;
 use lk_types::Genesis;
 use lk_types::limits::MAX_ALPHA;
 
-/// The genesis that a text spells, as `CLUSTER,ALPHA,NODE:PORT,..`, or `None` if it spells none or an invalid one.
-/// Takes no memory.
+/// Reads a genesis, `CLUSTER,ALPHA,NODE:PORT,..`. `None` if the text spells none, or an invalid one. Allocates nothing.
 pub fn read_genesis(text: &[u8]) -> Option<Genesis>
     ensures some { IfSome result (λ g. SpellsGenesis text.now g.cluster g.alpha g.members) }
     ensures none { IsNone result → (cluster alpha : ℕ) (ms : List MemberValue)

@@ -1,4 +1,5 @@
-//! The words in which a person or a script asks something of the service.
+//! Parsers of the words of command lines and scripts: numbers, nodes, ports, members, a genesis, and a client's
+//! operation.
 #![tactic(auto)]
 
 pub mod command_line;

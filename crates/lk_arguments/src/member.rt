@@ -1,4 +1,4 @@
-//! Members in words.
+//! Reads members, `NODE:PORT`, and lists of them.
 
 ghost use Rattle.std.specs.Prelude.{◌≡◌, ◌<◌, ◌≤◌, List, length, IfSome, IsNone};
 ghost use Rattle.lk_types.specs.declared.member.Member.{Member as MemberValue};
@@ -10,7 +10,7 @@ use arrayvec::ArrayVec;
 use lk_types::Member;
 use lk_types::limits::MAX_MEMBERS;
 
-/// The member that a word spells, as `NODE:PORT`, or `None` if it spells none.
+/// Reads a member, `NODE:PORT`. `None` if the word spells none.
 pub fn member_of(word: &[u8]) -> Option<Member>
     ensures some { IfSome result (λ m. IsMemberWord m word.now) }
     ensures none { IsNone result → (m : MemberValue) → IsMemberWord m word.now → ⊥ }
@@ -25,8 +25,7 @@ pub fn member_of(word: &[u8]) -> Option<Member>
     }
 }
 
-/// The members that words spell, separated by `sign`, a byte below '0'. `None` if one of them spells none, or if there
-/// are more than seven.
+/// Reads one to seven members, separated by `sign`, a byte below '0'. `None` if one is invalid, or there are more.
 pub fn read_members(words: &[u8], sign: u8) -> Option<ArrayVec<Member, MAX_MEMBERS>>
     requires { sign < 48 }
     ensures some { IfSome result (λ ms. SpellsMembers sign words.now ms.items) }

@@ -1,4 +1,4 @@
-//! Numbers in decimal digits.
+//! Reads numbers in decimal digits.
 
 ghost use Rattle.std.specs.Prelude.{◌≡◌, ◌≤◌, ◌↔◌, ℕ, ◌<◌, IfSome, IsNone, IsTrue, length, slice_index};
 ghost use Rattle.std.specs.Fmt.{decimal};
@@ -15,7 +15,8 @@ fn is_plain(digits: &[u8]) -> bool
     }
 }
 
-/// The number that a word spells in decimal digits without leading zeros, or `None` if it spells none up to `most`.
+/// Reads decimal digits without a sign or leading zeros. `None` if the word is anything else, or the number exceeds
+/// `most`.
 pub fn read_number(word: &[u8], most: u64) -> Option<u64>
     ensures some { IfSome result (λ n. (n ≤ most) × (word.now ≡ decimal n)) }
     ensures none { IsNone result → (n : ℕ) → n ≤ most → word.now ≡ decimal n → ⊥ }

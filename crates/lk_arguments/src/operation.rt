@@ -1,4 +1,4 @@
-//! A client's operation, in words.
+//! Reads a client's operation.
 
 ghost use Rattle.std.specs.Prelude.{◌≡◌, ◌≤◌, ℕ, List, [], length, IfSome, IsNone};
 ghost use Rattle.std.specs.Fmt.{decimal};
@@ -17,7 +17,8 @@ use lk_types::{NodeNo, Op, Payload, Port};
 // The most bytes of a name: with its length, a fence and a first byte it fits a body.
 const MAX_NAME_WORD: usize = 54;
 
-// The body with this first byte, a name and at most eight bytes after it. `None` if the word is no name.
+// Returns the body of an operation on a name: its first byte, the length of the name, the name, and `rest`. `None` if
+// the word is no name of 1 to 54 bytes without a space.
 fn body_of(kind: u8, name: &[u8], rest: &[u8]) -> Option<Payload>
     requires { length rest.now ≤ 8 }
     ensures some { IfSome result (λ b. IsNameWord name.now × (b ≡ body kind name.now rest.now)) }
@@ -34,7 +35,7 @@ fn body_of(kind: u8, name: &[u8], rest: &[u8]) -> Option<Payload>
     Payload::of(bytes.as_slice())
 }
 
-// An operation on a name, as a body with this first byte.
+// Reads `NAME` as an operation whose body has this first byte.
 fn read_name_op(kind: u8, words: &[u8]) -> Option<Op>
     ensures some { IfSome result (AsksOfName kind words.now) }
     ensures none { IsNone result → (o : OpValue) → AsksOfName kind words.now o → ⊥ }
@@ -45,7 +46,7 @@ fn read_name_op(kind: u8, words: &[u8]) -> Option<Op>
     }
 }
 
-// An operation on a name and a fence, as a body with this first byte.
+// Reads `NAME FENCE` as an operation whose body has this first byte, and the fence in eight bytes at its end.
 #[tactic(auto, unfolding(lk_fields::specs::Fields::eight))]
 fn read_fence_op(kind: u8, words: &[u8]) -> Option<Op>
     ensures some { IfSome result (AsksOfFence kind words.now) }
@@ -59,7 +60,7 @@ fn read_fence_op(kind: u8, words: &[u8]) -> Option<Op>
     }
 }
 
-/// The node whose number a word spells, or `None` if it spells none.
+/// Reads the number of a node, 1 to 2^31. `None` if the word spells none.
 pub fn node_of(word: &[u8]) -> Option<NodeNo>
     ensures some { IfSome result (λ n. IsNode n × (word.now ≡ decimal n)) }
     ensures none { IsNone result → (n : ℕ) → IsNode n → word.now ≡ decimal n → ⊥ }
@@ -68,7 +69,7 @@ pub fn node_of(word: &[u8]) -> Option<NodeNo>
     NodeNo::of(number as u32)
 }
 
-/// The port whose number a word spells, or `None` if it spells none.
+/// Reads a port, 1 to 65535. `None` if the word spells none.
 pub fn port_of(word: &[u8]) -> Option<Port>
     ensures some { IfSome result (λ n. IsPort n × (word.now ≡ decimal n)) }
     ensures none { IsNone result → (n : ℕ) → IsPort n → word.now ≡ decimal n → ⊥ }
@@ -77,7 +78,7 @@ pub fn port_of(word: &[u8]) -> Option<Port>
     Port::of(number as u16)
 }
 
-// A join of the node and the port.
+// Reads `NODE PORT` as a join.
 fn read_join(words: &[u8]) -> Option<Op>
     ensures some { IfSome result (AsksToJoin words.now) }
     ensures none { IsNone result → (o : OpValue) → AsksToJoin words.now o → ⊥ }
@@ -92,7 +93,7 @@ fn read_join(words: &[u8]) -> Option<Op>
     }
 }
 
-// A leave of the node.
+// Reads `NODE` as a leave.
 fn read_leave(words: &[u8]) -> Option<Op>
     ensures some { IfSome result (AsksToLeave words.now) }
     ensures none { IsNone result → (o : OpValue) → AsksToLeave words.now o → ⊥ }
@@ -103,7 +104,7 @@ fn read_leave(words: &[u8]) -> Option<Op>
     }
 }
 
-// The version to which the machine is raised.
+// Reads `2`, the only version to which the lock table can be raised.
 fn read_raise(words: &[u8]) -> Option<Op>
     ensures some { IfSome result (AsksToRaise words.now) }
     ensures none { IsNone result → (o : OpValue) → AsksToRaise words.now o → ⊥ }
@@ -114,7 +115,7 @@ fn read_raise(words: &[u8]) -> Option<Op>
     }
 }
 
-// The body that hex digits spell.
+// Reads hex digits, in either case, as a body of 1 to 64 bytes.
 fn read_hex(digits: &[u8]) -> Option<Op>
     ensures some { IfSome result (AsksInHex digits.now) }
     ensures none { IsNone result → (o : OpValue) → AsksInHex digits.now o → ⊥ }
@@ -128,7 +129,7 @@ fn read_hex(digits: &[u8]) -> Option<Op>
     }
 }
 
-// What the words after a verb ask for.
+// Reads the words after a verb. `None` if they do not fit that verb.
 fn op_of(verb: Verb, words: &[u8]) -> Option<Op>
     ensures some { IfSome result (Asks verb words.now) }
     ensures none { IsNone result → (o : OpValue) → Asks verb words.now o → ⊥ }

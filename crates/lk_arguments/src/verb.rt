@@ -1,9 +1,9 @@
-// Operations, by their words.
+// The first words of operations.
 ghost use Rattle.std.specs.Prelude.{◌≡◌, IfSome, IsNone};
 ghost use Rattle.lk_arguments.specs.Verbs.{word_of};
 ghost use Rattle.lk_arguments.specs.declared.verb.Verb.{Verb};
 
-/// A client's operation on the locks or on the members.
+/// The first word of an operation on the locks or on the members.
 #[derive(Clone, Copy)]
 pub enum Verb {
     Acquire,
@@ -33,7 +33,7 @@ const ALL: [Verb; 10] = [
 ];
 
 impl Verb {
-    // Its word.
+    // Returns its spelling.
     fn word(self) -> &'static [u8]
         ensures { result.now ≡ word_of self }
     {
@@ -51,7 +51,7 @@ impl Verb {
         }
     }
 
-    /// The verb of that word.
+    /// Returns the verb with that spelling, `None` if there is none.
     pub fn of(word: &[u8]) -> Option<Verb>
         ensures some { IfSome result (λ v. word.now ≡ word_of v) }
         ensures none { IsNone result → (v : Verb) → word.now ≡ word_of v → ⊥ }

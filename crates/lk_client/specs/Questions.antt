@@ -1,4 +1,4 @@
--- What a client asks, what it receives, and what it sends in response.
+-- How a client sends its request, what it receives, and to whom it resends the request.
 use Rattle.std.specs.Net.Socket.{socket_ip, socket_port}
 use Rattle.std.specs.Prelude.{◌≡◌, ◌⊎◌, ◌+◌, ◌<◌, ◌≤◌, ℕ, nat_lt, Option, Some, None, List, [], ◌∷◌, ◌++◌, length, take}
 use Rattle.std.specs.Prelude.{slice_get, if◌then◌else◌}
@@ -68,7 +68,7 @@ followed_to f (Reply (Passed last)) count = []
 followed_to f Nothing count = []
 followed_to f Other count = []
 
--- it tells the fate of the request, and so ends the exchange
+-- the reply with which a receive ends the exchange, if it does: an Answer or a Passed
 abbrev pub ended_by : Heard → Option ReplyValue
 ended_by (Reply (Elsewhere m)) = None
 ended_by (Reply (Answer a)) = Some (Answer a)
@@ -82,14 +82,14 @@ SendsOnce place bytes old failures new failures_new =
     ((to : SocketAddr) × IsAt place to × (new ≡ old ++ (to, bytes) ∷ []) × (failures_new ≡ failures))
     ⊎ ((new ≡ old) × (failures_new ≡ one_more failures))
 
--- the same to each of these places in turn, and nothing else
+-- the bytes were sent to each of these places in turn, as above, and nothing else was sent
 abbrev pub SendsEach : List Place → List ℕ → List (SocketAddr × List ℕ) → ℕ → List (SocketAddr × List ℕ) → ℕ → Type 0
 SendsEach [] bytes old failures new failures_new = (new ≡ old) × (failures_new ≡ failures)
 SendsEach (place ∷ places) bytes old failures new failures_new =
     (mid : List (SocketAddr × List ℕ)) × (failures_mid : ℕ) × SendsOnce place bytes old failures mid failures_mid
     × SendsEach places bytes mid failures_mid new failures_new
 
--- it tells the fate of the request, and not where to ask
+-- the reply is an Answer or a Passed, which tells the fate of the request
 abbrev pub IsTold : ReplyValue → Type 0
 IsTold (Answer a) = Unit {0}
 IsTold (Passed last) = Unit {0}
@@ -104,8 +104,8 @@ pub record Asker (S : Type 0) : Type 0 where
 -- client at such a socket
 module _ {S : Type 0} (sent : S → List (SocketAddr × List ℕ)) (failures : S → ℕ)
     (next : S → Option (SocketAddr × List ℕ)) (q : Question) where
-  -- the client receives what arrives next, which tells it nothing or this; if it is an Elsewhere to follow, the bytes
-  -- go to the member that it names, and nothing else is sent
+  -- the client receives what arrives next, and returns the reply if that ends the exchange; for an Elsewhere to follow,
+  -- the bytes go to the member named there, and nothing else is sent
   pub record Receives (bytes : List ℕ) (told : Option ReplyValue) (old new : Asker S) : Type 0 where
     pub heard : Heard
     pub hears : Hears q (next old.socket) heard
@@ -114,27 +114,27 @@ module _ {S : Type 0} (sent : S → List (SocketAddr × List ℕ)) (failures : S
     pub sends : SendsEach (followed_to q.destination heard old.followed) bytes (sent old.socket) (failures old.socket)
         (sent new.socket) (failures new.socket)
 
-  -- it was told this after fewer than so many receives that told nothing, or so many have told nothing
+  -- with `None`, as many receives as `most` brought no reply; or else fewer did, and the next one brought this reply
   abbrev pub WaitsFor : ℕ → List ℕ → Option ReplyValue → Asker S → Asker S → Type 0
   WaitsFor most bytes None old new = Repeats (Receives bytes None) most old new
   WaitsFor most bytes (Some reply) old new =
       (count : ℕ) × (count < most) × (last : Asker S) × Repeats (Receives bytes None) count old last
       × Receives bytes (Some reply) last new
 
-  -- the bytes went to the port of the question's address, and then it waited for at most so many receives
+  -- the bytes went to this port of the question's address, and then the client waited for at most so many receives
   pub record Tries (most port : ℕ) (bytes : List ℕ) (told : Option ReplyValue) (old new : Asker S) : Type 0 where
     pub begun : S
     pub asks : SendsOnce (q.destination.address, port) bytes (sent old.socket) (failures old.socket)
         (sent begun) (failures begun)
     pub waits : WaitsFor most bytes told (record { socket = begun; followed = old.followed }) new
 
-  -- so with each of these ports in turn, and none told anything
+  -- the client tried each of these ports in turn, and none brought a reply
   abbrev pub TriesInVain : ℕ → List ℕ → List ℕ → Asker S → Asker S → Type 0
   TriesInVain most [] bytes old new = new ≡ old
   TriesInVain most (port ∷ ports) bytes old new =
       (mid : Asker S) × Tries most port bytes None old mid × TriesInVain most ports bytes mid new
 
-  -- so with all of them, or with each in turn until it was told this
+  -- the client tried all of these ports in vain, or each in turn until one brought this reply
   abbrev pub TriesUntil : ℕ → List ℕ → List ℕ → Option ReplyValue → Asker S → Asker S → Type 0
   TriesUntil most ports bytes None old new = TriesInVain most ports bytes old new
   TriesUntil most ports bytes (Some reply) old new =
@@ -142,8 +142,8 @@ module _ {S : Type 0} (sent : S → List (SocketAddr × List ℕ)) (failures : S
       × TriesInVain most (take count ports) bytes old last
       × Tries most port bytes (Some reply) last new
 
-  -- the bytes of the question went to these ports, one after another, until it was told something, and beyond them to
-  -- the members that at most 20 Elsewhere replies name
+  -- the bytes of the question went to these ports, one after another, until a reply came, and beyond them to the
+  -- members that at most 20 Elsewhere replies name
   pub record Exchanges (most : ℕ) (ports : List ℕ) (told : Option ReplyValue) (old new : S) : Type 0 where
     pub bytes : List ℕ
     pub spelled : IsAsked q bytes

@@ -1,4 +1,4 @@
--- The rule of a client: it sends one request, again and again, to those whom it asks, until it is answered.
+-- The rule of a client: it sends one request, and only that, to each node that it asks, until it has a reply.
 use Rattle.std.specs.Prelude.{◌≡◌, ℕ, Bool, true, false, Option, Some, None, IfSome, List, [], ◌∷◌, ◌++◌}
 use Rattle.std.specs.List.{AllByRecursion}
 use Rattle.std.specs.declared.net.socket_addr.SocketAddr.{SocketAddr}
@@ -40,7 +40,7 @@ module _ {S : Type 0} (sent : S → List (SocketAddr × List ℕ)) (failures : S
   Asks [] told old new = KeepsRule 50 (q.port ∷ []) told old new
   Asks (port ∷ ports) told old new = KeepsRule 5 (port ∷ ports) told old new
 
-  -- it was told the fate of its request, or asked in vain
+  -- the client has a reply, or asked in vain
   abbrev pub Comes : List ℕ → Bool → S → S → Type 0
   Comes turns true old new = (reply : ReplyValue) × Asks turns (Some reply) old new
   Comes turns false old new = Asks turns None old new

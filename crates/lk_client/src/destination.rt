@@ -17,7 +17,7 @@ pub struct Destination {
 }
 
 impl Destination {
-    /// All nodes live at 127.0.0.1, and nobody has a key.
+    /// Returns the destination of a cluster whose nodes all live at 127.0.0.1, without keys.
     pub fn local(cluster: u64) -> Destination {
         Destination {
             address: IpAddr::V4(Ipv4Addr::LOCALHOST),
@@ -29,7 +29,8 @@ impl Destination {
         }
     }
 
-    /// The address at which to ask a member: its own, or, if that is not known, that of the node that was asked first.
+    /// Returns the address at which to ask a member: its own, or, if that is not known, that of the node that was asked
+    /// first.
     pub fn address_of(&self, member: &Member) -> IpAddr
         ensures { result ≡ destination_address self.now member.now }
     {

@@ -1,4 +1,5 @@
-//! A client of the service: it asks a question, sends it again where another node answers, and reads the reply.
+//! A client of the service: it sends one request, resends it to the nodes that Elsewhere replies name, and returns the
+//! reply.
 #![tactic(auto)]
 
 pub mod destination;

@@ -1,4 +1,4 @@
-//! A client that sends one request.
+//! Sends one request, follows the Elsewhere replies to it, and prints the answer.
 
 ghost use Rattle.std.specs.Prelude.{◌≡◌, ◌≤◌, ◌⊎◌, ◌↔◌, true, Some, IfOk, IfErr, OnErr, IfSome, IsSomeAnd};
 ghost use Rattle.lk_messages.specs.Grammar.{Spells};
@@ -22,12 +22,12 @@ use std::net::{IpAddr, SocketAddr};
 
 // How many receives of 100 ms pass before the client gives up a port that it asks alone.
 const ALONE: u32 = 50;
-// How many pass before it asks the next of several ports.
+// How many pass before the client asks the next of several ports.
 const EACH: u32 = 5;
-// How many Elsewhere replies it follows.
+// How many Elsewhere replies the client follows for one request.
 const FOLLOWED: u32 = 20;
 
-/// A request, and where to send it first.
+/// A request, and where to send it first: `port` at the address of `destination`.
 #[derive(Drop)]
 pub struct Question {
     pub cluster: u64,
@@ -36,7 +36,7 @@ pub struct Question {
     pub destination: Destination,
 }
 
-// The bytes of a message. Fails if it is out of memory.
+// Serialises a message. Fails only when out of memory.
 fn written(alloc: Global, message: &Message) -> Result<BytesMut, ServiceFault>
     ensures spells { IfOk result (λ bytes. Spells message.now bytes.items) }
     ensures only { IfErr result (λ f. f ≡ ServiceFault.NoMemory) }
@@ -48,7 +48,7 @@ fn written(alloc: Global, message: &Message) -> Result<BytesMut, ServiceFault>
     }
 }
 
-/// The bytes of the request.
+/// Returns the datagram of the request, without a frame. Fails only when out of memory.
 pub fn datagram(alloc: Global, question: &Question) -> Result<BytesMut, ServiceFault>
     ensures asks { IfOk result (λ bytes. Spells (asking question.now) bytes.items) }
     ensures only { IfErr result (λ f. f ≡ ServiceFault.NoMemory) }
@@ -60,7 +60,7 @@ pub fn datagram(alloc: Global, question: &Question) -> Result<BytesMut, ServiceF
     written(alloc, &message)
 }
 
-/// What a client receives next after its request.
+/// What one receive brings to a client that waits for a reply.
 #[derive(Clone, Copy)]
 pub enum Heard {
     Nothing,
@@ -69,7 +69,7 @@ pub enum Heard {
     Reply(Reply),
 }
 
-/// What the sender of that question receives next.
+/// Receives once, for at most 100 ms, and returns what arrived: a reply to the question, another datagram, or nothing.
 pub fn next_reply<S: DatagramSocket>(
     buffer: &mut ReceiveBuffer,
     socket: &mut S,
@@ -96,7 +96,8 @@ pub fn next_reply<S: DatagramSocket>(
     }
 }
 
-// The bytes to send for the request: its frame, if there is a key. Fails if it is out of memory.
+// Returns the bytes to send for the request: its datagram, in a frame if the client has a key. Fails only when out of
+// memory.
 fn bytes_to_send(alloc: Global, question: &Question) -> Result<Vec<u8>, ServiceFault>
     ensures asks { IfOk result (λ bytes. IsAsked question.now bytes.items) }
     ensures only { IfErr result (λ f. f ≡ ServiceFault.NoMemory) }
@@ -111,7 +112,7 @@ fn bytes_to_send(alloc: Global, question: &Question) -> Result<Vec<u8>, ServiceF
     Ok(framed.to_vec(alloc)?)
 }
 
-// Sends bytes to a port of an address. What could not be sent is lost.
+// Sends bytes to a port of an address. A failed send is ignored, as if the datagram were lost.
 fn send<S: DatagramSocket>(socket: &mut S, address: IpAddr, port: Port, bytes: &[u8])
     ensures { S.is_telling → SendsOnce (address, port) bytes.now (S.sent socket.old) (S.failures socket.old)
         (S.sent socket.new) (S.failures socket.new) }
@@ -120,8 +121,8 @@ fn send<S: DatagramSocket>(socket: &mut S, address: IpAddr, port: Port, bytes: &
     let _ = socket.send_to(place, bytes);
 }
 
-// The fate of the request, if that arrives next. It follows an Elsewhere, if it has followed fewer than 20, by
-// sending the bytes to that member.
+// Receives once, and returns an Answer or a Passed. For an Elsewhere it resends the bytes to the member named there, if
+// fewer than 20 were followed, and counts it in `followed`.
 fn take_next<S: DatagramSocket>(
     buffer: &mut ReceiveBuffer,
     socket: &mut S,
@@ -152,7 +153,7 @@ fn take_next<S: DatagramSocket>(
     }
 }
 
-// Sends the request to a port, and returns the reply that these many receives bring, or `None`.
+// Sends the request to a port, and returns the reply that one of the next `patience` receives brings, or `None`.
 fn ask_port<S: DatagramSocket>(
     buffer: &mut ReceiveBuffer,
     socket: &mut S,
@@ -181,8 +182,8 @@ fn ask_port<S: DatagramSocket>(
     None
 }
 
-// Sends the request to these ports of its address in turn, to the next if these many receives bring no reply.
-// Returns the reply, or `None` if no port brings one. It follows the first 20 Elsewhere replies.
+// Sends the request to each of these ports in turn, and goes on to the next after `patience` receives without a reply.
+// Returns the reply, or `None` if no port brings one. Over all ports it follows the first 20 Elsewhere replies.
 fn exchange_in_turn<S: DatagramSocket>(
     alloc: Global,
     socket: &mut S,
@@ -268,7 +269,7 @@ pub fn write_reply<W: Write>(reply: Option<Reply>, out: &mut W) -> io::Result<bo
     Ok(is_told)
 }
 
-// Sends the request, and prints the reply. Returns whether it learned the fate of the request.
+// Sends the request, and prints the reply. Returns whether that was an Answer or a Passed.
 //
 // It fails if it is out of memory for the request, or if the output cannot be written.
 fn ask_and_write<S: DatagramSocket, W: Write>(

@@ -1,4 +1,4 @@
-//! A node's reply to a client.
+//! Reads a node's reply to a client.
 
 ghost use Rattle.std.specs.Prelude.{◌≡◌, ℕ, IfSome, IsNone};
 ghost use Rattle.lk_messages.specs.Grammar.{Spells};
@@ -15,11 +15,11 @@ pub enum Reply {
     Answer(Answer),
     /// The request will never be executed: a later one of its client was. Carries that greater number.
     Passed(RequestNumber),
-    /// That member may lead.
+    /// The node does not lead; this member may.
     Elsewhere(Member),
 }
 
-// The reply that a node's message gives to a client's request of that number.
+// Returns the reply in a node's message, if it names the client and number of the request.
 fn reply_in(message: &NodeMessageRef<'_>, request: &Request) -> Option<Reply>
     ensures some { IfSome result (λ r. shown_node message.now ≡ reply_message request.now.client request.now.number r) }
     ensures none { IsNone result → (r : ReplyValue)
@@ -38,7 +38,7 @@ fn reply_in(message: &NodeMessageRef<'_>, request: &Request) -> Option<Reply>
     }
 }
 
-/// The reply that a datagram gives to the request in the cluster.
+/// Returns the reply in a datagram of a node of the cluster, if it is to this request; `None` for any other bytes.
 pub fn read_reply(cluster: u64, request: &Request, bytes: &[u8]) -> Option<Reply>
     ensures some { IfSome result
         (λ r. (n : ℕ) × Spells (reply_of cluster n request.now.client request.now.number r) bytes.now) }

@@ -42,7 +42,7 @@ Node = Seat (ServerValue ReplicaValue)
 abbrev pub Cluster : Type 0
 Cluster = Scene (ServerValue ReplicaValue)
 
--- its replicas
+-- the same life, node and cluster with the replica of each server in its place: the promise is stated for these
 abbrev pub life_of : Life (ServerValue ReplicaValue) → Life ReplicaValue
 life_of (Up s) = Up s.replica
 life_of (Down d) = Down d
@@ -60,7 +60,7 @@ ServerStands s genesis n x = Stands table_meaning s.replica.node s.replica.store
 abbrev pub server_disks : ServerValue ReplicaValue → Side → Disk
 server_disks s = disks s.replica.store
 
--- it is up as the server of that node with what these disks have, and no letter to itself is waiting
+-- the server of that node has started from what these disks have, and no letter to itself is waiting
 pub record IsBegun (genesis : Genesis) (n : ℕ) (old : Side → Disk) (s : ServerValue ReplicaValue) : Type 0 where
   pub notes : List Note
   pub restarts : RestartsBy ServerStands server_disks table_meaning genesis n old s notes
@@ -83,6 +83,7 @@ ForgesNothing genesis sent server came =
 
 -- `Metered` says that the devices count their calls
 module _ (Metered : Type 0) where
+  -- the effect of a group on a replica of the lock table, and its letters
   abbrev pub Says : ReplicaValue → List (Option (List ℕ)) → List LetterValue → ReplicaValue → Type 0
   Says = SaysOf table_meaning IsTableText Metered
 
@@ -160,7 +161,7 @@ module _ (May : Network) (Metered tells : Type 0) where
     pub joins : Joins node.number turn.given (steps_of Metered turn.hands_on.says.comes) trace
     pub adds : Adds old new trace (batch_of node.number turn.hands_on.letters)
 
-  -- a turn ends it, and it is down with the disks that its replica has left
+  -- a turn ends a node, and it is down with the disks that its replica has left
   pub record EndsByTurn (old new : Cluster) : Type 0 where
     pub node : Node
     pub next : Node
@@ -186,7 +187,7 @@ module _ (May : Network) (Metered tells : Type 0) where
       Appears old new ⊎ Starts old new ⊎ Rests table_meaning old new ⊎ TakesTurn old new ⊎ Idles tells old new
       ⊎ EndsByTurn old new ⊎ Stops server_disks old new
 
-  -- one after another, up to this
+  -- these events happen one after another, and lead to this cluster
   abbrev pub HappenAll : Cluster → List Cluster → Cluster → Type 0
   HappenAll first [] last = last ≡ first
   HappenAll first (next ∷ clusters) last = Happens first next × HappenAll next clusters last

@@ -1,4 +1,4 @@
--- What a server does, as a part of what happens to its cluster.
+-- How a node's start, turns or stop lead its cluster to another reachable one.
 use Rattle.std.specs.Prelude.{◌≡◌, ℕ, List, [], ◌∷◌, ◌++◌, Option, set}
 use Rattle.lk_types.specs.declared.genesis.Genesis.{Genesis}
 use Rattle.lk_node.specs.Histories.{Datagram}

@@ -1,4 +1,4 @@
--- What a node must remember, and cannot if its disks are empty.
+-- The messages that bind their sender to remember, and nodes whose disks are empty.
 use Rattle.std.specs.Prelude.{◌≡◌, []}
 use Rattle.lk_disk.specs.Disk.{Disk}
 use Rattle.lk_simulated_disk.specs.Memory.{disk_of}
@@ -20,7 +20,7 @@ disks_in (Down device) = disk_of device
 abbrev pub HasEmptyDisks : Life (ServerValue ReplicaValue) → Type 0
 HasEmptyDisks life = (s : Side) → disks_in life s ≡ record { synced = []; unsynced = [] }
 
--- its sender must remember the message: to send it, it had promised a ballot, or voted in one
+-- the sender must remember this message: to send it, it had promised a ballot, or voted in one
 abbrev pub MustBeRemembered : NodeMessage → Type 0
 MustBeRemembered (message.Prepare ballot first) = Unit {0}
 MustBeRemembered (message.Promise p) = Unit {0}

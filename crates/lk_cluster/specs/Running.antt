@@ -38,8 +38,8 @@ module _ (Metered tells Honest : Type 0)
         → Continues ForgesNothing Metered tells genesis old place n (Up served.ended)
         (letters_of Says tells served.begun served.turns.states served.ended served.turns.chain)
 
-  -- it has taken fewer, and then one that ended it, and they continue the cluster to one in which it is down with what
-  -- that has left
+  -- it has taken fewer turns, and then one that ended it, and they continue the cluster to one in which it is down with
+  -- what that turn has left
   pub record EndsIn (most : ℕ) : Type 0 where
     pub served : EndsEarly (IsTakenUp table_meaning Honest disks (header_of old.genesis n))
         (header_of old.genesis n) seals Says tells most
@@ -52,7 +52,7 @@ module _ (Metered tells Honest : Type 0)
         → Continues ForgesNothing Metered tells genesis old place n (Down left)
         (said ++ served.breaks.ends.turn.hands_on.letters))
 
-  -- it has taken fewer, and then one after which it ended, since it had followed a node of another genesis; they
+  -- it has taken fewer turns, and then one after which it ended, since it had followed a node of another genesis; they
   -- continue the cluster to one in which it is down with what its device has, as after a stop
   pub record LeavesIn (most : ℕ) : Type 0 where
     pub served : LeavesEarly (IsTakenUp table_meaning Honest disks (header_of old.genesis n))

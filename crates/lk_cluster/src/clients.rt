@@ -1,4 +1,4 @@
-//! Laws about the clients of a cluster.
+//! Laws about the clients of a cluster: one that asks only by runs of `locks ask` is served exactly once.
 ghost use Rattle.std.specs.Prelude.{◌≡◌, ℕ, List, [], ◌++◌};
 ghost use Rattle.std.specs.declared.net.socket_addr.SocketAddr.{SocketAddr};
 ghost use Rattle.lk_types.specs.declared.answer.Answer.{Answer};

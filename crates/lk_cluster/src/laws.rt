@@ -1,4 +1,5 @@
-//! The promise holds of processes.
+//! Laws: a cluster of processes keeps the promise, and whatever a node does leads from a reachable cluster to another.
+//! The body of a law calls the laws that its proof uses.
 ghost use Rattle.std.specs.Prelude.{◌≡◌, ◌≢◌, ℕ, true, false, Option, Some, List, [], Contains};
 ghost use Rattle.std.specs.declared.net.socket_addr.SocketAddr.{SocketAddr};
 ghost use Rattle.lk_types.specs.declared.genesis.Genesis.{Genesis as GenesisValue};
@@ -228,7 +229,8 @@ pub fn a_sealed_service_continues_a_cluster<D: LogDisk + Drop, S: DatagramSocket
     is_told_by_a_node();
 }
 
-/// So does one whose service breaks off.
+/// A node that serves with the nodes' key, and whose last turn ends it, continues its cluster whatever frames arrive:
+/// it is down then, with the disks that its replica has left.
 pub fn a_sealed_service_that_breaks_off_continues_a_cluster<D: LogDisk + Drop, S: DatagramSocket>()
     ensures { D.is_honest → ForEachDown IsSealed D.is_metered S.is_telling
         (λ genesis cluster place n disks. (most : ℕ) (seals : Seals)

@@ -1,4 +1,5 @@
-//! Clusters: nodes of the lock table that run as processes. They keep the promises of a simulated world.
+//! Theorems about clusters: nodes of the lock table that run as processes keep the promises of a simulated world. It
+//! also proves that the program runs such a node.
 #![tactic(auto)]
 
 pub mod clients;

@@ -1,4 +1,5 @@
-//! At its start, and in a turn, a server does what the theorem assumes.
+//! Starts a server of the lock table and takes its turns, with contracts that state what the laws about clusters
+//! assume.
 ghost use Rattle.std.specs.Prelude.{◌≡◌, ℕ, List, IfOk, OnOk, OnErr};
 ghost use Rattle.std.specs.declared.net.socket_addr.SocketAddr.{SocketAddr as Address};
 ghost use Rattle.lk_types.specs.declared.genesis.Genesis.{Genesis as GenesisValue};
@@ -25,8 +26,8 @@ use log::Log;
 use std::alloc::Global;
 use std::time::Clock;
 
-/// One turn of a server of the lock table, on any honest device and any socket. It takes what arrives, out of its
-/// frames if the nodes have a key.
+/// Takes one turn, as `node_turn` does, of a server of the lock table on any honest device and any socket. It takes
+/// what arrives, out of its frames if the nodes have a key.
 pub fn serve_turn<D: LogDisk + Drop, S: DatagramSocket + Drop, C: Clock, L: Log>(
     server: &mut Server<Replica<LockTable, D>, S>,
     buffer: &mut ReceiveBuffer,
@@ -44,11 +45,12 @@ pub fn serve_turn<D: LogDisk + Drop, S: DatagramSocket + Drop, C: Clock, L: Log>
     ensures failed { server.new.failed ≡ server.new.replica.failed }
 {
     let taken = node_turn(server, buffer, metronome, log);
+    // The contract of this call shows that the server's `failed` is its replica's.
     let _ = server.replica();
     taken
 }
 
-/// Starts a server of the lock table from any honest device.
+/// Starts a server of the lock table from any honest device, as `revive` does.
 pub fn start<D: LogDisk + Drop, S: DatagramSocket + Drop, L: Log>(
     alloc: Global,
     header: &Header,
@@ -59,6 +61,7 @@ pub fn start<D: LogDisk + Drop, S: DatagramSocket + Drop, L: Log>(
         → IfOk result (IsBegun genesis header.now.node (D.disk resources.device)) }
 {
     let server = revive::<LockTable, D, S, L>(alloc, header, resources, log)?;
+    // The contract of this call shows that the server's `failed` is its replica's.
     let _ = server.replica();
     Ok(server)
 }

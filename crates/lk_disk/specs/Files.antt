@@ -54,12 +54,12 @@ HasFailed old new = (old.failed ≡ false) × (new.failures ≡ one_more old.fai
 abbrev pub HasPassed : UsedFile → UsedFile → Type 0
 HasPassed old new = (old.failed ≡ false) × (new.failed ≡ false) × (new.failures ≡ old.failures)
 
--- the call failed only for this reason, and succeeded otherwise
+-- a call succeeded with all calls of the file; or it failed, since the file had failed before, or a call of it did now
 abbrev pub IsCaused : {T E : Type 0} → UsedFile → UsedFile → Result T E → Type 0
 IsCaused old new (Ok _) = HasPassed old new
 IsCaused old new (Err _) = IsUntried old new ⊎ HasFailed old new
 
--- or, for a cut, since this is more than the file has, if its length is known
+-- the same of a cut to len bytes, which fails too if an honest file has fewer
 abbrev pub IsCutCaused : {T E : Type 0} → Type 0 → ℕ → UsedFile → UsedFile → Result T E → Type 0
 IsCutCaused is_honest len old new (Ok _) = HasPassed old new
 IsCutCaused is_honest len old new (Err _) =

@@ -1,4 +1,4 @@
--- What makes a metered device fail, and what each call does to that.
+-- A meter: what makes a metered device fail, what it counts, and how each call changes it.
 use Rattle.std.specs.Prelude.{◌≡◌, ℕ, ◌+◌, ◌-◌, ◌==◌, ◌||◌, ◌⊎◌, is_some, Bool, true, false, Option, Some, None, Result}
 use Rattle.std.specs.Prelude.{Ok, Err, if◌then◌else◌}
 use Rattle.lk_disk.specs.Disk.{one_more}
@@ -13,7 +13,7 @@ fresh = record { trap = Off; fuse = None; unread = 0; calls = 0; sprung = false;
 
 -- ---- changing calls: an append, a sync, a cut
 
--- no more calls pass
+-- the fuse lets no more changing calls pass
 abbrev pub is_blown : Option ℕ → Bool
 is_blown None = false
 is_blown (Some passes) = passes == 0
@@ -23,7 +23,7 @@ abbrev pub fuse_after : Option ℕ → Option ℕ
 fuse_after None = None
 fuse_after (Some passes) = Some (passes - 1)
 
--- at a stop it is blown
+-- the fuse after the next changing call, which blows it if it is an armed stop
 abbrev pub fuse_at : Option ℕ → Option ℕ → Option ℕ
 fuse_at None fuse = fuse_after fuse
 fuse_at (Some bytes) fuse = Some 0
@@ -32,7 +32,7 @@ fuse_at (Some bytes) fuse = Some 0
 abbrev pub is_refused : Meter → Bool
 is_refused m = fails_next m.trap || is_blown m.fuse
 
--- the next changing call fails, like this or at an armed stop
+-- the next changing call fails: by the trap, by the fuse, or at an armed stop
 abbrev pub is_failing : Meter → Bool
 is_failing m = is_refused m || is_some (stops_next m.trap)
 
@@ -45,7 +45,7 @@ called m = record m {
   sprung = m.sprung || is_due m.trap;
 }
 
--- and ran out of memory
+-- a changing call is counted, and ran out of memory
 abbrev pub starving : Meter → Meter
 starving m = record (called m) { starved = true }
 
@@ -96,6 +96,6 @@ trapped t m = record m { trap = t; sprung = false; starved = false }
 abbrev pub eased : Meter → Meter
 eased m = record m { trap = Off; fuse = None }
 
--- the armed stop has happened, for this many bytes: each later changing call fails
+-- how many unsynced bytes the armed stop is to keep, if it was reached: each later changing call fails
 abbrev pub stopping : Meter → Option ℕ
 stopping m = if m.sprung then armed_for m.trap else None

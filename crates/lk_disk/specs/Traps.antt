@@ -1,4 +1,4 @@
--- A trap, and what a passing changing call leaves of it.
+-- A trap, and how a changing call counts it down.
 use Rattle.std.specs.Prelude.{ℕ, ◌-◌, ◌==◌, nat_le, Bool, false, Option, Some, None, if◌then◌else◌}
 use Rattle.lk_disk.specs.declared.trap.Trap.{Trap}
 use Rattle.lk_disk.specs.declared.trap.Trap.TheVariants.{Off, Fail, Arm}
@@ -15,7 +15,7 @@ fails_next Off = false
 fails_next (Fail count) = count == 1
 fails_next (Arm count bytes) = false
 
--- the device stops at that call, for this many bytes
+-- how many unsynced bytes the stop is to keep, if that call is an armed stop
 abbrev pub stops_next : Trap → Option ℕ
 stops_next Off = None
 stops_next (Fail count) = None
@@ -27,7 +27,7 @@ trap_after Off = Off
 trap_after (Fail count) = if nat_le count 1 then Off else Fail (count - 1)
 trap_after (Arm count bytes) = Arm (count - 1) bytes
 
--- for how many bytes it is armed
+-- how many unsynced bytes the stop of an armed trap is to keep
 abbrev pub armed_for : Trap → Option ℕ
 armed_for Off = None
 armed_for (Fail count) = None

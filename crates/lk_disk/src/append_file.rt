@@ -1,4 +1,4 @@
-// One file that grows at its end.
+// The trait of a file that grows at its end: what each call of it, and a stop, leave of its bytes.
 ghost use Rattle.std.specs.Prelude.{◌≡◌, ◌≤◌, ◌+◌, ℕ, length, slice_range, OnOk, OnErr, IfOk};
 ghost use Rattle.lk_disk.specs.Disk.{Disk, contents, appended, flushed, cut_to, AppendsSome, CutShort, HasCause};
 ghost use Rattle.lk_disk.specs.Files.{File, whole, shortened, left_of, IsWhole};
@@ -10,16 +10,17 @@ use thiserror::Error;
 #[error("the file failed")]
 pub struct FileFault;
 
-/// One file. Its synced bytes outlast a stop, which may cut off the bytes after them from any byte on.
+/// A file that is appended to. Its synced bytes outlast a stop of the machine, which leaves a prefix of the bytes after
+/// them.
 ///
-/// Statements about its bytes hold if the file is honest, and as long as only calls of `length` and `read_into` have
-/// failed: after any other failed call its content is unknown. Each `Err` is counted: the count of failures increases
-/// by one, up to 2^64 - 1, and is unchanged at `Ok`.
+/// Clauses about its bytes hold if the file is honest and no append, sync or shorten has failed: after such a failure
+/// its content is unknown. Between a shorten and the next sync they specify only `flush` and `sync`. Each `Err` adds
+/// one to the count of failures, up to 2^64 - 1.
 pub trait AppendFile {
-    /// What is known of it.
+    /// What is known of its bytes, and so what a stop may leave of them.
     ghost file: { Self → File };
 
-    /// It does what is stated here. This is a property of its type, so no call can change it.
+    /// It keeps the clauses about its bytes. This is a property of its type, so no call can change it.
     ghost is_honest: { Type 0 };
 
     /// How many calls have failed.
@@ -51,13 +52,13 @@ pub trait AppendFile {
             → OnErr result (AppendsSome piece.now (left_of (file self.old)) (left_of (file self.new))) }
         ensures cause { HasCause (failures self.old) (failures self.new) result };
 
-    /// Gives what was appended to the system, so that a process that is killed then loses none of it. A stop may leave
-    /// what it could leave before, at Ok and after an `Err`.
+    /// Hands what was appended to the operating system, so that it outlasts a kill of the process. It syncs nothing:
+    /// what a stop of the machine may leave does not change, whatever the result.
     fn flush(&mut self) -> Result<(), FileFault>
         ensures unchanged { is_honest → file self.new ≡ file self.old }
         ensures cause { HasCause (failures self.old) (failures self.new) result };
 
-    /// Makes its content outlast a stop. A failed call changes nothing of what a stop may leave.
+    /// Makes its content outlast a stop, and completes a shorten. A failed call does not change what a stop may leave.
     fn sync(&mut self) -> Result<(), FileFault>
         ensures ok { is_honest → IsWhole (file self.old)
             → OnOk result (file self.new ≡ whole (flushed (left_of (file self.old)))) }
@@ -66,8 +67,8 @@ pub trait AppendFile {
         ensures err { is_honest → OnErr result (left_of (file self.new) ≡ left_of (file self.old)) }
         ensures cause { HasCause (failures self.old) (failures self.new) result };
 
-    /// Shows only the first `len` bytes from now on, of which there must be as many; a stop may leave more until they
-    /// are synced. A failed call may have done so.
+    /// Shortens the file to its first `len` bytes; it must have that many. Until the next sync a stop may leave more. A
+    /// failed call leaves a prefix, with at least those of the first `len` bytes that were synced.
     fn shorten(&mut self, len: usize) -> Result<(), FileFault>
         ensures ok { is_honest → IsWhole (file self.old) → len ≤ length (contents (left_of (file self.old)))
             → OnOk result (file self.new ≡ shortened len (left_of (file self.old))) }

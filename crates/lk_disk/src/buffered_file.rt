@@ -1,4 +1,4 @@
-// A file whose appended bytes wait in memory, and are handed over to the file below together.
+// A write buffer over a file: appended bytes wait in memory, and are handed over to the file below together.
 ghost use Rattle.std.specs.Prelude.{◌≡◌, ◌≤◌, ◌+◌, ◌++◌, ℕ, [], length, true, false, slice_range, IsTrue, IsFalse};
 ghost use Rattle.std.specs.Prelude.{IfOk, OnOk, OnErr};
 ghost use Rattle.lk_disk.specs.Disk.{Disk, contents, appended, flushed, cut_to, one_more, AppendsSome, CutShort};
@@ -12,17 +12,18 @@ use std::marker::Model;
 /// A file that keeps appended bytes in memory, until `flush`, `sync`, `read_into` or `shorten` hands them over to the
 /// file below in one append. It is honest if the file below is.
 ///
-/// Out of memory it hands a piece over at once. After a failed hand-over, sync or shortening each call fails, and the
-/// file below is not used again: so no byte gets into it twice.
+/// If there is no memory for a piece, it hands the piece over at once. After a failed hand-over, sync or shorten each
+/// call fails, and the file below is not used again, so that no byte is written twice.
 #[derive(Drop)]
 pub struct BufferedFile<F: AppendFile + Drop> {
     below: F,
-    // how many bytes of the file below count
+    // at most this many bytes of the file below belong to this file: a failed hand-over may have left others after them
     size: usize,
-    // the bytes behind these, which are not handed over yet
+    // appended bytes that are not handed over yet
     pending: Vec<u8>,
     // it was shortened and not yet synced
     is_short: bool,
+    // a hand-over, a sync or a shorten has failed, so the file below must not be used again
     failed: bool,
     failures: u64,
 }
@@ -48,7 +49,7 @@ impl<F: AppendFile + Drop> Model for BufferedFile<F> {
 }
 
 impl<F: AppendFile + Drop> BufferedFile<F> {
-    /// A file over one that nobody has used, which it asks for its length. It fails if that call does.
+    /// Wraps a fresh file, whose content is known, and asks it for its length. Fails only if that call does.
     pub fn of(alloc: Global, below: F) -> Result<BufferedFile<F>, FileFault>
         requires { F.is_honest → IsWhole (F.file below) }
         ensures file { F.is_honest → IfOk result (λ b. known_of b ≡ F.file below) }
@@ -66,7 +67,8 @@ impl<F: AppendFile + Drop> BufferedFile<F> {
         })
     }
 
-    /// The file below, to look at. A stop leaves no more of it than is known of both.
+    /// Returns the file below, without the bytes that still wait. Whatever a stop may leave of it, a stop may leave of
+    /// this file.
     pub fn below(&self) -> &F
         ensures { F.is_honest → LeavesNoMore (left_of (F.file result.now)) (left_of (known_of self.now)) }
     {
@@ -81,7 +83,8 @@ impl<F: AppendFile + Drop> BufferedFile<F> {
         FileFault
     }
 
-    // Hands over what waits. Then the file below is all that is known.
+    // Appends the waiting bytes to the file below, in one call. The file counts as failed until that call succeeds, so
+    // that they are not handed over twice.
     fn hand_over(&mut self) -> Result<(), FileFault>
         ensures known { F.is_honest → known_of self.new ≡ known_of self.old }
         ensures ok { F.is_honest → OnOk result (self.new.below ≡ known_of self.old) }
@@ -107,7 +110,8 @@ impl<F: AppendFile + Drop> BufferedFile<F> {
         Ok(())
     }
 
-    // Keeps a piece in memory, if there is some and the file goes on. Returns whether it did.
+    // Adds a piece to the waiting bytes. Returns false, and changes nothing, if the file has failed or is shortened, or
+    // if memory runs out.
     fn keeps(&mut self, piece: &[u8]) -> bool
         ensures kept { IsTrue result → self.new ≡ record self.old { pending = self.old.pending ++ piece.now } }
         ensures goes_on { IsTrue result → IsFalse self.old.is_short × IsFalse self.old.failed }
@@ -122,7 +126,7 @@ impl<F: AppendFile + Drop> BufferedFile<F> {
         }
     }
 
-    // Appends a piece to the file below, where nothing waits.
+    // Appends a piece directly to the file below, while no bytes wait. Fails between a shorten and the next sync.
     fn give(&mut self, piece: &[u8]) -> Result<(), FileFault>
         requires empty { self.old.pending ≡ [] }
         requires goes_on { IsFalse self.old.failed }
@@ -145,7 +149,7 @@ impl<F: AppendFile + Drop> BufferedFile<F> {
         Ok(())
     }
 
-    // Appends a piece to the bytes that wait, or, out of memory, hands over both.
+    // Appends a piece to the waiting bytes. If it cannot be kept, hands over those bytes and then the piece.
     fn add(&mut self, piece: &[u8]) -> Result<(), FileFault>
         ensures ok { F.is_honest → IsWhole (known_of self.old)
             → OnOk result (known_of self.new ≡ whole (appended (left_of (known_of self.old)) piece.now)) }
@@ -228,7 +232,7 @@ impl<F: AppendFile + Drop> AppendFile for BufferedFile<F> {
 
     ghost failures = { λ b. b.failures };
 
-    // A shortened file says no length before it is synced.
+    // Fails between a shorten and the next sync, when the length is not specified.
     fn length(&mut self) -> Result<usize, FileFault> {
         if self.failed || self.is_short {
             return Err(self.fail());

@@ -43,7 +43,7 @@ pub trait LogDisk {
     /// How many calls have failed.
     ghost failures: { Self → ℕ };
 
-    /// What makes it fail.
+    /// What makes a metered device fail, and what it has counted.
     ghost meter: { Self → Meter };
 
     /// It counts its calls and fails when its meter says so, when it is out of memory or past the end of a disk, and
@@ -69,7 +69,7 @@ pub trait LogDisk {
             → Reads (meter self.old) (meter self.new) result }
         ensures cause { HasCause (failures self.old) (failures self.new) result };
 
-    /// Appends a piece, unsynced. A failed call appends a prefix of it.
+    /// Appends a piece, unsynced. A failed call appends a prefix of it, possibly nothing or all of it.
     fn append(&mut self, side: Side, piece: &[u8]) -> Result<(), DeviceFault>
         ensures ok { is_honest → OnOk result (disk self.new side ≡ appended (disk self.old side) piece.now) }
         ensures err { is_honest → OnErr result (AppendsSome piece.now (disk self.old side) (disk self.new side)) }
@@ -77,8 +77,8 @@ pub trait LogDisk {
         ensures metered { is_metered → Calls (meter self.old) (meter self.new) result }
         ensures cause { HasCause (failures self.old) (failures self.new) result };
 
-    /// Gives what was appended to the system, so that a process that is killed then loses none of it. It changes no
-    /// disk, whatever its result. No device counts it, and one that is metered does not fail.
+    /// Hands what was appended to the operating system, so that it outlasts a kill of the process. It syncs nothing,
+    /// whatever its result. No meter counts it, and on a metered device it does not fail.
     fn flush(&mut self, side: Side) -> Result<(), DeviceFault>
         ensures unchanged { is_honest → (s : Side) → disk self.new s ≡ disk self.old s }
         ensures uncounted { meter self.new ≡ meter self.old }

@@ -13,7 +13,8 @@ use std::marker::Model;
 
 /// Two files as a device. It is honest if the files are.
 ///
-/// After a failed append, sync or cut it does not use the file again: each later call at that side fails too.
+/// Once an append, flush, sync or shorten of a file has failed, it does not use that file again: each later call at
+/// that side fails too.
 #[derive(Drop)]
 pub struct FileDisk<F: AppendFile + Drop> {
     a: UsedFile<F>,
@@ -30,7 +31,7 @@ impl<F: AppendFile + Drop> Model for FileDisk<F> {
 }
 
 impl<F: AppendFile + Drop> FileDisk<F> {
-    /// The device of two files without failed calls.
+    /// Makes a device of two fresh files, whose content is known.
     pub fn of(a: F, b: F) -> FileDisk<F>
         requires a { F.is_honest → IsWhole (F.file a) }
         requires b { F.is_honest → IsWhole (F.file b) }
@@ -60,7 +61,7 @@ impl<F: AppendFile + Drop> FileDisk<F> {
         }
     }
 
-    /// The files, as the device leaves them.
+    /// Takes the device apart, and returns its files, A first.
     pub fn into_files(self) -> (F, F)
         ensures a { F.file result.0 ≡ self.a.file }
         ensures b { F.file result.1 ≡ self.b.file }
@@ -87,7 +88,7 @@ impl<F: AppendFile + Drop> LogDisk for FileDisk<F> {
 
     ghost failures = { λ p. p.failures };
 
-    // Why a file fails is not stated.
+    // Nothing is stated about why a file fails, so this device is not metered.
     ghost meter = { λ _. fresh };
 
     ghost is_metered = { ⊥ };

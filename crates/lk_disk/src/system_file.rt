@@ -1,4 +1,4 @@
-// The files of the system. No contract can say what they do: this module is trusted.
+// Files of the operating system. No contract states what they do: this module is trusted.
 ghost use Rattle.std.specs.Prelude.{◌≡◌, IsFalse, IfOk};
 ghost use Rattle.lk_disk.specs.Disk.{one_more, HasCause};
 ghost use Rattle.lk_disk.specs.Files.{unknown};
@@ -27,7 +27,7 @@ pub struct SystemFile<F> {
     cause: Option<io::Error>,
 }
 
-// Reads from the offset on.
+// Fills the buffer with the bytes from the offset on. Fails if the file ends before.
 fn read_at<F: Read + Seek>(file: &mut F, offset: usize, buffer: &mut [u8]) -> io::Result<()> {
     file.seek(SeekFrom::Start(offset as u64))?;
     file.read_exact(buffer)?;
@@ -44,7 +44,7 @@ impl<F> SystemFile<F> {
         FileFault
     }
 
-    // The result of a call of the system. Keeps the cause of a failed one.
+    // Converts the result of a system call: counts a failed one, and keeps its cause.
     fn keep_cause(&mut self, made: io::Result<()>) -> Result<(), FileFault>
         ensures { HasCause self.old.failures self.new.failures result }
     {
@@ -83,6 +83,7 @@ impl<F: OpenFile + Read + Write + Seek> AppendFile for SystemFile<F> {
         self.keep_cause(made)
     }
 
+    // Does nothing: `append` has already written to the operating system.
     fn flush(&mut self) -> Result<(), FileFault> {
         Ok(())
     }
@@ -183,7 +184,8 @@ impl<F: OpenFile + Read + Write + Seek + Drop> FileDisk<BufferedFile<SystemFile<
         Ok(FileDisk::of(a, b))
     }
 
-    /// What the system reported for the last failed call at a side, if there was one.
+    /// Returns what the system reported for its last failed call at a side, if there was one. Calls that the device
+    /// rejects by itself do not change it.
     pub fn cause(&self, side: Side) -> Option<io::Error> {
         self.file(side).below().cause
     }

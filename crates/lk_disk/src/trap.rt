@@ -4,17 +4,18 @@ ghost use Rattle.lk_disk.specs.declared.device.Side.{Side};
 
 use crate::device::LogDisk;
 
-/// What happens to a future changing call (an append, a sync or a cut). Calls are counted from 1 from now on; none has
-/// number 0.
+/// A fault to inject at a future changing call (an append, a sync or a cut). Calls are counted from 1, starting now; no
+/// call has number 0.
 #[derive(Clone, Copy)]
 pub enum Trap {
     /// Nothing.
     Off,
     /// The call of that number fails once and changes nothing.
     Fail(u64),
-    /// A stop at the call of that number, for this many bytes: that call and each later one fails until a stop. An
-    /// append is carried out all the same, a sync is not, and a cut leaves up to this many bytes of the file. Code
-    /// that sends after the calls of a step goes on counting at its sends.
+    /// A stop of the machine at the call of that number, which is to keep up to this many unsynced bytes. That call and
+    /// each later one fails until the stop is carried out. At that call an append still adds its piece, a sync does
+    /// nothing, and a cut leaves this many bytes, but no fewer than requested. Code that sends after the calls of a
+    /// step goes on counting at its sends.
     Arm(u64, usize),
 }
 

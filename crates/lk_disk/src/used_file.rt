@@ -1,4 +1,4 @@
-// One file that is used until a call of it fails.
+// A file that is not used again after a failed append, flush, sync or shorten.
 ghost use Rattle.std.specs.Prelude.{◌≡◌, ◌≤◌, ◌<◌, ◌+◌, ℕ, List, length, true, false, slice_range, IsTrue, IsFalse};
 ghost use Rattle.std.specs.Prelude.{IsOk, OnOk, OnErr, IfOk};
 ghost use Rattle.lk_disk.specs.Disk.{Disk, contents, appended, flushed, cut_to, AppendsSome, CutShort};
@@ -7,8 +7,8 @@ ghost use Rattle.lk_disk.specs.Files.{left_of, HasLength, IsWhole, IsCaused, IsC
 use crate::append_file::{AppendFile, FileFault};
 use std::marker::Model;
 
-// A file that rejects all calls after a failed append, sync or cut, since its content is then unknown. It asks the
-// file once for its length, and then keeps count.
+// A file that rejects all calls after a failed append, flush, sync or shorten, since its content is then unknown. It
+// asks the file once for its length, and then keeps count.
 #[derive(Drop)]
 pub(crate) struct UsedFile<F: AppendFile + Drop> {
     file: F,
@@ -17,7 +17,7 @@ pub(crate) struct UsedFile<F: AppendFile + Drop> {
     failed: bool,
 }
 
-// A known length after this many more bytes.
+// Returns the length after `more` more bytes; `None` if it is unknown or overflows.
 fn lengthened(known: Option<usize>, more: usize) -> Option<usize>
     ensures { (d : Disk) (piece : List ℕ) → length piece ≡ more → HasLength known d
         → HasLength result (appended d piece) }
@@ -38,7 +38,7 @@ impl<F: AppendFile + Drop> Model for UsedFile<F> {
 }
 
 impl<F: AppendFile + Drop> UsedFile<F> {
-    /// A file that nobody has used. It does not ask for its length yet.
+    /// Wraps a fresh file, whose content is known. It asks for the length only when that is needed.
     pub fn of(file: F) -> UsedFile<F>
         requires { F.is_honest → IsWhole (F.file file) }
         ensures file { result.file ≡ F.file file }
@@ -52,7 +52,7 @@ impl<F: AppendFile + Drop> UsedFile<F> {
         }
     }
 
-    /// The file itself, to look at.
+    /// Returns the wrapped file.
     pub fn file(&self) -> &F
         ensures file { F.file result.now ≡ self.now.file }
         ensures failures { F.failures result.now ≡ self.now.failures }
@@ -60,7 +60,7 @@ impl<F: AppendFile + Drop> UsedFile<F> {
         &self.file
     }
 
-    /// The file itself, which is not used any more.
+    /// Unwraps the file, which may have failed.
     pub fn into_file(self) -> F
         ensures file { F.file result ≡ self.file }
         ensures failures { F.failures result ≡ self.failures }
@@ -69,7 +69,8 @@ impl<F: AppendFile + Drop> UsedFile<F> {
         file
     }
 
-    /// How many bytes the file has. It fails after a failed changing call, and if the file itself does.
+    /// Returns how many bytes the file has. Fails after a failed append, flush, sync or shorten, and if `length` of the
+    /// file itself fails.
     pub fn length(&mut self) -> Result<usize, FileFault>
         ensures value { F.is_honest → IfOk result (λ n. n ≡ length (contents (left_of self.old.file))) }
         ensures unchanged { F.is_honest → self.new.file ≡ self.old.file }
@@ -87,8 +88,8 @@ impl<F: AppendFile + Drop> UsedFile<F> {
         Ok(length)
     }
 
-    /// Fills the buffer with the bytes from the offset on. It fails after a failed changing call, if the file has
-    /// fewer bytes, and if the file itself fails.
+    /// Fills the buffer with the bytes from the offset on. Fails after a failed append, flush, sync or shorten, if the
+    /// file has fewer bytes, and if the file itself fails.
     pub fn read_into(&mut self, offset: usize, buffer: &mut [u8]) -> Result<(), FileFault>
         ensures value { F.is_honest
             → OnOk result (buffer.new
@@ -105,7 +106,8 @@ impl<F: AppendFile + Drop> UsedFile<F> {
         self.file.read_into(offset, buffer)
     }
 
-    // Begins a changing call; until it ends the file counts as failed. Returns the length, if it is known.
+    // Begins an append, flush, sync or cut. The file counts as failed until `end`, so an error in between leaves it
+    // failed. Returns the length, if it is known.
     fn begin(&mut self) -> Result<Option<usize>, FileFault>
         ensures ok { OnOk result (IsFalse self.old.failed × (self.new ≡ record self.old { failed = true })) }
         ensures whole { F.is_honest → OnOk result (IsWhole self.new.file) }
@@ -120,7 +122,7 @@ impl<F: AppendFile + Drop> UsedFile<F> {
         Ok(self.length)
     }
 
-    // Ends a successful changing call: the file goes on, with this length if it is known.
+    // Ends a successful call: the file is usable again, with this length if it is known.
     fn end(&mut self, length: Option<usize>)
         requires { F.is_honest → IsWhole self.old.file × HasLength length (left_of self.old.file) }
         ensures { self.new ≡ record self.old { failed = false } }
@@ -142,7 +144,7 @@ impl<F: AppendFile + Drop> UsedFile<F> {
         Ok(())
     }
 
-    /// Gives what was appended to the system. If it fails, the file rejects every later call.
+    /// Hands what was appended to the operating system. If it fails, the file rejects every later call.
     pub fn flush(&mut self) -> Result<(), FileFault>
         ensures unchanged { F.is_honest → self.new.file ≡ self.old.file }
         ensures cause { IsCaused self.old self.new result }
@@ -165,8 +167,8 @@ impl<F: AppendFile + Drop> UsedFile<F> {
         Ok(())
     }
 
-    /// Cuts the file to this many bytes and syncs it. Beyond the end it fails and changes nothing; if the file itself
-    /// fails, its length may be anything in between, and it rejects every later call.
+    /// Cuts the file to this many bytes and syncs it. Past the end it fails and changes nothing. If the shorten or the
+    /// sync fails, it leaves a prefix of the file, and the file rejects every later call.
     pub fn cut(&mut self, len: usize) -> Result<(), FileFault>
         ensures ok { F.is_honest → OnOk result (left_of self.new.file ≡ cut_to len (left_of self.old.file)) }
         ensures within { F.is_honest → OnOk result (len ≤ length (contents (left_of self.old.file))) }

@@ -14,7 +14,7 @@ is_misplaced [] = false
 is_misplaced (Base b ∷ es) = has_base es
 is_misplaced (Plain e ∷ es) = true
 
--- that of the Base at the start, at least 1; 0 if there is none
+-- the generation of the Base at the start, at least 1; 0 if there is none
 abbrev pub generation : List Stored → ℕ
 generation [] = 0
 generation (Base b ∷ es) = b.generation

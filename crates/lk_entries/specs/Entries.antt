@@ -63,7 +63,7 @@ abbrev pub spelling_of_all : List Stored → List ℕ
 spelling_of_all [] = []
 spelling_of_all (e ∷ es) = spelling e ++ spelling_of_all es
 
--- what a store is to add, as entries of its file
+-- entries other than a Base, as entries of a file
 abbrev pub plain : List Entry → List Stored
 plain [] = []
 plain (e ∷ es) = Plain e ∷ plain es

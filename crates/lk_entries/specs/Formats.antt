@@ -13,7 +13,7 @@ use Rattle.lk_entries.specs.declared.stored.Stored.TheVariants.{Base, Plain}
 abbrev pub IsFormat : ℕ → Type 0
 IsFormat n = (1 ≤ n) × (n ≤ 2)
 
--- that of the Base at the start; 0 if there is none
+-- the format of the Base at the start; 0 if there is none
 abbrev pub format : List Stored → ℕ
 format [] = 0
 format (Base b ∷ es) = b.format
@@ -30,7 +30,7 @@ abbrev pub is_raise : Command → Bool
 is_raise Noop = false
 is_raise (Request r) = asks_raise r.op
 
--- the entry has such a command: in a vote, or as a decided one
+-- the entry has a Raise, in a vote or as a decided command
 abbrev pub tells_raise : Stored → Bool
 tells_raise (Base b) =
     list_any (λ v. is_raise v.command) b.standing.votes || list_any (λ p. is_raise p.1) b.standing.pairs

@@ -1,4 +1,4 @@
--- Which headers there are.
+-- The valid headers: the range of each part.
 use Rattle.std.specs.Prelude.{◌<◌, ◌^◌}
 use Rattle.std.specs.List.{AllByRecursion}
 use Rattle.lk_types.specs.Ranges.{IsNode, IsAlpha}

@@ -15,7 +15,7 @@ use Rattle.lk_entries.specs.declared.entry_fault.EntryFault.TheVariants.{NoEntry
 use Rattle.lk_entries.specs.declared.stored.Stored.{Stored}
 use Rattle.lk_entries.specs.declared.stored.Stored.TheVariants.{Base, Plain}
 
--- there is none, unless memory ran out
+-- reading gives nothing, or memory ran out
 abbrev pub Fails : {Y : Type 0} → EntryFault → Option Y → Type 0
 Fails NoEntry read = read ≡ None
 Fails NoMemory read = Unit {0}

@@ -1,4 +1,4 @@
--- What entries stand for.
+-- The standing of a list of entries: the state that they add up to.
 use Rattle.std.specs.Prelude.{◌≡◌, ℕ, suc, ◌<◌, nat_lt, ◌==◌, List, [], ◌∷◌, ◌++◌, Option, Some, None, map, IsTrue}
 use Rattle.std.specs.Prelude.{if◌then◌else◌}
 use Rattle.lk_types.specs.BallotValue.{BallotValue}
@@ -150,6 +150,6 @@ abbrev pub with_all : List Entry → StandingValue → StandingValue
 with_all [] s = s
 with_all (e ∷ es) s = with_all es (with_plain e s)
 
--- that of a Base alone
+-- the standing of a Base alone: the ballots of its votes count as promised
 abbrev pub of_base : BaseValue → StandingValue
 of_base b = record b.standing { promised = greatest_of b.standing.promised (map ballot_of b.standing.votes) }

@@ -2,8 +2,8 @@ use crate::header::Header;
 use crate::standing::Standing;
 use std::marker::Model;
 
-/// The first entry of a file: a standing at the time when the file was begun. The files' generations tell which file
-/// is newer, and the format is 1 or 2.
+/// The first entry of a file: whose store it is, and the standing when the file was begun. The file with the greater
+/// generation is the newer one. The format is 1 or 2.
 #[derive(Drop)]
 pub struct Base {
     pub generation: u64,

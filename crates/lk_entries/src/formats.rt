@@ -6,7 +6,7 @@ ghost use Rattle.lk_entries.specs.Formats.{format, is_raise, tells_raise, is_mix
 use crate::stored::Stored;
 use lk_types::{Command, Entry, Op, Position, Vote};
 
-/// That of the Base at the start, 0 if there is none.
+/// Returns the format of the Base with which the entries begin, 1 or 2; 0 if they begin with no Base.
 pub fn format_of(entries: &[Stored]) -> u8
     ensures { result ≡ format entries.now }
 {
@@ -16,7 +16,7 @@ pub fn format_of(entries: &[Stored]) -> u8
     }
 }
 
-// Whether the command raises the machine.
+// Whether the command is a Raise, which puts the machine into its second version.
 fn is_raise(command: &Command) -> bool
     ensures { result ≡ is_raise command.now }
 {
@@ -29,19 +29,21 @@ fn is_raise(command: &Command) -> bool
     }
 }
 
+// Whether some vote is for a Raise.
 fn some_vote_raises(votes: &[Vote]) -> bool
     ensures { result ≡ list_any (λ v. is_raise v.command) votes.now }
 {
     votes.iter().any(|vote| is_raise(&vote.command))
 }
 
+// Whether some decided command is a Raise.
 fn some_pair_raises(pairs: &[(Position, Command)]) -> bool
     ensures { result ≡ list_any (λ p. is_raise p.1) pairs.now }
 {
     pairs.iter().any(|pair| is_raise(&pair.1))
 }
 
-// Whether the entry has such a command.
+// Whether the entry has a Raise, in a vote or as a decided command.
 fn tells_raise(entry: &Stored) -> bool
     ensures { result ≡ tells_raise entry.now }
 {
@@ -55,13 +57,14 @@ fn tells_raise(entry: &Stored) -> bool
     }
 }
 
+// Whether some entry has a Raise.
 fn some_tells_raise(entries: &[Stored]) -> bool
     ensures { result ≡ list_any tells_raise entries.now }
 {
     entries.iter().any(|entry| tells_raise(entry))
 }
 
-/// Whether the Base at the start has format 1, and some entry has such a command.
+/// Returns whether a file of format 1 has a Raise, which only format 2 permits: such a file is damaged.
 pub fn is_mixed(entries: &[Stored]) -> bool
     ensures { result ≡ is_mixed entries.now }
 {

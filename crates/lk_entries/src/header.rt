@@ -26,7 +26,7 @@ impl Model for Header {
     } };
 }
 
-// Each member is in its range. The function does nothing.
+// Proves that each member is in its range, for the caller's contract. Has no effect.
 fn members_facts(members: &[Member])
     ensures { AllByRecursion IsMember members.now }
 {
@@ -64,7 +64,7 @@ impl Header {
         &self.genesis
     }
 
-    /// Each part is in its range. The function does nothing.
+    /// Proves that each part is in its range, for the caller's contract. Has no effect.
     pub fn facts(&self)
         ensures { IsHeader self.now }
     {

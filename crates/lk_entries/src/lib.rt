@@ -1,5 +1,6 @@
-//! The meaning of the bytes of a store's file: entries after a Base, each with one spelling that reads back, what they
-//! stand for as values, and which format a file has. This crate knows no disk, nor which of two files is live.
+//! The format of a store's file: reads and writes its entries, which are a Base and then promises, votes and decided
+//! commands, each with one encoding (its spelling). It also states the standing that they add up to, and which format a
+//! file has. This crate knows no disk, and not which of two files is live.
 #![tactic(auto)]
 
 mod base;

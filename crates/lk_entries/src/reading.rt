@@ -1,4 +1,5 @@
-// Reading an entry of a file from the start of some bytes.
+// Reading an entry of a file from the start of some bytes. Each `read_` function returns a value and the bytes after
+// it, and fails if the bytes do not begin with a valid one.
 ghost use Rattle.std.specs.Prelude.{◌≡◌, ◌++◌, IfSome, IfOk, Err};
 ghost use Rattle.lk_types.specs.Ranges.{IsAlpha};
 ghost use Rattle.lk_fields.specs.FieldReading.{read_vote, read_pair};
@@ -66,6 +67,7 @@ fn read_header(bytes: &[u8]) -> Option<(Header, &[u8])>
     Some((Header::new(node, genesis), rest))
 }
 
+// Reads a four-byte length and that many bytes: 1 to 49,152.
 #[tactic(auto, unfolding(crate::specs::Parsing::read_snapshot))]
 fn read_snapshot(alloc: Global, bytes: &[u8]) -> Result<(Vec<u8>, &[u8]), EntryFault>
     ensures { Gives (λ x. (x.0.items, x.1.now)) result (read_snapshot bytes.now) }
@@ -81,6 +83,7 @@ fn read_snapshot(alloc: Global, bytes: &[u8]) -> Result<(Vec<u8>, &[u8]), EntryF
     Ok((text.to_vec(alloc)?, rest))
 }
 
+// Reads the length of a list of votes or pairs: 0 to 32.
 #[tactic(auto, unfolding(crate::specs::Parsing::read_few))]
 fn read_few(bytes: &[u8]) -> Option<(u16, &[u8])>
     ensures { Finds (λ x. (x.0, x.1.now)) result (read_few bytes.now) }
@@ -92,6 +95,7 @@ fn read_few(bytes: &[u8]) -> Option<(u16, &[u8])>
     Some((count, rest))
 }
 
+// Reads this many votes, one after the other.
 fn many_votes(alloc: Global, count: u16, bytes: &[u8]) -> Result<(Vec<Vote>, &[u8]), EntryFault>
     ensures { Gives (λ x. (x.0.items, x.1.now)) result (many read_vote count bytes.now) }
 {
@@ -130,6 +134,7 @@ fn read_pair(bytes: &[u8]) -> Option<((Position, Command), &[u8])>
     Some(((position, command), rest))
 }
 
+// Reads this many pairs, one after the other.
 fn many_pairs(
     alloc: Global,
     count: u16,
@@ -246,7 +251,7 @@ fn read_base(alloc: Global, bytes: &[u8]) -> Result<(Base, &[u8]), EntryFault>
     Ok((base, rest))
 }
 
-// What follows the tag of an entry's kind.
+// Reads the fields of an entry of this kind: 1 for a Base, 2 for a promise, 3 for a vote, 4 for a decided command.
 #[tactic(auto, unfolding(crate::specs::Parsing::read_fields))]
 fn read_fields(alloc: Global, kind: u8, bytes: &[u8]) -> Result<(Stored, &[u8]), EntryFault>
     ensures { Gives (λ x. (x.0, x.1.now)) result (read_fields kind bytes.now) }
@@ -278,7 +283,7 @@ fn read_fields(alloc: Global, kind: u8, bytes: &[u8]) -> Result<(Stored, &[u8]),
     }
 }
 
-// The entry of which these bytes are the whole body.
+// Reads the kind and the fields of an entry. Fails if any byte follows them.
 fn body_of(alloc: Global, bytes: &[u8]) -> Result<Stored, EntryFault>
     ensures { Gives (λ e. e) result (whole read_body bytes.now) }
 {
@@ -292,6 +297,7 @@ fn body_of(alloc: Global, bytes: &[u8]) -> Result<Stored, EntryFault>
     Ok(entry)
 }
 
+// Reads the length of an entry, in four bytes, and that many bytes as its kind and fields.
 #[tactic(auto, unfolding(crate::specs::Parsing::read_entry, crate::specs::Parsing::read_size))]
 fn read_entry(alloc: Global, bytes: &[u8]) -> Result<(Stored, &[u8]), EntryFault>
     ensures { Gives (λ x. (x.0, x.1.now)) result (read_entry bytes.now) }
@@ -307,7 +313,8 @@ fn read_entry(alloc: Global, bytes: &[u8]) -> Result<(Stored, &[u8]), EntryFault
     Ok((body_of(alloc, text)?, rest))
 }
 
-/// The entry at the start of the bytes, and the bytes after it.
+/// Reads the entry at the start of the bytes, and returns it with the bytes after it. `NoEntry` if no valid entry
+/// begins them: they are torn, damaged or empty.
 #[tactic(auto, using(crate::proofs::EntryLaws::is_found, crate::proofs::EntryLaws::is_none))]
 pub fn first_entry(alloc: Global, bytes: &[u8]) -> Result<(Stored, &[u8]), EntryFault>
     ensures found { IfOk result (λ x. IsStored x.0 × (bytes.now ≡ spelling x.0 ++ x.1.now)) }

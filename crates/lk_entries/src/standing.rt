@@ -7,7 +7,7 @@ ghost use Rattle.lk_entries.specs.Entries.{IsPair};
 use lk_types::{Ballot, Command, Executed, Position, Vote};
 use std::marker::Model;
 
-/// What a node remembers.
+/// What the entries of a file add up to: the state with which a node restarts.
 #[derive(Drop)]
 pub struct Standing {
     /// No ballot below it gets a promise or a vote any more. `Ballot::ZERO` if nothing was promised.
@@ -36,7 +36,7 @@ impl Model for Standing {
     } };
 }
 
-// Each vote is in its range. The function does nothing.
+// Proves that each vote is in its range, for the caller's contract. Has no effect.
 fn votes_facts(votes: &[Vote])
     ensures { AllByRecursion IsVote votes.now }
 {
@@ -45,7 +45,7 @@ fn votes_facts(votes: &[Vote])
     }
 }
 
-// Each pair is in its range. The function does nothing.
+// Proves that each pair is in its range, for the caller's contract. Has no effect.
 fn pairs_facts(pairs: &[(Position, Command)])
     ensures { AllByRecursion IsPair pairs.now }
 {
@@ -56,7 +56,7 @@ fn pairs_facts(pairs: &[(Position, Command)])
 }
 
 impl Standing {
-    /// Each part is in its range. The function does nothing.
+    /// Proves that each part is in its range, for the caller's contract. Has no effect.
     pub fn facts(&self)
         ensures promised { IsMark self.now.promised }
         ensures position { IsTotal self.now.position }

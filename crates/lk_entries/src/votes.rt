@@ -5,7 +5,7 @@ ghost use Rattle.lk_entries.specs.VoteLists.{AreRising, votes_below, votes_with}
 
 use lk_types::{NoMemory, Position, Vote};
 
-/// How many votes of smaller positions come first.
+/// Returns how many votes have a smaller position: the index at which a vote at `position` is or belongs.
 pub fn votes_below(position: Position, votes: &[Vote]) -> usize
     requires { AreRising votes.now }
     ensures value { result ≡ votes_below position votes.now }
@@ -14,8 +14,8 @@ pub fn votes_below(position: Position, votes: &[Vote]) -> usize
     votes.partition_point(|vote| vote.position < position)
 }
 
-/// Keeps a vote in its place. Of two votes at a position it keeps the one of greater ballot, the earlier if they are
-/// equal. It needs memory only if there is no room; out of memory it changes nothing.
+/// Inserts a vote in order of position. Of two votes at a position it keeps the one of greater ballot, the earlier if
+/// they are equal. It allocates only if there is no spare capacity; out of memory it changes nothing.
 #[tactic(auto, using(crate::proofs::VotesInOrder::at_end, crate::proofs::VotesInOrder::at_other, crate::proofs::VotesInOrder::at_below, crate::proofs::VotesInOrder::at_above))]
 pub fn keep_vote(votes: &mut Vec<Vote>, vote: Vote) -> Result<(), NoMemory>
     requires { AreRising votes.old.items }

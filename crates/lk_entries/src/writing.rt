@@ -1,4 +1,5 @@
-// Writing an entry of a file: its canonical spelling.
+// Writing an entry of a file: its only encoding (its spelling). Each `put_` function appends one part of it; out of
+// memory it may leave some of that part.
 ghost use Rattle.std.specs.Prelude.{◌≡◌, ◌≤◌, ◌+◌, ◌-◌, ◌++◌, ◌∷◌, length, OnOk, IfOk};
 ghost use Rattle.std.specs.List.{AllByRecursion};
 ghost use Rattle.lk_types.specs.Limits.{max_votes, max_base};
@@ -79,7 +80,7 @@ fn put_standing(out: &mut BytesMut, value: &Standing) -> Result<(), AllocError>
     Ok(())
 }
 
-// A Base without its length.
+// Appends the kind and the fields of a Base, without the length in front.
 #[tactic(auto, unfolding(crate::specs::Entries::base))]
 fn put_base_body(
     out: &mut BytesMut,
@@ -105,7 +106,7 @@ fn put_base_body(
     Ok(())
 }
 
-// An entry without its length.
+// Appends the kind and the fields of an entry that is no Base, without the length in front.
 fn put_plain_body(out: &mut BytesMut, value: &Entry) -> Result<(), AllocError>
     ensures { OnOk result (out.new.items ≡ out.old.items ++ body (Plain value.now)) }
 {
@@ -126,7 +127,7 @@ fn put_plain_body(out: &mut BytesMut, value: &Entry) -> Result<(), AllocError>
     Ok(())
 }
 
-// Bytes after their length.
+// Appends the length of the bytes, in four bytes, and then the bytes.
 fn put_behind_length(out: &mut BytesMut, text: &[u8]) -> Result<(), AllocError>
     requires { length text.now ≤ max_base - 4 }
     ensures { OnOk result (out.new.items ≡ out.old.items ++ (four (length text.now) ++ text.now)) }
@@ -136,7 +137,8 @@ fn put_behind_length(out: &mut BytesMut, text: &[u8]) -> Result<(), AllocError>
     Ok(())
 }
 
-/// The spelling of the Base of this generation, format, header and standing.
+/// Returns the bytes of a Base with these parts. They are borrowed, so that a store need not build a `Base` to write
+/// one.
 #[tactic(auto, using(crate::proofs::EntryLaws::body_short), unfolding(crate::specs::Entries::spelling))]
 pub fn spelled_parts(
     alloc: Global,
@@ -162,7 +164,7 @@ pub fn spelled_parts(
     Ok(out)
 }
 
-/// The spelling of a Base.
+/// Returns the bytes of a Base as an entry of a file.
 pub fn spelled_base(alloc: Global, value: &Base) -> Result<BytesMut, AllocError>
     requires { IsStored (base_entry value.now) }
     ensures { IfOk result (λ out. out.items ≡ spelling (base_entry value.now)) }
@@ -176,7 +178,7 @@ pub fn spelled_base(alloc: Global, value: &Base) -> Result<BytesMut, AllocError>
     )
 }
 
-// The range of each part of an entry. The function does nothing.
+// Proves that each part of an entry is in its range, for the caller's contract. Has no effect.
 fn entry_facts(entry: &Entry)
     ensures { IsEntry entry.now }
 {
@@ -192,7 +194,7 @@ fn entry_facts(entry: &Entry)
     }
 }
 
-/// Each entry fits into a file. The function does nothing.
+/// Proves that each entry is valid in a file, for the caller's contract. Has no effect.
 pub fn entries_facts(entries: &[Entry])
     ensures { AllByRecursion IsStored (plain entries.now) }
 {
@@ -201,6 +203,7 @@ pub fn entries_facts(entries: &[Entry])
     }
 }
 
+// Appends an entry that is no Base, with its length in front.
 #[tactic(auto, using(crate::proofs::EntryLaws::plain_short), unfolding(crate::specs::Entries::spelling))]
 fn put_plain(alloc: Global, out: &mut BytesMut, entry: &Entry) -> Result<(), AllocError>
     ensures { OnOk result (out.new.items ≡ out.old.items ++ spelling (Plain entry.now)) }
@@ -212,7 +215,7 @@ fn put_plain(alloc: Global, out: &mut BytesMut, entry: &Entry) -> Result<(), All
     Ok(())
 }
 
-/// The spellings of entries, one after the other.
+/// Returns the bytes of entries, one after the other, as a file has them after its Base.
 pub fn spelled(alloc: Global, entries: &[Entry]) -> Result<BytesMut, AllocError>
     ensures { IfOk result (λ out. out.items ≡ spelling_of_all (plain entries.now)) }
 {

@@ -1,15 +1,15 @@
--- The kinds of events.
+-- The kinds of events, and which of them are warnings.
 use Rattle.std.specs.Prelude.{ℕ, Bool, true, false}
 use Rattle.lk_events.specs.declared.event.Event.{Event}
 use Rattle.lk_events.specs.declared.event.Event.TheVariants.{Begun, Found, Leads, Ended, Follows, Leaderless, Joined}
 use Rattle.lk_events.specs.declared.event.Event.TheVariants.{Left, Wrote, Installed, Unsent, Behind, CaughtUp}
 use Rattle.lk_events.specs.declared.event.Event.TheVariants.{OtherGenesis, OtherCluster}
 
--- so many kinds of events there are
+-- how many kinds of events there are
 abbrev pub kinds : ℕ
 kinds = 15
 
--- the kind of an event, below that number
+-- the index of an event's kind, below that number
 abbrev pub kind_of : Event → ℕ
 kind_of Begun = 0
 kind_of (Found executed) = 1
@@ -27,7 +27,7 @@ kind_of (CaughtUp executed) = 12
 kind_of (OtherGenesis node) = 13
 kind_of (OtherCluster count) = 14
 
--- somebody has to look at it
+-- an operator has to look at it
 abbrev pub is_warning : Event → Bool
 is_warning (Leaderless seconds) = true
 is_warning (Unsent node) = true

@@ -1,4 +1,4 @@
--- What is news of a node, by what was told of it and what is seen of it.
+-- Which events an observation of a node yields, compared with what was reported of it.
 use Rattle.std.specs.Prelude.{◌≡◌, ◌≢◌, ◌<◌, ◌==◌, ℕ, Bool, true, false, List, [], ◌∷◌, ◌++◌, Option, Some, None}
 use Rattle.std.specs.List.{list_any}
 use Rattle.lk_types.specs.declared.member.Member.{Member}
@@ -20,7 +20,7 @@ abbrev pub newer : Option ℕ → Option ℕ → Option ℕ
 newer None old = old
 newer (Some node) old = Some node
 
--- what is seen differs so from what was told, or the turn has brought it
+-- the event is due: the observation differs from the story in this way, or the turn has brought it
 abbrev pub IsNews : Story → Observation → Event → Type 0
 IsNews story seen (Leads ballot) = (seen.leads ≡ Some ballot) × (story.leads ≢ Some ballot)
 IsNews story seen (Ended ballot why) =
@@ -41,7 +41,7 @@ IsNews story seen (Leaderless seconds) = ⊥
 IsNews story seen (Behind node) = ⊥
 IsNews story seen (CaughtUp executed) = ⊥
 
--- what is told once that is seen
+-- the story after an observation was reported
 abbrev pub told_with : Observation → Story → Story
 told_with seen story = record {
   leads = seen.leads;
@@ -50,12 +50,12 @@ told_with seen story = record {
   snapshot = seen.snapshot;
 }
 
--- what is told once it is told that nobody leads, if it is: it is news again whom the node follows
+-- the story after it was reported that nobody leads, if it was: then any leader is news
 abbrev pub forgetting : Option Event → Story → Story
 forgetting None story = story
 forgetting (Some event) story = record story { follows = None }
 
--- what is told of a node of which nothing but that was seen
+-- the story of a node that was first seen like this
 abbrev pub story_of : Observation → Story
 story_of seen = record { leads = seen.leads; follows = seen.follows; members = seen.members; snapshot = seen.snapshot }
 
@@ -89,7 +89,7 @@ abbrev pub leaves : List Member → List Topic
 leaves [] = []
 leaves (m ∷ ms) = leaving m.node ∷ leaves ms
 
--- those that are seen may have joined, and those that were told may have left
+-- the members that are seen may have joined, and those of the story may have left
 abbrev pub member_topics : Story → Observation → List Topic
 member_topics story seen = joins seen.members ++ leaves story.members
 
@@ -99,7 +99,7 @@ work_topics = writing ∷ installing ∷ failing ∷ meeting ∷ straying ∷ []
 abbrev pub topics : Story → Observation → List Topic
 topics story seen = lead_topics ++ (member_topics story seen ++ work_topics)
 
--- the event is about that, and is news
+-- the event has this topic, and is news
 abbrev pub IsNewsOf : Topic → Story → Observation → Event → Type 0
 IsNewsOf ending story seen event =
     (ballot : BallotValue) × (why : Why) × (event ≡ Ended ballot why) × IsNews story seen (Ended ballot why)
@@ -116,7 +116,7 @@ IsNewsOf failing story seen event = (node : ℕ) × (event ≡ Unsent node) × I
 IsNewsOf meeting story seen event = (node : ℕ) × (event ≡ OtherGenesis node) × IsNews story seen (OtherGenesis node)
 IsNewsOf straying story seen event = (count : ℕ) × (event ≡ OtherCluster count) × IsNews story seen (OtherCluster count)
 
--- this is news about that, or there is none
+-- the event is news of this topic; without an event there is no such news
 abbrev pub Gives : Topic → Story → Observation → Option Event → Type 0
 Gives topic story seen (Some event) = IsNewsOf topic story seen event
 Gives topic story seen None = (event : Event) → IsNewsOf topic story seen event → ⊥

@@ -1,4 +1,4 @@
--- What is seen of a node after a turn.
+-- What follows from an observation: whether somebody leads, and why a node no longer does.
 use Rattle.std.specs.Prelude.{Bool, ◌||◌, is_some, if◌then◌else◌}
 use Rattle.lk_types.specs.BallotValue.{BallotValue}
 use Rattle.lk_types.specs.Ballots.{is_below}
@@ -6,8 +6,8 @@ use Rattle.lk_events.specs.declared.event.Why.{Why}
 use Rattle.lk_events.specs.declared.event.Why.TheVariants.{Promised, NoMember, Told}
 use Rattle.lk_events.specs.declared.observation.Observation.{Observation}
 
--- why a node leads no more in this ballot: it is no member, or else it has promised a greater ballot, or else it was
--- told of one
+-- why a node no longer leads in this ballot: it is no member, or else it has promised a greater ballot, or else it has
+-- heard of one
 abbrev pub why_of : Observation → BallotValue → Why
 why_of seen ballot =
     if seen.is_member then (if is_below ballot seen.promised then Promised seen.promised.node else Told) else NoMember

@@ -1,4 +1,4 @@
--- What is told as time passes: that there is no leader, and that a node is behind.
+-- Events that depend on how long something lasts: no leader, and being behind.
 use Rattle.std.specs.Prelude.{◌≡◌, ◌≤◌, ◌<◌, ◌+◌, ◌*◌, ◌⊎◌, ℕ, Bool, true, false, Option, Some, None, IfSome, IsSome}
 use Rattle.std.specs.Prelude.{IsNone}
 use Rattle.lk_events.specs.declared.event.Event.{Event}
@@ -16,7 +16,7 @@ abbrev pub first_asked : Option (ℕ × ℕ) → ℕ → ℕ
 first_asked None now = now
 first_asked (Some asked) now = asked.0
 
--- there has been no leader for so many whole seconds: two or more, and twice those that were told or more
+-- there has been no leader for so many whole seconds: at least two, and at least twice those reported last
 pub record IsQuiet (quiet : Quiet) (now seconds : ℕ) : Type 0 where
   pub since : ℕ
   pub begun : quiet.since ≡ Some since
@@ -37,7 +37,7 @@ pub record TurnsQuiet (old : Quiet) (now : ℕ) (has_leader : Bool) (news : Opti
   pub told : IfSome news (λ e. e ≡ Leaderless new.told)
   pub kept : has_leader ≡ false → IsNone news → new.told ≡ old.told
 
--- it has asked for a second, which was not told
+-- it has been asking for a second, and that is not yet reported
 pub record IsBehind (lag : Lag) (now : ℕ) : Type 0 where
   pub first : ℕ
   pub last : ℕ
@@ -52,12 +52,12 @@ pub record IsOver (lag : Lag) (now : ℕ) : Type 0 where
   pub asked : lag.asked ≡ Some (first, last)
   pub long : (last + 1000 ≤ now) ⊎ (now < last)
 
--- and it was told that the node is behind
+-- the same, and it was reported to be behind
 pub record HasRested (lag : Lag) (now : ℕ) : Type 0 where
   pub over : IsOver lag now
   pub told : lag.told ≡ true
 
--- in a turn in which it asks that node, or nobody
+-- the event that is due after a turn in which it asked that node, or nobody
 abbrev pub IsLagNews : Lag → ℕ → Option ℕ → ℕ → Event → Type 0
 IsLagNews lag now (Some node) executed event = (event ≡ Behind node) × IsBehind lag now
 IsLagNews lag now None executed event = (event ≡ CaughtUp executed) × HasRested lag now
@@ -66,7 +66,7 @@ IsLagNews lag now None executed event = (event ≡ CaughtUp executed) × HasRest
 abbrev pub no_lag : Lag
 no_lag = record { asked = None; told = false }
 
--- it has asked now, and what is news was told
+-- what is known after a turn in which it asked: when that began, and what was reported
 pub record HasAsked (old : Lag) (now : ℕ) (news : Option Event) (new : Lag) : Type 0 where
   pub asked : new.asked ≡ Some (first_asked old.asked now, now)
   pub told : IsSome news → new.told ≡ true
@@ -82,7 +82,7 @@ abbrev pub BecomesLag : Lag → ℕ → Option ℕ → Option Event → Lag → 
 BecomesLag old now (Some node) news new = HasAsked old now news new
 BecomesLag old now None news new = HasPaused old now new
 
--- what such a turn brings, and what is known of it then
+-- the event that is due after such a turn, and what is known then
 pub record TurnsLag (old : Lag) (now : ℕ) (wanted : Option ℕ) (executed : ℕ) (news : Option Event)
     (new : Lag) : Type 0 where
   pub some : IfSome news (IsLagNews old now wanted executed)

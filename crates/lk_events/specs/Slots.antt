@@ -1,10 +1,10 @@
--- What waits to be told of one kind of events, and when it may be.
+-- The slot of one kind of events: what waits to be logged, and when it may be.
 use Rattle.std.specs.Prelude.{◌≡◌, ◌+◌, ◌⊎◌, ℕ, nat_lt, nat_le, ◌||◌, Bool, true, false, Option, Some, None, min}
 use Rattle.lk_events.specs.declared.event.Event.{Event}
 use Rattle.lk_events.specs.declared.slot.Line.{Line}
 use Rattle.lk_events.specs.declared.slot.Slot.{Slot}
 
--- a line of the kind may be told now: none was, a second has passed since, or the clock was set back
+-- a line may be logged now: there was none, a second has passed since, or the clock was set back
 abbrev pub is_due : Option ℕ → ℕ → Bool
 is_due None now = true
 is_due (Some told) now = nat_lt now told || nat_le (told + 1000) now
@@ -13,7 +13,7 @@ is_due (Some told) now = nat_lt now told || nat_le (told + 1000) now
 abbrev pub one_more : ℕ → ℕ
 one_more n = min (n + 1) 18446744073709551615
 
--- how many events that are not told the newest one has taken the place of, once there is one more
+-- how many events the newest one has replaced since the last line, once there is one more
 abbrev pub others_with : Option (ℕ × Event) → ℕ → ℕ
 others_with None others = others
 others_with (Some waiting) others = one_more others
@@ -27,16 +27,16 @@ abbrev pub having_put : ℕ → Event → Slot → Slot
 having_put now event slot =
     record { newest = Some (now, event); others = others_with slot.newest slot.others; told = slot.told }
 
--- after a line was told: nothing waits
+-- after its line was logged: nothing waits
 abbrev pub having_told : ℕ → Slot
 having_told now = record { newest = None; others = 0; told = Some now }
 
--- the line tells the newest event of the slot, and how many others there were, at a time at which a line may be told
+-- the line is that of the newest event of the slot, and of how many others there were, and may be logged now
 pub record IsLineOf (slot : Slot) (now : ℕ) (line : Line) : Type 0 where
   pub due : is_due slot.told now ≡ true
   pub newest : slot.newest ≡ Some (line.time, line.event)
   pub others : line.others ≡ slot.others
 
--- nothing waits, or no line may be told yet
+-- nothing waits, or no line may be logged yet
 abbrev pub Waits : Slot → ℕ → Type 0
 Waits slot now = (slot.newest ≡ None) ⊎ (is_due slot.told now ≡ false)

@@ -1,4 +1,4 @@
--- What waits to be told of a node, kind by kind.
+-- A turn of a watch: which events it puts into the slots, and which line is taken out of them.
 use Rattle.std.specs.Prelude.{◌≡◌, ℕ, List, [], ◌∷◌, Option, Some, None, IsSomeAnd, slice_get, slice_set}
 use Rattle.lk_events.specs.Kinds.{kind_of}
 use Rattle.lk_events.specs.News.{Topic, topics, Gives, forgetting, told_with}
@@ -18,26 +18,26 @@ pub record Puts (now : ℕ) (event : Event) (old new : List Slot) : Type 0 where
   pub is : slice_get old (kind_of event) ≡ Some slot
   pub becomes : new ≡ slice_set old (kind_of event) (having_put now event slot)
 
--- so if there is one
+-- the same if there is an event, and no change if there is none
 abbrev pub PutsSome : ℕ → Option Event → List Slot → List Slot → Type 0
 PutsSome now None old new = new ≡ old
 PutsSome now (Some event) old new = Puts now event old new
 
--- about one thing after another, what is news waits then
+-- the news of each of these topics, in order, is put into the slots
 pub data PutsNews (now : ℕ) (story : Story) (seen : Observation) : List Topic → List Slot → List Slot → Type 0 where
   nothing : {slots : List Slot} → PutsNews now story seen [] slots slots
   news : {topic : Topic} {rest : List Topic} (event : Option Event) {old mid new : List Slot}
       → Gives topic story seen event → PutsSome now event old mid
       → PutsNews now story seen rest mid new → PutsNews now story seen (topic ∷ rest) old new
 
--- the line is that of the slot of the kind, which then waits for nothing, and all other slots are as they were
+-- the line is that of this kind's slot, in which nothing waits then, and all other slots are unchanged
 pub record TakesOut (kind now : ℕ) (line : Line) (old new : List Slot) : Type 0 where
   pub slot : Slot
   pub is : slice_get old kind ≡ Some slot
   pub told : IsLineOf slot now line
   pub becomes : new ≡ slice_set old kind (having_told now)
 
--- a turn, after which this is seen: what the time brings waits to be told, and then what is news of what is seen
+-- the first half of a turn: the events that depend on time are put into the slots
 pub record TurnsTimes (now : ℕ) (seen : Observation) (old new : Watch) : Type 0 where
   pub leaderless : Option Event
   pub quiet : TurnsQuiet old.quiet now (has_leader seen) leaderless new.quiet
@@ -48,6 +48,7 @@ pub record TurnsTimes (now : ℕ) (seen : Observation) (old new : Watch) : Type 
   pub second : PutsSome now behind mid new.slots.all
   pub story : new.story ≡ forgetting leaderless old.story
 
+-- a turn: the events that depend on time are put into the slots, and then the news of what is seen
 pub record Turns (now : ℕ) (seen : Observation) (old new : Watch) : Type 0 where
   pub timed : Watch
   pub times : TurnsTimes now seen old timed
@@ -59,7 +60,7 @@ pub record Turns (now : ℕ) (seen : Observation) (old new : Watch) : Type 0 whe
     slots = new.slots;
   }
 
--- whoever watches a node does so on after such a turn, and may have told some of what waits
+-- a watch, if there is one, takes such a turn; after it lines may be taken out of its slots
 abbrev pub WatchesOn : Observation → Option Watch → Option Watch → Type 0
 WatchesOn seen None new = new ≡ None
 WatchesOn seen (Some old) new =

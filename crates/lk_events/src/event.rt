@@ -23,7 +23,7 @@ pub enum Why {
 /// What has happened to a node.
 #[derive(Debug, Drop)]
 pub enum Event {
-    /// It started with an empty store.
+    /// It started with an empty store: no promise, and no position executed.
     Begun,
     /// It started with its store, by which it has executed this many positions.
     Found(Executed),
@@ -45,9 +45,9 @@ pub enum Event {
     Installed(Executed, NodeNo),
     /// A datagram to this node could not be sent.
     Unsent(NodeNo),
-    /// It has asked this node for a second for what it missed.
+    /// It has been asking for a second for the commands that it missed, this node last.
     Behind(NodeNo),
-    /// It was behind, and has asked nobody for a second.
+    /// It was behind, and has asked nobody for a second. It has executed this many positions.
     CaughtUp(Executed),
     /// This node was started with another genesis.
     OtherGenesis(NodeNo),
@@ -56,7 +56,7 @@ pub enum Event {
 }
 
 impl Event {
-    /// The number of its kind.
+    /// Returns the index of its kind, below `KINDS`: each kind has a slot of its own.
     pub fn kind(&self) -> usize
         ensures kind { result ≡ kind_of self.now }
         ensures few { result < kinds }
@@ -124,7 +124,7 @@ fn write_change<W: fmt::Write>(
     write_members(members, f)
 }
 
-// Writes who leads.
+// Writes that the node leads in a ballot, or, if there is a `why`, that it no longer does.
 fn write_lead<W: fmt::Write>(
     ballot: RealBallot,
     why: Option<Why>,
@@ -153,7 +153,7 @@ fn write_positions<W: fmt::Write>(number: Executed, f: &mut fmt::Formatter<W>) -
     write!(f, ", {number} {word}")
 }
 
-// Writes what was done, and how many positions it covers.
+// Writes what was done, and up to which number of positions.
 fn write_done<W: fmt::Write>(
     done: &str,
     number: Executed,
@@ -163,7 +163,7 @@ fn write_done<W: fmt::Write>(
     write_positions(number, f)
 }
 
-// Writes how many positions the store that was found holds.
+// Writes that a store was found, and how many positions it has executed.
 fn write_found<W: fmt::Write>(executed: Executed, f: &mut fmt::Formatter<W>) -> fmt::Result {
     write_done("found its store", executed, f)?;
     f.write_str(" executed")

@@ -1,4 +1,4 @@
-//! The lines of the events of a node, as a log has them.
+//! The observer of a node, and the one that writes events to a log, as lines with time and node.
 
 ghost use Rattle.std.specs.Prelude.{◌≡◌, None, true, IsSomeAnd};
 ghost use Rattle.lk_events.specs.News.{story_of};
@@ -14,18 +14,18 @@ use log::{Log, error, info, warn};
 use std::fmt;
 use std::time::{Clock, SystemTime};
 
-/// Observes a node, turn by turn.
+/// Receives what a node does, turn by turn.
 pub trait Observer {
-    /// Whether it needs views of the node.
+    /// Whether it uses observations. If not, none is made, and no other method is called.
     fn is_on(&self) -> bool;
 
-    /// The node has started, with an empty store or one that holds entries.
+    /// Records that the node has started. `is_empty`: its store holds no promise and no executed position.
     fn begin(&mut self, is_empty: bool, seen: Observation);
 
     /// Observes the node after a turn.
     fn observe(&mut self, seen: Observation);
 
-    /// The node ends with this fault.
+    /// Records that the node ends with this fault.
     fn end(&mut self, fault: &str);
 }
 
@@ -64,14 +64,14 @@ impl fmt::Display for Line {
     }
 }
 
-// The time of a line, by the milliseconds since 1970.
+// Converts milliseconds since 1970 to a time, `None` if it is out of range.
 fn timestamp(milliseconds: u64) -> Option<Timestamp> {
     let milliseconds = i64::try_from(milliseconds).unwrap_or(0);
     Timestamp::from_millisecond(milliseconds).ok()
 }
 
 impl<C: Clock + Drop, L: Log + Drop> Events<C, L> {
-    /// Events of that node, which go to the log with the time of the clock.
+    /// Returns an observer of that node, which writes its events to the log with the time of the clock.
     pub fn new(clock: C, log: L, node: NodeNo) -> Events<C, L>
         ensures node { result.node ≡ node }
         ensures watch { result.watch ≡ None }
@@ -95,7 +95,8 @@ impl<C: Clock + Drop, L: Log + Drop> Events<C, L> {
         }
     }
 
-    // Logs a line with its time and node, as a warning if its event is one.
+    // Logs a line with its time and node, at level warn if its event is a warning, else info. Drops it if the time is
+    // out of range.
     fn log_line(&self, line: &Line) {
         let node = self.node.get();
         let Some(time) = timestamp(line.time) else {
@@ -108,7 +109,7 @@ impl<C: Clock + Drop, L: Log + Drop> Events<C, L> {
         }
     }
 
-    // Logs the line of each kind for which one is due.
+    // Logs the waiting line of each kind, if one is due: at most one a second.
     fn log_due(&self, watch: &mut Watch, now: u64)
         ensures { watch.new ≡ record watch.old { slots = watch.new.slots } }
     {

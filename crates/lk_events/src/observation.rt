@@ -1,4 +1,4 @@
-//! What is seen of a node after a turn.
+//! An observation: what is seen of a node after a turn.
 
 ghost use Rattle.std.specs.Prelude.{◌≡◌};
 ghost use Rattle.lk_events.specs.Observations.{why_of, has_leader};
@@ -25,9 +25,9 @@ pub struct Observation {
     pub members: Members,
     /// Whether the node is one of them.
     pub is_member: bool,
-    /// The last node that it asked for what it has missed.
+    /// The last node that it asked in the turn for commands that it missed.
     pub wanted: Option<NodeNo>,
-    /// The last node to which a send failed.
+    /// The last node to which a send failed in the turn.
     pub unsent: Option<NodeNo>,
     /// The node of another genesis from which it received in the turn, if that is to be reported.
     pub stranger: Option<NodeNo>,
@@ -43,7 +43,8 @@ impl Observation {
         self.leads.is_some() || self.follows.is_some()
     }
 
-    /// Why the node does not lead in this ballot any more.
+    /// Returns why the node no longer leads in `ballot`: it is no member, or else it has promised a greater ballot, or
+    /// else it has heard of one.
     pub fn why(&self, ballot: RealBallot) -> Why
         ensures { result ≡ why_of self.now ballot }
     {

@@ -1,4 +1,4 @@
-//! Events that come with time: that there is no leader, and that a node is behind. Times are milliseconds since 1970.
+//! Events that depend on how long something lasts: no leader, and being behind. Times are milliseconds since 1970.
 
 ghost use Rattle.std.specs.Prelude.{◌≡◌, ◌⊎◌, Some, None, true, false, IfSome, IsSome, IsNone};
 ghost use Rattle.lk_events.specs.Quiets.{first_time, first_asked, no_lag, IsQuietNews, IsBehind, IsOver, HasRested};
@@ -15,21 +15,21 @@ const SECOND: u64 = 1000;
 // The seconds without a leader after which it is first reported: an election takes less.
 const FIRST: u64 = 2;
 
-/// How long a node has had no leader.
+/// How long a node has had no leader, and what was reported of that.
 #[derive(Clone, Copy)]
 pub struct Quiet {
-    /// Since when.
+    /// Since when, `None` while it has a leader.
     pub since: Option<u64>,
     /// How many seconds were last reported, 0 if none were.
     pub told: u64,
 }
 
-/// How long a node has asked for what it has missed.
+/// How long a node has been asking for commands that it missed.
 #[derive(Clone, Copy)]
 pub struct Lag {
-    /// When it first asked, and when it asked last.
+    /// When it first asked, and when it asked last. `None` if it has asked nobody for a second.
     pub asked: Option<(u64, u64)>,
-    /// Whether it was reported to be behind.
+    /// Whether `Behind` was reported, so that `CaughtUp` has to follow.
     pub told: bool,
 }
 
@@ -40,7 +40,8 @@ impl Quiet {
         told: 0,
     };
 
-    // Reports two seconds without a leader, and again each time that they have doubled.
+    // Notes the start of a time without a leader, or returns `Leaderless` if that has lasted two seconds, and again
+    // each time that it has lasted twice the seconds reported last.
     fn report_leaderless(&mut self, now: u64) -> Option<Event>
         ensures some { IfSome result (IsQuietNews self.old now) }
         ensures none { IsNone result → (e : EventValue) → IsQuietNews self.old now e → ⊥ }
@@ -60,10 +61,10 @@ impl Quiet {
         Some(Event::Leaderless(seconds))
     }
 
-    /// Observes after a turn whether the node has a leader.
+    /// Updates it after a turn, and returns `Leaderless` if that is due. A leader resets it.
     pub fn observe(&mut self, now: u64, has_leader: bool) -> Option<Event>
         ensures some { IfSome result (λ e. (has_leader ≡ false) × IsQuietNews self.old now e) }
-        // What is news is reported.
+        // An event that is due is returned.
         ensures none { IsNone result → (has_leader ≡ true) ⊎ ((e : EventValue) → IsQuietNews self.old now e → ⊥) }
         ensures leader { has_leader ≡ true → self.new ≡ record { since = None; told = 0 } }
         ensures since { has_leader ≡ false → self.new.since ≡ Some (first_time self.old.since now) }
@@ -85,7 +86,7 @@ impl Lag {
         told: false,
     };
 
-    // Reports that the node is behind, once it has asked for a second for what it missed.
+    // Notes that the node asks for what it missed. Returns `Behind` once, if it has been asking for a second.
     fn report_behind(&mut self, now: u64, node: NodeNo) -> Option<Event>
         ensures some { IfSome result (λ e. (e ≡ Behind node) × IsBehind self.old now) }
         ensures none { IsNone result → IsBehind self.old now → ⊥ }
@@ -105,7 +106,8 @@ impl Lag {
         Some(Event::Behind(node))
     }
 
-    // Reports that the node has caught up, once it has asked nobody for a second.
+    // Forgets that the node was behind if it has asked nobody for a second, or the clock was set back. Then returns
+    // `CaughtUp` if `Behind` was reported.
     fn report_caught_up(&mut self, now: u64, executed: Executed) -> Option<Event>
         ensures some { IfSome result (λ e. (e ≡ CaughtUp executed) × HasRested self.old now) }
         ensures none { IsNone result → HasRested self.old now → ⊥ }
@@ -126,10 +128,11 @@ impl Lag {
         Some(Event::CaughtUp(executed))
     }
 
-    /// Observes after a turn which node it asked for what it missed, if it asked any.
+    /// Updates it after a turn in which the node asked `wanted` for what it missed, or nobody. Returns `Behind` or
+    /// `CaughtUp` if that is due.
     pub fn observe(&mut self, now: u64, wanted: Option<NodeNo>, executed: Executed) -> Option<Event>
         ensures some { IfSome result (IsLagNews self.old now wanted executed) }
-        // What is news is reported.
+        // An event that is due is returned.
         ensures none { IsNone result → (e : EventValue) → IsLagNews self.old now wanted executed e → ⊥ }
         ensures becomes { BecomesLag self.old now wanted result self.new }
     {

@@ -1,4 +1,4 @@
-//! Events of one kind, of which at most one line a second is logged.
+//! The slot of one kind of events, which limits its lines in the log to one a second.
 
 ghost use Rattle.std.specs.Prelude.{◌≡◌, Some, None, IfSome, IsSome, IsNone};
 ghost use Rattle.lk_events.specs.Slots.{having_put, having_told, is_due, IsLineOf, Waits};
@@ -21,21 +21,21 @@ pub struct Line {
 pub struct Slot {
     /// The newest event, and when it happened.
     pub newest: Option<(u64, Event)>,
-    /// How many others it has taken the place of.
+    /// How many events of the kind it has replaced since the last line.
     pub others: u64,
     /// When the last line was logged.
     pub told: Option<u64>,
 }
 
 impl Slot {
-    /// Nothing has happened.
+    /// The slot of a kind of which nothing has happened.
     pub const EMPTY: Slot = Slot {
         newest: None,
         others: 0,
         told: None,
     };
 
-    /// One event more. It takes the place of one that waits.
+    /// Keeps the event as the newest. One that waits is dropped, and only counted.
     pub fn put(&mut self, now: u64, event: Event)
         ensures { self.new ≡ having_put now event self.old }
     {
@@ -55,7 +55,7 @@ impl Slot {
         }
     }
 
-    /// Takes out the line that waits, if one is due.
+    /// Removes and returns the waiting line, if one is due.
     pub fn take(&mut self, now: u64) -> Option<Line>
         ensures line { IfSome result (λ line. IsLineOf self.old now line) }
         ensures told { IsSome result → self.new ≡ having_told now }

@@ -1,4 +1,4 @@
-//! What waits to be logged of a node, by kind.
+//! The slots of a node's events, one for each kind.
 
 ghost use Rattle.std.specs.Prelude.{◌≡◌, replicate, slice_get, Some, None, IfSome};
 ghost use Rattle.lk_events.specs.Kinds.{kinds};
@@ -9,14 +9,14 @@ ghost use Rattle.lk_events.specs.Watches.{Puts, PutsSome, TakesOut};
 use crate::event::{Event, KINDS};
 use crate::slot::{Line, Slot};
 
-/// What waits of each kind of events. Times are milliseconds since 1970.
+/// A slot for each kind of events, by the index of the kind. Times are milliseconds since 1970.
 #[derive(Drop)]
 pub struct Slots {
     pub all: [Slot; KINDS],
 }
 
 impl Slots {
-    /// Nothing waits of any kind.
+    /// Returns empty slots.
     pub fn new() -> Slots
         ensures { result.all ≡ replicate kinds empty }
     {
@@ -41,7 +41,7 @@ impl Slots {
         }
     }
 
-    /// Puts an event.
+    /// Puts an event into the slot of its kind.
     pub fn put(&mut self, now: u64, event: Event)
         ensures { Puts now event self.old.all self.new.all }
     {
@@ -49,7 +49,7 @@ impl Slots {
         self.all[kind].put(now, event);
     }
 
-    /// Puts an event, if there is one.
+    /// Puts an event, if there is one, into the slot of its kind.
     pub fn put_some(&mut self, now: u64, event: Option<Event>)
         ensures { PutsSome now event self.old.all self.new.all }
     {
@@ -58,7 +58,7 @@ impl Slots {
         }
     }
 
-    /// Takes out the line that waits of that kind, if one is due.
+    /// Removes and returns the waiting line of that kind, if one is due. `None` too for a kind that does not exist.
     pub fn take(&mut self, kind: usize, now: u64) -> Option<Line>
         ensures line { IfSome result (λ line. TakesOut kind now line self.old.all self.new.all) }
         ensures none { result ≡ None → self.new ≡ self.old }

@@ -1,4 +1,4 @@
-//! What was reported of a node, and what is news compared with that.
+//! What was last reported of a node, and the events that an observation yields compared with that.
 
 ghost use Rattle.std.specs.Prelude.{◌≡◌};
 ghost use Rattle.lk_events.specs.News.{Gives, story_of, forgetting, told_with, is_one_of};
@@ -33,7 +33,7 @@ fn is_one_of(node: NodeNo, members: &[Member]) -> bool
 }
 
 impl Story {
-    /// A story that begins with this observation.
+    /// Returns the story of a node that was first seen like this: all of it passes as reported.
     pub fn of(seen: Observation) -> Story
         ensures { result ≡ story_of seen }
     {
@@ -52,7 +52,7 @@ impl Story {
         }
     }
 
-    /// The ballot in which it no longer leads.
+    /// Returns `Ended` if it no longer leads in the ballot that was reported.
     pub fn ended(&self, seen: &Observation) -> Option<Event>
         ensures { Gives ending self.now seen.now result }
     {
@@ -63,7 +63,7 @@ impl Story {
         Some(Event::Ended(ballot, seen.why(ballot)))
     }
 
-    /// The ballot in which it leads now.
+    /// Returns `Leads` if it leads in a ballot that was not reported.
     pub fn leads(&self, seen: &Observation) -> Option<Event>
         ensures { Gives leading self.now seen.now result }
     {
@@ -74,7 +74,7 @@ impl Story {
         Some(Event::Leads(ballot))
     }
 
-    /// The node that it follows now.
+    /// Returns `Follows` if it follows another node than was reported.
     pub fn follows(&self, seen: &Observation) -> Option<Event>
         ensures { Gives following self.now seen.now result }
     {
@@ -85,7 +85,7 @@ impl Story {
         Some(Event::Follows(node))
     }
 
-    /// That this node has become a member.
+    /// Returns `Joined` if this node is a member now, but was not one in the story.
     pub fn joined(&self, seen: &Observation, node: NodeNo) -> Option<Event>
         ensures { Gives (joining node) self.now seen.now result }
     {
@@ -97,7 +97,7 @@ impl Story {
         Some(Event::Joined(node, seen.members.copy()))
     }
 
-    /// That this node is no longer a member.
+    /// Returns `Left` if this node was a member in the story, but is not one now.
     pub fn left(&self, seen: &Observation, node: NodeNo) -> Option<Event>
         ensures { Gives (leaving node) self.now seen.now result }
     {
@@ -109,7 +109,7 @@ impl Story {
         Some(Event::Left(node, seen.members.copy()))
     }
 
-    /// Its own new snapshot.
+    /// Returns `Wrote` if its snapshot is at a greater position than was reported, and none was installed in the turn.
     pub fn wrote(&self, seen: &Observation) -> Option<Event>
         ensures { Gives writing self.now seen.now result }
     {
@@ -119,7 +119,7 @@ impl Story {
         Some(Event::Wrote(seen.snapshot))
     }
 
-    /// Another node's snapshot that it installed.
+    /// Returns `Installed` if it installed another node's snapshot in the turn.
     pub fn installed(&self, seen: &Observation) -> Option<Event>
         ensures { Gives installing self.now seen.now result }
     {
@@ -127,7 +127,7 @@ impl Story {
         Some(Event::Installed(position, node))
     }
 
-    /// A node to which a send failed.
+    /// Returns `Unsent` if a send failed in the turn.
     pub fn unsent(&self, seen: &Observation) -> Option<Event>
         ensures { Gives failing self.now seen.now result }
     {
@@ -135,7 +135,7 @@ impl Story {
         Some(Event::Unsent(node))
     }
 
-    /// A node of another genesis from which it received.
+    /// Returns `OtherGenesis` if it received from a node of another genesis, and that is to be reported.
     pub fn stranger(&self, seen: &Observation) -> Option<Event>
         ensures { Gives meeting self.now seen.now result }
     {
@@ -143,7 +143,7 @@ impl Story {
         Some(Event::OtherGenesis(node))
     }
 
-    /// The datagrams that it received from another cluster.
+    /// Returns `OtherCluster` if it received from another cluster, and that is to be reported.
     pub fn foreign(&self, seen: &Observation) -> Option<Event>
         ensures { Gives straying self.now seen.now result }
     {
@@ -151,7 +151,7 @@ impl Story {
         Some(Event::OtherCluster(count))
     }
 
-    // Puts news of the leader.
+    // Puts the news of the leader into the slots.
     fn put_leads(&self, now: u64, seen: &Observation, slots: &mut Slots)
         ensures { PutsNews now self.now seen.now lead_topics slots.old.all slots.new.all }
     {
@@ -160,7 +160,7 @@ impl Story {
         slots.put_some(now, self.follows(seen));
     }
 
-    // Puts which of these members have joined.
+    // Puts `Joined` for each of these members that has joined.
     fn put_joined(&self, now: u64, seen: &Observation, members: &[Member], slots: &mut Slots)
         ensures { PutsNews now self.now seen.now (joins members.now) slots.old.all slots.new.all }
     {
@@ -169,7 +169,7 @@ impl Story {
         }
     }
 
-    // Puts which of these members have left.
+    // Puts `Left` for each of these members that has left.
     fn put_left(&self, now: u64, seen: &Observation, members: &[Member], slots: &mut Slots)
         ensures { PutsNews now self.now seen.now (leaves members.now) slots.old.all slots.new.all }
     {
@@ -178,7 +178,7 @@ impl Story {
         }
     }
 
-    // Puts news of the members: several nodes may join or leave in one turn.
+    // Puts the news of the members: several nodes may join or leave in one turn.
     fn put_members(&self, now: u64, seen: &Observation, slots: &mut Slots)
         ensures { PutsNews now self.now seen.now (member_topics self.now seen.now) slots.old.all slots.new.all }
     {
@@ -186,7 +186,7 @@ impl Story {
         self.put_left(now, seen, self.members.as_slice(), slots);
     }
 
-    // Puts news of its snapshots, of failed sends and of strangers.
+    // Puts the news of snapshots, of failed sends, and of datagrams of another genesis or cluster.
     fn put_work(&self, now: u64, seen: &Observation, slots: &mut Slots)
         ensures { PutsNews now self.now seen.now work_topics slots.old.all slots.new.all }
     {
@@ -197,7 +197,7 @@ impl Story {
         slots.put_some(now, self.foreign(seen));
     }
 
-    // Puts all news.
+    // Puts all news into the slots.
     fn put_all(&self, now: u64, seen: &Observation, slots: &mut Slots)
         ensures { PutsNews now self.now seen.now (topics self.now seen.now) slots.old.all slots.new.all }
     {
@@ -206,7 +206,7 @@ impl Story {
         self.put_work(now, seen, slots);
     }
 
-    /// Forgets whom the node follows if no leader is reported: then any leader is news, even the same one.
+    /// Forgets which leader was reported if `leaderless` is an event: then any leader is news, even the same one.
     pub fn forget(&mut self, leaderless: &Option<Event>)
         ensures { self.new ≡ forgetting leaderless.now self.old }
     {
@@ -215,7 +215,7 @@ impl Story {
         }
     }
 
-    // Remembers an observation as reported.
+    // Replaces the story by an observation. If that names no leader, the one followed last is kept.
     fn become_told(&mut self, seen: Observation)
         ensures { self.new ≡ told_with seen self.old }
     {
@@ -232,7 +232,7 @@ impl Story {
         self.snapshot = snapshot;
     }
 
-    /// Observes the node after a turn, and puts what is news into the slots.
+    /// Puts what is news after a turn into the slots, and remembers it as reported.
     pub fn observe(&mut self, now: u64, seen: Observation, slots: &mut Slots)
         ensures news { PutsNews now self.old seen (topics self.old seen) slots.old.all slots.new.all }
         ensures told { self.new ≡ told_with seen self.old }

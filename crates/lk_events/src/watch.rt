@@ -1,4 +1,4 @@
-//! Finds the events of a node, turn by turn.
+//! The watch over a node: finds its events, turn by turn, and keeps them until they may be logged.
 
 ghost use Rattle.std.specs.Prelude.{◌≡◌, replicate, slice_get, Some, None, IfSome};
 ghost use Rattle.lk_events.specs.Kinds.{kinds};
@@ -25,7 +25,7 @@ pub struct Watch {
 }
 
 impl Watch {
-    /// A watch that begins with this observation. Nothing waits.
+    /// Returns a watch that begins with this observation: nothing waits to be logged.
     pub fn new(seen: Observation) -> Watch
         ensures story { result.story ≡ story_of seen }
         ensures quiet { result.quiet ≡ record { since = None; told = 0 } }
@@ -40,7 +40,7 @@ impl Watch {
         }
     }
 
-    /// Puts an event.
+    /// Puts an event into the slot of its kind.
     pub fn put(&mut self, now: u64, event: Event)
         ensures puts { Puts now event self.old.slots.all self.new.slots.all }
         ensures others { self.new ≡ record self.old { slots = self.new.slots } }
@@ -48,7 +48,7 @@ impl Watch {
         self.slots.put(now, event);
     }
 
-    // Puts the events that come with time.
+    // Puts the events that depend on time: no leader, behind, caught up.
     fn put_times(&mut self, now: u64, seen: &Observation)
         ensures { TurnsTimes now seen.now self.old self.new }
     {
@@ -59,7 +59,7 @@ impl Watch {
         self.slots.put_some(now, lag);
     }
 
-    /// Observes the node after a turn.
+    /// Updates the watch after a turn, and puts the events that this shows into the slots.
     pub fn observe(&mut self, now: u64, seen: Observation)
         ensures { Turns now seen self.old self.new }
     {
@@ -67,7 +67,7 @@ impl Watch {
         self.story.observe(now, seen, &mut self.slots);
     }
 
-    /// Takes out the line that waits of that kind, if one is due.
+    /// Removes and returns the waiting line of that kind, if one is due.
     pub fn take(&mut self, kind: usize, now: u64) -> Option<Line>
         ensures line { IfSome result (λ line. TakesOut kind now line self.old.slots.all self.new.slots.all) }
         ensures others { self.new ≡ record self.old { slots = self.new.slots } }

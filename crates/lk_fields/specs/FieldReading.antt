@@ -1,4 +1,4 @@
--- Reading each field.
+-- The parser of each field.
 use Rattle.std.specs.Prelude.{ℕ, Bool, List, length, Option, nat_le, ◌&&◌, ◌||◌, ◌==◌}
 use Rattle.std.specs.Int.{w16, w32, w64}
 use Rattle.lk_types.specs.Limits.{max_count, max_node, max_client, max_port, max_members, max_payload, max_sharers}
@@ -119,7 +119,7 @@ bare_answer =
     (kind 39 (bare AlreadyRaised)
     no_kind)))))))))))))))
 
--- the answers that name a holder and its fence
+-- the fields of the answers that name a holder and its fence
 abbrev pub read_held : List ℕ → Option ((ℕ × ℕ) × List ℕ)
 read_held = both read_client read_count
 
@@ -127,7 +127,7 @@ read_held = both read_client read_count
 unfoldable pub read_sharer_count : List ℕ → Option (ℕ × List ℕ)
 read_sharer_count = tested (is_from_1_to max_sharers) read_byte
 
--- the answer with the count of sharers and the fence
+-- the fields of the answer that has the count of sharers and the fence
 abbrev pub read_sharing : List ℕ → Option ((ℕ × ℕ) × List ℕ)
 read_sharing = both read_sharer_count read_count
 

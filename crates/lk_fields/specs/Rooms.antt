@@ -1,8 +1,8 @@
--- The most bytes that each field takes, and what its room is for.
+-- The most bytes that each field takes: with so many reserved, appending it cannot run out of memory.
 use Rattle.std.specs.Prelude.{ℕ, ◌+◌, ◌*◌, ◌<◌, ◌≤◌, Result, MatchResult}
 use Rattle.lk_types.specs.Limits.{max_members, max_payload}
 
--- it uses at most this much room, and runs out of memory only if there was less of it
+-- of the reserved bytes, counted before and after, a call uses at most this many, and fails only if there were fewer
 abbrev pub UsesRoom : {T E : Type 0} → Result T E → ℕ → ℕ → ℕ → Type 0
 UsesRoom result before after most = MatchResult result (λ _. before ≤ after + most) (λ _. before < most)
 

@@ -1,5 +1,5 @@
-//! The fields of datagrams, store entries and packed states: read from the start of some bytes, and appended to some
-//! bytes.
+//! Encodes and decodes the fields that datagrams, store entries and packed states share: `put_x` appends the canonical
+//! bytes of a field, `read_x` parses a field at the start of some bytes, and `skip_x` passes over one.
 #![tactic(auto)]
 
 mod put;

@@ -1,5 +1,6 @@
-//! Appending a field: its canonical bytes. Out of memory it appends nothing. A writer reserves its room before it
-//! begins, and with that room it does not run out of memory.
+//! Appends a field in its canonical bytes, numbers big-endian. Out of memory, a function with a clause `err` appends
+//! nothing; the others may leave a prefix. The clause `room` gives the most bytes that a call uses: with so many
+//! reserved it cannot run out of memory.
 
 ghost use Rattle.std.specs.Prelude.{◌≡◌, ◌≤◌, ◌+◌, ◌*◌, ◌++◌, length, OnOk, OnErr};
 ghost use Rattle.lk_types.specs.Limits.{max_members};
@@ -140,7 +141,7 @@ pub fn put_member(out: &mut BytesMut, value: Member) -> Result<(), AllocError>
     put_u16(out, value.port.get())
 }
 
-// Appends how many members there are, and then each.
+// Appends how many members there are, and then each. Out of memory it may leave a prefix.
 fn put_list(out: &mut BytesMut, list: &[Member]) -> Result<(), AllocError>
     requires { length list.now ≤ max_members }
     ensures ok { OnOk result (out.new.items ≡ out.old.items ++ members list.now) }
@@ -164,7 +165,7 @@ pub fn put_members(out: &mut BytesMut, list: &[Member]) -> Result<(), AllocError
     put_list(out, list)
 }
 
-// Appends the length of a payload in one byte, and its bytes.
+// Appends the length of a payload in one byte, and its bytes. Out of memory it may leave a prefix.
 fn put_payload(out: &mut BytesMut, value: &Payload) -> Result<(), AllocError>
     ensures ok { OnOk result (out.new.items ≡ out.old.items ++ payload value.now) }
     ensures room { UsesRoom result out.old.spare out.new.spare payload_room }
@@ -174,7 +175,7 @@ fn put_payload(out: &mut BytesMut, value: &Payload) -> Result<(), AllocError>
     out.put_slice(bytes)
 }
 
-// Appends an op after its tag.
+// Appends the tag of an op and its fields; a Raise has one, the version 2. Out of memory it may leave a prefix.
 fn put_op(out: &mut BytesMut, value: &Op) -> Result<(), AllocError>
     ensures ok { OnOk result (out.new.items ≡ out.old.items ++ op value.now) }
     ensures room { UsesRoom result out.old.spare out.new.spare op_room }
@@ -201,7 +202,7 @@ fn put_op(out: &mut BytesMut, value: &Op) -> Result<(), AllocError>
     Ok(())
 }
 
-/// Appends a client, a number and an op.
+/// Appends a client, a number and an op. Out of memory it may leave a prefix.
 pub fn put_request(out: &mut BytesMut, value: &Request) -> Result<(), AllocError>
     ensures ok { OnOk result (out.new.items ≡ out.old.items ++ request value.now) }
     ensures room { UsesRoom result out.old.spare out.new.spare request_room }
@@ -211,7 +212,7 @@ pub fn put_request(out: &mut BytesMut, value: &Request) -> Result<(), AllocError
     put_op(out, &value.op)
 }
 
-/// Appends a command after its tag: whether it is a request.
+/// Appends the tag of a command, 0 for a no-op and 1 for a request, and then the request.
 pub fn put_command(out: &mut BytesMut, value: &Command) -> Result<(), AllocError>
     ensures ok { OnOk result (out.new.items ≡ out.old.items ++ command value.now) }
     ensures err { OnErr result (out.new.items ≡ out.old.items) }
@@ -240,7 +241,7 @@ pub fn put_vote(out: &mut BytesMut, value: &Vote) -> Result<(), AllocError>
     put_command(out, &value.command)
 }
 
-// The tag of an answer.
+// Returns the tag of an answer: from 32 on for joins, leaves and raises, below 32 for the lock table.
 fn tag_of(value: &Answer) -> u8
     ensures { result ≡ answer_tag value.now }
 {
@@ -270,7 +271,7 @@ fn tag_of(value: &Answer) -> u8
     }
 }
 
-// Appends the fields of an answer.
+// Appends the fields of an answer without its tag. Out of memory it may leave a prefix.
 fn put_answer_fields(out: &mut BytesMut, value: &Answer) -> Result<(), AllocError>
     ensures ok { OnOk result (out.new.items ≡ out.old.items ++ answer_fields value.now) }
     ensures room { UsesRoom result out.old.spare out.new.spare held_room }
@@ -291,7 +292,7 @@ fn put_answer_fields(out: &mut BytesMut, value: &Answer) -> Result<(), AllocErro
     Ok(())
 }
 
-/// Appends an answer after its tag.
+/// Appends the tag of an answer, and its fields.
 pub fn put_answer(out: &mut BytesMut, value: Answer) -> Result<(), AllocError>
     ensures ok { OnOk result (out.new.items ≡ out.old.items ++ answer value) }
     ensures err { OnErr result (out.new.items ≡ out.old.items) }

@@ -1,5 +1,5 @@
-//! Reading a field from the start of some bytes: a valid value that is spelled there, with the bytes after it, or
-//! `None` if there is none.
+//! Parses a field at the start of some bytes: returns the value and the bytes after it, or `None` if they are too few
+//! or the value is out of range.
 
 ghost use Rattle.std.specs.Prelude.{◌≡◌, ◌<◌, ◌≤◌, ◌^◌, length, IfSome};
 ghost use Rattle.std.specs.List.{AllByRecursion};
@@ -28,7 +28,7 @@ use lk_types::{
     Payload, Port, Position, RealBallot, Request, RequestNumber, Round, SharerCount, Vote,
 };
 
-/// A byte.
+/// Reads a byte.
 #[tactic(auto, using(crate::proofs::FrontLaws::one_front))]
 pub fn read_u8(bytes: &[u8]) -> Option<(u8, &[u8])>
     ensures front { ReadsFront (λ x. (x.0, x.1.now)) one (λ n. n < 256) bytes.now result }
@@ -38,7 +38,7 @@ pub fn read_u8(bytes: &[u8]) -> Option<(u8, &[u8])>
     Some((*byte, rest))
 }
 
-/// A number in two bytes.
+/// Reads a big-endian number of two bytes.
 #[tactic(auto, using(crate::proofs::FrontLaws::two_front), unfolding(crate::specs::FieldReading::read_two))]
 pub fn read_u16(bytes: &[u8]) -> Option<(u16, &[u8])>
     ensures front { ReadsFront (λ x. (x.0, x.1.now)) two (λ n. n < 2 ^ 16) bytes.now result }
@@ -49,7 +49,7 @@ pub fn read_u16(bytes: &[u8]) -> Option<(u16, &[u8])>
     Some((number, rest))
 }
 
-/// A number in four bytes.
+/// Reads a big-endian number of four bytes.
 #[tactic(auto, using(crate::proofs::FrontLaws::four_front), unfolding(crate::specs::FieldReading::read_four))]
 pub fn read_u32(bytes: &[u8]) -> Option<(u32, &[u8])>
     ensures front { ReadsFront (λ x. (x.0, x.1.now)) four (λ n. n < 2 ^ 32) bytes.now result }
@@ -60,7 +60,7 @@ pub fn read_u32(bytes: &[u8]) -> Option<(u32, &[u8])>
     Some((number, rest))
 }
 
-/// A number in eight bytes.
+/// Reads a big-endian number of eight bytes.
 #[tactic(auto, using(crate::proofs::FrontLaws::eight_front), unfolding(crate::specs::FieldReading::read_eight))]
 pub fn read_u64(bytes: &[u8]) -> Option<(u64, &[u8])>
     ensures front { ReadsFront (λ x. (x.0, x.1.now)) eight (λ n. n < 2 ^ 64) bytes.now result }
@@ -71,7 +71,7 @@ pub fn read_u64(bytes: &[u8]) -> Option<(u64, &[u8])>
     Some((number, rest))
 }
 
-/// A node in four bytes.
+/// Reads a node's number in four bytes.
 #[tactic(auto, using(crate::proofs::FrontLaws::node_front), unfolding(crate::specs::FieldReading::read_node))]
 pub fn read_node(bytes: &[u8]) -> Option<(NodeNo, &[u8])>
     ensures front { ReadsFront (λ x. (x.0, x.1.now)) four IsNode bytes.now result }
@@ -81,7 +81,7 @@ pub fn read_node(bytes: &[u8]) -> Option<(NodeNo, &[u8])>
     Some((NodeNo::of(number)?, rest))
 }
 
-/// A client in two bytes.
+/// Reads a client's number in two bytes.
 #[tactic(auto, using(crate::proofs::FrontLaws::client_front), unfolding(crate::specs::FieldReading::read_client))]
 pub fn read_client(bytes: &[u8]) -> Option<(ClientNo, &[u8])>
     ensures front { ReadsFront (λ x. (x.0, x.1.now)) two IsClient bytes.now result }
@@ -91,7 +91,7 @@ pub fn read_client(bytes: &[u8]) -> Option<(ClientNo, &[u8])>
     Some((ClientNo::of(number)?, rest))
 }
 
-/// A position in eight bytes.
+/// Reads a position in eight bytes.
 #[tactic(auto, using(crate::proofs::FrontLaws::count_front), unfolding(crate::specs::FieldReading::read_count))]
 pub fn read_position(bytes: &[u8]) -> Option<(Position, &[u8])>
     ensures front { ReadsFront (λ x. (x.0, x.1.now)) eight IsCount bytes.now result }
@@ -101,7 +101,7 @@ pub fn read_position(bytes: &[u8]) -> Option<(Position, &[u8])>
     Some((Position::of(number)?, rest))
 }
 
-/// A request's number in eight bytes.
+/// Reads a request's number in eight bytes.
 #[tactic(auto, using(crate::proofs::FrontLaws::count_front), unfolding(crate::specs::FieldReading::read_count))]
 pub fn read_number(bytes: &[u8]) -> Option<(RequestNumber, &[u8])>
     ensures front { ReadsFront (λ x. (x.0, x.1.now)) eight IsCount bytes.now result }
@@ -111,7 +111,7 @@ pub fn read_number(bytes: &[u8]) -> Option<(RequestNumber, &[u8])>
     Some((RequestNumber::of(number)?, rest))
 }
 
-/// A fence in eight bytes.
+/// Reads a fence in eight bytes.
 #[tactic(auto, using(crate::proofs::FrontLaws::count_front), unfolding(crate::specs::FieldReading::read_count))]
 pub fn read_fence(bytes: &[u8]) -> Option<(Fence, &[u8])>
     ensures front { ReadsFront (λ x. (x.0, x.1.now)) eight IsCount bytes.now result }
@@ -121,7 +121,7 @@ pub fn read_fence(bytes: &[u8]) -> Option<(Fence, &[u8])>
     Some((Fence::of(number)?, rest))
 }
 
-/// A count of positions, in eight bytes.
+/// Reads a count of positions, which may be 0, in eight bytes.
 #[tactic(auto, using(crate::proofs::FrontLaws::total_front), unfolding(crate::specs::FieldReading::read_total))]
 pub fn read_executed(bytes: &[u8]) -> Option<(Executed, &[u8])>
     ensures front { ReadsFront (λ x. (x.0, x.1.now)) eight IsTotal bytes.now result }
@@ -131,7 +131,7 @@ pub fn read_executed(bytes: &[u8]) -> Option<(Executed, &[u8])>
     Some((Executed::of(number)?, rest))
 }
 
-/// A real ballot: its round and its node.
+/// Reads a ballot that a node can lead, so not `Ballot::ZERO`: its round and its node.
 #[tactic(auto, using(crate::proofs::FrontLaws::ballot_front), unfolding(crate::specs::FieldReading::read_ballot, crate::specs::FieldReading::read_count))]
 pub fn read_ballot(bytes: &[u8]) -> Option<(RealBallot, &[u8])>
     ensures front { ReadsFront (λ x. (x.0, x.1.now)) ballot IsReal bytes.now result }
@@ -145,7 +145,7 @@ pub fn read_ballot(bytes: &[u8]) -> Option<(RealBallot, &[u8])>
     Some((RealBallot::new(round, node), rest))
 }
 
-/// A ballot, including `Ballot::ZERO`.
+/// Reads a ballot that may be `Ballot::ZERO`: its round and its node, both 0 for `Ballot::ZERO`.
 #[tactic(auto, using(crate::proofs::FrontLaws::mark_front), unfolding(crate::specs::FieldReading::read_mark))]
 pub fn read_mark(bytes: &[u8]) -> Option<(Ballot, &[u8])>
     ensures front { ReadsFront (λ x. (x.0, x.1.now)) ballot IsMark bytes.now result }
@@ -159,7 +159,7 @@ pub fn read_mark(bytes: &[u8]) -> Option<(Ballot, &[u8])>
     Some((Ballot::of(round, node)?, rest))
 }
 
-/// A node and its port.
+/// Reads a node and its port.
 #[tactic(auto, using(crate::proofs::FrontLaws::member_front), unfolding(crate::specs::FieldReading::read_member, crate::specs::FieldReading::read_port))]
 pub fn read_member(bytes: &[u8]) -> Option<(Member, &[u8])>
     ensures front { ReadsFront (λ x. (x.0, x.1.now)) member IsMember bytes.now result }
@@ -173,7 +173,7 @@ pub fn read_member(bytes: &[u8]) -> Option<(Member, &[u8])>
     Some((Member { node, port }, rest))
 }
 
-// This many members, one after the other.
+// Reads this many members, one after the other, in any order.
 fn many_members(count: u8, bytes: &[u8]) -> Option<(ArrayVec<Member, MAX_MEMBERS>, &[u8])>
     requires { count ≤ max_members }
     ensures read { Finds (λ x. (x.0.items, x.1.now)) result (many read_member count bytes.now) }
@@ -191,7 +191,7 @@ fn many_members(count: u8, bytes: &[u8]) -> Option<(ArrayVec<Member, MAX_MEMBERS
     Some((list, rest))
 }
 
-/// A set of members: how many, and then each.
+/// Reads a set of members: how many, 1 to 7, and then each, rising by node.
 #[tactic(auto, using(crate::proofs::FrontLaws::members_front), unfolding(crate::specs::FieldReading::read_members))]
 pub fn read_members(bytes: &[u8]) -> Option<(Members, &[u8])>
     ensures front { ReadsFront (λ x. (x.0, x.1.now)) members
@@ -211,7 +211,7 @@ pub fn read_members(bytes: &[u8]) -> Option<(Members, &[u8])>
     Some((set, rest))
 }
 
-/// An op, after its tag.
+/// Reads the tag of an op and its fields. The only field of a Raise is the version, which is 2.
 #[tactic(auto, using(crate::proofs::FrontLaws::op_front), unfolding(crate::specs::FieldReading::op_of, crate::specs::FieldReading::read_version))]
 pub fn read_op(bytes: &[u8]) -> Option<(Op, &[u8])>
     ensures front { ReadsFront (λ x. (x.0, x.1.now)) op IsOp bytes.now result }
@@ -248,7 +248,7 @@ pub fn read_op(bytes: &[u8]) -> Option<(Op, &[u8])>
     }
 }
 
-/// A client, a number and an op.
+/// Reads a request: a client, a number and an op.
 #[tactic(auto, unfolding(crate::specs::FieldReading::read_request))]
 pub fn read_request(bytes: &[u8]) -> Option<(Request, &[u8])>
     ensures { Finds (λ x. (x.0, x.1.now)) result (read_request bytes.now) }
@@ -262,7 +262,7 @@ pub fn read_request(bytes: &[u8]) -> Option<(Request, &[u8])>
     None
 }
 
-/// A no-op or a request, after its tag.
+/// Reads the tag of a command, 0 for a no-op and 1 for a request, and then the request.
 #[tactic(auto, using(crate::proofs::FrontLaws::command_front), unfolding(crate::specs::FieldReading::command_of))]
 pub fn read_command(bytes: &[u8]) -> Option<(Command, &[u8])>
     ensures front { ReadsFront (λ x. (x.0, x.1.now)) command IsCommand bytes.now result }
@@ -281,7 +281,7 @@ pub fn read_command(bytes: &[u8]) -> Option<(Command, &[u8])>
     }
 }
 
-/// A position, a ballot and a command.
+/// Reads a vote: a position, a ballot and a command.
 #[tactic(auto, using(crate::proofs::FrontLaws::vote_front), unfolding(crate::specs::FieldReading::read_vote))]
 pub fn read_vote(bytes: &[u8]) -> Option<(Vote, &[u8])>
     ensures front { ReadsFront (λ x. (x.0, x.1.now)) vote IsVote bytes.now result }
@@ -301,7 +301,7 @@ pub fn read_vote(bytes: &[u8]) -> Option<(Vote, &[u8])>
     None
 }
 
-/// An answer, after its tag.
+/// Reads the tag of an answer, and its fields.
 #[tactic(auto, using(crate::proofs::FrontLaws::answer_front), unfolding(crate::specs::FieldReading::answer_of, crate::specs::FieldReading::read_total))]
 pub fn read_answer(bytes: &[u8]) -> Option<(Answer, &[u8])>
     ensures front { ReadsFront (λ x. (x.0, x.1.now)) answer IsAnswer bytes.now result }
@@ -344,7 +344,7 @@ pub fn read_answer(bytes: &[u8]) -> Option<(Answer, &[u8])>
     }
 }
 
-/// A payload: a byte with its length, and then its bytes; and the bytes after it.
+/// Reads a payload: its length, 1 to 64, in a byte, and then so many bytes.
 #[tactic(auto, unfolding(crate::specs::FieldReading::read_payload))]
 pub fn read_payload(bytes: &[u8]) -> Option<(Payload, &[u8])>
     ensures { Finds (λ x. (x.0, x.1.now)) result (read_payload bytes.now) }
@@ -358,7 +358,7 @@ pub fn read_payload(bytes: &[u8]) -> Option<(Payload, &[u8])>
     Some((Payload::of(text)?, rest))
 }
 
-// The answer of a tag without fields.
+// Returns the answer of a tag that has no fields, and `rest`; `None` for any other tag.
 #[tactic(auto, unfolding(crate::specs::FieldReading::bare_answer))]
 fn bare_answer<'a>(tag: u8, rest: &'a [u8]) -> Option<(Answer, &'a [u8])>
     ensures { Finds (λ x. (x.0, x.1.now)) result (bare_answer tag rest.now) }
@@ -385,7 +385,7 @@ fn bare_answer<'a>(tag: u8, rest: &'a [u8]) -> Option<(Answer, &'a [u8])>
     Some((answer, rest))
 }
 
-// A holder and its fence.
+// Reads the fields of Busy and Held: a holder and its fence.
 fn read_held(bytes: &[u8]) -> Option<(ClientNo, Fence, &[u8])>
     ensures { Finds (λ x. ((x.0, x.1), x.2.now)) result (read_held bytes.now) }
 {
@@ -397,7 +397,7 @@ fn read_held(bytes: &[u8]) -> Option<(ClientNo, Fence, &[u8])>
     None
 }
 
-// How many clients share a name, and its fence.
+// Reads the fields of HeldShared: how many clients share the name, and its fence.
 #[tactic(auto, unfolding(crate::specs::FieldReading::read_sharer_count))]
 fn read_sharing(bytes: &[u8]) -> Option<(SharerCount, Fence, &[u8])>
     ensures { Finds (λ x. ((x.0, x.1), x.2.now)) result (read_sharing bytes.now) }

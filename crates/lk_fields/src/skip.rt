@@ -1,4 +1,4 @@
-// Skipping fields: it consumes what reading would, and builds nothing.
+// Skips fields: consumes exactly the bytes that reading would, and refuses the same ones, but builds no values.
 ghost use Rattle.std.specs.Prelude.{◌≡◌, ◌-◌, length, take};
 ghost use Rattle.lk_fields.specs.Parser.{Finds, made};
 ghost use Rattle.lk_fields.specs.FieldReading.{read_payload, read_op, read_request, read_command, read_vote};
@@ -10,6 +10,7 @@ use crate::read::{
 use lk_types::Position;
 use lk_types::limits::MAX_PAYLOAD;
 
+// Returns the bytes after a payload, or `None` if none is at the start.
 #[tactic(auto, unfolding(crate::specs::FieldReading::read_payload))]
 fn skip_payload(bytes: &[u8]) -> Option<&[u8]>
     ensures { Finds (λ x. x.now) result (past read_payload bytes.now) }
@@ -22,6 +23,7 @@ fn skip_payload(bytes: &[u8]) -> Option<&[u8]>
     Some(rest.split_at(length).1)
 }
 
+// Returns the bytes after an op, or `None` if none is at the start.
 #[tactic(auto, unfolding(crate::specs::FieldReading::op_of, crate::specs::FieldReading::read_version))]
 fn skip_op(bytes: &[u8]) -> Option<&[u8]>
     ensures { Finds (λ x. x.now) result (past read_op bytes.now) }
@@ -49,7 +51,7 @@ fn skip_op(bytes: &[u8]) -> Option<&[u8]>
     }
 }
 
-/// What follows a request.
+/// Returns the bytes after a request, or `None` if none is at the start.
 #[tactic(auto, unfolding(crate::specs::FieldReading::read_request))]
 pub fn skip_request(bytes: &[u8]) -> Option<&[u8]>
     ensures { Finds (λ x. x.now) result (past read_request bytes.now) }
@@ -62,7 +64,7 @@ pub fn skip_request(bytes: &[u8]) -> Option<&[u8]>
     None
 }
 
-/// What follows a command.
+/// Returns the bytes after a command, or `None` if none is at the start.
 #[tactic(auto, unfolding(crate::specs::FieldReading::command_of))]
 pub fn skip_command(bytes: &[u8]) -> Option<&[u8]>
     ensures { Finds (λ x. x.now) result (past read_command bytes.now) }
@@ -75,7 +77,7 @@ pub fn skip_command(bytes: &[u8]) -> Option<&[u8]>
     }
 }
 
-/// The position of a vote, and what follows the vote.
+/// Returns the position of a vote and the bytes after the vote, or `None` if no vote is at the start.
 #[tactic(auto, unfolding(crate::specs::FieldReading::read_vote))]
 pub fn skip_vote(bytes: &[u8]) -> Option<(Position, &[u8])>
     ensures { Finds (λ x. (x.0, x.1.now)) result (made (λ v. v.position) read_vote bytes.now) }
@@ -89,7 +91,7 @@ pub fn skip_vote(bytes: &[u8]) -> Option<(Position, &[u8])>
     None
 }
 
-/// The bytes before these last ones.
+/// Returns the bytes without the last ones: the part that a parser consumed if it left `rest`. Only the lengths count.
 pub fn front_of<'a>(bytes: &'a [u8], rest: &[u8]) -> &'a [u8]
     ensures { result.now ≡ take (length bytes.now - length rest.now) bytes.now }
 {

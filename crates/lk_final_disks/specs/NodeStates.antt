@@ -1,4 +1,4 @@
--- What the nodes of a world leave.
+-- The states of the nodes of a world when it ends.
 use Rattle.std.specs.Prelude.{◌≡◌, ⊤, ℕ, ◌+◌, Bool, true, false, List, [], ◌∷◌, length, IfOk, if◌then◌else◌}
 use Rattle.lk_disk.specs.Disk.{contents}
 use Rattle.lk_simulated_disk.specs.Memory.{disk_of}
@@ -20,14 +20,14 @@ pub record IsStateOf (node : LeftNode) (state : NodeState) : Type 0 where
   pub synced_b : state.synced.1 ≡ length node.device.b.synced
   pub found : IfOk state.found (Finds (seen (disk_of node.device)))
 
--- one of each, in order
+-- one state for each node, in order
 abbrev pub AreStatesOf : List LeftNode → List NodeState → Type 0
 AreStatesOf [] [] = ⊤
 AreStatesOf [] (state ∷ states) = ⊥
 AreStatesOf (node ∷ nodes) [] = ⊥
 AreStatesOf (node ∷ nodes) (state ∷ states) = IsStateOf node state × AreStatesOf nodes states
 
--- it is a node
+-- the party is a node
 abbrev pub is_node : Party → Bool
 is_node (party.Node n) = true
 is_node (party.Client c) = false

@@ -1,4 +1,4 @@
-//! What the disks of the nodes hold when the world of a script ends.
+//! Runs a script, then prints the state of each node of its world: its disks, and what its store holds.
 
 ghost use Rattle.std.specs.Prelude.{◌≡◌, ◌⊎◌, ◌++◌, ℕ, List, map, IfOk, IfSome, OnOk};
 ghost use Rattle.std.specs.Io.KnownBytes.{Appends};
@@ -22,8 +22,8 @@ use std::alloc::Global;
 use std::io;
 use std::io::{BufRead, Write};
 
-/// What a node leaves: whether it is up, how many bytes its disks have and how many of these are synced, A's first,
-/// and the state of its store, or why that is unknown.
+/// The state of a node when its world ends: whether it is up, how many bytes its disks have and how many of these are
+/// synced, A's first, and what its store holds, or why that is unknown.
 #[derive(Drop)]
 pub struct NodeState {
     pub number: NodeNo,
@@ -33,7 +33,7 @@ pub struct NodeState {
     pub found: Result<Option<Inspection>, ServiceFault>,
 }
 
-// What a node leaves.
+// Inspects the store of a node, and measures its disks.
 fn state_of(alloc: Global, node: LeftNode) -> NodeState
     ensures { IsStateOf node result }
 {
@@ -44,6 +44,7 @@ fn state_of(alloc: Global, node: LeftNode) -> NodeState
     } = node;
     let found = inspect_device(alloc, &mut device);
     let written = device.lengths();
+    // A stop that keeps nothing unsynced leaves disks as long as their synced bytes.
     device.stop(0, 0);
     NodeState {
         number,
@@ -54,7 +55,7 @@ fn state_of(alloc: Global, node: LeftNode) -> NodeState
     }
 }
 
-// What each node leaves, in order.
+// Returns the state of each node, in order.
 fn all_states(alloc: Global, nodes: Vec<LeftNode>) -> Result<Vec<NodeState>, NoMemory>
     ensures { IfOk result (λ states. AreStatesOf nodes.items states.items) }
 {
@@ -65,7 +66,7 @@ fn all_states(alloc: Global, nodes: Vec<LeftNode>) -> Result<Vec<NodeState>, NoM
     Ok(states)
 }
 
-/// What each node of a world leaves, in the order of their starts.
+/// Ends the world, and returns the state of each of its nodes, in the order of their starts.
 pub fn states_of<M: MemoryReplica>(
     alloc: Global,
     world: World<M>,
@@ -76,7 +77,7 @@ pub fn states_of<M: MemoryReplica>(
     all_states(alloc, nodes)
 }
 
-// Writes what a store comes to, or the fault of that.
+// Writes what a store holds, or the text of the fault with which its inspection failed.
 fn write_store<W: Write>(
     found: &Result<Option<Inspection>, ServiceFault>,
     out: &mut W,
@@ -97,7 +98,7 @@ fn write_disk<W: Write>(name: &str, synced: usize, written: usize, out: &mut W) 
     writeln!(out, "disk {name} {synced} of {written} bytes synced")
 }
 
-// Writes the lines of a node.
+// Writes the lines of a node: `node N up` or `node N down`, its two disks, and its store.
 fn write_state<W: Write>(state: &NodeState, out: &mut W) -> io::Result<()> {
     let life = if state.is_up { "up" } else { "down" };
     writeln!(out, "node {} {life}", state.number.get())?;
@@ -106,7 +107,7 @@ fn write_state<W: Write>(state: &NodeState, out: &mut W) -> io::Result<()> {
     write_store(&state.found, out)
 }
 
-// How many datagrams are bound for nodes.
+// Returns how many datagrams are addressed to nodes, and so may be delivered.
 fn bound_for_nodes(sent: &[Datagram]) -> usize
     ensures { result ≡ bound_for_nodes sent.now }
 {
@@ -119,7 +120,7 @@ fn bound_for_nodes(sent: &[Datagram]) -> usize
     count
 }
 
-// The lines of all nodes of a world, and a line `datagrams COUNT` of those that it may still deliver to them.
+// Returns the lines of all nodes of a world, and a line `datagrams COUNT` of the datagrams addressed to nodes.
 fn text_of<M: MemoryReplica>(alloc: Global, world: World<M>) -> Result<Vec<u8>, NoMemory> {
     let mut text = Vec::new(alloc);
     let datagrams = bound_for_nodes(world.datagrams());
@@ -130,7 +131,7 @@ fn text_of<M: MemoryReplica>(alloc: Global, world: World<M>) -> Result<Vec<u8>, 
     Ok(text)
 }
 
-// Writes what the nodes of a script leave, if it has set up a world.
+// Writes the state of the nodes if the script was in world mode, and otherwise nothing.
 fn write_left<M: MemoryReplica, W: Write>(
     alloc: Global,
     mode: Mode<M>,
@@ -150,7 +151,7 @@ fn write_left<M: MemoryReplica, W: Write>(
     }
 }
 
-// Runs a script to its end, and then writes what the nodes leave.
+// Runs a script to its end, and then writes the state of its nodes.
 fn run_and_write<M: MemoryReplica, R: BufRead, W: Write>(
     alloc: Global,
     reader: &mut R,
@@ -164,10 +165,9 @@ fn run_and_write<M: MemoryReplica, R: BufRead, W: Write>(
     write_left(alloc, mode, out)
 }
 
-/// Runs a script as `run_to_end` does, and prints after its last line, for each node that was started, `node N up` or
-/// `node N down`, how many bytes of its disks are synced, and what `inspect` prints of a store with the same bytes;
-/// then how many datagrams may be delivered. A script of table mode has no more lines, and one that ends early
-/// neither.
+/// Runs a script as `run_to_end` does, and then prints for each node that was started `node N up` or `node N down`, how
+/// many bytes of its disks are synced, and what `inspect` prints of a store with the same bytes. The last line is how
+/// many datagrams may be delivered. After a script of table mode, or one that ends early, it prints nothing more.
 pub fn run_to_state<M: MemoryReplica, R: BufRead, W: Write, E: Write>(
     alloc: Global,
     reader: &mut R,

@@ -3,7 +3,7 @@ use Rattle.std.specs.Prelude.{◌≡◌, ℕ, ◌+◌, List, length}
 use Rattle.lk_entries.specs.Files.{AreWholeEntries}
 use Rattle.lk_entries.specs.declared.stored.Stored.{Stored}
 
--- the whole entries of these bytes end there
+-- the whole entries at the front of these bytes end at this offset
 pub record EndsAt (bytes : List ℕ) (end : ℕ) : Type 0 where
   pub entries : List Stored
   pub whole : AreWholeEntries bytes entries

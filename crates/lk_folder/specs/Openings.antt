@@ -3,6 +3,6 @@ use Rattle.std.specs.Prelude.{◌≡◌, ◌⊎◌}
 use Rattle.lk_transport.specs.declared.fault.ServiceFault.{ServiceFault}
 use Rattle.lk_transport.specs.declared.fault.ServiceFault.TheVariants.{CannotOpen, NoMemory}
 
--- it does not open, or there is no memory for its path
+-- the faults with which opening fails: it does not open, or there is no memory for its path
 abbrev pub IsClosed : ServiceFault → Type 0
 IsClosed fault = (fault ≡ CannotOpen) ⊎ (fault ≡ NoMemory)

@@ -1,4 +1,4 @@
-//! Explains why something does not open, or why a call of a file failed.
+//! Opens files and sockets, and writes why one does not open, or why a call of a file failed.
 
 ghost use Rattle.std.specs.Prelude.{◌≡◌, ◌≢◌, IfOk, IfErr};
 ghost use Rattle.lk_folder.specs.Openings.{IsClosed};
@@ -15,7 +15,7 @@ use std::io::{Read, Seek, Write};
 use std::net::{Net, SocketAddr};
 use std::path::Path;
 
-/// Writes a line that says what does not open, and why: `NAME: TEXT`.
+/// Writes the line `NAME: TEXT`, whose text says why the named thing does not open, and returns `CannotOpen`.
 pub fn write_cause<N: Display + Drop, T: Display + Drop, E: Write>(
     name: N,
     text: T,
@@ -27,7 +27,8 @@ pub fn write_cause<N: Display + Drop, T: Display + Drop, E: Write>(
     ServiceFault::CannotOpen
 }
 
-/// The socket of a port, or of any free port for 0. On failure it writes the reason and returns `CannotOpen`.
+/// Opens a socket at a port of 127.0.0.1, for 0 at any free one. On failure it writes the reason and returns
+/// `CannotOpen`.
 pub fn open_socket<R: Net, E: Write>(
     rt: &R,
     port: u16,
@@ -39,7 +40,7 @@ pub fn open_socket<R: Net, E: Write>(
     open_socket_at(rt, local(port), err)
 }
 
-/// The socket of an address. On failure it writes the reason and returns `CannotOpen`.
+/// Opens a socket at an address. On failure it writes the reason and returns `CannotOpen`.
 pub fn open_socket_at<R: Net, E: Write>(
     rt: &R,
     place: SocketAddr,
@@ -54,7 +55,8 @@ pub fn open_socket_at<R: Net, E: Write>(
     }
 }
 
-/// A file of a folder. On failure it writes the reason and returns `CannotOpen`.
+/// Opens a file of a folder. On failure it writes the reason and returns `CannotOpen`; if there is no memory for the
+/// path, it writes nothing and returns `NoMemory`.
 pub fn open_file<R: Files, E: Write>(
     rt: &R,
     alloc: Global,
@@ -73,7 +75,8 @@ pub fn open_file<R: Files, E: Write>(
     }
 }
 
-/// Writes why the files of a folder do not open, for the first one that does not.
+/// Opens the files of a folder again, finds the first that does not open, writes why, and returns the fault;
+/// `CannotOpen` without a line if both open now.
 pub fn write_open_error<R: Files, E: Write>(
     rt: &R,
     alloc: Global,
@@ -109,7 +112,7 @@ impl FailureCause for MemoryDisk {
     }
 }
 
-/// Writes a line for each file of a folder with a failed call, if the device caused the fault.
+/// Writes a line for each file of a folder with a failed call, if the fault is `Device`. Returns the fault unchanged.
 pub fn write_failed_calls<D: FailureCause, E: Write>(
     fault: ServiceFault,
     device: &D,

@@ -1,4 +1,4 @@
-//! The files of a folder, from which only one process serves.
+//! Opens the files of a node's folder, and locks it so that only one process serves from it.
 
 ghost use Rattle.std.specs.Prelude.{◌≡◌, IfOk, IfErr};
 ghost use Rattle.lk_folder.specs.Openings.{IsClosed};
@@ -17,7 +17,7 @@ pub struct FolderLock {
     _file: File,
 }
 
-// How a node's files are opened.
+// The options that open a node's file: to read and append, created if missing.
 fn to_write() -> OpenOptions {
     let mut how = OpenOptions::new();
     how.read(true).append(true).create(true);
@@ -26,7 +26,7 @@ fn to_write() -> OpenOptions {
 
 impl FolderLock {
     /// Locks a folder; it creates the file `a` if that is missing. If the file does not open or another process has
-    /// locked it, it writes which, and returns `CannotOpen`.
+    /// locked it, it writes which, and returns `CannotOpen`; without memory for the path, `NoMemory`.
     pub fn take<R: Files<File = File>, E: Write>(
         rt: &R,
         alloc: Global,
@@ -47,8 +47,8 @@ impl FolderLock {
     }
 }
 
-/// The device of a folder, to read and to write; it creates a missing file. On failure it writes the reason and
-/// returns `CannotOpen`.
+/// Opens the files of a folder as a device, to read and to write; it creates a missing file. On failure it writes the
+/// reason and returns `CannotOpen`; without memory for a path, `NoMemory`.
 pub fn open_device<R: Files, E: Write>(
     rt: &R,
     alloc: Global,
@@ -64,7 +64,7 @@ pub fn open_device<R: Files, E: Write>(
     }
 }
 
-/// The same to read only; it creates no file.
+/// Opens the files of a folder as a device to read only; it creates no file. It fails as `open_device` does.
 pub fn look_at_device<R: Files, E: Write>(
     rt: &R,
     alloc: Global,

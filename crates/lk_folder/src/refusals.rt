@@ -13,10 +13,10 @@ use std::alloc::Global;
 use std::io;
 use std::io::Write;
 
-// The files of a folder.
+// The sides of a device, and the names of their files.
 const FILES: [(Side, &str); 2] = [(Side::A, "a"), (Side::B, "b")];
 
-// The bytes of a file, if it can be read.
+// Reads a whole file. `None` if it cannot be read, or memory runs out.
 fn bytes_of<D: LogDisk>(alloc: Global, device: &mut D, side: Side) -> Option<Vec<u8>>
     ensures unchanged { D.is_honest → (s : SideValue) → D.disk device.new s ≡ D.disk device.old s }
     ensures bytes { D.is_honest → IfSome result (λ bytes. bytes.items ≡ contents (D.disk device.old side)) }
@@ -27,7 +27,8 @@ fn bytes_of<D: LogDisk>(alloc: Global, device: &mut D, side: Side) -> Option<Vec
     Some(bytes)
 }
 
-// Where the whole entries of a file end. `None` if memory runs out before.
+// Returns the offset where the valid entries end, which is the length if all of the file is entries. `None` if memory
+// runs out.
 fn end_of(alloc: Global, bytes: &[u8]) -> Option<usize>
     ensures { IfSome result (EndsAt bytes.now) }
 {
@@ -41,7 +42,7 @@ fn end_of(alloc: Global, bytes: &[u8]) -> Option<usize>
     }
 }
 
-// Where the whole entries of a file end, and the file's size. `None` if it cannot be read.
+// Returns that offset of a file, and the file's size. `None` if it cannot be read, or memory runs out.
 fn extent_of<D: LogDisk>(alloc: Global, device: &mut D, side: Side) -> Option<(usize, usize)>
     ensures unchanged { D.is_honest → (s : SideValue) → D.disk device.new s ≡ D.disk device.old s }
     ensures end { D.is_honest → IfSome result (λ e. EndsAt (contents (D.disk device.old side)) e.0) }
@@ -52,8 +53,8 @@ fn extent_of<D: LogDisk>(alloc: Global, device: &mut D, side: Side) -> Option<(u
     Some((end, bytes.len()))
 }
 
-// Writes at which byte of a file there is no valid entry. Returns whether all of the file is entries; then it writes
-// nothing.
+// Writes at which byte of a file there is no valid entry. Returns whether all of the file is entries. If so, or if it
+// cannot be read, it writes nothing.
 fn write_bad_entry<D: LogDisk, E: Write>(
     alloc: Global,
     device: &mut D,
@@ -81,7 +82,7 @@ fn write_bad_entry<D: LogDisk, E: Write>(
     false
 }
 
-// Writes where a store is damaged.
+// Writes for each file where the damage begins, and what to do with a damaged store.
 fn write_damage<D: LogDisk, E: Write>(alloc: Global, device: &mut D, folder: &str, err: &mut E)
     ensures { D.is_honest → (s : SideValue) → D.disk device.new s ≡ D.disk device.old s }
 {
@@ -98,7 +99,7 @@ fn write_damage<D: LogDisk, E: Write>(alloc: Global, device: &mut D, folder: &st
     );
 }
 
-// Writes a genesis as it stands on a command line.
+// Writes a genesis as `--genesis` takes it: CLUSTER,ALPHA,NODE:PORT,...
 fn write_genesis<E: Write>(header: &Header, err: &mut E) -> io::Result<()> {
     let genesis = header.genesis();
     write!(err, "{},{}", genesis.cluster, genesis.alpha)?;
@@ -108,21 +109,21 @@ fn write_genesis<E: Write>(header: &Header, err: &mut E) -> io::Result<()> {
     writeln!(err)
 }
 
-// Writes the node and the genesis of a header.
+// Writes whose store a file is, given the header of its Base.
 fn write_header<E: Write>(header: &Header, folder: &str, name: &str, err: &mut E) {
     let node = header.node().get();
     let _ = write!(err, "{folder}/{name}: the store of node {node} of genesis ");
     let _ = write_genesis(header, err);
 }
 
-// Writes whose store a file is, if it begins with a Base.
+// The same given the bytes of the file, if these begin with a Base.
 fn write_base<E: Write>(alloc: Global, bytes: &[u8], folder: &str, name: &str, err: &mut E) {
     if let Ok((Stored::Base(base), _)) = first_entry(alloc, bytes) {
         write_header(&base.header, folder, name, err);
     }
 }
 
-// Writes whose store a folder holds.
+// Writes whose store each file of a folder is, and which options to check.
 fn write_owner<D: LogDisk, E: Write>(alloc: Global, device: &mut D, folder: &str, err: &mut E)
     ensures { D.is_honest → (s : SideValue) → D.disk device.new s ≡ D.disk device.old s }
 {
@@ -135,7 +136,7 @@ fn write_owner<D: LogDisk, E: Write>(alloc: Global, device: &mut D, folder: &str
 }
 
 /// Writes why the store of a folder does not open and what to do: which calls failed, where it is damaged, or whose it
-/// is. It reads the files and changes none.
+/// is. It reads the files and changes none. Returns the fault unchanged.
 pub fn write_refusal<D: LogDisk + FailureCause, E: Write>(
     alloc: Global,
     fault: ServiceFault,

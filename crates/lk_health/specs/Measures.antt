@@ -1,4 +1,4 @@
--- The report by which the others are measured.
+-- The measure, the report with which the others are compared, and how it is chosen.
 use Rattle.std.specs.Prelude.{◌≡◌, ◌≤◌, ℕ, suc, nat_eq, nat_lt, nat_le, ◌==◌, not, ◌&&◌, ◌||◌, Bool, true, false}
 use Rattle.std.specs.Prelude.{Option, Some, None, List, [], ◌∷◌, filter, if◌then◌else◌}
 use Rattle.std.specs.Cmp.Lexicographic.{pointwise}
@@ -7,26 +7,26 @@ use Rattle.lk_types.specs.Ballots.{is_below}
 use Rattle.lk_probe.specs.declared.probe.Report.{Report}
 use Rattle.lk_health.specs.Verdicts.{IsAmong}
 
--- ---- which genesis most nodes tell
+-- ---- which genesis most nodes name
 
--- it tells that genesis
+-- it names that genesis
 abbrev pub has_genesis : List ℕ → Report → Bool
 has_genesis genesis r = pointwise nat_eq r.status.identity.genesis genesis
 
--- those that tell it
+-- the reports that name it
 abbrev pub those_of : List ℕ → List Report → List Report
 those_of genesis rs = filter (has_genesis genesis) rs
 
--- a report of that node tells it
+-- a report of that node names it
 abbrev pub is_told_by : List ℕ → ℕ → List Report → Bool
 is_told_by genesis node [] = false
 is_told_by genesis node (r ∷ rs) = r.node == node && has_genesis genesis r || is_told_by genesis node rs
 
--- it tells that genesis, and no other report of its node among these does
+-- it names that genesis, and no report of its node among these, which follow it, does
 abbrev pub is_last_to_tell : List ℕ → Report → List Report → Bool
 is_last_to_tell genesis r rs = has_genesis genesis r && not (is_told_by genesis r.node rs)
 
--- how many nodes tell it
+-- how many nodes name it
 abbrev pub tellers : List ℕ → List Report → ℕ
 tellers genesis [] = 0
 tellers genesis (r ∷ rs) = if is_last_to_tell genesis r rs then suc (tellers genesis rs) else tellers genesis rs
@@ -39,15 +39,15 @@ wins_tie r o =
     then not o.status.leadership.leads || is_below o.status.leadership.promised r.status.leadership.promised
     else not o.status.leadership.leads && nat_lt r.node o.node
 
--- more nodes tell the genesis of the first, or as many, and it wins the tie
+-- more nodes name the genesis of the first, or as many, and it wins the tie
 abbrev pub outweighs_by : ℕ → ℕ → Report → Report → Bool
 outweighs_by ours theirs r o = nat_lt theirs ours || theirs == ours && wins_tie r o
 
 abbrev pub outweighs : List Report → Report → Report → Bool
 outweighs rs r o = outweighs_by (tellers r.status.identity.genesis rs) (tellers o.status.identity.genesis rs) r o
 
--- none outweighs it: its genesis is the one that most nodes tell. Of geneses that as many tell, that is the one of the
--- leader with the greatest ballot, or of the smallest node where nobody leads
+-- none outweighs it: its genesis is the one that most nodes name. Of geneses that as many nodes name, it is that of the
+-- leader with the greatest ballot, or of the smallest node if none leads
 pub record IsMostTold (rs : List Report) (r : Report) : Type 0 where
   pub is_there : IsAmong r rs
   pub most : AllByRecursion (λ (o : Report). outweighs rs o r ≡ false) rs
@@ -69,7 +69,8 @@ abbrev pub IsFurthestOf : List Report → Option Report → Type 0
 IsFurthestOf rs None = rs ≡ []
 IsFurthestOf rs (Some r) = IsFurthest rs r
 
--- of those whose genesis most nodes tell, it is the leader, or one that has executed most where nobody leads
+-- of the reports whose genesis most nodes name, it is that of the leader, or of one that has executed most if none
+-- leads
 pub record IsMeasure (rs : List Report) (r : Report) : Type 0 where
   pub told : Report
   pub most_told : IsMostTold rs told
@@ -88,7 +89,7 @@ abbrev pub is_more_told : List Report → Report → Option Report → Bool
 is_more_told rs r None = true
 is_more_told rs r (Some o) = outweighs rs r o
 
--- the one that outweighs the other
+-- the report, if it outweighs the best so far, else that one
 abbrev pub more_told : List Report → Option Report → Report → Option Report
 more_told rs best r = if is_more_told rs r best then Some r else best
 
@@ -96,7 +97,7 @@ abbrev pub executed_of : Option Report → ℕ
 executed_of None = 0
 executed_of (Some r) = r.status.progress.executed
 
--- the one of that genesis that has executed more
+-- the report, if it has that genesis and has executed as much as the furthest so far or more, else that one
 abbrev pub further : List ℕ → Option Report → Report → Option Report
 further genesis furthest r =
     if has_genesis genesis r && nat_le (executed_of furthest) r.status.progress.executed then Some r else furthest

@@ -1,4 +1,4 @@
--- Which places are asked.
+-- The targets of a round: the words that spell them, and their addresses.
 use Rattle.std.specs.Prelude.{◌≡◌, ⊤, ℕ, Option, Some, None, List, [], ◌∷◌}
 use Rattle.std.specs.Fmt.{decimal}
 use Rattle.std.specs.declared.net.ip_addr.IpAddr.{IpAddr}

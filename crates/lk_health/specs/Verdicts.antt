@@ -26,12 +26,12 @@ abbrev pub count_reporting : List Member → List Report → ℕ
 count_reporting [] rs = 0
 count_reporting (m ∷ ms) rs = if has_answered m.node rs then suc (count_reporting ms rs) else count_reporting ms rs
 
--- a majority of the members of the next position report, as this one knows them
+-- a majority of the members that this report names have reported
 abbrev pub has_majority : Report → List Report → Bool
 has_majority r rs = nat_lt (length r.status.members) (2 * count_reporting r.status.members rs)
 
--- the cluster is served: somebody leads, a majority of the members of its next position report, and nobody tells
--- another genesis
+-- the cluster is served: a node leads, a majority of the members that it names have reported, and all reports name its
+-- genesis
 pub record IsServed (rs : List Report) : Type 0 where
   pub leader : Report
   pub is_there : IsAmong leader rs
@@ -45,6 +45,7 @@ abbrev pub some_leads : List Report → List Report → Bool
 some_leads [] rs = false
 some_leads (r ∷ leaders) rs = r.status.leadership.leads && has_majority r rs || some_leads leaders rs
 
+-- all name that genesis
 abbrev pub tells : List ℕ → List Report → Bool
 tells genesis [] = true
 tells genesis (r ∷ rs) = pointwise nat_eq r.status.identity.genesis genesis && tells genesis rs
@@ -56,7 +57,7 @@ one_genesis (r ∷ rs) = tells r.status.identity.genesis (r ∷ rs)
 abbrev pub is_served : List Report → Bool
 is_served rs = some_leads rs rs && one_genesis rs
 
--- each has executed so many positions
+-- each has executed at least so many positions
 abbrev pub all_have : ℕ → List Report → Bool
 all_have executed [] = true
 all_have executed (r ∷ rs) = nat_le executed r.status.progress.executed && all_have executed rs

@@ -14,10 +14,10 @@ use lk_transport::receive_buffer::ReceiveBuffer;
 use lk_transport::socket::DatagramSocket;
 use std::alloc::Global;
 
-// The receives of a round.
+// The most receives of a round, so that datagrams that are not awaited cannot keep it going.
 const RECEIVES: u32 = 10_000;
 
-// Sends the probe with that token to a target. What could not be sent is lost.
+// Sends the probe with that token to a target. Ignores a failed send: a silent target is probed again.
 fn send_probe<S: DatagramSocket>(
     socket: &mut S,
     inquiry: &Inquiry,
@@ -54,8 +54,8 @@ fn probe_target<S: DatagramSocket>(
     send_probe(socket, inquiry, target, token, frame)
 }
 
-// Sends a probe to each target that has not reported, the first with that token and each other with the next. What
-// could not be sent is lost.
+// Sends a probe to each target that has not reported, the first with the token `first` and each other with the next.
+// Ignores failed sends.
 fn send_probes<S: DatagramSocket>(
     alloc: Global,
     socket: &mut S,
@@ -77,7 +77,8 @@ fn send_probes<S: DatagramSocket>(
     Ok(())
 }
 
-// Whether a report answers a probe of the round.
+// Whether a report answers a probe of the round: its token is that of a target, and cluster and client are the
+// inquiry's.
 fn is_of_round(inquiry: &Inquiry, first: u64, report: &Report) -> bool
     ensures { IsTrue result ↔ IsOfRound inquiry.now first report.now }
 {
@@ -93,7 +94,7 @@ fn is_awaited(inquiry: &Inquiry, first: u64, reports: &[Report], report: &Report
     is_of_round(inquiry, first, report) && !is_answered(reports, report.token)
 }
 
-// The report that a datagram is, out of its frame if there is a key.
+// Reads a datagram as a report, out of its frame if the inquiry has a key. `None` if it is no report.
 fn report_in(inquiry: &Inquiry, bytes: &[u8]) -> Option<Report>
     ensures found { IfSome result (IsReport inquiry.now bytes.now) }
     ensures only { (r : ReportValue) → IsReport inquiry.now bytes.now r → IsSomeAnd result (λ s. s ≡ r) }
@@ -102,7 +103,7 @@ fn report_in(inquiry: &Inquiry, bytes: &[u8]) -> Option<Report>
     Report::read(seals.heard(inquiry.client_number(), bytes))
 }
 
-// The report that a datagram is, if it is awaited.
+// Reads a datagram as a report that is awaited, else returns `None`.
 fn awaited_in(inquiry: &Inquiry, first: u64, reports: &[Report], bytes: &[u8]) -> Option<Report>
     ensures some { IfSome result (λ r. IsReport inquiry.now bytes.now r × IsAwaited inquiry.now first reports.now r) }
     ensures none { IsNone result → (r : ReportValue) → IsReport inquiry.now bytes.now r
@@ -117,7 +118,7 @@ fn awaited_in(inquiry: &Inquiry, first: u64, reports: &[Report], bytes: &[u8]) -
     Some(report)
 }
 
-// Adds the report that a datagram is, if it is awaited.
+// Adds the report in a datagram if it is awaited; ignores any other datagram.
 #[tactic(auto, using(crate::proofs::Gathered::one_more))]
 fn add(
     inquiry: &Inquiry,
@@ -136,7 +137,7 @@ fn add(
     Ok(())
 }
 
-// Receives the next datagram, if one comes in time.
+// Receives the next datagram into the buffer, if one arrives within 100 ms.
 #[tactic(auto, using(crate::proofs::Gathered::received))]
 fn receive<S: DatagramSocket>(socket: &mut S, buffer: &mut ReceiveBuffer)
     ensures receives { S.is_telling → Receives S.sent S.coming S.failures socket.old socket.new }
@@ -169,7 +170,7 @@ fn receive_report<S: DatagramSocket>(
     Ok(true)
 }
 
-// Receives the next datagram. If none came, it counts that, and probes the silent targets again.
+// Receives the next datagram. If none arrived, adds one to `silences`, and probes the silent targets again.
 #[tactic(auto, using(crate::proofs::Gathered::hears_some_one, crate::proofs::Gathered::hears_no_one))]
 fn receive_or_probe<S: DatagramSocket>(
     alloc: Global,
@@ -194,7 +195,7 @@ fn receive_or_probe<S: DatagramSocket>(
     Ok(())
 }
 
-// Whether each target has reported, or nothing came as often as the inquiry allows.
+// Whether each target has reported, or receives brought nothing as often as the inquiry's `patience`.
 fn is_over(inquiry: &Inquiry, reports: &[Report], silences: u32) -> bool
     ensures over { IsTrue result ↔ IsOver inquiry.now reports.now silences }
     ensures goes_on { result ≡ false → GoesOn inquiry.now reports.now silences }
@@ -203,8 +204,8 @@ fn is_over(inquiry: &Inquiry, reports: &[Report], silences: u32) -> bool
     reports.len() >= inquiry.targets.len() || silences >= inquiry.patience
 }
 
-// Receives until each target has reported, or nothing came as often as the inquiry allows. Adds how often that was to
-// `silences`.
+// Receives until each target has reported, receives brought nothing as often as the inquiry's `patience`, or there were
+// 10,000 receives. Adds to `silences` how many brought nothing.
 fn collect_reports<S: DatagramSocket>(
     alloc: Global,
     socket: &mut S,
@@ -237,8 +238,10 @@ fn collect_reports<S: DatagramSocket>(
     Ok(())
 }
 
-/// Probes all targets and collects their reports, until each has reported or nothing came as often as the inquiry
-/// allows. Whenever nothing came, it probes the silent targets again. Adds how often that was to `idle`.
+/// Runs a round: probes all targets, the first with the token `first` and each other with the next, and collects their
+/// reports, at most one each. It ends when each target has reported, receives brought nothing as often as the inquiry's
+/// `patience`, or there were 10,000 receives. Each receive that brought nothing probes the silent targets again, and
+/// adds one to `idle`.
 pub fn probe_all<S: DatagramSocket>(
     alloc: Global,
     socket: &mut S,

@@ -1,4 +1,4 @@
-//! The report by which the others are measured.
+//! Chooses the measure among the reports of a round: the report with which the others are compared.
 
 ghost use Rattle.std.specs.Prelude.{◌≡◌, ◌≤◌, length};
 ghost use Rattle.std.specs.Option.{option_copied};
@@ -28,7 +28,8 @@ fn is_told_by(genesis: &[u8; DIGEST], node: NodeNo, reports: &[Report]) -> bool
     false
 }
 
-// Whether a report names that genesis, and no other report of its node among these does.
+// Whether a report names that genesis, and none of its node in `others`, the reports after it, does: so a node that
+// reports at two ports counts once.
 fn is_last_to_tell(genesis: &[u8; DIGEST], report: &Report, others: &[Report]) -> bool
     ensures { result ≡ is_last_to_tell genesis.now report.now others.now }
 {
@@ -49,8 +50,8 @@ fn tellers(genesis: &[u8; DIGEST], reports: &[Report]) -> usize
     count
 }
 
-// Which of two reports is believed if as many nodes name the genesis of either: one that leads, by the greater
-// ballot where both do, or else that of the smaller node.
+// Whether `report` is preferred to `other` if as many nodes name the genesis of either: it leads, and the other does
+// not or leads in a smaller ballot; or neither leads, and its node number is smaller.
 fn wins_tie(report: &Report, other: &Report) -> bool
     ensures { result ≡ wins_tie report.now other.now }
 {
@@ -62,7 +63,7 @@ fn wins_tie(report: &Report, other: &Report) -> bool
     }
 }
 
-// Whether more nodes name its genesis than that of the other, or as many, and it wins the tie.
+// Whether `report` is preferred to `other`: more nodes name its genesis, or as many, and it wins the tie.
 fn outweighs(report: &Report, other: &Report, reports: &[Report]) -> bool
     ensures { result ≡ outweighs reports.now report.now other.now }
 {
@@ -71,7 +72,7 @@ fn outweighs(report: &Report, other: &Report, reports: &[Report]) -> bool
     theirs < ours || theirs == ours && wins_tie(report, other)
 }
 
-// Whether it outweighs the other, if there is one.
+// Whether `report` outweighs `other`, true if there is no other.
 fn is_more_told(report: &Report, other: Option<&Report>, reports: &[Report]) -> bool
     ensures { result ≡ is_more_told reports.now report.now (option_copied other.entry) }
 {
@@ -81,7 +82,7 @@ fn is_more_told(report: &Report, other: Option<&Report>, reports: &[Report]) -> 
     }
 }
 
-// The one that outweighs the other.
+// Returns `report` if it outweighs `best`, else `best`.
 fn more_told<'a>(
     best: Option<&'a Report>,
     report: &'a Report,
@@ -96,7 +97,7 @@ fn more_told<'a>(
     }
 }
 
-// The report of a node whose genesis most nodes name.
+// Returns the report that no other outweighs: its genesis is the one that most nodes name. `None` without reports.
 fn most_told_in<'a>(reports: &'a [Report]) -> Option<&'a Report>
     ensures { IsMostToldOf reports.now (option_copied result) }
 {
@@ -107,7 +108,7 @@ fn most_told_in<'a>(reports: &'a [Report]) -> Option<&'a Report>
     best
 }
 
-// The one of that genesis that has executed more.
+// Returns `report` if it names that genesis and has executed as much as `furthest` or more, else `furthest`.
 fn further<'a>(
     genesis: &[u8; DIGEST],
     furthest: Option<&'a Report>,
@@ -123,7 +124,7 @@ fn further<'a>(
     }
 }
 
-// The report of a node of that genesis that has executed most.
+// Returns the report with that genesis whose node has executed most, `None` if there is none.
 fn furthest_in<'a>(genesis: &[u8; DIGEST], reports: &'a [Report]) -> Option<&'a Report>
     ensures { IsFurthestOf (those_of genesis.now reports.now) (option_copied result) }
 {
@@ -134,8 +135,9 @@ fn furthest_in<'a>(genesis: &[u8; DIGEST], reports: &'a [Report]) -> Option<&'a 
     furthest
 }
 
-/// The report by which the others are measured. Of the nodes whose genesis most name it is that of the leader, or of
-/// who has executed most where nobody leads.
+/// Returns the measure, with which the others are compared. Of the nodes with the genesis that most nodes name, it is
+/// the report of the leader with the greatest ballot, or, if none leads, of one that has executed most. `None` without
+/// reports.
 #[tactic(auto, using(crate::proofs::Measuring::by_leader))]
 pub fn measure_in<'a>(reports: &'a [Report]) -> Option<&'a Report>
     ensures { IsMeasureOf reports.now (option_copied result) }

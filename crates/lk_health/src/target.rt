@@ -1,4 +1,4 @@
-//! Which nodes are asked, and by whose key.
+//! Whom a round asks: the targets, their addresses, and the client whose key is used.
 
 ghost use Rattle.std.specs.Option.{option_copied};
 ghost use Rattle.std.specs.Net.Socket.{socket_ip, socket_port};
@@ -16,17 +16,17 @@ use lk_types::{ClientNo, NodeNo, Port};
 use std::alloc::Global;
 use std::net::{IpAddr, Ipv4Addr, Ipv6Addr, SocketAddr};
 
-/// The most places that are asked at once.
+/// The most targets of a round.
 pub const MAX_TARGETS: usize = 64;
 
-/// A place that is asked: a port, and the node that lives there where hosts say at which address.
+/// A port to ask. Its address is that of `node` if the hosts name it, or else the one of the inquiry.
 #[derive(Clone, Copy)]
 pub struct Target {
     pub node: Option<NodeNo>,
     pub port: Port,
 }
 
-/// What is asked: which cluster, by the key of which client, and at which places.
+/// What a round asks: which cluster, which targets, and with the key of which client.
 #[derive(Drop)]
 pub struct Inquiry {
     pub cluster: u64,
@@ -34,11 +34,11 @@ pub struct Inquiry {
     pub destination: Destination,
     /// At most `MAX_TARGETS`.
     pub targets: Vec<Target>,
-    /// The receives of 100 ms that may bring nothing until a round ends.
+    /// How many receives of 100 ms may bring nothing before a round ends.
     pub patience: u32,
 }
 
-// A place: `PORT` or `NODE:PORT`.
+// Reads `PORT` or `NODE:PORT` as the port and the node, if one is given. `None` if the word is neither.
 fn place_in(word: &[u8]) -> Option<(Option<NodeNo>, Port)>
     ensures { IfSome result (λ place. SpellsPlace word.now place.0 place.1) }
 {
@@ -51,7 +51,8 @@ fn place_in(word: &[u8]) -> Option<(Option<NodeNo>, Port)>
     }
 }
 
-/// The places that words name, or `None` where one of them names none, or they are too many.
+/// Reads each word as a target, `PORT` or `NODE:PORT`. `None` if a word is neither, or there are more than
+/// `MAX_TARGETS`. Fails if it is out of memory.
 pub fn targets_of(alloc: Global, words: &[&str]) -> Result<Option<Vec<Target>>, ServiceFault>
     ensures { IfOk result (λ targets. IfSome targets (λ ts. SpellTargets (map (λ word. word.now) words.now) ts.items)) }
 {
@@ -79,7 +80,7 @@ impl Inquiry {
         }
     }
 
-    /// The address of a target.
+    /// Returns the address and port of a target: the address of its node if the hosts name it, else the inquiry's.
     pub fn place_of(&self, target: &Target) -> SocketAddr
         ensures ip { socket_ip result ≡ target_address self.now target.now }
         ensures port { socket_port result ≡ target.now.port }
@@ -91,8 +92,8 @@ impl Inquiry {
         SocketAddr::from((known.unwrap_or(self.destination.address), target.port.get()))
     }
 
-    /// The address from which it is asked: any of this machine in the family of the targets, or loopback where they
-    /// all are there.
+    /// Returns the local address to bind: `::` or `0.0.0.0` by the family of the first target that is not IPv4
+    /// loopback, or 127.0.0.1 if all are.
     pub fn own_address(&self) -> IpAddr {
         for target in self.targets.as_slice() {
             let address = self.place_of(target).ip();

@@ -1,4 +1,4 @@
-//! What the reports of nodes come to.
+//! Judges the reports of a round: whether the cluster is served, and whether all nodes are ready.
 
 ghost use Rattle.std.specs.Prelude.{◌≡◌, ◌↔◌, ◌≤◌, IsTrue, length};
 ghost use Rattle.lk_health.specs.Verdicts.{IsServed, seeks_votes, has_answered, count_reporting, has_majority};
@@ -19,7 +19,7 @@ pub fn has_answered(node: NodeNo, reports: &[Report]) -> bool
     false
 }
 
-/// How many of the members report.
+/// Returns how many of these members have reported.
 pub fn count_reporting(members: &[Member], reports: &[Report]) -> usize
     ensures value { result ≡ count_reporting members.now reports.now }
     ensures most { result ≤ length members.now }
@@ -33,8 +33,8 @@ pub fn count_reporting(members: &[Member], reports: &[Report]) -> usize
     count
 }
 
-/// Whether a node seeks votes: it does not lead, the ballot that it has promised is its own, and it counts no tick
-/// without a leader, as long as it has a term.
+/// Whether a node is a candidate: it does not lead, has promised a ballot of its own, and its silence is 0. A node with
+/// a term counts no silence.
 pub fn seeks_votes(report: &Report) -> bool
     ensures { result ≡ seeks_votes report.now }
 {
@@ -42,7 +42,7 @@ pub fn seeks_votes(report: &Report) -> bool
     !leadership.leads && leadership.promised.node() == report.node.get() && leadership.silence == 0
 }
 
-/// Whether a majority of the members of the next position report, as this one knows them.
+/// Whether a majority of the members that `report` names have reported.
 pub fn has_majority(report: &Report, reports: &[Report]) -> bool
     ensures { result ≡ has_majority report.now reports.now }
 {
@@ -50,7 +50,7 @@ pub fn has_majority(report: &Report, reports: &[Report]) -> bool
     members.len() < 2 * count_reporting(members, reports)
 }
 
-// Whether one of these leads, and a majority of its members report.
+// Whether one of `leaders` leads, and a majority of the members that it names have reported.
 fn some_leads(leaders: &[Report], reports: &[Report]) -> bool
     ensures { result ≡ some_leads leaders.now reports.now }
 {
@@ -74,7 +74,7 @@ fn tells(genesis: &[u8; DIGEST], reports: &[Report]) -> bool
     true
 }
 
-/// Whether all name one genesis.
+/// Whether all reports name one genesis, true without reports.
 pub fn has_one_genesis(reports: &[Report]) -> bool
     ensures { result ≡ one_genesis reports.now }
 {
@@ -91,7 +91,7 @@ fn passes(reports: &[Report]) -> bool
     some_leads(reports, reports) && has_one_genesis(reports)
 }
 
-/// Whether one of them leads, a majority of the members of its next position report, and all name one genesis.
+/// Whether a node leads, a majority of the members that it names have reported, and all reports name one genesis.
 pub fn is_served(reports: &[Report]) -> bool
     ensures value { result ≡ is_served reports.now }
     ensures served { IsTrue result ↔ IsServed reports.now }
@@ -111,7 +111,8 @@ fn all_have(executed: u64, reports: &[Report]) -> bool
     true
 }
 
-/// Whether the cluster is served, all nodes that were asked report, and each has executed at least this many positions.
+/// Whether the cluster is served, there are `asked` reports, one of each target, and each node has executed at least
+/// `executed` positions.
 pub fn is_ready(asked: usize, executed: u64, reports: &[Report]) -> bool
     ensures { result ≡ is_ready asked executed reports.now }
 {

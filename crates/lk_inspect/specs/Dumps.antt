@@ -15,7 +15,7 @@ number_line name number = name ++ (32 ∷ (decimal number ++ 10 ∷ []))
 abbrev pub promised_line : BallotValue → List ℕ
 promised_line b = codes "promised " ++ (decimal b.round ++ (32 ∷ (decimal b.node ++ 10 ∷ [])))
 
--- the lines of a file of this generation, this format and this standing
+-- the six lines of a live file with this generation, format and standing
 abbrev pub live_text : ℕ → ℕ → StandingValue → List ℕ
 live_text generation format s =
     number_line (codes "generation") generation

@@ -1,4 +1,4 @@
--- A summary of a store, in terms of its list of commands.
+-- The summary of a store's state, in terms of its list of commands.
 use Rattle.std.specs.Prelude.{◌≡◌, ◌⊎◌, ◌+◌, ◌++◌, ℕ, List, length, Option, Some, None}
 use Rattle.std.specs.List.{AllByRecursion}
 use Rattle.std.specs.FinMap as map
@@ -27,19 +27,19 @@ pub record Tells (genesis : Genesis) (L : List Command) (i : Inspection) : Type 
   pub held : i.held.items ≡ held_in (map.entries (table_of L).names)
   pub clients : i.clients ≡ length (sessions_of table_meaning genesis L)
 
--- its snapshot packs no state at its position
+-- the snapshot of the standing packs no state at its position
 abbrev pub CannotStand : StandingValue → Type 0
 CannotStand s = (w : WholeValue) → Packs IsTableText w s.snapshot → w.roster.executed ≡ s.position → ⊥
 
 -- ---- what is found in a store
 
--- the list whose state its snapshot packs, and the decided commands behind it, are told
+-- the summary is of the list whose state the snapshot packs, with the decided commands after it
 abbrev pub ComesTo : StandingValue → Inspection → Type 0
 ComesTo s i =
     (genesis : Genesis) (L : List Command) → Packs IsTableText (whole_after table_meaning genesis L) s.snapshot
     → AllByRecursion IsCommand (L ++ run_from (length L) s.pairs) → Tells genesis (L ++ run_from (length L) s.pairs) i
 
--- what the live file of these files stands for is told
+-- the summary is of the standing of the live file
 pub record Inspects (image : Image) (i : Inspection) : Type 0 where
   pub generation : ℕ
   pub format : ℕ
@@ -47,7 +47,7 @@ pub record Inspects (image : Image) (i : Inspection) : Type 0 where
   pub shows : Shows image generation format standing
   pub comes_to : ComesTo standing i
 
--- what there is of a store in these files
+-- the summary of the store in these files, or that they have none
 abbrev pub Finds : Image → Option Inspection → Type 0
 Finds image None = IsEmpty image
 Finds image (Some i) = Inspects image i

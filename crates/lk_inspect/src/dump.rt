@@ -1,4 +1,4 @@
-//! A summary of the store of a folder, for the operator of a node.
+//! `locks dump`: prints the live file of a store: its generation and format, the promised ballot, and counts.
 
 ghost use Rattle.std.specs.Io.KnownBytes.{Appends};
 ghost use Rattle.std.specs.Prelude.{◌≡◌, ◌≤◌, ◌++◌, List, ℕ, is_some, IfOk, OnOk, IsErrOf};
@@ -17,14 +17,14 @@ use std::fs::Files;
 use std::io;
 use std::io::Write;
 
-// Writes a line of a name and a number.
+// Writes a line `NAME NUMBER`.
 fn write_number<W: Write>(name: &str, number: u64, out: &mut W) -> io::Result<()>
     ensures { OnOk result (Appends (W.contents out.old) (W.contents out.new) (number_line name.now number)) }
 {
     writeln!(out, "{name} {number}")
 }
 
-// Writes the line of the promised ballot: its round and its node.
+// Writes `promised ROUND NODE`, the promised ballot.
 fn write_promised<W: Write>(promised: Ballot, out: &mut W) -> io::Result<()>
     ensures { OnOk result (Appends (W.contents out.old) (W.contents out.new) (promised_line promised)) }
 {
@@ -46,7 +46,7 @@ fn write_live<W: Write>(live: &LiveFile, out: &mut W) -> io::Result<()>
     Ok(())
 }
 
-// Writes what was found, or `no store`. Returns whether there is a store.
+// Writes the live file, or `no store`. Returns whether there is a store.
 fn write_found<W: Write>(found: Option<LiveFile>, out: &mut W) -> io::Result<bool>
     ensures text { IfOk result (λ _. Appends (W.contents out.old) (W.contents out.new) (found_text found)) }
     ensures value { IfOk result (λ is_store. is_store ≡ is_some found) }
@@ -63,7 +63,7 @@ fn write_found<W: Write>(found: Option<LiveFile>, out: &mut W) -> io::Result<boo
     }
 }
 
-/// Writes a summary of the store of a device, without changing it. Returns whether there is a store.
+/// Writes a summary of the store of a device, without changing it, and flushes. Returns whether there is a store.
 ///
 /// It fails with faults 7, 8 and 9 of the store, or 24 if the output could not be written.
 pub fn dump_device<D: LogDisk, W: Write>(
@@ -87,7 +87,8 @@ pub fn dump_device<D: LogDisk, W: Write>(
     Ok(is_store)
 }
 
-// The same for the files of a folder, none of which is created.
+// Writes the summary of the store in a folder, without creating a file. After an error of the store or its files, their
+// message is already on `err`.
 fn dump_folder<R: Files, W: Write, E: Write>(
     rt: &R,
     alloc: Global,

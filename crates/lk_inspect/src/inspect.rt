@@ -1,4 +1,4 @@
-//! What the store of a folder amounts to, for the operator of a node.
+//! `locks inspect`: prints the state that the commands of a store lead to: members, progress and held names.
 
 ghost use Rattle.std.specs.Prelude.{◌≡◌, ◌≤◌, is_some, IfOk, IsErrOf};
 ghost use Rattle.lk_disk.specs.declared.device.Side.{Side};
@@ -17,7 +17,7 @@ use std::fs::Files;
 use std::io;
 use std::io::Write;
 
-/// Writes what a store amounts to, or `no store`. Returns whether there is one.
+/// Writes the summary of a store's state, or `no store`, and flushes. Returns whether there is a store.
 pub fn write_found<W: Write>(found: Option<&Inspection>, out: &mut W) -> io::Result<bool>
     ensures { IfOk result (λ is_store. is_store ≡ is_some found.entry) }
 {
@@ -29,8 +29,8 @@ pub fn write_found<W: Write>(found: Option<&Inspection>, out: &mut W) -> io::Res
     Ok(found.is_some())
 }
 
-/// What the store of a device amounts to, or `None` if there is none, without changing it. It fails with faults 7, 8
-/// and 9 of the store; 9 also if its snapshot packs no state at its position.
+/// Returns the summary of the state of a device's store, or `None` if there is no store; it changes nothing. It fails
+/// with faults 7, 8 and 9 of the store; 9 also if its snapshot packs no state at its position.
 pub fn inspect_device<D: LogDisk>(
     alloc: Global,
     device: &mut D,
@@ -45,7 +45,8 @@ pub fn inspect_device<D: LogDisk>(
     }
 }
 
-// What the store of a folder amounts to; it creates no file. If a file fails, it writes why.
+// Returns the summary for the store in a folder, without creating a file. After an error of the store or its files,
+// their message is already on `err`.
 fn inspection_in<R: Files, E: Write>(
     rt: &R,
     alloc: Global,
@@ -59,7 +60,7 @@ fn inspection_in<R: Files, E: Write>(
     }
 }
 
-// Writes what the store of a folder amounts to. Returns whether there is one.
+// Writes the summary for the store in a folder. Returns whether there is a store.
 fn inspect_folder<R: Files, W: Write, E: Write>(
     rt: &R,
     alloc: Global,
@@ -71,7 +72,7 @@ fn inspect_folder<R: Files, W: Write, E: Write>(
     write_found(found.as_ref(), out).map_err(|_| ServiceFault::Write)
 }
 
-/// Prints what the store of a folder amounts to, even while a node serves from it. Returns status 0, or 1 if there is
+/// Prints the summary for the store in a folder, even while a node serves from it. Returns status 0, or 1 if there is
 /// no store, which it prints as `no store`, or after an error message.
 pub fn inspect<R: Files, W: Write, E: Write>(
     rt: &R,

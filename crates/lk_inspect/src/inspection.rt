@@ -1,4 +1,4 @@
-//! A summary of a store.
+//! A summary of the state of a store.
 
 ghost use Rattle.std.specs.Prelude.{◌≡◌, ◌⊎◌, ◌++◌, List, length, IfOk, IfErr, IsErrOf};
 ghost use Rattle.std.specs.List.{AllByRecursion};
@@ -20,7 +20,7 @@ use lk_transport::fault::ServiceFault;
 use lk_types::Executed;
 use std::alloc::Global;
 
-/// What a list of commands amounts to.
+/// A summary of the state that a list of commands leads to.
 #[derive(Drop)]
 pub struct Inspection {
     /// How many positions are executed.
@@ -35,8 +35,8 @@ pub struct Inspection {
     pub held: Vec<(Name, Slot)>,
 }
 
-/// What a standing's snapshot and the decided commands above it amount to, up to the first gap. It fails with
-/// `Damaged` if the snapshot packs no state at its position, and with `NoMemory`.
+/// Returns the summary of the state of a standing, up to the first gap in its decided commands. It fails with `Damaged`
+/// if the snapshot packs no state at its position, and with `NoMemory`.
 pub fn inspected(alloc: Global, standing: &Standing) -> Result<Inspection, ServiceFault>
     ensures tells { (genesis : GenesisValue) (L : List CommandValue)
         → Packs IsTableText (whole_after table_meaning genesis L) standing.now.snapshot

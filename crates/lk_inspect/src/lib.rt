@@ -1,4 +1,5 @@
-//! What a store amounts to: its members, how far it is, and which names are held.
+//! Prints what a store holds (`locks dump`, `locks inspect`): its live file, its members, how far it is, and which
+//! names are held.
 #![tactic(auto)]
 
 pub mod dump;

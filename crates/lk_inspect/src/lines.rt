@@ -1,4 +1,4 @@
-//! An inspection as lines of text.
+//! Prints an inspection as lines of text.
 
 ghost use Rattle.std.specs.Io.KnownBytes.{Appends};
 ghost use Rattle.std.specs.Prelude.{OnOk};
@@ -53,7 +53,7 @@ fn write_holder<W: Write>(name: &Name, client: ClientNo, slot: &Slot, out: &mut 
     Ok(())
 }
 
-// Writes a line for each client that holds the name, rising.
+// Writes a line `held NAME CLIENT FENCE` for each client that holds the name, rising; none if it is free.
 fn write_slot<W: Write>(name: &Name, slot: &Slot, out: &mut W) -> io::Result<()> {
     match &slot.holders {
         Holders::Nobody => {}
@@ -67,7 +67,7 @@ fn write_slot<W: Write>(name: &Name, slot: &Slot, out: &mut W) -> io::Result<()>
     Ok(())
 }
 
-// Writes a line of a count and its maximum.
+// Writes a line `NAME COUNT of MOST`.
 fn write_count<W: Write>(name: &str, count: usize, most: usize, out: &mut W) -> io::Result<()>
     ensures { OnOk result (Appends (W.contents out.old) (W.contents out.new) (count_line name.now count most)) }
 {

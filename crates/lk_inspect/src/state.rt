@@ -1,4 +1,4 @@
-//! The state of a standing.
+//! Rebuilds the state of a node from the standing of its store.
 
 ghost use Rattle.std.specs.Prelude.{◌≡◌, ◌<◌, ◌⊎◌, ◌++◌, List, length, OnOk, IfOk, IfErr, IsErrOf};
 ghost use Rattle.lk_members.specs.Effects.{Command as CommandValue};
@@ -19,7 +19,8 @@ use lk_transport::fault::ServiceFault;
 use lk_types::{Answer, Command, NoMemory, Position};
 use std::alloc::Global;
 
-// The state that the snapshot packs, at its position.
+// Unpacks the snapshot of a standing. It fails with `Damaged` if the snapshot packs no state, or one of another
+// position.
 fn unpacked(alloc: Global, standing: &Standing) -> Result<Whole<LockTable>, ServiceFault>
     ensures one { (w : WholeValue) → Packs IsTableText w standing.now.snapshot → IfOk result (λ v. v ≡ w) }
     ensures stands { IfOk result (λ w. w.roster.executed ≡ standing.now.position) }
@@ -33,7 +34,7 @@ fn unpacked(alloc: Global, standing: &Standing) -> Result<Whole<LockTable>, Serv
     Ok(whole)
 }
 
-// Executes a command. A failed call changes nothing.
+// Executes a command, and returns its answer, if it has one. A failed call changes nothing.
 fn run_one(whole: &mut Whole<LockTable>, command: &Command) -> Result<Option<Answer>, NoMemory>
     requires { whole.old.roster.executed < max_count }
     ensures { OnOk result (whole.new ≡ ran table_meaning command.now whole.old) }
@@ -55,8 +56,8 @@ fn run_on(whole: &mut Whole<LockTable>, pairs: &[(Position, Command)]) -> Result
     Ok(())
 }
 
-/// The state after the snapshot and the decided commands above it, up to the first gap. It fails with `Damaged` if the
-/// snapshot packs no state at its position, and with `NoMemory`.
+/// Returns the state after the snapshot and the decided commands above it, up to the first gap. It fails with `Damaged`
+/// if the snapshot packs no state at its position, and with `NoMemory`.
 pub fn state_of(alloc: Global, standing: &Standing) -> Result<Whole<LockTable>, ServiceFault>
     ensures sums { (genesis : GenesisValue) (L : List CommandValue)
         → Packs IsTableText (whole_after table_meaning genesis L) standing.now.snapshot

@@ -1,4 +1,4 @@
--- Which terms of a history a leader leads.
+-- When a leader's state agrees with a term of the history.
 use Rattle.std.specs.Prelude.{◌≡◌, ℕ, ◌+◌, ◌<◌, ◌≤◌, Contains}
 use Rattle.lk_agreement.specs.Nodes.{Term}
 use Rattle.lk_leader.specs.Terms.{Command, Report, ProposalValue, TermValue}

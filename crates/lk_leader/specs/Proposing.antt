@@ -1,4 +1,4 @@
--- What is proposed next.
+-- Which command a leader proposes next, at which position, and when it leads.
 use Rattle.std.specs.Prelude.{◌≡◌, ℕ, ◌==◌, ◌+◌, ◌-◌, ◌<◌, ◌≤◌, ◌&&◌, nat_le, Some, None, IsSome, List, [], ◌∷◌, ◌++◌}
 use Rattle.std.specs.Prelude.{length, map, filter, slice_get}
 use Rattle.std.specs.List.{list_any}

@@ -1,5 +1,4 @@
-//! What follows from a leader's answers: laws about the definitions alone. A function without a body ensures each of
-//! them.
+//! Laws of a leader's calls, about the definitions alone: each is the contract of a function without a body.
 ghost use Rattle.std.specs.Prelude.{◌≡◌, ◌⊎◌, ◌+◌, ◌≤◌, ℕ, List, length, Contains};
 ghost use Rattle.lk_types.specs.BallotValue.{BallotValue};
 ghost use Rattle.lk_types.specs.declared.member.Member.{Member};
@@ -19,8 +18,8 @@ ghost use Rattle.lk_leader.specs.Acceptances.{members_among, heard, heard_at, Is
 ghost use Rattle.lk_leader.specs.Waits.{asked, left_by, AreOneEach};
 ghost use Rattle.lk_leader.specs.LedTerms.{LeadsTerm};
 
-/// What a leader proposes is what a sound history permits its term to propose, if its roster stands for the executed
-/// list. A proposed command was reported, or waits, or is a no-op: nothing is ever proposed that was not asked.
+/// The protocol permits what a leader proposes, if its roster is that of the executed list. A proposed command was
+/// reported, or waits, or is a no-op: nothing is ever proposed that was not asked.
 pub fn what_is_proposed_is_allowed()
     ensures allowed { (genesis : Genesis) (done : List Command) (t : Term) (k : TermValue)
         (waiting : List RequestValue) (roster : RosterValue) (i : ℕ) (v : Command)
@@ -33,8 +32,8 @@ pub fn what_is_proposed_is_allowed()
         ⊎ (((q : RequestValue) × Contains waiting q × (v ≡ Request q)) ⊎ (v ≡ Noop)) }
 {}
 
-/// What a leader calls chosen was accepted by a majority of the members that the executed list names for the position,
-/// and the term has their acceptances.
+/// A proposal that gains a majority was accepted by a majority of the members that the executed list gives its
+/// position, and the history's term records each acceptance.
 pub fn what_gains_a_majority_was_accepted()
     ensures { (genesis : Genesis) (done : List Command) (t : Term) (k : TermValue) (roster : RosterValue)
         (b : BallotValue) (node i : ℕ) (v : Command) (set : List Member) (p : ProposalValue)
@@ -47,7 +46,8 @@ pub fn what_gains_a_majority_was_accepted()
         (record { node = n; position = i; command = v })) }
 {}
 
-/// A leader continues to lead its term, whatever it hears, proposes or decides, and as more is executed.
+/// A leader's state continues to agree with its term in the history, whatever it hears, proposes or decides, and as
+/// more is executed.
 pub fn a_leader_keeps_its_term()
     ensures begins { (executed alpha : ℕ) (b : BallotValue) → LeadsTerm executed alpha (new_term b) (begun b) }
     ensures later { (executed later alpha : ℕ) (t : Term) (k : TermValue) → executed ≤ later
@@ -64,7 +64,7 @@ pub fn a_leader_keeps_its_term()
         (with_proposals (heard_at set node i k.proposals) k) }
 {}
 
-/// At most one request of a client waits, whatever is asked or completed.
+/// At most one request of each client waits, whatever is queued or removed.
 pub fn one_request_waits_a_client()
     ensures asked { (r : RequestValue) (waiting : List RequestValue) → AreOneEach waiting
         → AreOneEach (asked r waiting) }

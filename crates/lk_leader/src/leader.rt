@@ -28,7 +28,8 @@ pub struct Open<'a> {
     pub accepted: &'a [NodeNo],
 }
 
-/// The leader's part of a node: a ballot in progress, which is its term, and the requests that wait to be proposed.
+/// The leader's part of a node: its term, which is its ballot in progress, if any, and the requests that wait to be
+/// proposed.
 #[derive(Drop)]
 pub struct Leader {
     alloc: Global,
@@ -45,7 +46,7 @@ impl Model for Leader {
 }
 
 impl Leader {
-    /// No term, and nothing waits. Takes no memory.
+    /// Creates a leader without a term or waiting requests. Takes no memory.
     pub fn new(alloc: Global) -> Leader
         ensures { result ≡ idle }
     {
@@ -56,8 +57,8 @@ impl Leader {
         }
     }
 
-    /// A request waits: a greater number replaces its client's waiting one, any other is dropped. Takes memory if none
-    /// of its client waits.
+    /// Queues a client's request to be proposed. If one of that client waits already, the new one takes its place if
+    /// its number is greater, and is dropped otherwise. Takes memory only if none waits; a failed call changes nothing.
     pub fn ask(&mut self, client: ClientNo, number: RequestNumber, op: &Op) -> Result<(), NoMemory>
         ensures ok { OnOk result
             (self.new ≡ record {
@@ -71,14 +72,15 @@ impl Leader {
         Ok(())
     }
 
-    /// Begins a term with this ballot, in place of any other. What waits stays.
+    /// Begins a term with this ballot, in place of any other. Waiting requests are kept.
     pub fn begin(&mut self, ballot: RealBallot)
         ensures { self.new ≡ with_term (begun ballot) self.old }
     {
         self.term = Some(Term::begin(self.alloc, ballot));
     }
 
-    /// Records a promise. It is kept if it is of the term's ballot, of a node of the window, and that node's first.
+    /// Records a promise, with its votes from `first` on. It is dropped unless it is of the term's ballot, of a node of
+    /// the window, and that node's first. A failed call changes nothing.
     pub fn promise(
         &mut self,
         node: NodeNo,
@@ -104,7 +106,7 @@ impl Leader {
         Ok(())
     }
 
-    // Whether a promise of the node is to be kept.
+    // Whether a promise of this node and ballot is to be kept: see `promise`.
     fn is_first(&self, node: NodeNo, ballot: RealBallot, roster: &Roster) -> bool
         ensures { IsTrue result ↔ ((t : TermValue) × IsFirstOf self.now roster.now node ballot t) }
     {
@@ -116,7 +118,8 @@ impl Leader {
         }
     }
 
-    /// What the term proposes next: the command and its position. Call it until it returns `None`.
+    /// Records the term's next proposal, and returns its position and command. Returns `None`, and changes nothing, if
+    /// nothing can be proposed now. Call it until then.
     pub fn propose(&mut self, roster: &Roster) -> Option<(Position, Command)>
         ensures some { IfSome result (λ p. LeaderProposes self.old roster.now p.0 p.1) }
         ensures term { IfSome result
@@ -166,7 +169,7 @@ impl Leader {
         term.record_accepted(node, position, command, set)
     }
 
-    /// Records a ballot. If it is above the term's, the term ends and what waits is forgotten.
+    /// Ends the term, and forgets the waiting requests, if the ballot is above the term's.
     pub fn yield_to(&mut self, ballot: Ballot)
         ensures above { (t : TermValue) → self.old.term ≡ Some t → IsBelow t.ballot ballot → self.new ≡ idle }
         ensures other { ((t : TermValue) → self.old.term ≡ Some t → IsBelow t.ballot ballot → ⊥) → self.new ≡ self.old }
@@ -176,7 +179,7 @@ impl Leader {
         }
     }
 
-    // Whether there is a term, of a smaller ballot.
+    // Whether there is a term, and its ballot is below this one.
     fn is_below(&self, ballot: Ballot) -> bool
         ensures { IsTrue result ↔ ((t : TermValue) × (self.now.term ≡ Some t) × IsBelow t.ballot ballot) }
     {
@@ -186,7 +189,7 @@ impl Leader {
         }
     }
 
-    /// Ends the term, and forgets what waits.
+    /// Ends the term, if there is one, and forgets the waiting requests.
     pub fn leave(&mut self)
         ensures { self.new ≡ idle }
     {
@@ -194,8 +197,8 @@ impl Leader {
         self.waiting.clear();
     }
 
-    /// The client's requests up to this number are complete: removes its waiting one if it is one of them, and returns
-    /// its number.
+    /// Removes the client's waiting request if its number is at most this one, the last that was executed, and returns
+    /// its number. Otherwise changes nothing, and returns `None`.
     pub fn ran(&mut self, client: ClientNo, number: RequestNumber) -> Option<RequestNumber>
         ensures told { result ≡ number_up_to number (waiting_of client self.old.waiting) }
         ensures left { self.new ≡ record { term = self.old.term; waiting = left_by client number self.old.waiting } }
@@ -210,7 +213,7 @@ impl Leader {
         self.waiting.len()
     }
 
-    /// The term's ballot.
+    /// Returns the term's ballot, if there is a term.
     pub fn ballot(&self) -> Option<RealBallot>
         ensures { result ≡ option_map (λ t. t.ballot) self.now.term }
     {
@@ -225,7 +228,7 @@ impl Leader {
         self.term.is_some()
     }
 
-    /// Whether it has a term, which a majority of the members of the next position has promised.
+    /// Whether it leads: it has a term, which a majority of the members of the next position has promised.
     pub fn is_elected(&self, roster: &Roster) -> bool
         ensures { IsTrue result ↔ Leads self.now roster.now }
     {
@@ -261,7 +264,8 @@ impl Leader {
         silent
     }
 
-    /// What is proposed at the position and not decided, if the position is in the window.
+    /// Returns the term's proposal at the position, if no majority has accepted it yet. `None` for a position outside
+    /// the window.
     pub fn open_at(&self, position: Position, roster: &Roster) -> Option<Open<'_>>
         ensures { MatchOption result ((p : ProposalValue) → IsOpen self.now roster.now position p → ⊥)
             (λ o. (p : ProposalValue) × IsOpen self.now roster.now position p × (p.command ≡ o.command.now)

@@ -10,7 +10,7 @@ use lk_types::{Command, Executed, Members, NoMemory, NodeNo, Position, Request};
 use std::alloc::Global;
 use std::marker::Model;
 
-// A command that was proposed at a position, and the members that have been heard to accept it.
+// A command that was proposed at a position, and the members that have been heard to accept it, seven at most.
 #[derive(Drop)]
 pub(crate) struct Proposal {
     pub(crate) position: Position,
@@ -29,14 +29,14 @@ impl Model for Proposal {
 impl Default for Proposal {
     ghost is_default = { λ p. p.position ≡ 1 };
 
-    /// Nothing, at the first position.
+    /// Returns a no-op at the first position, only to fill unused places of an `ArrayVec`.
     fn default() -> Self {
         Proposal::new(Position::default(), Command::Noop)
     }
 }
 
 impl Proposal {
-    // The command was proposed there, and nobody has accepted it.
+    // Creates a proposal that nobody has accepted yet.
     pub(crate) fn new(position: Position, command: Command) -> Proposal
         ensures { result ≡ record { position = position; command = command; accepted = [] } }
     {
@@ -56,7 +56,7 @@ impl Proposal {
         executed < position && position <= executed + roster.alpha() as u64
     }
 
-    // Whether it is for this request, at a position that is not executed.
+    // Whether it proposes this request at a position that is not executed yet.
     pub(crate) fn is_for(&self, request: &Request, executed: Executed) -> bool
         ensures { IsTrue result ↔ ((executed < self.now.position) × (self.now.command ≡ RequestValue request.now)) }
     {
@@ -79,6 +79,7 @@ impl Proposal {
         ensures gains { IsTrue result ↔ GainsMajority set.now node self.old }
     {
         let had_majority = self.has_majority(set);
+        // Room for one more than the members: `members_of` then removes a repeated node, and one that is no member.
         let mut nodes: ArrayVec<NodeNo, 8> = ArrayVec::try_from(self.accepted.as_slice()).unwrap();
         nodes.push(node);
         self.accepted = members_of(set, nodes.as_slice());
@@ -100,7 +101,7 @@ impl Proposal {
     }
 }
 
-/// The members of the set that have not been heard to accept, in rising order.
+/// Returns the members of the set that are not among `accepted`, in rising order.
 pub fn unheard(alloc: Global, set: &Members, accepted: &[NodeNo]) -> Result<Vec<NodeNo>, NoMemory>
     ensures { IfOk result (λ ns. ns.items ≡ unheard set.now accepted.now) }
 {
@@ -109,7 +110,7 @@ pub fn unheard(alloc: Global, set: &Members, accepted: &[NodeNo]) -> Result<Vec<
     Ok(nodes)
 }
 
-// The members of the set that are among the nodes.
+// Returns the members of the set that are among the nodes, each once, in the order of the set.
 fn members_of(set: &Members, nodes: &[NodeNo]) -> ArrayVec<NodeNo, 7>
     ensures { result.items ≡ members_among set.now nodes.now }
 {
@@ -123,7 +124,7 @@ fn members_of(set: &Members, nodes: &[NodeNo]) -> ArrayVec<NodeNo, 7>
     among
 }
 
-/// Whether one of the proposals is for this request, at a position that is not executed.
+/// Whether one of the proposals is of this request, at a position that is not executed yet.
 pub fn is_under_way(proposals: &[Proposal], request: &Request, executed: Executed) -> bool
     ensures { IsTrue result ↔ IsUnderWay executed proposals.now (RequestValue request.now) }
 {

@@ -9,7 +9,7 @@ use lk_types::{Members, NoMemory, NodeNo, Position, Vote};
 use std::alloc::Global;
 use std::marker::Model;
 
-// A promise: who gave it, and the votes that it reports, from `first` on.
+// A promise as the leader keeps it: its node, and the votes that it reports at positions from `first` on.
 #[derive(Drop)]
 pub(crate) struct Report {
     pub(crate) node: NodeNo,
@@ -26,7 +26,7 @@ impl Model for Report {
 }
 
 impl Report {
-    // The promise, with its votes copied.
+    // Creates a report with a copy of the votes.
     pub(crate) fn of(
         alloc: Global,
         node: NodeNo,
@@ -39,7 +39,7 @@ impl Report {
         Ok(Report { node, first, votes })
     }
 
-    // The best so far, or what it reports of the position if that counts for more.
+    // Returns the highest of `best` and the votes that this promise reports at the position.
     pub(crate) fn best_vote(
         &self,
         position: Position,
@@ -56,21 +56,22 @@ impl Report {
         best
     }
 
-    // Whether it reports a vote at the position or after it.
+    // Whether it reports a vote at the position or a later one.
     pub(crate) fn reaches(&self, position: Position) -> bool
         ensures { result ≡ list_any (λ x. nat_le position x.position) self.now.votes }
     {
         self.votes.iter().any(|vote| position <= vote.position)
     }
 
-    // Whether the node gave it, from the position or one before it on.
+    // Whether the node gave it, and it is for the position too: its `first` is at most the position.
     pub(crate) fn is_from(&self, node: NodeNo, position: Position) -> bool
         ensures { result ≡ (self.now.node == node && nat_le self.now.first position) }
     {
         self.node == node && self.first <= position
     }
 
-    // Whether it speaks for a position with these members: a member gave it, from the position or one before it on.
+    // Whether its votes count at a position with these members: a member gave it, and its `first` is at most the
+    // position.
     pub(crate) fn speaks_for(&self, position: Position, set: &Members) -> bool
         ensures { result ≡ (is_member self.now.node set.now && nat_le self.now.first position) }
     {

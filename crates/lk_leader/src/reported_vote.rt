@@ -11,7 +11,8 @@ pub(crate) struct ReportedVote {
 }
 
 impl ReportedVote {
-    // Whether the other counts for more: its ballot is greater, or the same and reported by a smaller node.
+    // Whether the other vote, which this node reports, is higher: its ballot is greater, or the same and reported by a
+    // smaller node. The second rule only makes the highest unique, whatever the order of reports.
     fn is_below(&self, node: NodeNo, vote: &Vote) -> bool
         ensures below { IsTrue result → IsNotAbove self.now (record { node = node; vote = vote.now }) }
         ensures above { result ≡ false → IsNotAbove (record { node = node; vote = vote.now }) self.now }
@@ -21,7 +22,7 @@ impl ReportedVote {
     }
 }
 
-/// The best so far, or this vote if it counts for more.
+/// Returns the higher of `best` and this vote, which the node reports.
 pub fn better(best: Option<ReportedVote>, node: NodeNo, vote: &Vote) -> Option<ReportedVote>
     ensures { (ts : List ReportedVote) → IsBest ts best
         → IsBest (ts ++ record { node = node; vote = vote.now } ∷ []) result }

@@ -20,7 +20,8 @@ use lk_types::{Command, Members, NoMemory, NodeNo, Position, RealBallot};
 use std::alloc::Global;
 use std::marker::Model;
 
-// A ballot in progress: the first promise of each node, and what was proposed at the positions of the window.
+// A ballot in progress: the first promise of each node, and what was proposed at the positions of the window, of which
+// there are at most 16.
 #[derive(Drop)]
 pub(crate) struct Term {
     ballot: RealBallot,
@@ -41,7 +42,7 @@ impl Model for Term {
 }
 
 impl Term {
-    // The ballot begins: nothing is promised or proposed in it. Takes no memory.
+    // Creates a term in which nothing is promised or proposed yet. Takes no memory.
     pub(crate) fn begin(alloc: Global, ballot: RealBallot) -> Term
         ensures { result ≡ begun ballot }
     {
@@ -66,7 +67,7 @@ impl Term {
         self.reports.iter().any(|report| report.node == node)
     }
 
-    // Keeps one more promise.
+    // Appends a promise. A failed call changes nothing.
     pub(crate) fn keep(&mut self, report: Report) -> Result<(), NoMemory>
         ensures ok { OnOk result (self.new ≡ with_report report self.old) }
         ensures err { OnErr result (self.new ≡ self.old) }
@@ -75,7 +76,7 @@ impl Term {
         Ok(())
     }
 
-    // The proposal at the position.
+    // Returns the proposal at the position, if there is one.
     pub(crate) fn proposal_at(&self, position: Position) -> Option<&Proposal>
         ensures { option_copied result ≡ proposal_at position self.now.proposals }
     {
@@ -85,7 +86,7 @@ impl Term {
             .find(|proposal| proposal.position == position)
     }
 
-    // The first position of the window at which nothing is proposed.
+    // Returns the first position of the window at which nothing is proposed, if there is one.
     fn next_position(&self, roster: &Roster) -> Option<Position>
         ensures { MatchOption result ((i : ℕ) → IsNext roster.now self.now.proposals i → ⊥)
             (λ i. IsNext roster.now self.now.proposals i) }
@@ -100,14 +101,14 @@ impl Term {
         None
     }
 
-    // Whether a majority of the set promised from the position or one before it on.
+    // Whether a majority of these members has promised, with a `first` that is at most the position.
     fn is_promised(&self, position: Position, set: &Members) -> bool
         ensures { IsTrue result ↔ IsMajority (those_who_promised set.now position self.now.reports) set.now }
     {
         is_majority(set, promisers(&self.reports, position, set).as_slice())
     }
 
-    // Whether a majority of the members of the position has promised from there or before it on.
+    // Whether `is_promised` holds for the position and its own members; false outside the window.
     fn is_promised_at(&self, position: Position, roster: &Roster) -> bool
         ensures { IsTrue result ↔ IsPromisedAt self.now roster.now position }
     {
@@ -117,7 +118,7 @@ impl Term {
         }
     }
 
-    // Whether a majority of the members of the next position has promised from there on.
+    // Whether the node leads in this term: `is_promised_at` holds for the next position.
     pub(crate) fn is_elected(&self, roster: &Roster) -> bool
         ensures { IsTrue result ↔ IsElected self.now roster.now }
     {
@@ -127,7 +128,7 @@ impl Term {
         }
     }
 
-    // The highest vote that a member's promise reports for the position.
+    // Returns the vote of greatest ballot that promises of these members report at the position, if any does.
     fn highest(&self, position: Position, set: &Members) -> Option<ReportedVote>
         ensures { IsBest (told_at position (reports_at set.now position self.now.reports)) result }
     {
@@ -140,21 +141,23 @@ impl Term {
         best
     }
 
-    // Whether some promise reports a vote at the position or after it.
+    // Whether some promise reports a vote at the position or a later one.
     fn is_reached(&self, position: Position) -> bool
         ensures { result ≡ is_reached self.now.reports position }
     {
         self.reports.iter().any(|report| report.reaches(position))
     }
 
-    // Whether the position has to be filled.
+    // Whether a no-op has to fill the position: a promise reports a vote there or later, or the last change of members
+    // is not in effect before it. Neither may wait until clients ask for more.
     fn is_gap(&self, position: Position, roster: &Roster) -> bool
         ensures { result ≡ (is_reached self.now.reports position || is_changing_at roster.now position) }
     {
         self.is_reached(position) || is_changing(position, roster)
     }
 
-    // What the term proposes at a position of this set.
+    // Returns the command to propose at a position of these members: the highest vote reported there, else the first
+    // waiting request that is not under way, else a no-op if the position has to be filled.
     fn value(
         &self,
         position: Position,
@@ -175,7 +178,8 @@ impl Term {
         self.is_gap(position, roster).then_some(Command::Noop)
     }
 
-    // What it proposes next, and where.
+    // Returns the next proposal: the first free position of the window, and its command. `None` if a majority of its
+    // members has not promised, or there is nothing to propose. Changes nothing.
     pub(crate) fn next(&self, waiting: &Waiting, roster: &Roster) -> Option<(Position, Command)>
         ensures { MatchOption result ((i : ℕ) (v : CommandValue) → Proposes self.now waiting.now roster.now i v → ⊥)
             (λ p. Proposes self.now waiting.now roster.now p.0 p.1) }
@@ -189,7 +193,7 @@ impl Term {
         Some((position, command))
     }
 
-    // Keeps what is proposed, and forgets what was proposed outside the window.
+    // Records a proposal at the next free position. Forgets those outside the window first, so that there is room.
     pub(crate) fn propose(&mut self, position: Position, command: Command, roster: &Roster)
         requires { IsNext roster.now self.old.proposals position }
         ensures { self.new ≡ proposed roster.now position command self.old }
@@ -199,7 +203,7 @@ impl Term {
         self.proposals.push(Proposal::new(position, command));
     }
 
-    // The index of the proposal at the position.
+    // Returns the index of the proposal at the position, if there is one.
     fn place_of(&self, position: Position) -> Option<usize>
         ensures { result ≡ position_of (λ p. p.position == position) self.now.proposals }
     {
@@ -234,7 +238,7 @@ impl Term {
     }
 }
 
-// The members of the set that promised from the position or one before it on.
+// Returns the members of the set that have promised with a `first` that is at most the position.
 fn promisers(reports: &[Report], position: Position, set: &Members) -> ArrayVec<NodeNo, 7>
     ensures { result.items ≡ those_who_promised set.now position reports.now }
 {
@@ -248,14 +252,15 @@ fn promisers(reports: &[Report], position: Position, set: &Members) -> ArrayVec<
     among
 }
 
-// Whether the node promised from the position or one before it on.
+// Whether the node has promised with a `first` that is at most the position.
 fn is_promiser_of(reports: &[Report], node: NodeNo, position: Position) -> bool
     ensures { result ≡ list_any (λ r. r.node == node && nat_le r.first position) reports.now }
 {
     reports.iter().any(|report| report.is_from(node, position))
 }
 
-// Whether the last change is not in effect before the position.
+// Whether the last change of members is not in effect before the position, which is at most alpha above it. False if
+// there was no change.
 fn is_changing(position: Position, roster: &Roster) -> bool
     ensures { result ≡ is_changing_at roster.now position }
 {

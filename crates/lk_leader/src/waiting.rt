@@ -9,7 +9,7 @@ use lk_types::{ClientNo, Executed, NoMemory, Op, Request, RequestNumber};
 use std::alloc::Global;
 use std::marker::Model;
 
-// What a client asks for under a number.
+// A waiting request without its client, which is its key.
 #[derive(Drop)]
 pub(crate) struct Asked {
     number: RequestNumber,
@@ -17,7 +17,7 @@ pub(crate) struct Asked {
 }
 
 impl Asked {
-    // The request, as this client's.
+    // Returns the full request of this client.
     fn request_of(&self, client: ClientNo) -> Request
         ensures { result ≡ record { client = client; number = self.now.number; op = self.now.op } }
     {
@@ -29,7 +29,7 @@ impl Asked {
     }
 }
 
-// The requests that wait to be proposed, in order of arrival, one a client.
+// The requests that wait to be proposed, in order of arrival, at most one of each client.
 #[derive(Drop)]
 pub(crate) struct Waiting {
     requests: IndexMap<ClientNo, Asked>,
@@ -45,7 +45,7 @@ impl Model for Waiting {
 }
 
 impl Waiting {
-    // Nothing waits. Takes no memory.
+    // Creates an empty queue. Takes no memory.
     pub(crate) fn new(alloc: Global) -> Waiting
         ensures { result ≡ [] }
     {
@@ -54,7 +54,8 @@ impl Waiting {
         }
     }
 
-    // A request waits: a greater number replaces its client's waiting one, any other is dropped.
+    // Appends a request. If one of that client waits already, the new one takes its place if its number is greater, and
+    // is dropped otherwise. A failed call changes nothing.
     pub(crate) fn add(
         &mut self,
         client: ClientNo,
@@ -76,7 +77,7 @@ impl Waiting {
         Ok(())
     }
 
-    // Removes the client's waiting request if its number is at most this one, and returns its number.
+    // Removes the client's waiting request if its number is at most this one, and returns its number; `None` otherwise.
     pub(crate) fn ran(&mut self, client: ClientNo, number: RequestNumber) -> Option<RequestNumber>
         ensures told { result ≡ number_up_to number (waiting_of client self.old) }
         ensures left { self.new ≡ left_by client number self.old }
@@ -105,7 +106,7 @@ impl Waiting {
         self.requests.len()
     }
 
-    // The first request that is not proposed at a position that is not executed.
+    // Returns the first request that is not under way: not proposed at a position that is still to be executed.
     pub(crate) fn first_new(&self, proposals: &[Proposal], executed: Executed) -> Option<Request>
         ensures { MatchOption result (NoneIsNew executed proposals.now self.now)
             (λ q. IsFirstNew executed proposals.now self.now q) }
@@ -119,7 +120,7 @@ impl Waiting {
         None
     }
 
-    // Nothing waits any more.
+    // Removes all requests.
     pub(crate) fn clear(&mut self)
         ensures { self.new ≡ [] }
     {

@@ -1,4 +1,4 @@
--- For which lists a learner stands.
+-- When a learner's state is that of an executed list.
 use Rattle.std.specs.Prelude.{◌≡◌, ◌≤◌, List, length, take, drop}
 use Rattle.lk_agreement.specs.Changes.{AreAmong}
 use Rattle.lk_agreement.specs.Datagrams.{Genesis}

@@ -1,4 +1,4 @@
--- When a text is that of a state.
+-- When a text is the packed text of a state.
 use Rattle.std.specs.Prelude.{◌≡◌, ℕ, List, length}
 use Rattle.lk_state.specs.Packed.{Packs}
 use Rattle.lk_learner.specs.Learners.{WholeValue}

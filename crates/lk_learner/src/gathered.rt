@@ -10,7 +10,7 @@ use lk_types::{NoMemory, Position};
 use std::alloc::Global;
 use std::marker::Model;
 
-/// The prefix of a snapshot's text from the parts heard so far.
+/// The prefix of another node's snapshot text that has arrived so far, part by part and in order.
 #[derive(Drop)]
 pub struct Gathered {
     position: Position,
@@ -29,7 +29,7 @@ impl Model for Gathered {
     ghost invariant = { λ g. IsGathered (record { position = g.position; total = g.total; bytes = g.bytes.items }) };
 }
 
-// The bytes of the part, if it is the first one.
+// Copies the bytes of the part if it is the first one, with offset 0; otherwise returns no bytes.
 fn first_bytes(alloc: Global, part: &PartRef<'_>) -> Result<Vec<u8>, NoMemory>
     ensures value { IfOk result (λ bytes. bytes.items ≡ first_bytes part.now) }
     ensures memory { OnErr result (part.now.offset ≡ 0) }
@@ -41,7 +41,7 @@ fn first_bytes(alloc: Global, part: &PartRef<'_>) -> Result<Vec<u8>, NoMemory>
 }
 
 impl Gathered {
-    // What is gathered with this part as its start: nothing yet, if the part is not the first one.
+    // Starts gathering the part's snapshot: with the part's bytes if it is the first one, otherwise with none.
     pub(crate) fn begun_by(alloc: Global, part: &PartRef<'_>) -> Result<Gathered, NoMemory>
         ensures value { IfOk result (λ g. g ≡ begun_by part.now) }
         ensures memory { OnErr result (part.now.offset ≡ 0) }
@@ -69,7 +69,7 @@ impl Gathered {
         &self.bytes
     }
 
-    /// How many bytes there are, at most 49,152.
+    /// Returns how many bytes are gathered, at most 49,152.
     pub fn length(&self) -> u32
         ensures value { result ≡ length self.now.bytes }
         ensures room { result ≤ max_base }
@@ -77,14 +77,14 @@ impl Gathered {
         self.bytes.len() as u32
     }
 
-    /// Whether these are all bytes of the snapshot.
+    /// Whether all bytes of the snapshot are gathered.
     pub fn is_whole(&self) -> bool
         ensures { IsTrue result ↔ (length self.now.bytes ≡ self.now.total) }
     {
         self.length() == self.total
     }
 
-    // Whether the part is one of the same snapshot that continues these bytes.
+    // Whether the part is of the same snapshot (position and total agree) and begins where these bytes end.
     fn goes_on(&self, part: &PartRef<'_>) -> bool
         ensures { result ≡ goes_on self.now part.now }
     {
@@ -107,8 +107,8 @@ impl Gathered {
         Ok(())
     }
 
-    /// The state whose packed text is gathered, if it is one at its position and with this alpha. Any other text is of
-    /// no use. It needs memory for the state.
+    /// Unpacks the gathered text. Returns `None` if it is no packed state, or that of a state at another position or
+    /// with another alpha. It needs memory for the state.
     pub fn state<M: Machine>(&self, alloc: Global, alpha: u8) -> Result<Option<Whole<M>>, NoMemory>
         ensures some { IfOk result
             (λ found. IfSome found (λ w. Unpacks M.IsText alpha self.now.position self.now.bytes w)) }
@@ -126,7 +126,7 @@ impl Gathered {
         Ok(Some(whole))
     }
 
-    /// The bytes.
+    /// Returns the bytes without copying them.
     pub fn into_bytes(self) -> Vec<u8>
         ensures { result.items ≡ self.bytes }
     {

@@ -6,7 +6,7 @@ use lk_messages::PartRef;
 use lk_types::{Executed, NoMemory};
 use std::alloc::Global;
 
-// Whether the part is of a snapshot above that which is gathered, if any is.
+// Whether the part replaces what is gathered: its snapshot is at a greater position, or nothing is gathered.
 fn begins(gathered: &Option<Gathered>, part: &PartRef<'_>) -> bool
     ensures { result ≡ begins gathered.now part.now }
 {
@@ -16,7 +16,7 @@ fn begins(gathered: &Option<Gathered>, part: &PartRef<'_>) -> bool
     }
 }
 
-// Appends the part to what is gathered, if it continues that. A failed call changes nothing.
+// Appends the part if it continues what is gathered, and drops it otherwise. A failed call changes nothing.
 fn join(gathered: &mut Option<Gathered>, part: &PartRef<'_>) -> Result<(), NoMemory>
     ensures ok { OnOk result (gathered.new ≡ joined_any gathered.old part.now) }
     ensures err { OnErr result (gathered.new ≡ gathered.old) }

@@ -1,5 +1,4 @@
-//! What follows from a learner's steps: laws about the definitions alone. A function without a body ensures each of
-//! them.
+//! Laws of a learner's calls, about the definitions alone: each is the contract of a function without a body.
 ghost use Rattle.std.specs.Prelude.{◌≡◌, ◌+◌, ◌-◌, ◌*◌, ◌<◌, ◌≤◌, ℕ, suc, List, [], ◌∷◌, ◌++◌, length, take, drop};
 ghost use Rattle.std.specs.Prelude.{Contains, Option, Some, slice_get};
 ghost use Rattle.lk_agreement.specs.Datagrams.{Genesis, Datagram, Decided};
@@ -20,8 +19,8 @@ ghost use Rattle.lk_learner.specs.Gathering.{heard};
 ghost use Rattle.lk_learner.specs.Installing.{pairs_above, installed};
 ghost use Rattle.lk_learner.specs.Parts.{AreParts};
 
-/// Kept pairs are of the next positions, up to twice alpha, one each, so they are few. When the next one is executed
-/// there is one less.
+/// Kept pairs are at the next 2 alpha positions, at most one at each, so there are at most 2 alpha. When the next one
+/// is executed there is one less.
 pub fn kept_pairs_are_near_and_few()
     ensures near { (e alpha : ℕ) (pairs : List Pair) → AreKept e alpha pairs → (p : Pair) → Contains pairs p
         → (e < p.0) × (p.0 ≤ e + 2 * alpha) }
@@ -32,8 +31,8 @@ pub fn kept_pairs_are_near_and_few()
         → suc (length (without (e + 1) pairs)) ≡ length pairs }
 {}
 
-/// A learner continues to follow the list: as it is made, with one more pair, and with one more command that it has
-/// executed. With the state of another list installed it follows that one.
+/// A learner's state agrees with a list when it is created, and continues to when it keeps a pair or executes a
+/// command. After it installs the state of another list it agrees with that one.
 pub fn a_learner_follows_its_list()
     ensures begins { (m : Meaning) (genesis : Genesis) (done : List Command) (w : WholeValue) → SumsUp m genesis done w
         → Follows m genesis done [] (begun w) }
@@ -49,8 +48,8 @@ pub fn a_learner_follows_its_list()
         → Follows m genesis L (pairs_above w.roster.executed pairs) (installed w l) }
 {}
 
-/// What a learner executes next is chosen at the position after its list, so the list with it is chosen: it never
-/// executes a pair beyond a gap.
+/// The command that a learner executes next is chosen at the position after its list, so the list with it is chosen: a
+/// learner never executes a pair beyond a gap.
 pub fn what_is_run_is_chosen()
     ensures chosen { (m : Meaning) (genesis : Genesis) (sent : List Datagram) (w : View) (l : LearnerValue)
         (v : Command) → Sound genesis sent → Stems genesis sent w
@@ -60,7 +59,7 @@ pub fn what_is_run_is_chosen()
         → Follows m genesis done pairs l → command_at (done ++ v ∷ []) (executed l + 1) ≡ Some v }
 {}
 
-/// Keeping a pair and executing a command are changes that a node may make.
+/// The protocol permits a node to keep a chosen pair, and to execute the next command.
 pub fn a_learner_changes_as_it_may()
     ensures learns { (genesis : Genesis) (sent : List Datagram) (n : ℕ) (w : View) (i : ℕ) (v : Command)
         → ChosenAt genesis sent i v
@@ -70,7 +69,7 @@ pub fn a_learner_changes_as_it_may()
         → Changes genesis sent n w (with_done w (w.done ++ v ∷ []) (advanced m v l).pairs) }
 {}
 
-/// A node may send what a learner serves, and it is the list's.
+/// A node may send the commands that its learner serves, and they are those of the executed list.
 pub fn what_is_served_is_chosen()
     ensures may { (m : Meaning) (genesis : Genesis) (sent : List Datagram) (w : View) (l : LearnerValue) (first : ℕ)
         → Stems genesis sent w → Follows m genesis w.done w.pairs l
@@ -81,15 +80,15 @@ pub fn what_is_served_is_chosen()
         → command_at done i ≡ Some v }
 {}
 
-/// Each served part of a text is a slice of it, and states its length.
+/// Each served part of a text is a slice of it, with the text's length as its total.
 pub fn parts_that_are_served_are_slices()
     ensures { (position start k : ℕ) (text : List ℕ) (parts : List PartValue) (p : PartValue)
         → AreParts position text start parts → slice_get parts k ≡ Some p
         → (p.position ≡ position) × (p.total ≡ length text) × (p.bytes ≡ take (length p.bytes) (drop p.offset text)) }
 {}
 
-/// What is gathered from parts that are slices of the texts of chosen lists, from whichever nodes, is a prefix of such
-/// a text.
+/// A text gathered from parts that are slices of the snapshots of chosen lists, from whichever nodes, is a prefix of
+/// such a snapshot's text.
 pub fn what_is_gathered_begins_a_text()
     ensures { (genesis : Genesis) (sent : List Datagram) (text : List Command → List ℕ) (e : ℕ) (p : PartValue)
         (old : Option GatheredValue) (g : GatheredValue) → Sound genesis sent

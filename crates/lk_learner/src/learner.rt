@@ -12,9 +12,9 @@ use lk_types::{Command, Executed, NoMemory, Position};
 use std::alloc::Global;
 use std::marker::Model;
 
-/// What a node has learned of the list: the state after the commands that it has executed, those of them that its
-/// snapshot has not replaced, the snapshot's packed text, decided commands of later positions, and what it has
-/// gathered of another node's snapshot.
+/// What a node has learned of the list of commands: the state after those that it has executed (`whole`), the position
+/// and packed text of its snapshot, the commands executed since then (`served`), decided commands of later positions
+/// (`pairs`), and what it has gathered of another node's snapshot.
 #[derive(Drop)]
 pub struct Learner<M: Machine> {
     pub(crate) alloc: Global,
@@ -63,7 +63,7 @@ impl<M: Machine> Learner<M> {
     ghost use Rattle.lk_learner.specs.Learners.{IsLearner, executed, alpha, begun, IsWanted, keeping, IsNext, advanced};
     ghost use Rattle.lk_learner.specs.Learners.{with_snapshot, IsServed, decided_from, gathered_bytes, wanted};
 
-    /// The learner for this state, right after a snapshot with this packed text. Takes no memory.
+    /// Creates a learner from a state and its packed text, which becomes its snapshot. Takes no memory.
     pub fn new(alloc: Global, whole: Whole<M>, snapshot: Vec<u8>) -> Learner<M>
         requires text { snapshot.items ≡ packed whole }
         ensures { result ≡ begun whole }
@@ -96,15 +96,15 @@ impl<M: Machine> Learner<M> {
         self.pairs.as_slice()
     }
 
-    /// The kept pairs are of the next positions, one each, and the commands since the snapshot are all there. The
-    /// function does nothing.
+    /// Shows the prover that the kept pairs are of the next positions, one each, and that no command since the snapshot
+    /// is missing. Has no effect.
     pub fn facts(&self)
         ensures { IsLearner self.now }
     {
         let _ = self.pairs.as_slice();
     }
 
-    // Whether the position is one of the next, up to twice alpha.
+    // Whether the position is one of the next 2 alpha ones.
     fn is_near(&self, position: Position) -> bool
         ensures { IsTrue result ↔ ((executed self.now < position)
             × (position ≤ executed self.now + 2 * alpha self.now)) }
@@ -114,16 +114,16 @@ impl<M: Machine> Learner<M> {
         executed < position.get() && position.get() <= farthest
     }
 
-    /// Whether a pair of the position is to be kept: the position is one of the next, up to twice alpha, and no pair
-    /// of it is kept.
+    /// Whether `decided` would keep a command of the position: it is one of the next 2 alpha ones, and no command of it
+    /// is kept yet.
     pub fn is_wanted(&self, position: Position) -> bool
         ensures { IsTrue result ↔ IsWanted self.now position }
     {
         self.is_near(position) && !is_kept(self.pairs.as_slice(), position)
     }
 
-    /// A command is decided at the position. It is kept if the position is one of the next, up to twice alpha, and no
-    /// command of it is kept. Returns whether it was kept. Takes no memory.
+    /// Keeps a decided command until it is executed, if its position `is_wanted`, and drops it otherwise. Returns
+    /// whether it was kept. Takes no memory.
     pub fn decided(&mut self, position: Position, command: &Command) -> bool
         ensures wanted { IsTrue result ↔ IsWanted self.old position }
         ensures kept { IsTrue result → self.new ≡ keeping (position, command.now) self.old }
@@ -151,8 +151,9 @@ impl<M: Machine> Learner<M> {
         }
     }
 
-    /// Executes the command of the next position, if it is kept, and removes it from the kept pairs. It needs memory
-    /// for the list of what is served and for a body that the machine executes; a failed call changes nothing.
+    /// Executes the command of the next position, if it is kept, and moves it from the kept pairs to the commands since
+    /// the snapshot. Returns its position and answer; `None` if it is not kept. It needs memory for the list of these
+    /// commands and for a body that the machine executes; a failed call changes nothing.
     pub fn execute_next(&mut self) -> Result<Option<Ran>, NoMemory>
         ensures next { (v : Command) → IsNext self.old v → OnOk result (self.new ≡ advanced M.meaning v self.old) }
         ensures ran { (v : Command) → IsNext self.old v
@@ -172,6 +173,7 @@ impl<M: Machine> Learner<M> {
         if !self.is_next_kept() {
             return Ok(None);
         }
+        // Room is reserved first: once the command is executed nothing may fail.
         self.served.reserve(1)?;
         let ran = self.whole.run(self.pairs[0].command())?;
         let pair = self.pairs.remove(0);
@@ -179,7 +181,7 @@ impl<M: Machine> Learner<M> {
         Ok(Some(ran))
     }
 
-    /// The packed text of the state after the executed commands.
+    /// Packs the state after the executed commands. It needs memory for the text, at most 42,087 bytes.
     pub fn pack_now(&self) -> Result<BytesMut, NoMemory>
         ensures text { IfOk result (λ t. t.items ≡ packed self.now.whole) }
         ensures some { IfOk result (λ t. 1 ≤ length t.items) }
@@ -191,7 +193,8 @@ impl<M: Machine> Learner<M> {
         Ok(text)
     }
 
-    /// A snapshot of the state, with this packed text, replaces the executed commands. Takes no memory.
+    /// Replaces the commands executed since the last snapshot by a snapshot of the state, of this packed text. Takes no
+    /// memory.
     pub fn set_snapshot(&mut self, snapshot: Vec<u8>)
         requires text { snapshot.items ≡ packed self.old.whole }
         ensures { self.new ≡ with_snapshot self.old }
@@ -202,8 +205,8 @@ impl<M: Machine> Learner<M> {
         self.served = Vec::new(self.alloc);
     }
 
-    /// What to ask for: the commands from the next position on, or the rest of the snapshot being gathered. `None` if
-    /// 2^48 positions are executed, after which there is none. Takes no memory.
+    /// Returns what to ask another node for: the commands from the next position on, or the rest of the snapshot being
+    /// gathered. `None` if 2^48 positions are executed, after which there is none. Takes no memory.
     pub fn want(&self) -> Option<Want>
         ensures { MatchOption result (executed self.now ≡ max_count) (λ w. w ≡ wanted self.now) }
     {
@@ -222,7 +225,8 @@ impl<M: Machine> Learner<M> {
         }
     }
 
-    // The index of the position among the commands since the snapshot, or where it would be inserted.
+    // Returns the index that the position has in `served`; at or past its end if the position is not executed. `None`
+    // if the snapshot has replaced it.
     fn place(&self, position: Position) -> Option<usize>
         ensures { MatchOption result (position ≤ self.now.snapshot_position)
             (λ k. (self.now.snapshot_position < position) × (k ≡ position - (self.now.snapshot_position + 1))) }
@@ -233,7 +237,8 @@ impl<M: Machine> Learner<M> {
         Some(behind as usize)
     }
 
-    /// The command that was executed at the position. `None` if it is not executed, or the snapshot has replaced it.
+    /// Returns the command that was executed at the position. `None` if it is not executed, or the snapshot has
+    /// replaced it.
     pub fn executed_at(&self, position: Position) -> Option<&Command>
         ensures some { MatchOption result (IsServed self.now position → ⊥)
             (λ v. IsServed self.now position
@@ -242,7 +247,8 @@ impl<M: Machine> Learner<M> {
         self.served.get(self.place(position)?)
     }
 
-    // The executed commands from the position on, up to 16, if the snapshot has not replaced them.
+    // Returns the executed commands from the position on, up to 16. `None` if the position is not executed, or the
+    // snapshot has replaced it.
     fn commands_from(&self, first: Position) -> Option<&[Command]>
         ensures { MatchOption result (IsServed self.now first → ⊥)
             (λ vs. IsServed self.now first × (vs.now ≡ (decided_from first self.now).commands)) }
@@ -256,8 +262,8 @@ impl<M: Machine> Learner<M> {
         self.served.get(start..end)
     }
 
-    /// The reply to a node that asks for the commands from `first` on: up to 16 of them, up to the last executed one.
-    /// `None` if `first` is not executed, or the snapshot has replaced it: see `parts`.
+    /// Returns the reply to a node that asks for the commands from `first` on: up to 16 of them, up to the last
+    /// executed one. `None` if `first` is not executed, or the snapshot has replaced it: then `parts` is the reply.
     pub fn serve(&self, first: Position) -> Result<Option<Decided>, NoMemory>
         ensures some { IsServed self.now first → IfOk result (λ d. d ≡ Some (decided_from first self.now)) }
         ensures none { (IsServed self.now first → ⊥) → result ≡ Ok None }
@@ -272,7 +278,7 @@ impl<M: Machine> Learner<M> {
     }
 }
 
-// The same commands.
+// Copies the commands.
 fn copied(alloc: Global, commands: &[Command]) -> Result<Vec<Command>, NoMemory>
     ensures { IfOk result (λ vs. vs.items ≡ commands.now) }
 {

@@ -26,14 +26,14 @@ impl Model for Pair {
 impl Default for Pair {
     ghost is_default = { λ p. p.0 ≡ 1 };
 
-    /// A no-op at the first position.
+    /// Returns a no-op at the first position, only to fill unused places of an `ArrayVec`.
     fn default() -> Self {
         Pair::new(Position::default(), Command::Noop)
     }
 }
 
 impl Pair {
-    // The command at the position.
+    // Creates the pair of a command at a position.
     pub(crate) fn new(position: Position, command: Command) -> Pair
         ensures { result ≡ (position, command) }
     {
@@ -55,14 +55,15 @@ impl Pair {
     }
 }
 
-/// Whether one of the pairs is of the position.
+/// Whether one of the pairs is at the position.
 pub fn is_kept(pairs: &[Pair], position: Position) -> bool
     ensures { IsTrue result ↔ ((v : CommandValue) × Contains pairs.now (position, v)) }
 {
     pairs.iter().any(|pair| pair.position == position)
 }
 
-/// How many pairs of smaller positions come first.
+/// Returns the index at which a pair of this position belongs: how many pairs have smaller ones. The pairs rise by
+/// position, above `low`, which only the contract needs.
 pub fn place_of(pairs: &[Pair], position: Position, low: u64) -> usize
     requires { IsTrue (are_pairs_above low pairs.now) }
     ensures place { result ≡ prefix_len (λ p. nat_lt p.0 position) pairs.now }
@@ -71,7 +72,7 @@ pub fn place_of(pairs: &[Pair], position: Position, low: u64) -> usize
     pairs.partition_point(|pair| pair.position < position)
 }
 
-/// The same pairs.
+/// Copies the pairs, as tuples.
 pub fn copied_pairs(alloc: Global, pairs: &[Pair]) -> Result<Vec<(Position, Command)>, NoMemory>
     ensures { IfOk result (λ ps. ps.items ≡ pairs.now) }
 {
@@ -82,7 +83,7 @@ pub fn copied_pairs(alloc: Global, pairs: &[Pair]) -> Result<Vec<(Position, Comm
     Ok(copies)
 }
 
-/// The position this far after the first.
+/// Returns the position `offset` after `first`. The sum is at most 2^48.
 pub fn position_behind(first: Position, offset: usize) -> Position
     requires { first + offset ≤ max_count }
     ensures { result ≡ first + offset }

@@ -10,7 +10,7 @@ use std::alloc::Global;
 // The most parts in reply to one request for a snapshot.
 const MAX_PARTS: usize = 8;
 
-// The bytes of the part of the text at this offset.
+// Returns the next 1,024 bytes of the text from this offset on, or what is left of it.
 fn piece_of(text: &[u8], offset: usize) -> &[u8]
     requires within { offset < length text.now }
     requires room { length text.now ≤ max_base }
@@ -23,7 +23,7 @@ fn piece_of(text: &[u8], offset: usize) -> &[u8]
     &text[offset..end]
 }
 
-// The part of the text at this offset.
+// Creates the part of the text at this offset: 1,024 bytes, or what is left of it.
 fn part_of(alloc: Global, position: Position, text: &[u8], offset: usize) -> Result<Part, NoMemory>
     requires within { offset < length text.now }
     requires room { length text.now ≤ max_base }
@@ -34,7 +34,7 @@ fn part_of(alloc: Global, position: Position, text: &[u8], offset: usize) -> Res
     Ok(part.unwrap())
 }
 
-// The offset from which a text is served when this one is requested.
+// Returns the offset to serve from: the requested one, or 0 if that is not below the length of the text.
 fn start_of(offset: u32, text: &[u8]) -> usize
     requires { 1 ≤ length text.now }
     ensures value { result ≡ start_of offset text.now }
@@ -44,7 +44,7 @@ fn start_of(offset: u32, text: &[u8]) -> usize
     if offset < text.len() { offset } else { 0 }
 }
 
-// The parts of the text from there on, up to 8.
+// Returns the parts of the text from `start` on, up to 8.
 fn parts_behind(
     alloc: Global,
     position: Position,
@@ -66,9 +66,9 @@ fn parts_behind(
     Ok(parts)
 }
 
-/// The reply to a node that asks for a snapshot's packed text from the offset on: the text from there on, or from its
-/// start if the offset is not below its length, in up to 8 parts of 1,024 bytes each, except for the last part of the
-/// text. It needs memory for the bytes.
+/// Returns the reply to a node that asks for the packed text of the snapshot at `position`: the text from the offset
+/// on, or from its start if the offset is not below its length, in up to 8 parts of 1,024 bytes each, except for the
+/// last part of the text. It needs memory for the bytes.
 pub fn parts_from(
     alloc: Global,
     position: Position,

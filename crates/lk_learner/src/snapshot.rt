@@ -17,7 +17,7 @@ use lk_state::{Machine, Whole};
 use lk_types::limits::MAX_VOTES;
 use lk_types::{Executed, NoMemory, Position};
 
-// Forgets the pairs up to a position.
+// Removes the pairs up to a position.
 fn forget_to(pairs: &mut ArrayVec<Pair, MAX_VOTES>, position: Executed)
     ensures { pairs.new.items ≡ pairs_above position pairs.old.items }
 {
@@ -25,7 +25,7 @@ fn forget_to(pairs: &mut ArrayVec<Pair, MAX_VOTES>, position: Executed)
 }
 
 impl<M: Machine> Learner<M> {
-    /// The reply to a node that asks for commands from the position on, if the snapshot has replaced it: the
+    /// Returns the reply to a node that asks for commands from the position on, if the snapshot has replaced it: the
     /// snapshot's text from the offset on, or from its start if the offset is not below its length, in up to 8 parts
     /// of 1,024 bytes each, except for the last part of the text. Nothing if the position is above the snapshot. It
     /// needs memory for the bytes.
@@ -58,7 +58,7 @@ impl<M: Machine> Learner<M> {
         Ok(())
     }
 
-    // Whether a complete text is gathered.
+    // Whether all bytes of another node's snapshot are gathered.
     fn has_whole(&self) -> bool
         ensures { IsTrue result ↔ ((g : GatheredValue) × HasWhole self.now g) }
     {
@@ -68,7 +68,7 @@ impl<M: Machine> Learner<M> {
         }
     }
 
-    // The state whose text is gathered, if it is above what is executed.
+    // Unpacks the gathered text. Returns `None` if its position is executed already, or it is no state's text.
     fn gathered_state(&self) -> Result<Option<Whole<M>>, NoMemory>
         ensures some { (g : GatheredValue) → HasWhole self.now g
             → IfOk result (λ found. IfSome found (λ w. MayInstall M.IsText self.now w)) }
@@ -85,7 +85,8 @@ impl<M: Machine> Learner<M> {
         gathered.state(self.alloc, self.whole.roster().alpha())
     }
 
-    // Adopts this state, right after a snapshot with this packed text.
+    // Adopts a state, with its packed text as the snapshot. Drops what it replaces: the executed commands, the pairs up
+    // to its position, and what was gathered.
     fn stand_on(&mut self, whole: Whole<M>, snapshot: Vec<u8>)
         requires text { snapshot.items ≡ packed whole }
         requires above { executed self.old ≤ whole.roster.executed }
@@ -101,10 +102,10 @@ impl<M: Machine> Learner<M> {
         self.gathered = None;
     }
 
-    /// Installs the state of a complete gathered text: it replaces what was executed, and pairs up to its position are
-    /// forgotten. It must be the text of a state at its position, above what is executed, with as many sets of members
-    /// ahead; any other complete text is thrown away. Returns whether a state was installed. It needs memory for a
-    /// state above; a failed call changes nothing.
+    /// Installs the state of a gathered text, once that is complete: it replaces what was executed, and pairs up to its
+    /// position are forgotten. A complete text is thrown away unless it is that of a state at its position, above what
+    /// is executed, with the same alpha. Returns whether a state was installed. It needs memory for the state; a failed
+    /// call changes nothing.
     pub fn install(&mut self) -> Result<bool, NoMemory>
         ensures exact { IfOk result (λ went. Installs M.IsText went self.old self.new) }
         ensures err { OnErr result (self.new ≡ self.old) }

@@ -1,4 +1,4 @@
--- The line of world mode that asks for an event.
+-- How an event is printed as a line of world mode.
 use Rattle.std.specs.Prelude.{ℕ, List, [], ◌∷◌, ◌++◌, codes}
 use Rattle.std.specs.Fmt.{decimal}
 use Rattle.hex.specs.Hex.{encode_lower}
@@ -14,14 +14,14 @@ abbrev pub then_numbers : List ℕ → List ℕ
 then_numbers [] = []
 then_numbers (n ∷ more) = 32 ∷ (decimal n ++ then_numbers more)
 
--- an operation, in words: a body of the machine in hex
+-- an operation in words; a request's body in hex
 abbrev pub op_words : Op → List ℕ
 op_words (Table body) = codes "raw " ++ encode_lower body
 op_words (Join node port) = codes "join" ++ then_numbers (node ∷ port ∷ [])
 op_words (Leave node) = codes "leave" ++ then_numbers (node ∷ [])
 op_words Raise = codes "raise" ++ then_numbers (2 ∷ [])
 
--- the parts of a group, each after a space
+-- the turns of a group, each after a space
 abbrev pub then_turns : List Turn → List ℕ
 then_turns [] = []
 then_turns (turn.Tick ∷ turns) = codes " t" ++ then_turns turns

@@ -1,4 +1,4 @@
--- Faults of a script.
+-- The numbers of the faults that end a script.
 use Rattle.std.specs.Prelude.{ℕ}
 use Rattle.lk_lines.specs.declared.fault.ScriptFault.{ScriptFault}
 use Rattle.lk_lines.specs.declared.fault.ScriptFault.TheVariants.{Read, Write, ScriptMemory, BadLine, Ended}

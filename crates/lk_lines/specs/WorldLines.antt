@@ -1,4 +1,4 @@
--- The lines of world mode after its first, and what each asks for.
+-- The lines of world mode after its first: how each is spelled, and which events it asks for.
 use Rattle.std.specs.Prelude.{◌≡◌, ◌≢◌, ◌≤◌, ◌⊎◌, ℕ, List, [], ◌∷◌, ◌++◌, Ok, codes}
 use Rattle.std.specs.Fmt.{decimal}
 use Rattle.hex.specs.Hex.{decode_of}

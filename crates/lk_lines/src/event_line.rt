@@ -1,4 +1,4 @@
-//! The line of world mode that asks for an event.
+//! Prints an event as the line of world mode that asks for it.
 
 ghost use Rattle.std.specs.Prelude.{◌≡◌, ◌++◌, ◌∷◌, [], IfOk, OnOk, string_bytes};
 ghost use Rattle.std.specs.Fmt.{decimal};
@@ -10,14 +10,14 @@ use lk_sim::{Event, Turn};
 use lk_types::{NoMemory, NodeNo, Op, Request};
 use std::alloc::{AllocError, Global};
 
-// A number after a space.
+// Returns the number after a space.
 fn numbered(alloc: Global, n: u64) -> Result<String, AllocError>
     ensures { IfOk result (λ text. string_bytes text ≡ 32 ∷ decimal n) }
 {
     format!(in alloc; " {n}")
 }
 
-// Adds a text.
+// Appends a text.
 fn add(text: &mut Vec<u8>, more: &str) -> Result<(), NoMemory>
     ensures { OnOk result (text.new.items ≡ text.old.items ++ more.now) }
 {
@@ -25,7 +25,7 @@ fn add(text: &mut Vec<u8>, more: &str) -> Result<(), NoMemory>
     Ok(())
 }
 
-// Adds numbers, each after a space.
+// Appends numbers, each after a space.
 fn add_numbers(alloc: Global, text: &mut Vec<u8>, numbers: &[u64]) -> Result<(), NoMemory>
     ensures { OnOk result (text.new.items ≡ text.old.items ++ then_numbers numbers.now) }
 {
@@ -36,7 +36,7 @@ fn add_numbers(alloc: Global, text: &mut Vec<u8>, numbers: &[u64]) -> Result<(),
     Ok(())
 }
 
-// Adds a verb and numbers.
+// Appends a verb and numbers, each after a space.
 fn add_words(alloc: Global, text: &mut Vec<u8>, verb: &str, numbers: &[u64]) -> Result<(), NoMemory>
     ensures { OnOk result (text.new.items ≡ text.old.items ++ verb.now ++ then_numbers numbers.now) }
 {
@@ -44,7 +44,7 @@ fn add_words(alloc: Global, text: &mut Vec<u8>, verb: &str, numbers: &[u64]) -> 
     add_numbers(alloc, text, numbers)
 }
 
-// Adds bytes in hex after a space.
+// Appends a space and the bytes in hex.
 fn add_hex(alloc: Global, text: &mut Vec<u8>, bytes: &[u8]) -> Result<(), NoMemory>
     ensures { OnOk result (text.new.items ≡ text.old.items ++ 32 ∷ encode_lower bytes.now) }
 {
@@ -53,7 +53,7 @@ fn add_hex(alloc: Global, text: &mut Vec<u8>, bytes: &[u8]) -> Result<(), NoMemo
     add(text, digits.as_str())
 }
 
-// Adds an operation.
+// Appends an operation: `raw HEX`, `join NODE PORT`, `leave NODE` or `raise 2`.
 fn add_op(alloc: Global, text: &mut Vec<u8>, op: &Op) -> Result<(), NoMemory>
     ensures { OnOk result (text.new.items ≡ text.old.items ++ op_words op.now) }
 {
@@ -71,7 +71,7 @@ fn add_op(alloc: Global, text: &mut Vec<u8>, op: &Op) -> Result<(), NoMemory>
     }
 }
 
-// Adds what a client asks a node.
+// Appends `client N C NUMBER OP`: client `C` sends node `N` a request.
 fn add_client(
     alloc: Global,
     text: &mut Vec<u8>,
@@ -86,7 +86,7 @@ fn add_client(
     add_op(alloc, text, &request.op)
 }
 
-// Adds the parts of a group.
+// Appends the turns of a group, each after a space: `t` for a tick, or the place of a datagram.
 fn add_turns(alloc: Global, text: &mut Vec<u8>, turns: &[Turn]) -> Result<(), NoMemory>
     ensures { OnOk result (text.new.items ≡ text.old.items ++ then_turns turns.now) }
 {
@@ -99,14 +99,14 @@ fn add_turns(alloc: Global, text: &mut Vec<u8>, turns: &[Turn]) -> Result<(), No
     Ok(())
 }
 
-// Adds a verb, the number of a node, and numbers.
+// Appends a verb and the number of a node.
 fn add_verb(alloc: Global, text: &mut Vec<u8>, verb: &str, node: NodeNo) -> Result<(), NoMemory>
     ensures { OnOk result (text.new.items ≡ text.old.items ++ verb.now ++ then_numbers (node ∷ [])) }
 {
     add_words(alloc, text, verb, &[u64::from(node.get())])
 }
 
-// Adds the line of an event, without its end.
+// Appends the line of an event, without its line feed.
 fn add_event(alloc: Global, text: &mut Vec<u8>, event: &Event) -> Result<(), NoMemory>
     ensures { OnOk result (text.new.items ≡ text.old.items ++ line_of event.now) }
 {
@@ -139,7 +139,7 @@ fn add_event(alloc: Global, text: &mut Vec<u8>, event: &Event) -> Result<(), NoM
     }
 }
 
-/// Adds the line of an event.
+/// Appends the line of an event, with its line feed.
 pub fn print_line(alloc: Global, event: &Event, text: &mut Vec<u8>) -> Result<(), NoMemory>
     ensures { OnOk result (text.new.items ≡ text.old.items ++ line_of event.now ++ 10 ∷ []) }
 {

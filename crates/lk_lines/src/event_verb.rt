@@ -1,9 +1,9 @@
-// What a line of world mode asks for, by its first word.
+// The verbs of world mode.
 ghost use Rattle.std.specs.Prelude.{◌≡◌, IfSome, IsNone};
 ghost use Rattle.lk_lines.specs.WorldLines.{word_of};
 ghost use Rattle.lk_lines.specs.declared.event_verb.EventVerb.{EventVerb as EventVerbValue};
 
-/// What a line of world mode asks for.
+/// The first word of a line of world mode.
 #[derive(Clone, Copy)]
 pub enum EventVerb {
     Start,
@@ -35,7 +35,7 @@ const ALL: [EventVerb; 11] = [
 ];
 
 impl EventVerb {
-    // Its word.
+    // Returns the word of the verb.
     fn word(self) -> &'static [u8]
         ensures { result.now ≡ word_of self }
     {
@@ -54,7 +54,7 @@ impl EventVerb {
         }
     }
 
-    /// The verb of that word.
+    /// Returns the verb of this word, if it is one.
     pub fn of(word: &[u8]) -> Option<EventVerb>
         ensures some { IfSome result (λ v. word.now ≡ word_of v) }
         ensures none { IsNone result → (v : EventVerbValue) → word.now ≡ word_of v → ⊥ }

@@ -1,4 +1,4 @@
-//! Why a script ended early.
+//! Why a script ends early.
 
 ghost use Rattle.std.specs.Prelude.{◌≡◌};
 
@@ -10,16 +10,16 @@ use thiserror::Error;
 /// Why a script ended before its end.
 #[derive(Clone, Copy, Debug, Error)]
 pub enum ScriptFault {
-    /// Fault 23: the input could not be read, or was read 2^32 times.
+    /// Fault 23: the input could not be read, or has more than 2^32 - 3 lines.
     #[error("fault 23")]
     Read,
     /// Fault 24: the output could not be written.
     #[error("fault 24")]
     Write,
-    /// Fault 25: memory was refused.
+    /// Fault 25: out of memory.
     #[error("fault 25")]
     ScriptMemory,
-    /// Fault 26: the line of this number, from 1, is none of a script.
+    /// Fault 26: the line of this number, counted from 1, is not understood in its mode.
     #[error("line {0}: not understood")]
     BadLine(u32),
     /// Fault 27: the world refused an event.
@@ -27,13 +27,13 @@ pub enum ScriptFault {
     Ended(Refused),
 }
 
-/// Why a line was not taken.
+/// Why a line was not executed.
 #[derive(Clone, Copy, Debug, Error)]
 pub enum LineFault {
     /// Out of memory.
     #[error("no memory")]
     NoMemory,
-    /// The line is none of a script.
+    /// No line of its mode reads like this.
     #[error("not understood")]
     NotUnderstood,
 }
@@ -41,7 +41,7 @@ pub enum LineFault {
 impl ScriptFault {
     ghost use Rattle.lk_lines.specs.Faults.{number_of};
 
-    /// The number of this fault.
+    /// Returns the number of this fault, 23 to 27.
     pub fn number(self) -> u8
         ensures { result ≡ number_of self }
     {
@@ -58,7 +58,7 @@ impl ScriptFault {
 impl LineFault {
     ghost use Rattle.lk_lines.specs.Faults.{fault_of_line};
 
-    /// The fault of a script at the line of that number.
+    /// Returns the script's fault for a failed line of this number, counted from 1.
     pub fn of_line(self, number: u32) -> ScriptFault
         ensures { result ≡ fault_of_line number self }
     {

@@ -1,4 +1,4 @@
-//! The line that begins world mode.
+//! Reads the line that begins world mode.
 ghost use Rattle.std.specs.Prelude.{◌≡◌, ℕ, List, None, true, false, codes, IfOk, IfSome, IsNone, IsErrOf};
 ghost use Rattle.lk_types.specs.declared.member.Member.{Member as MemberValue};
 ghost use Rattle.lk_types.specs.Genesis.{genesis_fault};
@@ -14,7 +14,7 @@ use lk_types::limits::MAX_ALPHA;
 
 const LAST_ALPHA: u64 = MAX_ALPHA as u64;
 
-// The cluster's number and its alpha, and the words of its members.
+// Reads the number of the cluster and its alpha, and returns them with the words of its members.
 fn numbers_of(words: &[u8]) -> Option<(u64, u64, &[u8])>
     ensures some { IfSome result
         (λ p. (more : List ℕ) × Leads 0 18446744073709551615 p.0 more words.now × Leads 1 16 p.1 p.2.now more) }
@@ -26,7 +26,7 @@ fn numbers_of(words: &[u8]) -> Option<(u64, u64, &[u8])>
     Some((cluster, alpha, words))
 }
 
-// The genesis that words spell, or `None` if they spell none or one that is refused.
+// Reads `CLUSTER ALPHA NODE:PORT ..`; `None` if the words are not of this form, or the genesis is invalid.
 fn genesis_of(words: &[u8]) -> Option<Genesis>
     ensures some { IfSome result
         (λ g. SpellsGenesis words.now g.cluster g.alpha g.members × (genesis_fault g.alpha g.members ≡ None)) }
@@ -41,7 +41,7 @@ fn genesis_of(words: &[u8]) -> Option<Genesis>
     }
 }
 
-// Whether the word begins world mode.
+// Whether the word is `genesis`, which begins world mode.
 fn is_genesis(word: &[u8]) -> bool
     ensures is { result ≡ true → word.now ≡ codes "genesis" }
     ensures other { result ≡ false → word.now ≡ codes "genesis" → ⊥ }
@@ -52,7 +52,7 @@ fn is_genesis(word: &[u8]) -> bool
     }
 }
 
-/// The genesis that a line spells, whose first word is `genesis`. One that is refused is not understood.
+/// Reads the line `genesis CLUSTER ALPHA NODE:PORT ..`. Any other line, and an invalid genesis, are not understood.
 pub fn read_genesis(line: &[u8]) -> Result<Genesis, LineFault>
     ensures ok { IfOk result (λ g. IsGenesisLine line.now g.cluster g.alpha g.members) }
     ensures not_understood { IsErrOf result LineFault.NotUnderstood → (cluster alpha : ℕ) (ms : List MemberValue)

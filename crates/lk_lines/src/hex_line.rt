@@ -1,4 +1,4 @@
-//! Lines of hex digits.
+//! Reads the lines of table mode: bytes in hex.
 
 ghost use Rattle.std.specs.Prelude.{◌≡◌, ◌≢◌, ℕ, List, ◌∷◌, ◌++◌, replicate, slice_index, IfSome, IsNone, OnOk};
 ghost use Rattle.std.specs.Prelude.{IsErrOf};
@@ -6,7 +6,7 @@ ghost use Rattle.lk_lines.specs.HexLines.{SpellsByte, SpellsBytes};
 
 use crate::fault::LineFault;
 
-// The byte of two hex digits in either case, or `None` where they are none.
+// Returns the byte of two hex digits in either case, or `None` if one of them is none.
 fn pair(high: u8, low: u8) -> Option<u8>
     ensures value { IfSome result (SpellsByte high low) }
     ensures none { IsNone result → (byte : ℕ) → SpellsByte high low byte → ⊥ }
@@ -16,7 +16,7 @@ fn pair(high: u8, low: u8) -> Option<u8>
     Some((upper * 16 + lower) as u8)
 }
 
-// The byte that the first two digits spell, and what stands after them.
+// Reads the byte of the first two digits, and returns it with the rest of the text.
 fn first_byte(text: &[u8]) -> Option<(u8, &[u8])>
     ensures some { IfSome result
         (λ x. (high : ℕ) × (low : ℕ) × (text.now ≡ high ∷ low ∷ x.1.now) × SpellsByte high low x.0) }
@@ -28,7 +28,7 @@ fn first_byte(text: &[u8]) -> Option<(u8, &[u8])>
     Some((byte, rest))
 }
 
-// What stands after the spaces at the front.
+// Returns the text without the spaces at its front.
 fn behind_spaces(text: &[u8]) -> &[u8]
     ensures spaces { (n : ℕ) × (text.now ≡ replicate n 32 ++ result.now) }
     ensures next { slice_index result.now 0 ≢ 32 }
@@ -40,7 +40,8 @@ fn behind_spaces(text: &[u8]) -> &[u8]
     rest
 }
 
-/// Makes the bytes those that a line spells.
+/// Replaces `bytes` with those of a line: one or more, of two hex digits each, with spaces only between bytes. After an
+/// error `bytes` has some of them.
 pub fn read_bytes(line: &[u8], bytes: &mut Vec<u8>) -> Result<(), LineFault>
     ensures ok { OnOk result (SpellsBytes line.now bytes.new.items) }
     ensures not_understood { IsErrOf result LineFault.NotUnderstood → (all : List ℕ) → SpellsBytes line.now all → ⊥ }

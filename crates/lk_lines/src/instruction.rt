@@ -1,12 +1,12 @@
-//! Instructions: what the lines of world mode ask for.
+//! Instructions: what a line of world mode asks for.
 
 use lk_sim::Event;
 use lk_types::NodeNo;
 
-/// What a line of world mode asks for.
+/// The events that a line of world mode asks for.
 #[derive(Drop)]
 pub enum Instruction {
-    /// A node ticks so many times, each of them an event.
+    /// So many ticks of a node, each of them an event.
     Ticks(NodeNo, u16),
     /// One other event.
     Once(Event),

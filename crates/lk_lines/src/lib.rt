@@ -1,4 +1,4 @@
-//! The lines of a script of `locks sim`: how each is read, and what it asks for.
+//! The lines of a script of `locks sim`: how each is read, and how an event is printed as one.
 #![tactic(auto)]
 
 pub mod event_line;

@@ -1,4 +1,4 @@
-//! The lines of a reader.
+//! Reads the lines of an input.
 
 ghost use Rattle.std.specs.Prelude.{◌≡◌, ◌≢◌, ◌⊎◌, ℕ, List, [], true, false, Ok, IfErr, IfSome};
 ghost use Rattle.std.specs.Io.BufRead.{take_through};
@@ -9,7 +9,7 @@ ghost use Rattle.lk_lines.specs.declared.fault.ScriptFault.TheVariants as fault;
 use crate::fault::ScriptFault;
 use std::io::{BufRead, Error, ErrorKind};
 
-// Takes the line feed off the end.
+// Removes the line feed at the end of the line, if it has one.
 fn drop_line_feed(line: &mut Vec<u8>)
     ensures { (text : List ℕ) → line.old.items ≡ take_through 10 text → line.new.items ≡ first_line text }
 {
@@ -21,7 +21,7 @@ fn drop_line_feed(line: &mut Vec<u8>)
     }
 }
 
-// Why a read failed.
+// Returns the fault of a failed read.
 fn read_fault(error: &Error) -> ScriptFault
     ensures memory { error_kind error.now ≡ ErrorKind.OutOfMemory → result ≡ ScriptFault.ScriptMemory }
     ensures read { error_kind error.now ≢ ErrorKind.OutOfMemory → result ≡ ScriptFault.Read }
@@ -32,7 +32,7 @@ fn read_fault(error: &Error) -> ScriptFault
     }
 }
 
-/// Reads the next line into `line`, without its line feed. It answers false at the end of the input.
+/// Reads the next line into `line`, without its line feed. Returns false at the end of the input.
 pub fn next_line<R: BufRead>(reader: &mut R, line: &mut Vec<u8>) -> Result<bool, ScriptFault>
     ensures line { result ≡ Ok true
         → IfSome (R.remaining reader.old) (λ text. TakesLine text line.new.items (R.remaining reader.new)) }

@@ -1,4 +1,4 @@
-// Parts of a group, in words.
+// Reads the turns of a group.
 ghost use Rattle.std.specs.Prelude.{List, IfSome, IsNone, IfOk, IsErrOf};
 ghost use Rattle.lk_lines.specs.WorldLines.{IsTurnWord, SpellsTurns};
 ghost use Rattle.lk_sim.specs.declared.event.Turn.{Turn as TurnValue};
@@ -10,7 +10,7 @@ use lk_sim::Turn;
 use lk_types::limits::MAX_COUNT;
 use std::alloc::Global;
 
-// The part that a word names: `t`, or the number of a datagram.
+// Reads a turn: `t` for a tick, or the place of a datagram, counted from 1.
 fn turn_of(word: &[u8]) -> Option<Turn>
     ensures some { IfSome result (λ t. IsTurnWord t word.now) }
     ensures none { IsNone result → (t : TurnValue) → IsTurnWord t word.now → ⊥ }
@@ -22,7 +22,7 @@ fn turn_of(word: &[u8]) -> Option<Turn>
     Some(Turn::Deliver(k as usize))
 }
 
-/// The parts that words name, one or more.
+/// Reads one or more turns, separated by one space each.
 pub fn read_turns(alloc: Global, words: &[u8]) -> Result<Vec<Turn>, LineFault>
     ensures ok { IfOk result (λ v. SpellsTurns words.now v.items) }
     ensures not_understood { IsErrOf result LineFault.NotUnderstood → (turns : List TurnValue)

@@ -1,4 +1,4 @@
-//! Lines of world mode after its first.
+//! Reads the lines of world mode after its first: a verb, and the words that it takes.
 
 ghost use Rattle.std.specs.Prelude.{◌≡◌, ◌≢◌, ◌≤◌, ℕ, List, [], Ok, Some, IfSome, IsNone, IfOk, IsErrOf};
 ghost use Rattle.hex.specs.Hex.{decode_of};
@@ -26,10 +26,10 @@ const LAST_NODE: u64 = MAX_NODE as u64;
 
 const LAST_CLIENT: u64 = MAX_CLIENT as u64;
 
-// The most ticks of one line.
+// The most ticks that one line asks for.
 const MAX_TIMES: u64 = 10_000;
 
-// The node that the word names.
+// Returns the node whose number the word spells.
 fn node_of(word: &[u8]) -> Option<NodeNo>
     ensures some { IfSome result (λ n. IsNodeWord n word.now) }
     ensures none { IsNone result → (n : ℕ) → IsNodeWord n word.now → ⊥ }
@@ -38,7 +38,7 @@ fn node_of(word: &[u8]) -> Option<NodeNo>
     Some(NodeNo::of(number as u32).unwrap())
 }
 
-// The instruction `start N`.
+// Reads the word of `start N`.
 fn read_start(words: &[u8]) -> Option<Instruction>
     ensures some { IfSome result (AsksToStart words.now) }
     ensures none { IsNone result → (o : InstructionValue) → AsksToStart words.now o → ⊥ }
@@ -49,7 +49,7 @@ fn read_start(words: &[u8]) -> Option<Instruction>
     Some(Instruction::Once(Event::Start(node)))
 }
 
-// The instruction `restart N`.
+// Reads the word of `restart N`.
 fn read_restart(words: &[u8]) -> Option<Instruction>
     ensures some { IfSome result (AsksToRestart words.now) }
     ensures none { IsNone result → (o : InstructionValue) → AsksToRestart words.now o → ⊥ }
@@ -60,7 +60,7 @@ fn read_restart(words: &[u8]) -> Option<Instruction>
     Some(Instruction::Once(Event::Restart(node)))
 }
 
-// The number of the node, and how many times it ticks.
+// Returns the number of the node and how many times it ticks: once if the words are only `N`.
 fn ticks(words: &[u8]) -> Option<(u64, u64)>
     ensures some { IfSome result
         (λ p. (1 ≤ p.0) × (p.0 ≤ max_node) × (p.1 ≤ 10000) × AsksForTicks words.now (instruction.Ticks p.0 p.1)) }
@@ -74,7 +74,7 @@ fn ticks(words: &[u8]) -> Option<(u64, u64)>
     Some((number, 1))
 }
 
-// The instruction `tick N` or `tick N TIMES`.
+// Reads the words of `tick N` or `tick N TIMES`.
 fn read_tick(words: &[u8]) -> Option<Instruction>
     ensures some { IfSome result (AsksForTicks words.now) }
     ensures none { IsNone result → (o : InstructionValue) → AsksForTicks words.now o → ⊥ }
@@ -84,7 +84,7 @@ fn read_tick(words: &[u8]) -> Option<Instruction>
     Some(Instruction::Ticks(node, times as u16))
 }
 
-// The instruction `compact N`.
+// Reads the word of `compact N`.
 fn read_compact(words: &[u8]) -> Option<Instruction>
     ensures some { IfSome result (AsksToCompact words.now) }
     ensures none { IsNone result → (o : InstructionValue) → AsksToCompact words.now o → ⊥ }
@@ -95,7 +95,7 @@ fn read_compact(words: &[u8]) -> Option<Instruction>
     Some(Instruction::Once(Event::Compact(node)))
 }
 
-// The instruction `deliver K`.
+// Reads the word of `deliver K`.
 fn read_deliver(words: &[u8]) -> Option<Instruction>
     ensures some { IfSome result (AsksToDeliver words.now) }
     ensures none { IsNone result → (o : InstructionValue) → AsksToDeliver words.now o → ⊥ }
@@ -104,7 +104,7 @@ fn read_deliver(words: &[u8]) -> Option<Instruction>
     Some(Instruction::Once(Event::Deliver(k as usize)))
 }
 
-// The request that a client asks.
+// Reads a request, `C NUMBER OP`.
 fn request(words: &[u8]) -> Option<Request>
     ensures some { IfSome result (SpellsRequest words.now) }
     ensures none { IsNone result → (r : RequestValue) → SpellsRequest words.now r → ⊥ }
@@ -119,7 +119,7 @@ fn request(words: &[u8]) -> Option<Request>
     Some(Request { client, number, op })
 }
 
-// The instruction `client N C NUMBER OP`.
+// Reads the words of `client N C NUMBER OP`.
 fn read_ask(words: &[u8]) -> Option<Instruction>
     ensures some { IfSome result (AsksOfClient words.now) }
     ensures none { IsNone result → (o : InstructionValue) → AsksOfClient words.now o → ⊥ }
@@ -132,7 +132,7 @@ fn read_ask(words: &[u8]) -> Option<Instruction>
     Some(Instruction::Once(Event::Client(node, request)))
 }
 
-// The instruction `stop N X Y`.
+// Reads the words of `stop N X Y`.
 fn read_stop(words: &[u8]) -> Option<Instruction>
     ensures some { IfSome result (AsksToStop words.now) }
     ensures none { IsNone result → (o : InstructionValue) → AsksToStop words.now o → ⊥ }
@@ -144,7 +144,7 @@ fn read_stop(words: &[u8]) -> Option<Instruction>
     Some(Instruction::Once(Event::Stop(node, x as usize, y as usize)))
 }
 
-// The instruction `fail N COUNT`.
+// Reads the words of `fail N COUNT`.
 fn read_fail(words: &[u8]) -> Option<Instruction>
     ensures some { IfSome result (AsksToFail words.now) }
     ensures none { IsNone result → (o : InstructionValue) → AsksToFail words.now o → ⊥ }
@@ -155,7 +155,7 @@ fn read_fail(words: &[u8]) -> Option<Instruction>
     Some(Instruction::Once(Event::FailAt(node, count)))
 }
 
-// The instruction `arm N COUNT BYTES`.
+// Reads the words of `arm N COUNT BYTES`.
 fn read_arm(words: &[u8]) -> Option<Instruction>
     ensures some { IfSome result (AsksToArm words.now) }
     ensures none { IsNone result → (o : InstructionValue) → AsksToArm words.now o → ⊥ }
@@ -167,7 +167,7 @@ fn read_arm(words: &[u8]) -> Option<Instruction>
     Some(Instruction::Once(Event::Arm(node, count, bytes as usize)))
 }
 
-// The bytes that an even number of hex digits, two or more, spell.
+// Returns the bytes of an even number of hex digits, two or more.
 fn read_hex(alloc: Global, digits: &[u8]) -> Result<Vec<u8>, LineFault>
     ensures ok { IfOk result (λ b. (decode_of digits.now ≡ Ok b.items) × (b.items ≢ [])) }
     ensures not_understood { IsErrOf result LineFault.NotUnderstood → (bytes : List ℕ)
@@ -181,7 +181,7 @@ fn read_hex(alloc: Global, digits: &[u8]) -> Result<Vec<u8>, LineFault>
     }
 }
 
-// The instruction `inject N HEX`.
+// Reads the words of `inject N HEX`.
 fn read_inject(alloc: Global, words: &[u8]) -> Result<Instruction, LineFault>
     ensures ok { IfOk result (AsksToInject words.now) }
     ensures not_understood { IsErrOf result LineFault.NotUnderstood → (o : InstructionValue)
@@ -195,7 +195,7 @@ fn read_inject(alloc: Global, words: &[u8]) -> Result<Instruction, LineFault>
     Ok(Instruction::Once(Event::Inject(node, bytes)))
 }
 
-// The instruction `group N WORD ..`.
+// Reads the words of `group N TURN ..`.
 fn read_group(alloc: Global, words: &[u8]) -> Result<Instruction, LineFault>
     ensures ok { IfOk result (AsksForGroup words.now) }
     ensures not_understood { IsErrOf result LineFault.NotUnderstood → (o : InstructionValue)
@@ -209,7 +209,7 @@ fn read_group(alloc: Global, words: &[u8]) -> Result<Instruction, LineFault>
     Ok(Instruction::Once(Event::Group(node, turns)))
 }
 
-// An instruction, or the fault that there is none.
+// Returns the instruction, or `NotUnderstood` if there is none.
 fn understood(instruction: Option<Instruction>) -> Result<Instruction, LineFault>
     ensures ok { IfOk result (λ o. instruction ≡ Some o) }
     ensures not_understood { IsErrOf result LineFault.NotUnderstood → IsNone instruction }
@@ -217,7 +217,7 @@ fn understood(instruction: Option<Instruction>) -> Result<Instruction, LineFault
     instruction.ok_or(LineFault::NotUnderstood)
 }
 
-// What the words after a verb ask for.
+// Reads the words after this verb.
 fn instruction_of(alloc: Global, verb: EventVerb, words: &[u8]) -> Result<Instruction, LineFault>
     ensures ok { IfOk result (Asks verb words.now) }
     ensures not_understood { IsErrOf result LineFault.NotUnderstood → (o : InstructionValue)
@@ -238,7 +238,7 @@ fn instruction_of(alloc: Global, verb: EventVerb, words: &[u8]) -> Result<Instru
     }
 }
 
-/// What a line asks for.
+/// Reads a line of world mode. One that has no verb, or not its words, is not understood.
 pub fn read_instruction(alloc: Global, line: &[u8]) -> Result<Instruction, LineFault>
     ensures ok { IfOk result (SpellsInstruction line.now) }
     ensures not_understood { IsErrOf result LineFault.NotUnderstood → (o : InstructionValue)

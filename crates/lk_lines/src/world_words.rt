@@ -1,11 +1,11 @@
-// Words of numbers in a line of world mode.
+// Reads the numbers in a line of world mode.
 ghost use Rattle.std.specs.Prelude.{ℕ, List, IfSome, IsNone};
 ghost use Rattle.lk_lines.specs.WorldLines.{IsWord, Leads};
 
 use lk_arguments::number::read_number;
 use lk_arguments::word::split_word;
 
-/// The number in that range that a word spells.
+/// Returns the number from `least` to `most` that a word spells.
 pub fn number_of(word: &[u8], least: u64, most: u64) -> Option<u64>
     ensures some { IfSome result (λ n. IsWord least most n word.now) }
     ensures none { IsNone result → (n : ℕ) → IsWord least most n word.now → ⊥ }
@@ -17,7 +17,7 @@ pub fn number_of(word: &[u8], least: u64, most: u64) -> Option<u64>
     Some(number)
 }
 
-/// The number in that range that the first word spells, and what follows the space after it.
+/// Returns the number from `least` to `most` that the first word spells, and the words after the space behind it.
 pub fn first_number(words: &[u8], least: u64, most: u64) -> Option<(u64, &[u8])>
     ensures some { IfSome result (λ p. Leads least most p.0 p.1.now words.now) }
     ensures none { IsNone result → (n : ℕ) (rest : List ℕ) → Leads least most n rest words.now → ⊥ }

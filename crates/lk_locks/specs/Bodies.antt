@@ -1,4 +1,4 @@
--- What a client may ask of the table, as bytes.
+-- The bodies of requests to the lock table, as bytes.
 use Rattle.std.specs.Prelude.{◌≡◌, ℕ, Bool, true, List, ◌∷◌, ◌++◌, length, Option, Some, None, if◌then◌else◌}
 use Rattle.lk_types.specs.Ranges.{IsCount}
 use Rattle.lk_fields.specs.Fields.{eight}
@@ -57,7 +57,7 @@ read_name = tested is_name (sized read_byte)
 unfoldable pub read_name_and_fence : List ℕ → Option ((List ℕ × ℕ) × List ℕ)
 read_name_and_fence = both read_name read_count
 
--- what follows the first byte
+-- reads what follows the first byte of a body
 unfoldable pub fields_of : ℕ → List ℕ → Option (Body × List ℕ)
 fields_of =
     kind 1 (made Acquire read_name)

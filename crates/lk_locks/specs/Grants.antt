@@ -41,7 +41,7 @@ fences_from name t (call ∷ calls) =
     (if asks_for name call.1 then fences (task_answer call.0 call.1 t) else [])
     ++ fences_from name (next_by_task call.0 call.1 t) calls
 
--- those that differ from the one before, the first from this one
+-- drops each element that equals the one before it; `last` is the one before the first
 abbrev pub once_behind : ℕ → List ℕ → List ℕ
 once_behind last [] = []
 once_behind last (f ∷ fs) = if f == last then once_behind last fs else f ∷ once_behind f fs

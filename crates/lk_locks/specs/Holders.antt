@@ -15,7 +15,7 @@ is_held Nobody = false
 is_held (Alone client) = true
 is_held (Together clients) = true
 
--- a table that was not raised has no shared name
+-- whether a table may have these holders: one that was not raised has no shared name
 abbrev pub is_kept : Bool → Holders → Bool
 is_kept raised Nobody = true
 is_kept raised (Alone client) = true

@@ -1,4 +1,4 @@
--- A name is read back.
+-- Laws: a name that was written is read back.
 use Rattle.std.proofs.Common.{◌≡◌, ℕ, ◌<◌, ◌≤◌, Bool, true, false, leb, ◌&&◌, List, [], ◌∷◌, length, refl, arith}
 use Rattle.std.proofs.lemmas.Bool.{leb-true}
 use Rattle.lk_fields.specs.Parser.{read_byte, sized}

@@ -23,13 +23,13 @@ use Rattle.lk_locks.specs.declared.slot.Slot.{Slot}
 abbrev pub Entry : Type 0
 Entry = List ℕ × Slot
 
--- in a table that was not raised: the holder, 0 for nobody
+-- the holder as a table that was not raised has it: 0 for nobody
 abbrev pub holder_number : Holders → ℕ
 holder_number Nobody = 0
 holder_number (Alone client) = client
 holder_number (Together clients) = 0
 
--- in a raised one: the mode, and then who holds the name in it
+-- the mode that precedes the holders in a raised table
 abbrev pub mode : Holders → ℕ
 mode Nobody = 0
 mode (Alone client) = 1
@@ -66,13 +66,13 @@ abbrev pub packed_table : Bool × List Entry → List ℕ
 packed_table (false, es) = entries false es
 packed_table (true, es) = two raised_mark ++ entries true es
 
--- the names rise
+-- the packed text of a table: its entries, rising by name, after the mark if it was raised
 unfoldable pub table_text : Table → List ℕ
 table_text t = packed_table (t.raised, map.entries t.names)
 
 -- ---- which tables there are
 
--- its parts are in their ranges, and a table of this version knows who holds it
+-- the fence and the holders are in range, and a table of this version may have such holders
 abbrev pub IsSlotIn : Bool → Slot → Type 0
 IsSlotIn raised s = IsCount s.fence × (IsHolders s.holders × IsTrue (is_kept raised s.holders))
 
@@ -127,7 +127,7 @@ rise es = map.is_sorted (slice_cmp nat_cmp) es
 unfoldable pub read_entries : Bool → List ℕ → Option (List Entry × List ℕ)
 read_entries raised = tested rise (counted read_size (read_entry raised))
 
--- the version, and then the names
+-- reads the names, from behind the mark if there is one
 abbrev pub read_by : Bool → List ℕ → List ℕ → Option ((Bool × List Entry) × List ℕ)
 read_by true behind bytes = made (λ es. (true, es)) (read_entries true) behind
 read_by false behind bytes = made (λ es. (false, es)) (read_entries false) bytes
@@ -145,6 +145,6 @@ abbrev pub table_of_entries : Option (Bool × List Entry) → Table
 table_of_entries (Some v) = record { raised = v.0; names = map.from_sorted v.1 }
 table_of_entries None = empty
 
--- the table whose text the bytes are; any, if they are none
+-- the table whose text the bytes are; the empty one if they are not a text
 unfoldable pub table_in : List ℕ → Table
 table_in bytes = table_of_entries (whole read_table bytes)

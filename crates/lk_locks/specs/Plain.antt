@@ -50,7 +50,7 @@ fence_after fence = if nat_lt fence max_count then Ok (fence + 1) else Err Spent
 abbrev pub first_fence : ℕ → Result ℕ Answer
 first_fence names = if nat_lt names max_names then Ok 1 else Err NoRoom
 
--- the fence that is given is in the answer, and the name is held at it from then on
+-- a grant: the answer has the fence, and the name is held at it from then on; without a fence the refusal
 abbrev pub given : (ℕ → Answer) → Holders → Result ℕ Answer → Row
 given told holders (Ok fence) =
     record { answer = told fence; change = Some (record { fence = fence; holders = holders }) }
@@ -163,7 +163,7 @@ raised t = record { raised = true; names = t.names }
 
 -- ---- memory
 
--- it is unknown, and there is room for it
+-- the name is unknown, and there is room for it
 abbrev pub HasRoom : List ℕ → Names → Type 0
 HasRoom name m = (map.get m name ≡ None) × (map.len m < max_names)
 

@@ -1,4 +1,4 @@
--- What one client more or less makes of those who share a name.
+-- Laws about adding a client to those who share a name, and removing one.
 use Rattle.std.proofs.Common.{◌≡◌, ℕ, zero, suc, ◌+◌, ◌<◌, ◌≤◌, Bool, true, false, cond, not, eqb, nat_lt, ◌&&◌, List}
 use Rattle.std.proofs.Common.{[], ◌∷◌, length, get_or, refl, ap, sym, inl, inr, arith}
 use Rattle.std.specs.Prelude.{insert}

@@ -1,4 +1,4 @@
--- When two slots, or two tables, are equal.
+-- The encoding of a slot, by which two slots, or two tables, are compared.
 use Rattle.std.proofs.Common.{◌≡◌, ◌⊎◌, inl, inr, ℕ, List, Option, Some, None, refl, ap}
 use Rattle.std.specs.Coded.{Coded, code_by, coded×, coded⊎, coded_ℕ, coded_list, coded_option}
 use Rattle.lk_locks.specs.declared.slot.Holders.{Holders}

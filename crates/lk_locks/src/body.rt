@@ -14,7 +14,7 @@ use lk_types::{Fence, Payload};
 pub enum Body {
     /// To hold the name.
     Acquire(Name),
-    /// To free the name, if the client holds it at this fence.
+    /// To give up the name, if the client holds it at this fence; other sharers keep it.
     Release(Name, Fence),
     /// Who holds the name.
     Ask(Name),
@@ -22,11 +22,11 @@ pub enum Body {
     Check(Name, Fence),
     /// To hold the name together with others.
     Share(Name),
-    /// To free the name, whoever holds it at this fence.
+    /// To free the name from all who hold it at this fence, whoever asks.
     Break(Name, Fence),
 }
 
-/// A name after its length, from the start of the bytes.
+/// Reads the length of a name in a byte, and then the name; returns it and the bytes after it.
 #[tactic(auto, unfolding(crate::specs::Bodies::read_name))]
 pub fn read_name(bytes: &[u8]) -> Option<(Name, &[u8])>
     ensures { Finds (λ x. (x.0, x.1.now)) result (read_name bytes.now) }
@@ -40,7 +40,7 @@ pub fn read_name(bytes: &[u8]) -> Option<(Name, &[u8])>
     Some((Name::of(name)?, rest))
 }
 
-// What follows the first byte of a body.
+// Reads what follows the first byte of a body, its kind from 1 to 6: a name, and for some kinds a fence.
 #[tactic(auto, unfolding(crate::specs::Bodies::fields_of, crate::specs::Bodies::read_name_and_fence))]
 fn read_fields(kind: u8, bytes: &[u8]) -> Option<(Body, &[u8])>
     ensures { Finds (λ x. (x.0, x.1.now)) result (fields_of kind bytes.now) }
@@ -74,7 +74,7 @@ fn read_fields(kind: u8, bytes: &[u8]) -> Option<(Body, &[u8])>
     }
 }
 
-// The body of which these are all the bytes.
+// Reads a body, or returns `None` if the bytes are invalid or longer than it.
 #[tactic(auto, unfolding(crate::specs::Bodies::body_of))]
 fn read_whole(bytes: &[u8]) -> Option<Body>
     ensures { result ≡ body_of bytes.now }
@@ -86,7 +86,7 @@ fn read_whole(bytes: &[u8]) -> Option<Body>
     }
 }
 
-// The bytes of a first byte, a name and at most eight bytes after it.
+// Returns the bytes of a body: its kind, its name after its length, and `rest`, which is a fence or nothing.
 fn spelled(kind: u8, name: &Name, rest: &[u8]) -> Payload
     requires { length rest.now ≤ 8 }
     ensures { result ≡ kind ∷ (lock_name name.now ++ rest.now) }
@@ -101,8 +101,8 @@ fn spelled(kind: u8, name: &Name, rest: &[u8]) -> Payload
 }
 
 impl Body {
-    /// The body of the bytes, or `None` if they are none: a first byte from 1 to 6, the name after its length, and for
-    /// Release, Check and Break the fence in eight bytes, big-endian.
+    /// Returns the body of the bytes, or `None` if they are invalid: a kind from 1 to 6, the name after its length, and
+    /// for Release, Check and Break the fence in eight bytes, big-endian.
     pub fn read(bytes: &[u8]) -> Option<Body>
         ensures value { result ≡ body_of bytes.now }
         ensures found { IfSome result (λ body. SpellsBody body bytes.now) }
@@ -140,7 +140,7 @@ impl Body {
         }
     }
 
-    // Whether a table of the first version, or of the second, knows it.
+    // Returns whether a table knows the body: Share and Break only if it was raised.
     pub(crate) fn is_known(&self, raised: bool) -> bool
         ensures { result ≡ is_known raised self.now }
     {

@@ -23,7 +23,7 @@ use lk_types::ClientNo;
 use lk_types::limits::MAX_SHARERS;
 use std::alloc::AllocError;
 
-// A client, or nobody for the number 0.
+// Reads who holds a name, in a table that was not raised: a client in two bytes, 0 for nobody.
 #[tactic(auto, unfolding(crate::specs::Packed::read_holder))]
 fn read_holder(bytes: &[u8]) -> Option<(Holders, &[u8])>
     ensures read { Finds (λ x. (x.0, x.1.now)) result (read_holder bytes.now) }
@@ -47,7 +47,7 @@ fn push(clients: &mut ArrayVec<ClientNo, 8>, client: ClientNo)
     clients.push(client);
 }
 
-// This many clients from the start of the bytes.
+// Reads this many clients, in any order.
 fn many_clients(count: u8, bytes: &[u8]) -> Option<(ArrayVec<ClientNo, 8>, &[u8])>
     requires { count ≤ max_sharers }
     ensures read { Finds (λ x. (x.0.items, x.1.now)) result (many read_client count bytes.now) }
@@ -65,7 +65,7 @@ fn many_clients(count: u8, bytes: &[u8]) -> Option<(ArrayVec<ClientNo, 8>, &[u8]
     Some((clients, rest))
 }
 
-// Sharers, after a byte for their number.
+// Reads how many sharers there are, 1 to 8, and then each, rising.
 #[tactic(auto, unfolding(crate::specs::Packed::read_sharers))]
 fn read_sharers(bytes: &[u8]) -> Option<(Sharers, &[u8])>
     ensures { Finds (λ x. (x.0, x.1.now)) result (read_sharers bytes.now) }
@@ -83,7 +83,7 @@ fn read_sharers(bytes: &[u8]) -> Option<(Sharers, &[u8])>
     Some((clients, rest))
 }
 
-// Who holds a name, after a byte for the mode.
+// Reads who holds a name, in a raised table: a mode, 0 for nobody, 1 for one client and 2 for sharers, and then those.
 #[tactic(auto, unfolding(crate::specs::Packed::holders_of))]
 fn read_mode(bytes: &[u8]) -> Option<(Holders, &[u8])>
     ensures read { Finds (λ x. (x.0, x.1.now)) result (tagged holders_of bytes.now) }
@@ -108,7 +108,7 @@ fn read_mode(bytes: &[u8]) -> Option<(Holders, &[u8])>
     }
 }
 
-// Who holds a name, in the format of a raised table or of one that is not.
+// Reads who holds a name, in the format of a raised table or of one that is not.
 fn read_holders(raised: bool, bytes: &[u8]) -> Option<(Holders, &[u8])>
     ensures read { Finds (λ x. (x.0, x.1.now)) result (read_holders raised bytes.now) }
     ensures kept { IfSome result (λ x. is_kept raised x.0 ≡ true) }
@@ -120,7 +120,7 @@ fn read_holders(raised: bool, bytes: &[u8]) -> Option<(Holders, &[u8])>
     }
 }
 
-// The last fence of a name, and who holds it.
+// Reads the last fence of a name, and who holds it.
 #[tactic(auto, unfolding(crate::specs::Packed::read_slot))]
 fn read_slot(raised: bool, bytes: &[u8]) -> Option<(Slot, &[u8])>
     ensures read { Finds (λ x. (x.0, x.1.now)) result (read_slot raised bytes.now) }
@@ -135,7 +135,7 @@ fn read_slot(raised: bool, bytes: &[u8]) -> Option<(Slot, &[u8])>
     Some((Slot { fence, holders }, rest))
 }
 
-/// A name and its slot from the start of the bytes.
+/// Reads a name and its slot, in the format of a raised table or of one that is not.
 #[tactic(auto, unfolding(crate::specs::Packed::read_entry))]
 pub fn read_entry(raised: bool, bytes: &[u8]) -> Option<(Name, Slot, &[u8])>
     ensures read { Finds (λ x. ((x.0, x.1), x.2.now)) result (read_entry raised bytes.now) }
@@ -150,7 +150,7 @@ pub fn read_entry(raised: bool, bytes: &[u8]) -> Option<(Name, Slot, &[u8])>
     Some((name, slot, rest))
 }
 
-// The length of a name in a byte, and its bytes.
+// Appends the length of a name in a byte, and its bytes. Out of memory, each `put_` of this file may leave a prefix.
 #[tactic(auto, using(lk_fields::proofs::Spellings::keeps_same, lk_fields::proofs::Spellings::keeps_behind))]
 fn put_name(out: &mut BytesMut, name: &Name) -> Result<(), AllocError>
     ensures ok { OnOk result (out.new.items ≡ out.old.items ++ lock_name name.now) }
@@ -162,7 +162,8 @@ fn put_name(out: &mut BytesMut, name: &Name) -> Result<(), AllocError>
     Ok(())
 }
 
-// The holder in two bytes, 0 for nobody.
+// Appends who holds a name, in a table that was not raised: a client in two bytes, 0 for nobody. Such a table has no
+// sharers.
 #[tactic(auto, using(lk_fields::proofs::Spellings::keeps_same))]
 fn put_holder(out: &mut BytesMut, value: &Holders) -> Result<(), AllocError>
     ensures ok { OnOk result (out.new.items ≡ out.old.items ++ two (holder_number value.now)) }
@@ -176,7 +177,7 @@ fn put_holder(out: &mut BytesMut, value: &Holders) -> Result<(), AllocError>
     Ok(())
 }
 
-// The number of the sharers in a byte, and each of them.
+// Appends how many sharers there are in a byte, and then each.
 #[tactic(auto, using(lk_fields::proofs::Spellings::keeps_same, lk_fields::proofs::Spellings::keeps_behind))]
 fn put_sharers(out: &mut BytesMut, value: &Sharers) -> Result<(), AllocError>
     ensures ok { OnOk result (out.new.items ≡ out.old.items ++ sharers value.now) }
@@ -190,7 +191,7 @@ fn put_sharers(out: &mut BytesMut, value: &Sharers) -> Result<(), AllocError>
     Ok(())
 }
 
-// The mode, and then who holds the name in it.
+// Appends who holds a name, in a raised table: a mode, and then the client or the sharers.
 #[tactic(auto, using(lk_fields::proofs::Spellings::keeps_same, lk_fields::proofs::Spellings::keeps_behind))]
 fn put_mode(out: &mut BytesMut, value: &Holders) -> Result<(), AllocError>
     ensures ok { OnOk result (out.new.items ≡ out.old.items ++ holders true value.now) }
@@ -210,7 +211,7 @@ fn put_mode(out: &mut BytesMut, value: &Holders) -> Result<(), AllocError>
     Ok(())
 }
 
-// Who holds a name, in the format of a raised table or of one that is not.
+// Appends who holds a name, in the format of a raised table or of one that is not.
 fn put_holders(out: &mut BytesMut, raised: bool, value: &Holders) -> Result<(), AllocError>
     ensures ok { OnOk result (out.new.items ≡ out.old.items ++ holders raised value.now) }
     ensures err { OnErr result (Keeps out.old.items out.new.items) }
@@ -222,7 +223,7 @@ fn put_holders(out: &mut BytesMut, raised: bool, value: &Holders) -> Result<(), 
     }
 }
 
-// The last fence of a name, and who holds it.
+// Appends the last fence of a name, and who holds it.
 #[tactic(auto, using(lk_fields::proofs::Spellings::keeps_same, lk_fields::proofs::Spellings::keeps_behind))]
 fn put_slot(out: &mut BytesMut, raised: bool, value: &Slot) -> Result<(), AllocError>
     ensures ok { OnOk result (out.new.items ≡ out.old.items ++ slot raised value.now) }
@@ -233,7 +234,8 @@ fn put_slot(out: &mut BytesMut, raised: bool, value: &Slot) -> Result<(), AllocE
     Ok(())
 }
 
-/// Appends a name and its slot. Out of memory it may leave a prefix of the two.
+/// Appends a name and its slot, in the format of a raised table or of one that is not. Out of memory it may leave a
+/// prefix of the two.
 #[tactic(auto, using(lk_fields::proofs::Spellings::keeps_same, lk_fields::proofs::Spellings::keeps_behind))]
 pub fn put_entry(
     out: &mut BytesMut,

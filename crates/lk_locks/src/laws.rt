@@ -1,4 +1,4 @@
-//! Laws about the definitions alone.
+//! Laws (theorems) about the definitions: each is an empty function, whose contract is the theorem.
 ghost use Rattle.std.specs.Prelude.{◌≡◌, ◌≤◌, ◌+◌, ◌↔◌, ◌⊎◌, ◌∷◌, ◌++◌, List, [], ℕ, Some, length, true, IsTrue};
 ghost use Rattle.std.specs.List.{AllByRecursion};
 ghost use Rattle.std.specs.FinMap as map;
@@ -51,7 +51,7 @@ pub fn one_body()
     ensures { (a b : Body) (bytes : List ℕ) → SpellsBody a bytes → SpellsBody b bytes → a ≡ b }
 {}
 
-/// A table is the one of its text, so no two tables have one text.
+/// Reading the text of a table gives that table, so no two tables have the same text.
 pub fn one_table()
     ensures { (t : Table) → IsTable t → table_in (table_text t) ≡ t }
 {}
@@ -61,18 +61,18 @@ pub fn short_texts()
     ensures { (bytes : List ℕ) → IsTableText bytes → length bytes ≤ 30212 }
 {}
 
-/// The text that the table has as a machine, once a list was run, is that of the plain table after the list.
+/// After a list of commands, the machine has the packed text of the plain table after that list.
 pub fn texts_are_of_tables()
     ensures { (L : List Command) → AllByRecursion IsCommand L → text_of table_meaning L ≡ table_text (table_of L) }
 {}
 
-/// The machine answers after a list as the plain table after the list does.
+/// After a list of commands, the machine answers any task as the plain table after that list does.
 pub fn answers_are_plain()
     ensures { (L : List Command) → AllByRecursion IsCommand L → (client : ℕ) (task : Task)
         → table_meaning.answer client task (text_of table_meaning L) ≡ task_answer client task (table_of L) }
 {}
 
-/// A body is for a name exactly if that is the name in it.
+/// `is_for` holds for exactly the name in the body.
 pub fn bodies_are_for_their_names()
     ensures { (name : List ℕ) (body : Body) → IsTrue (is_for name (Some body)) ↔ (name_of body ≡ name) }
 {}

@@ -1,4 +1,4 @@
-//! The lock table: what clients ask of it, and its answers.
+//! The lock table, a state machine: what clients ask of it, its answers, and its packed text.
 #![tactic(auto)]
 
 mod body;

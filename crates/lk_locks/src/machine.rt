@@ -1,4 +1,4 @@
-//! The table as a machine: its packed text, and reading it back.
+//! The lock table as a `Machine`: executes requests, and packs and unpacks the table.
 ghost use Rattle.std.specs.Prelude.{◌≡◌, ◌≤◌, ◌++◌, ℕ, List, length, Some, None, OnOk, OnErr, IfOk, IsErrOf};
 ghost use Rattle.std.specs.FinMap as map;
 ghost use Rattle.lk_types.specs.Limits.{max_names};
@@ -15,7 +15,7 @@ use lk_types::limits::MAX_NAMES;
 use lk_types::{Answer, ClientNo, NoMemory};
 use std::alloc::Global;
 
-// The table of this many names with their slots, from the start of the bytes. The names have to rise.
+// Reads this many names with their slots into a new table. `NotPacked`: one is invalid, or the names do not rise.
 fn read_entries(
     alloc: Global,
     raised: bool,
@@ -39,7 +39,7 @@ fn read_entries(
     Ok((table, rest))
 }
 
-// The names of which these are all the bytes.
+// Reads how many names there are, and then each with its slot, up to the last byte.
 #[tactic(auto, using(crate::proofs::TableLaws::read_is), unfolding(crate::specs::Packed::read_entries, crate::specs::Packed::read_size))]
 fn read_names(alloc: Global, raised: bool, bytes: &[u8]) -> Result<LockTable, UnpackFault>
     ensures ok { IfOk result (λ t. whole (read_entries raised) bytes.now ≡ Some (map.entries t.names)) }
@@ -59,7 +59,7 @@ fn read_names(alloc: Global, raised: bool, bytes: &[u8]) -> Result<LockTable, Un
     Ok(table)
 }
 
-// The table of which these are all the bytes.
+// Reads a table up to the last byte: with the mark at the start if it was raised.
 #[tactic(auto, unfolding(crate::specs::Packed::read_table))]
 fn read_table(alloc: Global, bytes: &[u8]) -> Result<LockTable, UnpackFault>
     ensures ok { IfOk result (λ t. whole read_table bytes.now ≡ Some (parts_of t)) }
@@ -90,12 +90,12 @@ impl Machine for LockTable {
 
     ghost meaning = { table_meaning };
 
-    /// The table without names.
+    /// Returns the table without names, not raised.
     fn begin(alloc: Global) -> Self {
         LockTable::new(alloc, false)
     }
 
-    /// Executes a client's operation and returns the answer: `run`, in terms of the packed texts.
+    /// Executes a client's operation and returns the answer. Its contract is that of `run` in terms of packed texts.
     fn apply(&mut self, client: ClientNo, body: &[u8]) -> Result<Answer, NoMemory>
         ensures ok { OnOk result
             (table_text self.new ≡ table_meaning.next client (Running body.now) (table_text self.old)) }
@@ -124,7 +124,7 @@ impl Machine for LockTable {
         Ok(())
     }
 
-    /// The table of this packed text.
+    /// Returns the table of this packed text.
     fn unpack(alloc: Global, bytes: &[u8]) -> Result<Self, UnpackFault> {
         read_table(alloc, bytes)
     }

@@ -41,7 +41,7 @@ fn all_may_stand(bytes: &[u8]) -> bool
 }
 
 impl Name {
-    /// The name, or `None` if the bytes are none.
+    /// Returns the name of these bytes, or `None` if they are not a valid name.
     pub fn of(bytes: &[u8]) -> Option<Name>
         ensures some { IsSome result ↔ IsName bytes.now }
         ensures value { IfSome result (λ n. n ≡ bytes.now) }
@@ -70,7 +70,7 @@ impl Name {
         Name { bytes }
     }
 
-    // It is a name. The function does nothing.
+    // Brings into a proof that the bytes are a valid name. Does nothing at run time.
     pub(crate) fn facts(&self)
         ensures { IsName self.now }
     {

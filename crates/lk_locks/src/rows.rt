@@ -1,4 +1,5 @@
-//! The result of each body, given the slot of its name and how many names there are.
+//! The rules of the lock table: for each body its answer and the new slot of its name, given the slot before and how
+//! many names there are.
 ghost use Rattle.std.specs.Prelude.{◌≡◌, Some, [], ◌∷◌};
 ghost use Rattle.lk_types.specs.declared.answer.Answer.TheVariants.{Shared};
 ghost use Rattle.lk_locks.specs.declared.slot.Holders.TheVariants.{Together};
@@ -12,7 +13,7 @@ use crate::slot::{Holders, Slot};
 use lk_types::limits::MAX_NAMES;
 use lk_types::{Answer, ClientNo, Fence, LastFence};
 
-// An answer that leaves the slot as it is.
+// Returns an answer that leaves the slot as it is.
 fn unchanged(answer: Answer) -> Row
     ensures { result ≡ unchanged answer }
 {
@@ -20,7 +21,7 @@ fn unchanged(answer: Answer) -> Row
     Row { answer, change }
 }
 
-// An answer, and the slot after it.
+// Returns an answer with the new slot of the name.
 fn changed(answer: Answer, fence: Fence, holders: Holders) -> Row
     ensures { result ≡ record { answer = answer; change = Some (record { fence = fence; holders = holders }) } }
 {
@@ -28,14 +29,14 @@ fn changed(answer: Answer, fence: Fence, holders: Holders) -> Row
     Row { answer, change }
 }
 
-// The next fence of a name that nobody holds, or why there is none.
+// Returns the fence at which a name that nobody holds is granted next, or `Spent` above 2^48.
 fn fence_after(fence: Fence) -> Result<Fence, Answer>
     ensures { result ≡ fence_after fence }
 {
     Fence::of(fence.get() + 1).ok_or(Answer::Spent)
 }
 
-// The fence of a new name, given how many there are.
+// Returns the fence of a new name, which is 1, or `NoRoom` if there are 512 names already.
 fn first_fence(names: usize) -> Result<Fence, Answer>
     ensures { result ≡ first_fence names }
 {
@@ -45,7 +46,7 @@ fn first_fence(names: usize) -> Result<Fence, Answer>
     Ok(Fence::default())
 }
 
-// The result when a client acquires a name. A holder gets `Busy` too.
+// The result when a client acquires a name. Its present holder gets `Busy` too.
 fn acquire(client: ClientNo, slot: Option<Slot>, names: usize) -> Row
     ensures { result ≡ acquired client slot names }
 {
@@ -63,7 +64,8 @@ fn acquire(client: ClientNo, slot: Option<Slot>, names: usize) -> Row
     }
 }
 
-// The result when a client shares a name that others share.
+// The result when a client shares a name that is shared: a sharer gets its fence again, a new one joins at the same
+// fence, or gets `Busy` if there are eight.
 fn join(client: ClientNo, fence: Fence, clients: Sharers) -> Row
     ensures { result ≡ joined client fence clients }
 {
@@ -77,7 +79,7 @@ fn join(client: ClientNo, fence: Fence, clients: Sharers) -> Row
     changed(Answer::Shared(fence), fence, holders)
 }
 
-// The result when a client shares a name that nobody holds.
+// The result when a client shares a name that nobody holds, given the fence for it or why there is none.
 fn begin(client: ClientNo, fence: Result<Fence, Answer>) -> Row
     ensures { result ≡ given Shared (Together (client ∷ [])) fence }
 {
@@ -105,7 +107,7 @@ fn share(client: ClientNo, slot: Option<Slot>, names: usize) -> Row
     }
 }
 
-// The result when a client releases a name at a fence.
+// The result when a client releases a name at a fence. Other sharers keep the name.
 fn release(client: ClientNo, fence: Fence, slot: Option<Slot>) -> Row
     ensures { result ≡ released client fence slot }
 {
@@ -121,7 +123,7 @@ fn release(client: ClientNo, fence: Fence, slot: Option<Slot>) -> Row
     }
 }
 
-// Whether somebody holds a name at that fence.
+// Returns whether somebody holds the name of the slot at that fence.
 fn is_held_at(fence: Fence, slot: &Option<Slot>) -> bool
     ensures { result ≡ is_held_at fence slot.now }
 {
@@ -131,7 +133,7 @@ fn is_held_at(fence: Fence, slot: &Option<Slot>) -> bool
     }
 }
 
-// The result when a name is freed of all who hold it at a fence.
+// The result when anybody breaks a name at a fence: it is freed of all who hold it at that fence.
 fn break_up(fence: Fence, slot: Option<Slot>) -> Row
     ensures { result ≡ broken fence slot }
 {
@@ -141,7 +143,7 @@ fn break_up(fence: Fence, slot: Option<Slot>) -> Row
     changed(Answer::Broken, fence, Holders::Nobody)
 }
 
-// The answer to who holds a name.
+// Returns the answer to Ask: who holds the name, or the last fence of a free one, 0 if it was never granted.
 fn ask(slot: Option<Slot>) -> Answer
     ensures { result ≡ asked slot }
 {
@@ -155,7 +157,7 @@ fn ask(slot: Option<Slot>) -> Answer
     }
 }
 
-// The answer to whether a fence is still held.
+// Returns the answer to Check: whether anybody holds the name at that fence.
 fn check(fence: Fence, slot: Option<Slot>) -> Answer
     ensures { result ≡ checked fence slot }
 {
@@ -166,7 +168,7 @@ fn check(fence: Fence, slot: Option<Slot>) -> Answer
     }
 }
 
-/// The result of a body.
+/// Returns the result of a body, given the slot of its name, `None` if the name is new, and how many names there are.
 pub fn row(client: ClientNo, body: &Body, slot: Option<Slot>, names: usize) -> Row
     ensures { result ≡ row client body.now slot names }
 {

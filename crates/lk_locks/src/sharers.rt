@@ -29,7 +29,7 @@ impl Model for Sharers {
     ghost inverse = { λ cs. record { clients = record { items = cs } } };
 }
 
-// Each client is in its range. The function does nothing.
+// Brings into a proof that each client is in its range. Does nothing at run time.
 fn facts_of(clients: &[ClientNo])
     ensures { AllByRecursion IsClient clients.now }
 {
@@ -38,7 +38,7 @@ fn facts_of(clients: &[ClientNo])
     }
 }
 
-// Whether the clients rise strictly.
+// Returns whether each client is above the one before.
 fn are_rising(clients: &[ClientNo]) -> bool
     ensures { result ≡ are_clients_above 0 clients.now }
 {
@@ -53,7 +53,7 @@ fn are_rising(clients: &[ClientNo]) -> bool
     true
 }
 
-// How many smaller clients come first.
+// Returns the index at which the client is, or would be inserted: how many clients are smaller.
 fn place_of(clients: &[ClientNo], client: ClientNo) -> usize
     requires { IsTrue (are_clients_above 0 clients.now) }
     ensures place { result ≡ prefix_len (λ c. nat_lt c client) clients.now }
@@ -76,7 +76,7 @@ impl Sharers {
         Some(Sharers { clients })
     }
 
-    /// The set of this client alone.
+    /// Returns the set of this client alone.
     pub fn one(client: ClientNo) -> Sharers
         ensures { result ≡ client ∷ [] }
     {
@@ -110,7 +110,7 @@ impl Sharers {
         SharerCount::of(self.as_slice().len() as u8).unwrap()
     }
 
-    /// The least of them.
+    /// Returns the client with the lowest number.
     pub fn least(&self) -> ClientNo
         ensures { result ≡ least self.now }
     {
@@ -131,7 +131,7 @@ impl Sharers {
         self.as_slice().len() >= MAX_SHARERS as usize
     }
 
-    /// The set with one more client, which is not in it yet.
+    /// Returns the set with one more client, which has to be new; there have to be fewer than eight.
     pub fn with(&self, client: ClientNo) -> Sharers
         requires new { is_among client self.now ≡ false }
         requires room { length self.now < max_sharers }

@@ -6,24 +6,24 @@ ghost use Rattle.lk_locks.specs.Packed.{IsSlot};
 use crate::sharers::Sharers;
 use lk_types::{ClientNo, Fence};
 
-/// Who holds a name: a set of clients with a mode.
+/// Who holds a name.
 #[derive(PartialEq, Eq, Drop)]
 pub enum Holders {
     Nobody,
-    /// That client, and no other.
+    /// That client, exclusively.
     Alone(ClientNo),
-    /// These clients, and others may join them.
+    /// These clients share it, and others may join them, up to eight.
     Together(Sharers),
 }
 
-/// The last fence of a name, and who holds it.
+/// The entry of a name in the table: its last fence, at which it is held if anybody holds it, and who does.
 #[derive(PartialEq, Eq, Drop)]
 pub struct Slot {
     pub fence: Fence,
     pub holders: Holders,
 }
 
-// Who still shares the name after the client has left.
+// Returns who holds a shared name after the client has left: nobody, if it was the last sharer.
 fn held_without(clients: &Sharers, client: ClientNo) -> Holders
     ensures { result ≡ held_by (without client clients.now) }
 {
@@ -34,7 +34,7 @@ fn held_without(clients: &Sharers, client: ClientNo) -> Holders
 }
 
 impl Holders {
-    // Each part is in its range. The function does nothing.
+    // Brings into a proof that each part is in its range. Does nothing at run time.
     pub(crate) fn facts(&self)
         ensures { IsHolders self.now }
     {
@@ -70,7 +70,7 @@ impl Holders {
         }
     }
 
-    /// Who holds the name after the client has left, or `None` if it does not hold it.
+    /// Returns who holds the name after the client has released it, or `None` if the client does not hold it.
     pub fn left_by(&self, client: ClientNo) -> Option<Holders>
         ensures { result ≡ left_by client self.now }
     {
@@ -93,7 +93,7 @@ impl Holders {
 }
 
 impl Slot {
-    // Each part is in its range. The function does nothing.
+    // Brings into a proof that each part is in its range. Does nothing at run time.
     pub(crate) fn facts(&self)
         ensures { IsSlot self.now }
     {

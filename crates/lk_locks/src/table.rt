@@ -26,11 +26,11 @@ use std::alloc::{AllocError, Global};
 use std::collections::BTreeMap;
 use std::marker::Model;
 
-// The first bytes of a packed table that was raised: no table has this many names.
+// The first two bytes of a packed table that was raised. Others begin with the number of names, which is at most 512.
 pub(crate) const RAISED_MARK: u16 = 0xff02;
 
-/// Up to max_names names, each with its last fence and its holders. A name never leaves. A raised table knows shared
-/// names and Break, and has another packed format.
+/// Up to 512 names, each with its last fence and its holders. A name is never removed. A raised table, of the second
+/// version, knows shared names and Break, and has another packed format.
 #[derive(Drop)]
 pub struct LockTable {
     raised: bool,
@@ -57,7 +57,7 @@ impl Model for LockTable {
 }
 
 impl LockTable {
-    /// The table without names, of the first version or of the second. Takes no memory yet.
+    /// Returns the table without names, of the second version if `raised`, else of the first. Takes no memory yet.
     pub fn new(alloc: Global, raised: bool) -> LockTable
         ensures { result ≡ record { raised = raised; names = map.empty } }
     {
@@ -75,14 +75,14 @@ impl LockTable {
         self.slots.len()
     }
 
-    /// There are at most max_names names, and each part is in its range. The function does nothing.
+    /// Brings into a proof that there are at most 512 names, and each part is in its range. Does nothing at run time.
     pub fn facts(&self)
         ensures { IsTable self.now }
     {
         let _ = &self.slots;
     }
 
-    // The slot of a name, if the table has it.
+    // Returns a copy of the slot of a name, or `None` if the table does not have the name.
     fn slot(&self, name: &Name) -> Option<Slot>
         ensures { result ≡ map.get self.now.names name.now }
     {
@@ -92,7 +92,7 @@ impl LockTable {
         }
     }
 
-    // Gives a name that slot. For a known name it takes no memory.
+    // Inserts or replaces the slot of a name. Only a new name takes memory. An `Err` changes nothing.
     fn set(&mut self, name: Name, slot: Slot) -> Result<(), NoMemory>
         requires kept { is_kept self.old.raised slot.holders ≡ true }
         requires room { map.get self.old.names name ≡ None → map.len self.old.names < max_names }
@@ -107,7 +107,7 @@ impl LockTable {
         Ok(())
     }
 
-    // Whether all known names are below this one.
+    // Returns whether all of the table's names are below this one, in the order of their bytes.
     fn is_below(&self, name: &Name) -> bool
         ensures { (s : Slot) → result ≡ rise (map.entries self.now.names ++ (name.now, s) ∷ []) }
     {
@@ -117,7 +117,7 @@ impl LockTable {
         }
     }
 
-    // Adds a name above all known ones, if there is room.
+    // Adds a name that was unpacked. `NotPacked`: it is not above all of the table's names.
     pub(crate) fn push(&mut self, name: Name, slot: Slot) -> Result<(), UnpackFault>
         requires room { map.len self.old.names < max_names }
         requires kept { is_kept self.old.raised slot.holders ≡ true }
@@ -161,7 +161,7 @@ impl LockTable {
         self.put_names(out)
     }
 
-    /// The names that are held, rising, each with its slot.
+    /// Returns the names that are held, rising, each with its slot.
     pub fn held(&self, alloc: Global) -> Result<Vec<(Name, Slot)>, NoMemory>
         ensures { IfOk result (λ found. found.items ≡ held_in (map.entries self.now.names)) }
     {
@@ -174,7 +174,8 @@ impl LockTable {
         Ok(held)
     }
 
-    // Executes a body that the table knows, and returns the answer.
+    // Executes a body that the table knows, and returns the answer. Only a new name takes memory. An `Err` changes
+    // nothing.
     fn serve(&mut self, client: ClientNo, body: Body) -> Result<Answer, NoMemory>
         requires { is_known self.old.raised body ≡ true }
         ensures answer { IfOk result (λ a. a ≡ (row_in client body self.old.names).answer) }
@@ -193,8 +194,8 @@ impl LockTable {
         Ok(answer)
     }
 
-    /// Executes a client's operation, and returns the answer. It needs memory only for a new name. An `Err` changes
-    /// nothing.
+    /// Executes a client's operation, and returns the answer: `Bad` for bytes that are not a body that the table knows.
+    /// Only a new name takes memory. An `Err` changes nothing.
     pub fn run(&mut self, client: ClientNo, body: &[u8]) -> Result<Answer, NoMemory>
         ensures answer { IfOk result (λ a. a ≡ answer client body.now self.old) }
         ensures ok { OnOk result (self.new ≡ next client body.now self.old) }
@@ -207,7 +208,8 @@ impl LockTable {
         }
     }
 
-    /// Raises the table: from then on it knows shared names and Break. Takes no memory.
+    /// Raises the table, and returns `Raised`, or `AlreadyRaised` if it was: from then on it knows shared names and
+    /// Break. Takes no memory.
     pub fn raise_version(&mut self) -> Answer
         ensures answer { result ≡ raise_answer self.old }
         ensures next { self.new ≡ raised self.old }

@@ -1,4 +1,4 @@
--- Why a call of an open store failed, and what the device's counts say of it.
+-- Why a call of an open store failed, and which calls of the device were made.
 use Rattle.std.specs.Prelude.{◌≡◌, ℕ, ◌+◌, ◌<◌, ◌≤◌, ◌⊎◌, Bool, true, false, List, [], ◌∷◌, Result, Ok, Err, IfErr}
 use Rattle.std.specs.Prelude.{IsErrOf, if◌then◌else◌}
 use Rattle.lk_types.specs.Limits.{max_count}
@@ -21,12 +21,12 @@ failures_after Device n = one_more n
 failures_after NoMemory n = n
 failures_after Failed n = n
 
--- the same of a call
+-- the count of the device's failures after a call with this result
 abbrev pub FailuresRise : {T : Type 0} → ℕ → ℕ → Result T StoreFault → Type 0
 FailuresRise before now (Ok _) = now ≡ before
 FailuresRise before now (Err e) = now ≡ failures_after e before
 
--- and only 7 and 8 occur
+-- the same of a call that fails only with 7 and 8
 pub record IsCaused {T : Type 0} (before now : ℕ) (result : Result T StoreFault) : Type 0 where
   pub counted : FailuresRise before now result
   pub only : IfErr result (λ e. (e ≡ Device) ⊎ (e ≡ NoMemory))

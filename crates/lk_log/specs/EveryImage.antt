@@ -1,4 +1,4 @@
--- What every image of two disks has, and what openings in a row may leave.
+-- Properties that every image of two disks has, and the images that several openings in a row may leave.
 use Rattle.std.specs.Prelude.{ℕ, ◌⊎◌, List, [], ◌∷◌}
 use Rattle.lk_disk.specs.Disk.{Disk}
 use Rattle.lk_disk.specs.declared.device.Side.{Side}
@@ -9,7 +9,7 @@ use Rattle.lk_log.specs.Images.{Image, MayLeaveBoth, Means, IsLive, IsEmpty, Sam
 use Rattle.lk_log.specs.Stores.{first_base, Found}
 use Rattle.lk_log.specs.declared.verdict.Verdict.{Verdict}
 
--- each image amounts to something
+-- each image has a verdict
 abbrev pub AllMean : (Side → Disk) → Type 0
 AllMean disks =
     (image : Image) → MayLeaveBoth disks image → (v : Verdict) × (entries : Side → List Stored) × Means image v entries
@@ -19,9 +19,9 @@ abbrev pub EveryFound : (Side → Disk) → HeaderValue → List ℕ → (List S
 EveryFound disks whose zero P =
     (image : Image) → MayLeaveBoth disks image → (es : List Stored) × Found image whose zero es × P es
 
--- Each image of the new disks amounts to what an image of the old ones did, or to a new store if some image of the old
--- ones was empty. What one opening promises speaks of the image that it read; this carries over from opening to
--- opening.
+-- Each image of the new disks has the verdict and the entries of some image of the old ones, or is a new store if some
+-- image of the old ones was empty. `NarrowsOrBegins` of one opening is about the image that it read; this holds for
+-- several openings in a row.
 abbrev pub NarrowsOrBeganSome : (Side → Disk) → (Side → Disk) → HeaderValue → List ℕ → Type 0
 NarrowsOrBeganSome old new whose zero = (image : Image) → MayLeaveBoth new image
     → ((before : Image) × MayLeaveBoth old before × SameMeaning before image)

@@ -1,4 +1,4 @@
--- Both files as a stop may leave them, and what they amount to.
+-- Images: the bytes of both files as a stop may leave them, and the verdict on them.
 use Rattle.std.specs.Prelude.{◌≡◌, ℕ, Bool, nat_lt, ◌||◌, List, if◌then◌else◌}
 use Rattle.lk_disk.specs.Disk.{Disk, contents, MayLeave}
 use Rattle.lk_disk.specs.declared.device.Side.{Side}
@@ -23,7 +23,7 @@ seen disks s = contents (disks s)
 abbrev pub unless_damaged : Bool → Verdict → Verdict
 unless_damaged is_damaged v = if is_damaged then Damaged else v
 
--- What files with these whole entries and this damage amount to: the file whose Base has the greater generation is
+-- The verdict on files with these whole entries and this damage: the file whose Base has the greater generation is
 -- live, and damage in the other one does not matter. Without a Base they are empty.
 abbrev pub verdict : List Stored → List Stored → Bool → Bool → Verdict
 verdict a b a_damaged b_damaged =
@@ -33,7 +33,7 @@ verdict a b a_damaged b_damaged =
     else if nat_lt 0 (generation a) then Damaged
     else unless_damaged (a_damaged || b_damaged) Empty
 
--- the image amounts to this, and its files have these whole entries
+-- the image has this verdict, and its files have these whole entries
 pub record Means (image : Image) (v : Verdict) (entries : Side → List Stored) : Type 0 where
   pub is_damaged : Side → Bool
   pub file : (s : Side) → IsFile (image s) (entries s) (is_damaged s)
@@ -53,11 +53,11 @@ IsEmpty image = (entries : Side → List Stored) × Means image Empty entries
 abbrev pub IsDamaged : Image → Type 0
 IsDamaged image = (entries : Side → List Stored) × Means image Damaged entries
 
--- whatever the first image amounts to, the second does too
+-- the second image has every verdict, with the whole entries, that the first has
 abbrev pub SameMeaning : Image → Image → Type 0
 SameMeaning before image = (v : Verdict) (entries : Side → List Stored) → Means before v entries → Means image v entries
 
--- each image after it amounts to what an image before it did
+-- each image of the new disks has the verdict and the whole entries of some image of the old ones
 abbrev pub Narrows : (Side → Disk) → (Side → Disk) → Type 0
 Narrows old new =
     (image : Image) → MayLeaveBoth new image → (before : Image) × MayLeaveBoth old before × SameMeaning before image

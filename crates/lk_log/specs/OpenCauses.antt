@@ -1,4 +1,4 @@
--- Why no store was opened or looked at, and what the device's counts say of it.
+-- Why no store was opened or read, and which calls of the device were made.
 use Rattle.std.specs.Prelude.{◌≡◌, ℕ, ◌⊎◌, Result, Ok, Err, IfErr}
 use Rattle.lk_disk.specs.Disk.{one_more}
 use Rattle.lk_disk.specs.Meters.{Passes, Breaks}
@@ -20,12 +20,12 @@ failures_after NoMemory n = n
 failures_after Damaged n = n
 failures_after WrongStore n = n
 
--- the same of a call
+-- the count of the device's failures after a call with this result
 abbrev pub FailuresRise : {T : Type 0} → ℕ → ℕ → Result T OpenFault → Type 0
 FailuresRise before now (Ok _) = now ≡ before
 FailuresRise before now (Err e) = now ≡ failures_after e before
 
--- and only 7 and 8 occur
+-- the same of a call that fails only with 7 and 8
 pub record IsCaused {T : Type 0} (before now : ℕ) (result : Result T OpenFault) : Type 0 where
   pub counted : FailuresRise before now result
   pub only : IfErr result (λ e. (e ≡ Device) ⊎ (e ≡ NoMemory))

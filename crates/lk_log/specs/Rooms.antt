@@ -1,4 +1,4 @@
--- How long files get.
+-- Bounds on the growth of a store's files.
 use Rattle.std.specs.Prelude.{ℕ, ◌≤◌, max, length}
 use Rattle.lk_disk.specs.Disk.{Disk, contents}
 use Rattle.lk_disk.specs.declared.device.Side.{Side}

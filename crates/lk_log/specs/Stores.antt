@@ -122,11 +122,11 @@ first_base h zero = record {
   standing = record { promised = zero_ballot; position = 0; snapshot = zero; votes = []; pairs = [] };
 }
 
--- what the files stood for when they were read, or that of a new store if there was none
+-- the entries of the live file when it was read, or those of a new store if there was none
 abbrev pub Found : Image → HeaderValue → List ℕ → List Stored → Type 0
 Found before h zero es = IsLive before es ⊎ (IsEmpty before × (es ≡ Base (first_base h zero) ∷ []))
 
--- some entries stand for it
+-- it is the standing of some entries
 abbrev pub StandsForSome : StandingValue → Type 0
 StandsForSome s = (es : List Stored) × StandsFor es s
 
@@ -158,7 +158,7 @@ OpensBy before k =
     ⊎ ((live : Side) × (es : List Stored) × IsLive before es × IsFile (before live) es false
     × (k ≡ cut_calls (length (spelling_of_all es)) (length (before live)) + 1))
 
--- whole entries with one Base, at the start: those that stand for something
+-- whole entries with one Base, at the start: those that have a standing
 pub record MayStand (es : List Stored) : Type 0 where
   pub fit : AllByRecursion IsStored es
   pub placed : is_misplaced es ≡ false
@@ -184,13 +184,14 @@ pub record Shows (before : Image) (number told : ℕ) (standing : StandingValue)
   pub format_is : told ≡ format entries
   pub stands : StandsFor entries standing
 
--- each image of the new disks amounts to what an image of the old ones did, or to a new store if there was none
+-- each image of the new disks has the verdict and the entries of some image of the old ones, or is a new store if there
+-- was none
 abbrev pub NarrowsOrBegins : (Side → Disk) → (Side → Disk) → HeaderValue → List ℕ → Type 0
 NarrowsOrBegins old new h zero = (image : Image) → MayLeaveBoth new image
     → ((before : Image) × MayLeaveBoth old before × SameMeaning before image)
     ⊎ (IsEmpty (seen old) × IsLive image (Base (first_base h zero) ∷ []))
 
--- each image of a file after it has what an image of it before had
+-- each image of the new file parses to the entries of some image of the old one
 abbrev pub FileNarrows : Disk → Disk → Type 0
 FileNarrows old new = (c : List ℕ) → MayLeave new c → (b : List ℕ) × MayLeave old b
     × ((es : List Stored) (is_damaged : Bool) → IsFile b es is_damaged → IsFile c es is_damaged)

@@ -16,7 +16,7 @@ use lk_entries::{entries_facts, spelled};
 use lk_types::Entry;
 use std::alloc::Global;
 
-// Appends the bytes, without a call if there are none.
+// Appends the bytes to a file, without a call of the device if there are none.
 fn append_some<D: LogDisk>(device: &mut D, side: Side, bytes: &[u8]) -> Result<(), DeviceFault>
     ensures ok { D.is_honest → OnOk result (D.disk device.new side ≡ appended (D.disk device.old side) bytes.now) }
     ensures err { D.is_honest → OnErr result (AppendsSome bytes.now (D.disk device.old side) (D.disk device.new side)) }

@@ -1,3 +1,4 @@
+// Why a call of a store failed, or why none was opened, and the numbers of these errors.
 ghost use Rattle.std.specs.Prelude.{◌≡◌};
 ghost use Rattle.lk_log.specs.Causes.{number_of};
 ghost use Rattle.lk_log.specs.OpenCauses.{number_of as open_number};
@@ -16,6 +17,7 @@ pub enum StoreFault {
     Device,
     #[error("no memory")]
     NoMemory,
+    /// An earlier call failed, or the store has the last generation and was to rebase.
     #[error("the store has failed before")]
     Failed,
 }
@@ -57,7 +59,7 @@ impl From<AllocError> for StoreFault {
     }
 }
 
-/// Why no store was opened, or looked at.
+/// Why no store was opened or read.
 #[derive(Clone, Copy, Debug, Error)]
 pub enum OpenFault {
     #[error("the device failed")]
@@ -108,7 +110,7 @@ impl From<AllocError> for OpenFault {
     }
 }
 
-/// Why no store was opened, and the device.
+/// Why no store was opened, with the device, which the caller gets back.
 #[derive(Drop)]
 pub struct ReopenFault<D> {
     pub fault: OpenFault,

@@ -16,20 +16,21 @@ use lk_types::NoMemory;
 use lk_types::limits::MAX_TORN;
 use std::alloc::Global;
 
-/// A file as it was read.
+/// A file as it was read and parsed.
 #[derive(Drop)]
 pub struct File {
-    // The whole entries.
+    // The whole entries, in order.
     pub entries: Vec<Stored>,
-    // Where they end.
+    // The offset at which they end.
     pub end: usize,
-    // How many bytes there are.
+    // The length of the file in bytes.
     pub size: usize,
-    // Whether what follows the entries is damage, or they mix the two formats.
+    // Whether no stop explains the bytes after the entries, or the entries mix the two formats.
     pub is_damaged: bool,
 }
 
-// Whether a stop may have left this after whole entries.
+// Returns whether a stop may have left these bytes after whole entries: none, a cut length field, or a length from 1 to
+// `MAX_TORN` with fewer bytes after it.
 #[tactic(auto, unfolding(lk_entries::specs::Files::told_length, lk_fields::specs::FieldReading::read_four))]
 fn is_torn(rest: &[u8]) -> bool
     ensures { result ≡ is_torn rest.now }
@@ -41,14 +42,14 @@ fn is_torn(rest: &[u8]) -> bool
     told >= 1 && told <= MAX_TORN && rest.len() < 4 + told
 }
 
-// Whether a file with these entries, and this after them, is damaged.
+// Returns whether a file is damaged, given its whole entries and the bytes after them.
 fn is_damaged(entries: &[Stored], rest: &[u8]) -> bool
     ensures { result ≡ (not (is_torn rest.now) || is_mixed entries.now) }
 {
     !is_torn(rest) || is_mixed(entries)
 }
 
-// The file of these bytes.
+// Parses the bytes of a file, up to the first ones that are no whole entry.
 fn file_of(alloc: Global, bytes: &[u8]) -> Result<File, NoMemory>
     ensures file { IfOk result (λ f. IsFile bytes.now f.entries.items f.is_damaged) }
     ensures end { IfOk result (λ f. f.end ≡ length (spelling_of_all f.entries.items)) }
@@ -75,7 +76,7 @@ fn file_of(alloc: Global, bytes: &[u8]) -> Result<File, NoMemory>
     })
 }
 
-// The bytes of a file.
+// Reads all bytes of a file.
 fn read_bytes<D: LogDisk>(alloc: Global, device: &mut D, side: Side) -> Result<Vec<u8>, OpenFault>
     ensures unchanged { D.is_honest → (s : _) → D.disk device.new s ≡ D.disk device.old s }
     ensures value { D.is_honest → IfOk result (λ v. v.items ≡ contents (D.disk device.old side)) }
@@ -88,7 +89,7 @@ fn read_bytes<D: LogDisk>(alloc: Global, device: &mut D, side: Side) -> Result<V
     Ok(bytes)
 }
 
-/// A file of the device.
+/// Reads and parses a file of the device. Damage is no error: the result has it as `is_damaged`.
 pub fn read_file<D: LogDisk>(alloc: Global, device: &mut D, side: Side) -> Result<File, OpenFault>
     ensures unchanged { D.is_honest → (s : _) → D.disk device.new s ≡ D.disk device.old s }
     ensures file { D.is_honest
@@ -104,7 +105,7 @@ pub fn read_file<D: LogDisk>(alloc: Global, device: &mut D, side: Side) -> Resul
     Ok(file)
 }
 
-/// That of the Base at the start, 0 if there is none.
+/// Returns the generation of the Base at the start, or 0 if there is none.
 pub fn generation_of(entries: &[Stored]) -> u64
     ensures { result ≡ generation entries.now }
 {
@@ -125,7 +126,7 @@ fn has_base(entries: &[Stored]) -> bool
     false
 }
 
-/// Whether the first entry is no Base, or a later one is.
+/// Returns whether a Base is misplaced: the first entry is not a Base, or a later one is. An empty list is in order.
 pub fn is_misplaced(entries: &[Stored]) -> bool
     ensures { result ≡ is_misplaced entries.now }
 {

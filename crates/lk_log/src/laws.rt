@@ -1,5 +1,5 @@
-//! Laws about what two files amount to and what a stop may leave of a store: each is the contract of a function that
-//! does nothing.
+//! Laws about the verdict on two files and about what a stop may leave of a store. A law is a theorem, stated as the
+//! contract of a function that does nothing.
 ghost use Rattle.std.specs.Prelude.{◌≡◌, ◌++◌, ◌∷◌, [], List, ℕ, Bool, true};
 ghost use Rattle.lk_types.specs.declared.entry.Entry.{Entry};
 ghost use Rattle.lk_disk.specs.Disk.{Disk};
@@ -15,7 +15,7 @@ ghost use Rattle.lk_log.specs.StoreValue.{StoreValue, disks};
 ghost use Rattle.lk_log.specs.Stores.{Holds, KeepsAtLeast, NarrowsOrBegins};
 ghost use Rattle.lk_log.specs.declared.verdict.Verdict.{Verdict};
 
-/// Two files amount to one thing: they are damaged, empty, or one of them is live.
+/// Two files have only one verdict (damaged, empty, or one of them is live), and only one list of whole entries each.
 pub fn one_meaning()
     ensures verdict { (image : Image) (v w : Verdict) (es fs : Side → List Stored) → Means image v es
         → Means image w fs → v ≡ w }
@@ -23,7 +23,7 @@ pub fn one_meaning()
         → Means image w fs → (s : Side) → es s ≡ fs s }
 {}
 
-/// The entries of a live file stand for one thing, and with one more entry for that with this entry.
+/// The entries of a live file have exactly one standing, and one more entry changes it as `with_plain` says.
 pub fn one_standing()
     ensures some { (image : Image) (es : List Stored) → IsLive image es → (s : StandingValue) × StandsFor es s }
     ensures one { (es : List Stored) (s t : StandingValue) → StandsFor es s → StandsFor es t → s ≡ t }
@@ -42,14 +42,14 @@ pub fn what_a_stop_leaves()
         → MayLeaveBoth (disks s) image → IsLive image ks }
 {}
 
-/// What is read is an image, and files without a byte are empty.
+/// Reading the files returns an image that a stop may leave, and files without a byte are an empty store.
 pub fn what_is_read()
     ensures left { (both : Side → Disk) → MayLeaveBoth both (seen both) }
     ensures empty { (image : Image) → ((s : Side) → image s ≡ []) → IsEmpty image }
 {}
 
-/// Openings in a row, successful or not, leave what one opening may leave, and any decidable property of every image
-/// is preserved.
+/// Several openings in a row, successful or not, leave only images that one opening may leave, and preserve any
+/// decidable property that every image has.
 pub fn openings()
     ensures one { (old new : Side → Disk) (whose : HeaderValue) (text : List ℕ) → NarrowsOrBegins old new whose text
         → NarrowsOrBeganSome old new whose text }

@@ -1,11 +1,14 @@
-//! Two files that remember what a node promised, voted and learned: entries after a Base, read back after any stop.
+//! The durable log of a node, in two files: what it promised, voted and learned, as entries after a Base, read back
+//! after any stop.
 //!
 //! One of them is live. A Base has a generation, and each later Base of a store a greater one.
 //! - **Opening** (`opening`): 1. read A, then B, each up to its last whole entry (`file`); 2. the live file is the one
 //!   of the greater generation, and only damage in that one matters (`verdict`); 3. cut off what follows its last whole
 //!   entry: the start of an entry that a stop tore; 4. sync it, so that everything that was read stays; 5. replay its
-//!   entries into what they stand for (`replaying`). If neither file has a Base, the first one is written over A.
-//! - **Adding** (`adding`): append to the live file, and sync it if something that rests on the entries is to be sent.
+//!   entries into a standing, the recovered state (`replaying`). If neither file has a Base, the first one is written
+//!   over A.
+//! - **Adding** (`adding`): append to the live file, and sync it if the caller will send something that depends on the
+//!   entries.
 //! - **Rebasing** (`rebasing`): cut the other file to nothing, append the new Base to it, sync it, and only then cut
 //!   the live file to nothing. A stop between any two of these calls leaves the old live file whole, or the new Base.
 #![tactic(auto)]

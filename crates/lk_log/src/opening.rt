@@ -1,4 +1,4 @@
-// Opening a store that a stop may have left.
+// The steps of opening a store that a stop may have left: find the live file, and cut off its torn end.
 ghost use Rattle.std.specs.Prelude.{◌≡◌, ◌+◌, List, [], ◌∷◌, false, length, IfOk, IfSome, OnOk, IsErrOf, Ok};
 ghost use Rattle.lk_disk.specs.Disk.{contents, other, flushed, HasCause};
 ghost use Rattle.lk_entries.specs.Entries.{spelling_of_all};
@@ -17,7 +17,7 @@ use crate::verdict::Verdict;
 use lk_disk::{DeviceFault, LogDisk, Side};
 use std::alloc::Global;
 
-// The verdict, or `Damaged` if the file that decides is damaged.
+// Returns the verdict, or `Damaged` if the file that it rests on is damaged.
 fn unless_damaged(is_damaged: bool, verdict: Verdict) -> Verdict
     ensures { result ≡ unless_damaged is_damaged verdict }
 {
@@ -28,7 +28,8 @@ fn unless_damaged(is_damaged: bool, verdict: Verdict) -> Verdict
     }
 }
 
-// What both files amount to.
+// Decides which of two files is live: the one whose Base has the greater generation. Two Bases of one generation, or a
+// misplaced one, are damage; damage in the older file is ignored.
 fn verdict(a: &File, b: &File) -> Verdict
     ensures { result ≡ verdict a.now.entries.items b.now.entries.items a.now.is_damaged b.now.is_damaged }
 {
@@ -48,7 +49,8 @@ fn verdict(a: &File, b: &File) -> Verdict
     unless_damaged(a.is_damaged || b.is_damaged, Verdict::Empty)
 }
 
-/// The live file, or `None` if there is no Base.
+/// Reads both files and returns the live one, or `None` if neither has a Base. Changes nothing. It fails with `Device`,
+/// `NoMemory` and `Damaged`.
 pub fn find<D: LogDisk>(alloc: Global, device: &mut D) -> Result<Option<(Side, File)>, OpenFault>
     ensures unchanged { D.is_honest → (s : Side) → D.disk device.new s ≡ D.disk device.old s }
     ensures damaged { D.is_honest → IsErrOf result OpenFault.Damaged → IsDamaged (seen (D.disk device.old)) }
@@ -71,7 +73,8 @@ pub fn find<D: LogDisk>(alloc: Global, device: &mut D) -> Result<Option<(Side, F
     }
 }
 
-// Cuts off what follows the entries, without a call if nothing does.
+// Cuts the live file to its whole entries, without a call if nothing follows them. They end at `end`, the file at
+// `size`.
 fn cut_torn_end<D: LogDisk>(
     device: &mut D,
     live: Side,
@@ -95,7 +98,8 @@ fn cut_torn_end<D: LogDisk>(
     Ok(())
 }
 
-/// Cuts the torn end off the live file, and syncs the file.
+/// Cuts the torn end off the live file, and syncs the file, so that a later stop keeps everything that was read. The
+/// whole entries end at `end`, the file at `size`.
 pub fn cut_and_sync<D: LogDisk>(
     device: &mut D,
     live: Side,

@@ -14,7 +14,7 @@ ghost use Rattle.lk_log.specs.Stores.{HoldsOn, KeepsOrIs};
 use crate::reopening::write_over;
 use lk_disk::{DeviceFault, LogDisk, Side};
 
-/// The other side.
+/// Returns the other side.
 pub fn other(side: Side) -> Side
     ensures { result ≡ other side }
 {
@@ -24,7 +24,8 @@ pub fn other(side: Side) -> Side
     }
 }
 
-/// Replaces the other file with these bytes of a Base, syncs it, and truncates the live file to nothing.
+/// Replaces the other file with these bytes of a Base, syncs it, and only then truncates the live file to nothing.
+/// After an error either file may be live.
 pub fn switch_files<D: LogDisk>(device: &mut D, live: Side, bytes: &[u8]) -> Result<(), DeviceFault>
     ensures holds { D.is_honest → (b : BaseValue) → b.format ≡ 2 → IsStored (base_entry b)
         → bytes.now ≡ spelling (base_entry b)

@@ -1,4 +1,4 @@
-// Opening a store, and looking at one.
+// Opening a store, and reading one without changing it.
 ghost use Rattle.std.specs.Prelude.{◌≡◌, ◌≤◌, ◌<◌, ◌+◌, ◌-◌, ◌^◌, ◌↔◌, List, ℕ, [], true, false, length, IsTrue, IfOk};
 ghost use Rattle.std.specs.Prelude.{IfErr, IfSome, OnOk, IsErrOf, MatchResult, Ok};
 ghost use Rattle.lk_disk.specs.Disk.{other, HasCause};
@@ -30,7 +30,7 @@ use lk_entries::{Base, Header, Standing, Stored, format_of, spelled_base};
 use lk_types::{Ballot, Executed};
 use std::alloc::{AllocError, Global};
 
-// The result of an opening.
+// The fields of an opened store except its device, and its standing.
 #[derive(Drop)]
 struct Opened {
     live: Side,
@@ -40,16 +40,16 @@ struct Opened {
     is_new: bool,
 }
 
-/// An open store, and what it stands for.
+/// An open store, and its standing: the state that its entries recover.
 #[derive(Drop)]
 pub struct Reopened<D: LogDisk + Drop> {
     pub store: Store<D>,
     pub standing: Standing,
-    /// Whether there was none, and this one is new.
+    /// Whether there was no store, and this one is new.
     pub is_new: bool,
 }
 
-// Replaces a file with these bytes, and syncs it.
+// Replaces a file with these bytes, and syncs it. After an error it has a prefix of the old bytes or of these.
 pub(crate) fn write_over<D: LogDisk>(
     device: &mut D,
     side: Side,
@@ -67,7 +67,7 @@ pub(crate) fn write_over<D: LogDisk>(
     Ok(())
 }
 
-// The Base of a new store.
+// Returns the Base of a new store, of generation 1 and format 2. `zero` is the packed state at position 0.
 fn first_base(alloc: Global, header: &Header, zero: &[u8]) -> Result<Base, AllocError>
     requires some { 1 ≤ length zero.now }
     requires room { length zero.now ≤ 49054 }
@@ -89,7 +89,7 @@ fn first_base(alloc: Global, header: &Header, zero: &[u8]) -> Result<Base, Alloc
     })
 }
 
-// Begins a store in A.
+// Begins a new store: writes its Base over file A, and syncs it.
 fn begin<D: LogDisk>(
     alloc: Global,
     device: &mut D,
@@ -128,7 +128,7 @@ fn begin<D: LogDisk>(
     })
 }
 
-// Whether the Base at the start is of this node and this genesis.
+// Returns whether the Base at the start is of the same node and genesis.
 fn has_header(entries: &[Stored], header: &Header) -> bool
     ensures { IsTrue result ↔ HasHeader entries.now header.now }
 {
@@ -138,7 +138,7 @@ fn has_header(entries: &[Stored], header: &Header) -> bool
     }
 }
 
-// Opens the live file.
+// Opens the store of a live file: cuts off its torn end, syncs it, and replays its entries.
 fn open<D: LogDisk>(
     alloc: Global,
     device: &mut D,
@@ -180,7 +180,8 @@ fn open<D: LogDisk>(
     })
 }
 
-// Opens or begins a store.
+// Opens the store of the live file, or begins one if neither file has a Base. A store of another node or genesis is
+// unchanged, and the error is `WrongStore`.
 fn recover<D: LogDisk>(
     alloc: Global,
     device: &mut D,
@@ -221,7 +222,8 @@ fn recover<D: LogDisk>(
 /// position 0, of 1 to 49,054 bytes.
 ///
 /// The torn end is cut off the live file, and the file is synced. It fails with `Device` (7), `NoMemory` (8),
-/// `Damaged` (9) and `WrongStore` (10), and returns the device. It may itself be stopped, and repeated.
+/// `Damaged` (9) and `WrongStore` (10), and returns the device. A stop in the middle of it is harmless: it can be
+/// repeated.
 pub fn reopen<D: LogDisk + Drop>(
     alloc: Global,
     device: D,
@@ -233,7 +235,7 @@ pub fn reopen<D: LogDisk + Drop>(
     // The standing is that of the whole entries of the live file, or of a new store, and all of it is synced.
     ensures ok { D.is_honest → IfOk result (λ r. Opens (seen (D.disk device)) header.now zero.now r.store r.standing) }
     ensures open { IfOk result (λ r. IsOpened header.now r.store r.standing) }
-    // However it ends, each image amounts to what an image before it did, or to a new store.
+    // However it ends, each image has the verdict and the entries of an image before it, or is a new store.
     ensures stays { D.is_honest → MatchResult result
         (λ r. NarrowsOrBegins (D.disk device) (disks r.store) header.now zero.now)
         (λ e. NarrowsOrBegins (D.disk device) (D.disk e.device) header.now zero.now) }
@@ -285,7 +287,7 @@ pub fn reopen<D: LogDisk + Drop>(
     }
 }
 
-/// A summary of the live file.
+/// The live file as `look` reads it.
 #[derive(Drop)]
 pub struct LiveFile {
     pub generation: u64,
@@ -294,7 +296,8 @@ pub struct LiveFile {
     pub standing: Standing,
 }
 
-/// The generation, the format and the standing of the live file, or `None` if there is no Base. Changes nothing.
+/// Reads the generation, the format and the standing of the live file; `None` if neither file has a Base. Changes
+/// nothing.
 ///
 /// It fails with `Device` (7), `NoMemory` (8) and `Damaged` (9).
 pub fn look<D: LogDisk>(alloc: Global, device: &mut D) -> Result<Option<LiveFile>, OpenFault>

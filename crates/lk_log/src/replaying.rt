@@ -1,4 +1,4 @@
-// Replaying the entries of a file: what they stand for.
+// Replaying the entries of a file into their standing: the recovered state.
 ghost use Rattle.std.specs.Prelude.{◌≡◌, ◌≤◌, map, length, OnOk, OnErr, IfOk};
 ghost use Rattle.lk_entries.specs.Standings.{greater, greatest_of, ballot_of, pairs_below, with_pair, with_plain};
 ghost use Rattle.lk_entries.specs.Standings.{of_base, ArePairsRising, Rises, StandsFor};
@@ -9,14 +9,14 @@ use lk_entries::{Base, Standing, Stored, keep_vote};
 use lk_types::{Ballot, Command, Entry, Executed, NoMemory, Position, Vote};
 use std::alloc::{AllocFailed, Global};
 
-// The greater of two ballots.
+// Returns the greater of two ballots.
 fn greater(a: Ballot, b: Ballot) -> Ballot
     ensures { result ≡ greater a b }
 {
     if a.is_below(b) { b } else { a }
 }
 
-// The greatest of a ballot and those of the votes.
+// Returns the greatest of a ballot and those of the votes.
 fn greatest_of(ballot: Ballot, votes: &[Vote]) -> Ballot
     ensures { result ≡ greatest_of ballot (map ballot_of votes.now) }
 {
@@ -27,7 +27,7 @@ fn greatest_of(ballot: Ballot, votes: &[Vote]) -> Ballot
     greatest
 }
 
-// How many pairs of smaller positions come first.
+// Returns how many pairs have a smaller position: the index at which a pair of this position belongs.
 fn pairs_below(position: Position, pairs: &[(Position, Command)]) -> usize
     requires { ArePairsRising pairs.now }
     ensures value { result ≡ pairs_below position pairs.now }
@@ -36,7 +36,7 @@ fn pairs_below(position: Position, pairs: &[(Position, Command)]) -> usize
     pairs.partition_point(|pair| pair.0 < position)
 }
 
-// Keeps a decided command in its place. Of two at a position it keeps the earlier.
+// Inserts a decided command in the order of positions. If the position has one already, that one stays.
 #[tactic(auto, using(lk_entries::proofs::InOrder::pair_at_end, lk_entries::proofs::InOrder::pair_at_other, lk_entries::proofs::InOrder::pair_at_same))]
 fn keep_pair(
     pairs: &mut Vec<(Position, Command)>,
@@ -57,7 +57,7 @@ fn keep_pair(
     Ok(())
 }
 
-// The standing of no entries.
+// Returns the standing of no entries: nothing promised, executed, voted or decided.
 fn nothing(alloc: Global) -> Standing
     ensures { Rises result }
 {
@@ -70,7 +70,7 @@ fn nothing(alloc: Global) -> Standing
     }
 }
 
-// The standing of a Base alone.
+// Returns the standing of a Base alone. A vote also promises its ballot, so the promise is no lower than any vote.
 fn of_base(base: Base) -> Standing
     ensures { result ≡ of_base base }
 {
@@ -85,7 +85,7 @@ fn of_base(base: Base) -> Standing
     standing
 }
 
-// Adds an entry after those for which the standing stands. Of two votes at a position it keeps the one of greater
+// Applies one more entry to the standing of those before it. Of two votes at a position it keeps the one of greater
 // ballot, the earlier if they are equal, and it keeps the first decided command of a position.
 fn add(standing: &mut Standing, entry: Entry) -> Result<(), NoMemory>
     requires { Rises standing.old }
@@ -128,8 +128,8 @@ fn add_pair(standing: &mut Standing, pair: (Position, Command)) -> Result<(), No
     Ok(())
 }
 
-/// What entries with a Base at the start stand for. Each is put into its place by binary search, so the time grows
-/// with the number of entries, and with what has to move if they do not come in order.
+/// Replays entries, of which the first is a Base, into their standing. Votes and pairs are inserted by binary search:
+/// entries in the order of positions cost no moves, and others move those of greater positions.
 pub fn replay(alloc: Global, entries: Vec<Stored>) -> Result<Standing, NoMemory>
     requires { MayStand entries.items }
     ensures { IfOk result (StandsFor entries.items) }

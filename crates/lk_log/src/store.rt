@@ -1,4 +1,4 @@
-// The store: entries one after another in the live file.
+// The store: appends entries to the live file, and replaces them by a Base in the other file.
 ghost use Rattle.std.specs.Prelude.{◌≡◌, ◌++◌, ◌∷◌, ◌<◌, ◌≤◌, ◌^◌, ◌+◌, ◌-◌, ◌*◌, List, [], length, true, false, IfOk};
 ghost use Rattle.std.specs.Prelude.{OnOk, IsErrOf};
 ghost use Rattle.lk_types.specs.Limits.{max_base};
@@ -34,6 +34,7 @@ pub struct Store<D: LogDisk + Drop> {
     pub(crate) generation: u64,
     pub(crate) format: u8,
     pub(crate) header: Header,
+    // Set before each call of the device and cleared after it, so that an early return with an error leaves it set.
     pub(crate) failed: bool,
 }
 
@@ -91,7 +92,8 @@ impl<D: LogDisk + Drop> Store<D> {
         Ok(())
     }
 
-    /// Gives what was written to the live file to the system, so that a process that is killed then loses none of it.
+    /// Gives what was written to the live file to the operating system, unsynced: if the process is killed afterwards,
+    /// none of it is lost.
     ///
     /// It takes no memory, and fails with `Device` (7) only; after that every call fails with `Failed` (11).
     pub fn flush(&mut self) -> Result<(), StoreFault>
@@ -183,7 +185,7 @@ impl<D: LogDisk + Drop> Store<D> {
         Ok(())
     }
 
-    /// The number of bytes of the live file, synced or not.
+    /// Returns the number of bytes of the live file, synced or not.
     ///
     /// It takes no memory, and fails with `Device` (7) only; after that every call fails with `Failed` (11).
     pub fn live_length(&mut self) -> Result<usize, StoreFault>
@@ -204,7 +206,7 @@ impl<D: LogDisk + Drop> Store<D> {
         Ok(length)
     }
 
-    /// The format of the live file, 1 or 2.
+    /// Returns the format of the live file, 1 or 2.
     pub fn format(&self) -> u8
         ensures { result ≡ self.now.format }
     {
@@ -221,14 +223,14 @@ impl<D: LogDisk + Drop> Store<D> {
         &self.device
     }
 
-    /// The generation of the live file.
+    /// Returns the generation of the live file's Base.
     pub fn generation(&self) -> u64
         ensures { result ≡ self.now.generation }
     {
         self.generation
     }
 
-    /// The device, as the store leaves it.
+    /// Closes the store and returns its device, with both files as they are.
     pub fn into_disks(self) -> D
         ensures live_disk { D.disk result self.live ≡ self.live_disk }
         ensures other_disk { D.disk result (other self.live) ≡ self.other_disk }
@@ -249,7 +251,7 @@ impl<D: LogDisk + Drop> Store<D> {
 }
 
 impl<D: Trapped + Drop> Store<D> {
-    /// Sets the trap of the device. It changes no disk.
+    /// Sets the trap of the device: the call at which it is to fail or stop. Changes no file.
     pub fn trap(&mut self, trap: Trap)
         ensures set { D.is_metered → self.new.meter ≡ trapped trap self.old.meter }
         ensures live_disk { D.is_honest → self.new.live_disk ≡ self.old.live_disk }

@@ -1,4 +1,4 @@
-//! The program `locks`.
+//! The program `locks`: runs its command line on the streams, files and sockets of the system.
 #![tactic(auto)]
 
 mod plans;
@@ -15,8 +15,8 @@ use std::time::Clock;
 use std::{env, io};
 use words::{run_words, write_start_error};
 
-// The words of the command line as texts. The usage text begins with the first, the program's name, and not with its
-// path.
+// Returns the words of the command line as texts, with `locks` for the program's path, since the usage text begins with
+// the first word.
 fn texts_of<'a>(alloc: Global, words: &'a [String]) -> io::Result<Vec<&'a str>> {
     let mut texts = Vec::new(alloc);
     texts.push("locks")?;

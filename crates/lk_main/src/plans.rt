@@ -1,4 +1,4 @@
-//! What a subcommand is to do, if its words are understood.
+//! Reads the arguments of each subcommand into a plan of what it is to do.
 
 use clap::ArgMatches;
 use lk_arguments::command_line::operation_of;
@@ -16,7 +16,7 @@ use lk_service::resources::NodePlan;
 use lk_types::{ClientNo, Op, Port};
 use std::alloc::{AllocError, Global};
 
-// The options of a command line about other machines.
+// Reads the options about other machines; `name` is the option with the address.
 fn options_in<'a>(
     matches: &ArgMatches<'a>,
     name: &'a str,
@@ -30,12 +30,13 @@ fn options_in<'a>(
     })
 }
 
-/// The options of a client's command line about other machines.
+/// Reads a client's options about other machines.
 pub fn ask_options<'a>(matches: &ArgMatches<'a>) -> Result<NetworkOptions<'a>, ArgumentError<'a>> {
     options_in(matches, "address", None)
 }
 
-// What the ticks of a node go by: where the nodes have a key it is the clock, and nothing else may be asked for.
+// Reads what the ticks of a node go by. Nodes with a key always go by the clock, and `--ticks datagrams` is then
+// invalid.
 fn pace_in<'a>(matches: &ArgMatches<'a>) -> Result<Pace, ArgumentError<'a>> {
     let has_key = matches.get_str("key").is_some();
     match matches.get_str("ticks") {
@@ -47,7 +48,7 @@ fn pace_in<'a>(matches: &ArgMatches<'a>) -> Result<Pace, ArgumentError<'a>> {
     }
 }
 
-/// The node that `locks node` is to run.
+/// Reads the arguments of `locks node`.
 pub fn node_plan<'a>(matches: &ArgMatches<'a>) -> Result<NodePlan<'a>, ArgumentError<'a>> {
     let genesis = genesis_in(matches)?;
     let node = node_in(matches)?;
@@ -60,7 +61,7 @@ pub fn node_plan<'a>(matches: &ArgMatches<'a>) -> Result<NodePlan<'a>, ArgumentE
     })
 }
 
-/// The schedule that `locks fuzz` is to run.
+/// Reads the arguments of `locks fuzz`.
 pub fn fuzz_plan<'a>(matches: &ArgMatches<'a>) -> Result<Plan, ArgumentError<'a>> {
     let start = number_in(matches, "start", u64::MAX)?;
     let events = number_in(matches, "events", MAX_EVENTS)?;
@@ -71,7 +72,7 @@ pub fn fuzz_plan<'a>(matches: &ArgMatches<'a>) -> Result<Plan, ArgumentError<'a>
     })
 }
 
-/// The file of the masters, and the client whose key `locks client-key` is to print.
+/// Reads the arguments of `locks client-key`: the file of the masters, and the client whose key to print.
 pub fn client_key_plan<'a>(
     matches: &ArgMatches<'a>,
 ) -> Result<(&'a str, ClientNo), ArgumentError<'a>> {
@@ -86,7 +87,7 @@ pub struct AskPlan<'a> {
     pub options: NetworkOptions<'a>,
 }
 
-// What `locks ask` is to do, given its operation and the ports that it asks in turn.
+// Returns the plan of `locks ask` with this operation and these ports.
 fn ask_plan_of<'a>(
     matches: &ArgMatches<'a>,
     op: Op,
@@ -101,7 +102,7 @@ fn ask_plan_of<'a>(
     })
 }
 
-/// What `locks ask` is to do. It refuses where memory was refused.
+/// Reads the arguments of `locks ask`. The outer error is running out of memory, the inner one an invalid argument.
 pub fn ask_plan<'a>(
     alloc: Global,
     matches: &ArgMatches<'a>,

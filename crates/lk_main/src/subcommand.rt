@@ -1,6 +1,6 @@
-//! Which subcommand is run, by its name.
+//! The subcommands and their names.
 
-/// What the program does.
+/// A subcommand of `locks`.
 #[derive(Clone, Copy)]
 pub enum Subcommand {
     Sim,
@@ -14,7 +14,7 @@ pub enum Subcommand {
     Status,
 }
 
-// All of them, by their names.
+// All subcommands, with the words that name them.
 const NAMED: [(&str, Subcommand); 9] = [
     ("sim", Subcommand::Sim),
     ("fuzz", Subcommand::Fuzz),
@@ -28,7 +28,7 @@ const NAMED: [(&str, Subcommand); 9] = [
 ];
 
 impl Subcommand {
-    /// The subcommand of that name.
+    /// Returns the subcommand of that name, if there is one.
     pub fn of(name: &str) -> Option<Subcommand> {
         for (known, subcommand) in NAMED {
             if known == name {

@@ -1,4 +1,4 @@
-//! The command line.
+//! Runs a command line: reads the arguments, opens what the subcommand needs, and runs that.
 
 ghost use Rattle.std.specs.Prelude.{◌≤◌};
 
@@ -39,7 +39,7 @@ use std::io::{BufRead, Write};
 use std::net::{IpAddr, Ipv4Addr, Ipv6Addr, Net, SocketAddr};
 use std::time::Clock;
 
-// The nodes of world mode.
+// The replicas of a world: of lock tables, with disks in memory.
 type Nodes = Replica<LockTable, MemoryDisk>;
 
 // Writes which argument of a subcommand is invalid, and why. Returns status 2.
@@ -51,7 +51,7 @@ fn write_argument_error<E: Write>(error: &ArgumentError<'_>, err: &mut E) -> u8
     2
 }
 
-// Which lines a node logs, if any.
+// Returns the level at which a node logs: debug with `--verbose`, info with `--log` alone, `None` without either.
 fn level_of(matches: &ArgMatches<'_>) -> Option<Level> {
     if matches.get_flag("verbose") {
         return Some(Level::Debug);
@@ -59,7 +59,7 @@ fn level_of(matches: &ArgMatches<'_>) -> Option<Level> {
     matches.get_flag("log").then_some(Level::Info)
 }
 
-// The named folder.
+// Returns the folder that the command line names.
 fn folder_in<'a>(matches: &ArgMatches<'a>) -> &'a str {
     matches.get_str("dir").unwrap_or("")
 }
@@ -83,7 +83,7 @@ fn run_plan<R: Files<File = File> + Net + Clock, L: Log, O: Observer, E: Write>(
     }
 }
 
-// The same, and logs its events if `--events` asks for that.
+// Runs a node as `run_plan` does, and logs its events at level info if `tells_events`.
 fn run_observed<R: Files<File = File> + Net + Eprint + Clock, L: Log, E: Write>(
     rt: &R,
     alloc: Global,
@@ -102,7 +102,7 @@ fn run_observed<R: Files<File = File> + Net + Eprint + Clock, L: Log, E: Write>(
     run_plan(rt, alloc, plan, log, &mut events, err)
 }
 
-// Runs a node.
+// Runs `locks node`.
 fn run_node_words<R: Files<File = File> + Net + Eprint + Clock, E: Write>(
     rt: &R,
     alloc: Global,
@@ -125,7 +125,8 @@ fn run_node_words<R: Files<File = File> + Net + Eprint + Clock, E: Write>(
     }
 }
 
-// The address of a client's socket: any of its machine, in the address family of the node that it asks.
+// Returns the address to bind a client's socket to: any of its machine in the family of `--address`, or 127.0.0.1
+// without that option.
 fn own_address(options: &NetworkOptions<'_>) -> IpAddr {
     match options.bind {
         None => IpAddr::V4(Ipv4Addr::LOCALHOST),
@@ -134,7 +135,7 @@ fn own_address(options: &NetworkOptions<'_>) -> IpAddr {
     }
 }
 
-// Asks as planned.
+// Reads the addresses and keys, opens a socket, and sends the request of the plan.
 fn run_ask<R: Files<File = File> + Net, W: Write, E: Write>(
     rt: &R,
     alloc: Global,
@@ -159,7 +160,7 @@ fn run_ask<R: Files<File = File> + Net, W: Write, E: Write>(
     }
 }
 
-// Sends one request to a node.
+// Runs `locks ask`.
 fn run_ask_words<R: Files<File = File> + Net, W: Write, E: Write>(
     rt: &R,
     alloc: Global,
@@ -178,7 +179,7 @@ fn run_ask_words<R: Files<File = File> + Net, W: Write, E: Write>(
     run_ask(rt, alloc, plan, out, err)
 }
 
-// Asks nodes for their status.
+// Runs `locks status`.
 fn run_status_words<R: Files<File = File> + Net, W: Write, E: Write>(
     rt: &R,
     alloc: Global,
@@ -213,7 +214,7 @@ fn run_status_words<R: Files<File = File> + Net, W: Write, E: Write>(
     }
 }
 
-// Prints the key of a client.
+// Runs `locks client-key`.
 fn run_client_key_words<R: Files<File = File>, W: Write, E: Write>(
     rt: &R,
     alloc: Global,
@@ -229,7 +230,7 @@ fn run_client_key_words<R: Files<File = File>, W: Write, E: Write>(
     }
 }
 
-// Runs a script.
+// Runs `locks sim`: a script from standard input.
 fn run_sim_words<R: BufRead, W: Write, E: Write>(
     alloc: Global,
     matches: &ArgMatches<'_>,
@@ -245,7 +246,7 @@ fn run_sim_words<R: BufRead, W: Write, E: Write>(
     run_to_end::<Nodes, R, W, E>(alloc, reader, out, err)
 }
 
-// Runs a random schedule.
+// Runs `locks fuzz`: a random schedule.
 fn run_fuzz_words<W: Write, E: Write>(
     alloc: Global,
     matches: &ArgMatches<'_>,
@@ -264,7 +265,7 @@ fn run_fuzz_words<W: Write, E: Write>(
     run_fuzz::<Nodes, W, E>(alloc, plan, out, err)
 }
 
-// Runs a subcommand, given its words.
+// Runs a subcommand with its arguments, and returns the exit status.
 fn run_subcommand<H: Files<File = File> + Net + Eprint + Clock, R: BufRead, W: Write, E: Write>(
     rt: &H,
     alloc: Global,
@@ -289,7 +290,7 @@ fn run_subcommand<H: Files<File = File> + Net + Eprint + Clock, R: BufRead, W: W
     }
 }
 
-// Runs the named subcommand.
+// Runs the subcommand that the command line names; status 2 if it names none.
 fn run_matches<H: Files<File = File> + Net + Eprint + Clock, R: BufRead, W: Write, E: Write>(
     rt: &H,
     alloc: Global,
@@ -309,7 +310,7 @@ fn run_matches<H: Files<File = File> + Net + Eprint + Clock, R: BufRead, W: Writ
     }
 }
 
-// Writes the requested help.
+// Writes the help that was asked for.
 fn write_help<W: Write>(help: &Error, out: &mut W) -> Result<(), ScriptFault> {
     write!(out, "{help}").map_err(|_| ScriptFault::Write)
 }

@@ -34,7 +34,7 @@ abbrev pub IsNextAbove : (ℕ → Bool) → ℕ → Option ℕ → Type 0
 IsNextAbove is low None = (k : ℕ) → low < k → is k ≡ false
 IsNextAbove is low (Some n) = IsLeastAbove is low n
 
--- the lesser of two numbers, or the one that there is
+-- the lesser of two numbers, the other one if either is none
 abbrev pub lesser_of : Option ℕ → Option ℕ → Option ℕ
 lesser_of None b = b
 lesser_of (Some x) None = Some x

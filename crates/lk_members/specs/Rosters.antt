@@ -15,6 +15,7 @@ pub record PlainRoster : Type 0 where
   pub members : List Member
   pub greatest : ℕ
 
+-- the greatest node number, 0 if there is no member
 abbrev pub greatest_node : List Member → ℕ
 greatest_node [] = 0
 greatest_node (m ∷ ms) = max m.node (greatest_node ms)
@@ -34,12 +35,14 @@ abbrev pub is_nobody : List Member → Bool
 is_nobody [] = true
 is_nobody (m ∷ ms) = false
 
+-- numbers are never used again, and there are at most 7 members
 abbrev pub join_answer : PlainRoster → ℕ → Answer
 join_answer r node =
     if nat_le node r.greatest then Used
     else if nat_le 7 (length r.members) then Full
     else Joined
 
+-- the last member cannot leave
 abbrev pub leave_answer : PlainRoster → ℕ → Answer
 leave_answer r node =
     if not (is_member node r.members) then NotMember
@@ -86,11 +89,12 @@ roster_of genesis L = fold (λ r q. next_roster r q.op) (first_roster genesis) (
 unfoldable pub members : Genesis → List Command → ℕ → List Member
 members genesis L i = (roster_of genesis (take (i - genesis.alpha) L)).members
 
--- the entry takes effect after the entries before it, and its change of the members is granted
+-- the request, if there is one, is a join or a leave that this roster grants
 abbrev pub is_granted_change : PlainRoster → Option RequestValue → Bool
 is_granted_change r None = false
 is_granted_change r (Some q) = is_granted (roster_answer r q.op)
 
+-- the entry takes effect after the entries before it, and its join or leave is granted
 abbrev pub is_change : Genesis → Placed → Bool
 is_change genesis p = is_granted_change (roster_of genesis p.before) (in_effect p.before p.entry)
 

@@ -1,4 +1,4 @@
--- What a roster knows of an executed list: the members of the next positions.
+-- The roster after an executed list: the members of the next positions.
 use Rattle.std.specs.Prelude.{◌≡◌, ℕ, zero, suc, ◌+◌, ◌≤◌, if◌then◌else◌, List, [], ◌∷◌, ◌++◌, length, drop, IsTrue}
 use Rattle.lk_types.specs.Ranges.{IsTotal, IsNode}
 use Rattle.lk_members.specs.Effects.{Command}
@@ -14,7 +14,7 @@ pub record RosterValue : Type 0 where
   pub greatest : ℕ
   pub changed : ℕ
 
--- the sets of this many positions from i on
+-- the sets of members of this many positions, from position i on
 abbrev pub sets_from : Genesis → List Command → ℕ → ℕ → List (List Member)
 sets_from genesis L i zero = []
 sets_from genesis L i (suc n) = members genesis L i ∷ sets_from genesis L (i + 1) n
@@ -29,14 +29,14 @@ roster_after genesis L =
       changed = last_change genesis L;
     }
 
--- the roster stands for this list
+-- the roster is the one after this list
 abbrev pub RosterSumsUp : Genesis → List Command → RosterValue → Type 0
 RosterSumsUp genesis L roster = roster ≡ roster_after genesis L
 
 abbrev pub newest_roster : RosterValue → PlainRoster
 newest_roster v = record { members = newest v.sets; greatest = v.greatest }
 
--- one position further: the nearest set goes, and this roster's comes
+-- one position further: the nearest set is dropped, and the members of `r` are appended as the farthest
 abbrev pub moved : PlainRoster → ℕ → RosterValue → RosterValue
 moved r changed v = record {
   executed = v.executed + 1;

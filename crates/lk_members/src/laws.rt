@@ -1,16 +1,16 @@
-//! Laws about the definitions alone.
+//! Laws (theorems) about the definitions: each is an empty function, whose contract is the theorem.
 ghost use Rattle.std.specs.Prelude.{◌≡◌, ℕ, ◌+◌, ◌≤◌, ◌∷◌, ◌++◌, Some, List, length, Contains};
 ghost use Rattle.lk_members.specs.Effects.{Command, RequestValue, Placed, placed, in_effect};
 ghost use Rattle.lk_members.specs.Rosters.{Genesis, Member, members};
 ghost use Rattle.lk_members.specs.Majorities.{IsMajority};
 
-/// What precedes a placed entry is a prefix of the list, and the entry comes next.
+/// The list begins with the commands before a placed entry, followed by that entry.
 pub fn placed_entries_stand()
     ensures { (L : List Command) (p : Placed) → Contains (placed L) p
         → (rest : List Command) × (L ≡ p.before ++ (p.entry ∷ rest)) }
 {}
 
-/// At most one entry of a list takes effect for a client's number.
+/// At most one entry of a list takes effect for a client and a number.
 pub fn numbers_take_effect_once()
     ensures { (L : List Command) (p q : Placed) (r s : RequestValue) → Contains (placed L) p → Contains (placed L) q
         → in_effect p.before p.entry ≡ Some r → in_effect q.before q.entry ≡ Some s → r.client ≡ s.client
@@ -23,7 +23,7 @@ pub fn majorities_meet()
         → (n : ℕ) × Contains W n × Contains V n }
 {}
 
-/// Each longer list names the same members for the positions up to alpha after the end of a list.
+/// Commands after the end of a list do not change the members of positions up to alpha after that end.
 pub fn members_stay()
     ensures { (genesis : Genesis) (L rest : List Command) (i : ℕ) → i ≤ length L + genesis.alpha
         → members genesis (L ++ rest) i ≡ members genesis L i }

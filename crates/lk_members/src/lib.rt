@@ -1,4 +1,5 @@
-//! The members of the next positions, after the joins and leaves of the list of commands.
+//! The members of each of the next positions, after the joins and leaves of the list of commands, and the majorities of
+//! a set of members.
 #![tactic(auto)]
 
 pub mod laws;

@@ -7,7 +7,7 @@ use crate::nodes::is_among;
 use crate::set::is_member;
 use lk_types::{Member, Members, NodeNo};
 
-// How many of the members are among the nodes.
+// Returns how many of the members are among the nodes. A node that is listed twice counts once.
 fn count_among(members: &[Member], nodes: &[NodeNo]) -> usize
     ensures count { result ≡ count_by (λ m. list_any (λ n. n == m.node) nodes.now) members.now }
     ensures bound { result ≤ length members.now }

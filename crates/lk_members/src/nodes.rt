@@ -6,7 +6,7 @@ ghost use Rattle.lk_members.specs.Nodes.{nodes_of};
 use lk_types::{Members, NoMemory, NodeNo};
 use std::alloc::Global;
 
-/// The nodes of a set, in rising order.
+/// Returns the nodes of a set, in rising order. Takes memory.
 pub fn nodes_of(alloc: Global, set: &Members) -> Result<Vec<NodeNo>, NoMemory>
     ensures { IfOk result (λ ns. ns.items ≡ nodes_of set.now) }
 {

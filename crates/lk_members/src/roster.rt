@@ -46,7 +46,7 @@ impl Roster {
     ghost use Rattle.lk_members.specs.Windows.{changed_by};
     ghost use Rattle.lk_members.specs.Ports.{is_named, port_of, number_or_zero, IsNextAbove};
 
-    /// The roster of these parts, or `None` if there is no set or the greatest number is below one of their nodes.
+    /// Returns the roster of these parts, or `None` if the window has no set or names a node above `greatest`.
     pub fn of(
         executed: Executed,
         window: Window,
@@ -69,7 +69,7 @@ impl Roster {
         })
     }
 
-    /// Each part is in its range. The function does nothing.
+    /// Brings into a proof that each part is in its range. Does nothing at run time.
     pub fn facts(&self)
         ensures { IsRoster self.now }
     {
@@ -100,14 +100,14 @@ impl Roster {
         self.executed
     }
 
-    /// The position of the last granted change, or 0.
+    /// The position of the last granted join or leave, 0 if there was none.
     pub fn changed(&self) -> Executed
         ensures { result ≡ self.now.changed }
     {
         self.changed
     }
 
-    /// The greatest number that was ever a member's.
+    /// The greatest number that was ever a member's. A join needs a greater one, so no number is used again.
     pub fn greatest(&self) -> NodeNo
         ensures { result ≡ self.now.greatest }
     {
@@ -121,7 +121,7 @@ impl Roster {
         &self.window
     }
 
-    /// The present members, which decide the last of the next alpha positions.
+    /// The members after all changes so far, which decide the last of the next alpha positions.
     pub fn newest(&self) -> &Members
         ensures value { result.now ≡ newest self.now.sets }
         ensures fits { AreMembers result.now }
@@ -132,7 +132,7 @@ impl Roster {
         set
     }
 
-    /// The members that decide the position, if it is among the next alpha ones.
+    /// Returns the members that decide the position, or `None` if it is not among the next alpha ones.
     pub fn members_at(&self, position: Position) -> Option<&Members>
         ensures some { IsSome result
             ↔ ((self.now.executed < position) × (position ≤ self.now.executed + length self.now.sets)) }
@@ -169,7 +169,7 @@ impl Roster {
         self.window.port_of(node)
     }
 
-    /// The number of that port, or 0 if no set of the window names the node.
+    /// Returns the port of the node as a number, 0 if no set of the window names it.
     pub fn port_number_of(&self, node: NodeNo) -> u16
         ensures { result ≡ number_or_zero (port_of node self.now.sets) }
     {
@@ -204,7 +204,7 @@ impl Roster {
         self.advance(set, greatest, changed);
     }
 
-    // Advances by one position, with this set, this greatest number and this last change.
+    // Advances by one position: drops the nearest set, appends this one, and replaces the other two parts.
     fn advance(&mut self, set: Members, greatest: NodeNo, changed: Executed)
         requires room { self.old.executed < max_count }
         requires bound { IsTrue (list_all (λ m. nat_le m.node greatest) set) }
@@ -220,7 +220,7 @@ impl Roster {
         self.changed = changed;
     }
 
-    // The position that is executed next.
+    // Returns the number of the next position to execute.
     fn next(&self) -> Executed
         requires { self.now.executed < max_count }
         ensures { result ≡ self.now.executed + 1 }
@@ -228,7 +228,7 @@ impl Roster {
         Executed::of(self.executed.get() + 1).unwrap()
     }
 
-    // Advances by one position with a join.
+    // Executes a join and returns its answer. Advances by one position even if the join is refused.
     fn join(&mut self, node: NodeNo, port: Port) -> Answer
         requires { self.old.executed < max_count }
         ensures answer { result ≡ join_answer (newest_roster self.old) node }
@@ -248,7 +248,7 @@ impl Roster {
         Answer::Joined
     }
 
-    // Advances by one position with a leave.
+    // Executes a leave and returns its answer. Advances by one position even if the leave is refused.
     fn leave(&mut self, node: NodeNo) -> Answer
         requires { self.old.executed < max_count }
         ensures answer { result ≡ leave_answer (newest_roster self.old) node }
@@ -268,7 +268,7 @@ impl Roster {
         Answer::Left
     }
 
-    /// Advances by one position with a join or a leave, and returns its answer.
+    /// Executes a join or a leave and returns its answer. Advances by one position even if it is refused.
     pub fn change(&mut self, op: &Op) -> Answer
         requires room { self.old.executed < max_count }
         requires change { IsChange op.now }
@@ -288,7 +288,7 @@ impl Roster {
     }
 }
 
-// The genesis' set for each of the first alpha positions.
+// Returns the first window: the members of the genesis for each of the first alpha positions.
 fn first_window(genesis: &Genesis) -> Window
     ensures { result ≡ sets_from genesis.now [] 1 genesis.now.alpha }
 {
@@ -299,7 +299,7 @@ fn first_window(genesis: &Genesis) -> Window
     window
 }
 
-// The greatest number of the members, which is the last's.
+// Returns the greatest node of a set, which is the last one's, as members rise by node.
 fn greatest_of(set: &Members) -> NodeNo
     ensures { result ≡ greatest_node set.now }
 {

@@ -9,7 +9,7 @@ use arrayvec::ArrayVec;
 use lk_types::limits::MAX_MEMBERS;
 use lk_types::{Member, Members, NodeNo, Port};
 
-/// Each part of the set is in its range. The function does nothing.
+/// Brings into a proof that each part of the set is in its range. Does nothing at run time.
 pub fn facts_of(set: &Members)
     ensures { IsSet set.now }
 {
@@ -26,7 +26,7 @@ pub fn is_member(set: &Members, node: NodeNo) -> bool
     set.as_slice().iter().any(|m| m.node == node)
 }
 
-/// The port that the set gives the node.
+/// Returns the port that the set gives the node, or `None` if it is not a member.
 pub fn port_in(set: &Members, node: NodeNo) -> Option<Port>
     ensures { result ≡ port_of node set.now }
 {
@@ -38,7 +38,7 @@ pub fn port_in(set: &Members, node: NodeNo) -> Option<Port>
     None
 }
 
-/// The lesser of two nodes, or the one that there is.
+/// Returns the lesser of two nodes, the other one if either is `None`, and `None` if both are.
 pub fn lesser(a: Option<NodeNo>, b: Option<NodeNo>) -> Option<NodeNo>
     ensures { result ≡ lesser_of a b }
 {
@@ -54,7 +54,7 @@ pub fn lesser(a: Option<NodeNo>, b: Option<NodeNo>) -> Option<NodeNo>
     b
 }
 
-// The node, if it is above this number.
+// Returns the node if its number is above `low`, or `None`.
 fn if_above(low: u32, node: NodeNo) -> Option<NodeNo>
     ensures { IsNextAbove (λ k. node == k) low result }
 {
@@ -64,7 +64,7 @@ fn if_above(low: u32, node: NodeNo) -> Option<NodeNo>
     Some(node)
 }
 
-/// The least node of the set above this number.
+/// Returns the least node of the set above `low`, or `None` if there is none.
 pub fn next_above(set: &Members, low: u32) -> Option<NodeNo>
     ensures { IsNextAbove (λ k. is_one k set.now) low result }
 {
@@ -75,7 +75,7 @@ pub fn next_above(set: &Members, low: u32) -> Option<NodeNo>
     next
 }
 
-/// The set with one more member.
+/// Returns the set with one more member, whose node has to be above all of its nodes.
 pub fn with_member(set: &Members, member: Member) -> Members
     requires room { length set.now < max_members }
     requires rises { IsTrue (members_rise 0 (set.now ++ member ∷ [])) }
@@ -86,7 +86,7 @@ pub fn with_member(set: &Members, member: Member) -> Members
     Members::of(list.as_slice()).unwrap()
 }
 
-/// The set without this node, or `None` if nobody is left.
+/// Returns the set without this node, or `None` if nobody is left. A node that is not a member changes nothing.
 pub fn without(set: &Members, node: NodeNo) -> Option<Members>
     ensures some { IsSome result ↔ (is_nobody (others node set.now) ≡ false) }
     ensures value { IfSome result (λ s. s ≡ others node set.now) }

@@ -10,7 +10,7 @@ use arrayvec::ArrayVec;
 use lk_types::{Member, Members, NodeNo, Port};
 use std::marker::Model;
 
-/// The set of one position.
+/// The set of members of one position.
 #[derive(Drop)]
 pub struct WindowSet {
     set: Members,
@@ -61,7 +61,7 @@ impl WindowSet {
     }
 }
 
-/// The sets of the next positions, the nearest first: at most 16. No call takes memory.
+/// The sets of members of the next positions, the nearest first: at most 16. No call takes memory.
 #[derive(Drop)]
 pub struct Window {
     places: ArrayVec<WindowSet, 16>,
@@ -80,7 +80,7 @@ impl Model for Window {
 }
 
 impl Window {
-    /// No set.
+    /// Returns a window without sets.
     pub fn new() -> Window
         ensures { result ≡ [] }
     {
@@ -129,7 +129,7 @@ impl Window {
         self.places.as_slice().iter().any(|place| place.names(node))
     }
 
-    /// The port of the node in the nearest set that names it.
+    /// Returns the port of the node in the nearest set that names it, or `None` if none does.
     pub fn port_of(&self, node: NodeNo) -> Option<Port>
         ensures { result ≡ port_of node self.now }
     {
@@ -142,7 +142,7 @@ impl Window {
         None
     }
 
-    /// The least node above this number that some set names.
+    /// Returns the least node above `low` that some set names, or `None` if there is none.
     pub fn named_above(&self, low: u32) -> Option<NodeNo>
         ensures { IsNextAbove (λ k. is_named k self.now) low result }
     {
@@ -153,7 +153,7 @@ impl Window {
         next
     }
 
-    /// The same sets.
+    /// Returns a copy.
     pub fn copy(&self) -> Window
         ensures { result ≡ self.now }
     {
@@ -165,7 +165,7 @@ impl Window {
         window
     }
 
-    /// Appends the set of the position after the last.
+    /// Appends the set of one more position, after the last.
     pub fn push(&mut self, set: Members)
         requires { length self.old < 16 }
         ensures { self.new ≡ self.old ++ set ∷ [] }
@@ -174,7 +174,7 @@ impl Window {
         self.places.push(WindowSet { set });
     }
 
-    /// The set at this index, the nearest at 0.
+    /// Returns the set at this index, the nearest at 0, or `None` if the window is shorter.
     pub fn get(&self, index: usize) -> Option<&Members>
         ensures some { IsSome result ↔ (index < length self.now) }
         ensures value { IfSome result (λ set. slice_get self.now index ≡ Some set.now) }
@@ -183,7 +183,7 @@ impl Window {
         Some(&place.set)
     }
 
-    /// The set of the last position.
+    /// Returns the set of the last position, the one farthest ahead.
     pub fn newest(&self) -> &Members
         requires { 0 < length self.now }
         ensures { result.now ≡ newest self.now }

@@ -9,6 +9,6 @@ datagram t = (t.place, t.bytes.items)
 abbrev pub sent_in : List MemoryDatagram → List (SocketAddr × List ℕ)
 sent_in ts = map datagram ts
 
--- each of them; only the first bytes of one that is too long
+-- each datagram with its source, and at most its first 8,229 bytes
 abbrev pub coming_in : List MemoryDatagram → List (SocketAddr × List ℕ)
 coming_in ts = map (λ (t : MemoryDatagram). (t.place, take 8229 t.bytes.items)) ts

@@ -29,7 +29,7 @@ pub struct MemorySocket {
     failures: u64,
 }
 
-// How many of these bytes a receive returns.
+// Returns how many bytes of a datagram of this length are received: at most 8,229, the longest frame and one more.
 fn cut_length(length: usize) -> usize
     ensures { result ≡ min length 8229 }
 {
@@ -51,7 +51,7 @@ impl MemorySocket {
         }
     }
 
-    /// Adds a datagram to receive. Bytes beyond 8,229 are cut off.
+    /// Appends a datagram to those that will arrive. A receive returns its first 8,229 bytes only.
     pub fn add_incoming(&mut self, from: SocketAddr, bytes: &[u8]) -> Result<(), NoMemory>
         ensures ok { OnOk result
             (coming_in self.new.coming.items ≡ coming_in self.old.coming.items ++ (from, take 8229 bytes.now) ∷ []) }
@@ -75,7 +75,7 @@ impl MemorySocket {
         mem::replace(&mut self.sent, Vec::new(self.alloc))
     }
 
-    // Keeps what is sent, unless it is out of memory.
+    // Records a sent datagram; out of memory it records nothing.
     fn keep_sent(&mut self, to: SocketAddr, bytes: &[u8]) -> Result<(), NoMemory>
         ensures ok { OnOk result (sent_in self.new.sent.items ≡ sent_in self.old.sent.items ++ (to, bytes.now) ∷ []) }
         ensures err { OnErr result (sent_in self.new.sent.items ≡ sent_in self.old.sent.items) }
@@ -112,6 +112,7 @@ impl DatagramSocket for MemorySocket {
         }
     }
 
+    // Does nothing: a receive never waits.
     fn set_timeout(&mut self, _time: Duration) {}
 
     fn receive(&mut self, buffer: &mut [u8]) -> Option<(usize, SocketAddr)> {
@@ -124,6 +125,7 @@ impl DatagramSocket for MemorySocket {
         Some((length, place))
     }
 
+    // The same as `receive`, which never waits.
     fn receive_waiting(&mut self, buffer: &mut [u8]) -> Option<(usize, SocketAddr)> {
         self.receive(buffer)
     }

@@ -47,7 +47,7 @@ pub record WantValue : Type 0 where
 abbrev pub IsWant : WantValue → Type 0
 IsWant w = IsCount w.first × (w.offset ≤ max_base)
 
--- this many bytes of a snapshot at a position, of which it has total
+-- a piece of the snapshot at a position, which has `total` bytes: those from the offset on
 pub record PartValue : Type 0 where
   pub position : ℕ
   pub total : ℕ

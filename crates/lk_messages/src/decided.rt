@@ -7,7 +7,7 @@ use lk_types::limits::{MAX_COMMANDS, MAX_COUNT};
 use lk_types::{Command, Position};
 use std::marker::Model;
 
-/// The decided commands of `first` and of the positions after it.
+/// Decided commands: of the position `first`, and of those that follow it.
 #[derive(Debug, Drop)]
 pub struct Decided {
     first: Position,
@@ -24,7 +24,7 @@ impl Model for Decided {
     ghost invariant = { λ d. IsDecided (record { first = d.first; commands = d.commands.items }) };
 }
 
-// Each command is in its range. The function does nothing.
+// Proves that each command is in its range, for the caller's contract. Has no effect.
 fn commands_facts(commands: &[Command])
     ensures { AllByRecursion IsCommand commands.now }
 {
@@ -34,7 +34,7 @@ fn commands_facts(commands: &[Command])
 }
 
 impl Decided {
-    /// Whether this is a count of 1 to 16 commands, the last for a position of at most 2^48.
+    /// Returns whether one Decided may have this many commands: 1 to 16, the last at a position of at most 2^48.
     pub fn is_run(first: Position, count: usize) -> bool
         ensures { result ≡ is_run first count }
     {
@@ -62,7 +62,8 @@ impl Decided {
         (self.first, &self.commands)
     }
 
-    /// Each part is in its range, and no command is past the last position. The function does nothing.
+    /// Proves that each part is in its range and no command past the last position, for the caller's contract. Has no
+    /// effect.
     pub fn facts(&self)
         ensures { IsDecided self.now }
     {

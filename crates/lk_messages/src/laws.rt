@@ -1,4 +1,4 @@
-//! Laws of the grammar alone.
+//! Laws of the grammar of datagrams: each is the contract of a function that does nothing.
 
 ghost use Rattle.std.specs.Prelude.{◌≡◌, ◌≤◌, ◌++◌, List, ℕ, [], length};
 ghost use Rattle.lk_types.specs.Commands.{IsRequest, IsCommand};
@@ -17,7 +17,7 @@ pub fn one_spelling()
     ensures some { (m : Message) → IsMessage m → Spells m (spelling m) }
 {}
 
-/// A spelling has one message.
+/// Bytes spell at most one message.
 pub fn one_message()
     ensures { (m n : Message) (bytes : List ℕ) → Spells m bytes → Spells n bytes → m ≡ n }
 {}
@@ -28,7 +28,7 @@ pub fn prefix_free()
         → (m ≡ n) × (rest ≡ []) }
 {}
 
-/// The most bytes of a spelling. A datagram of that length is a Promise with thirty-two votes.
+/// Upper bounds of spellings, in bytes. That of a datagram is the length of a Promise with 32 of the longest votes.
 pub fn lengths()
     ensures of_request { (r : Request) → IsRequest r → length (request r) ≤ 76 }
     ensures of_command { (c : Command) → IsCommand c → length (command c) ≤ 77 }

@@ -59,13 +59,13 @@ impl Want {
         self.offset
     }
 
-    /// Each part is in its range. The function does nothing.
+    /// Proves that each part is in its range, for the caller's contract. Has no effect.
     pub fn facts(self)
         ensures { IsWant self }
     {}
 }
 
-/// What a node tells a client whose number is below its last one: the request is never answered.
+/// The reply to a request whose number is below its client's last one: it will never be answered.
 #[derive(Clone, Copy, Debug)]
 pub struct Passed {
     client: ClientNo,
@@ -109,7 +109,7 @@ impl Passed {
         self.client
     }
 
-    /// The number that was asked.
+    /// The number of the rejected request.
     pub fn number(self) -> RequestNumber
         ensures { result ≡ self.number }
     {
@@ -123,7 +123,8 @@ impl Passed {
         self.last
     }
 
-    /// Each part is in its range, and the last number is above the other. The function does nothing.
+    /// Proves that each part is in its range and the last number above the other, for the caller's contract. Has no
+    /// effect.
     pub fn facts(self)
         ensures { IsPassed self }
     {}
@@ -145,7 +146,7 @@ pub struct Answered {
     pub answer: Answer,
 }
 
-/// Where a client should ask instead.
+/// The reply of a node that does not lead: the member that the client should ask instead.
 #[derive(Clone, Copy, Debug)]
 pub struct Elsewhere {
     pub client: ClientNo,
@@ -177,13 +178,13 @@ pub enum NodeMessage {
 /// The content of a datagram, and its sender.
 #[derive(Debug, Drop)]
 pub enum Content {
-    /// A client asks. No node is its sender.
+    /// A client's request, which names no node as its sender.
     Request(Request),
-    /// That node says this.
+    /// A message of that node.
     Node(NodeNo, NodeMessage),
 }
 
-/// A datagram of a cluster.
+/// A whole datagram: the number of its cluster, and its content.
 #[derive(Debug, Drop)]
 pub struct Message {
     pub cluster: u64,
@@ -193,7 +194,7 @@ pub struct Message {
 impl NodeMessage {
     ghost use Rattle.lk_messages.specs.Grammar.{IsNodeMessage};
 
-    /// Each part is in its range. The function does nothing.
+    /// Proves that each part is in its range, for the caller's contract. Has no effect.
     pub fn facts(&self)
         ensures { IsNodeMessage self.now }
     {
@@ -228,7 +229,7 @@ impl NodeMessage {
 impl Content {
     ghost use Rattle.lk_messages.specs.Grammar.{IsContent};
 
-    /// Each part is in its range. The function does nothing.
+    /// Proves that each part is in its range, for the caller's contract. Has no effect.
     pub fn facts(&self)
         ensures { IsContent self.now }
     {
@@ -245,7 +246,7 @@ impl Content {
 impl Message {
     ghost use Rattle.lk_messages.specs.Grammar.{IsMessage};
 
-    /// Each part is in its range. The function does nothing.
+    /// Proves that each part is in its range, for the caller's contract. Has no effect.
     pub fn facts(&self)
         ensures { IsMessage self.now }
     {

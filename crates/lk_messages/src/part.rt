@@ -72,7 +72,7 @@ impl Part {
         (self.position, self.total, self.offset, &self.bytes)
     }
 
-    /// Each part is in its range, and the piece within its total. The function does nothing.
+    /// Proves that each part is in its range and the piece within its total, for the caller's contract. Has no effect.
     pub fn facts(&self)
         ensures { IsPart self.now }
     {
@@ -80,7 +80,7 @@ impl Part {
     }
 }
 
-// The length of some bytes and then the bytes.
+// Reads a two-byte length and that many bytes, and returns them with the bytes after them.
 fn read_slice(bytes: &[u8]) -> Option<(&[u8], &[u8])>
     ensures { Finds (λ x. (x.0.now, x.1.now)) result (sized read_two bytes.now) }
 {
@@ -113,7 +113,7 @@ impl<'a> Model for PartRef<'a> {
 }
 
 impl<'a> PartRef<'a> {
-    /// The Part at the front of some bytes, and what stands after it.
+    /// Reads the Part at the start of the bytes in place, and returns it with the bytes after it.
     #[tactic(auto, unfolding(crate::specs::Reading::read_part))]
     pub fn of(bytes: &'a [u8]) -> Option<(PartRef<'a>, &'a [u8])>
         ensures { Finds (λ x. (x.0, x.1.now)) result (read_part bytes.now) }
@@ -164,14 +164,14 @@ impl<'a> PartRef<'a> {
         self.bytes
     }
 
-    /// Each part is in its range, and the piece within its total. The function does nothing.
+    /// Proves that each part is in its range and the piece within its total, for the caller's contract. Has no effect.
     pub fn facts(&self)
         ensures { IsPart self.now }
     {
         let _ = self.position.get();
     }
 
-    /// The same Part, owning its bytes.
+    /// Copies the Part, with its bytes, into memory of its own.
     pub fn copy(&self, alloc: Global) -> Result<Part, NoMemory>
         ensures { IfOk result (λ p. p ≡ self.now) }
     {

@@ -32,7 +32,7 @@ impl Model for Promise {
     ghost invariant = { λ p. IsPromise (record { ballot = p.ballot; first = p.first; votes = p.votes.items }) };
 }
 
-// Each vote is in its range. The function does nothing.
+// Proves that each vote is in its range, for the caller's contract. Has no effect.
 fn votes_facts(votes: &[Vote])
     ensures { AllByRecursion IsVote votes.now }
 {
@@ -87,7 +87,8 @@ impl Promise {
         (self.ballot, self.first, &self.votes)
     }
 
-    /// Each part is in its range, and the votes rise from `first` on. The function does nothing.
+    /// Proves that each part is in its range and the votes rise from `first` on, for the caller's contract. Has no
+    /// effect.
     pub fn facts(&self)
         ensures { IsPromise self.now }
     {
@@ -115,7 +116,8 @@ impl<'a> Model for Votes<'a> {
     ghost invariant = { λ v. AreVotes v.count v.bytes.now };
 }
 
-// Whether this many votes rise strictly by position, the first above `low`, and what follows them.
+// Skips this many votes. Returns whether they rise strictly by position, the first above `low`, and the bytes after
+// them.
 fn end_of(count: u8, low: u64, bytes: &[u8]) -> Option<(bool, &[u8])>
     ensures { Finds (λ x. (x.0, x.1.now)) result (made (are_votes_above low) (many read_vote count) bytes.now) }
 {
@@ -135,7 +137,8 @@ fn end_of(count: u8, low: u64, bytes: &[u8]) -> Option<(bool, &[u8])>
 }
 
 impl<'a> Votes<'a> {
-    // This many votes, whether they rise strictly by position, the first above `low`, and what follows them.
+    // Reads this many votes in place. Returns them, whether they rise strictly by position, the first above `low`, and
+    // the bytes after them.
     fn of(count: u8, low: u64, bytes: &'a [u8]) -> Option<(Votes<'a>, bool, &'a [u8])>
         ensures found { Finds (λ x. (x.0, x.2.now)) result (many read_vote count bytes.now) }
         ensures rising { IfSome result (λ x. x.1 ≡ are_votes_above low x.0) }
@@ -146,7 +149,7 @@ impl<'a> Votes<'a> {
         Some((Votes { count, bytes }, rising, rest))
     }
 
-    /// All of them, in order, as a list that owns them.
+    /// Copies all of them, in order, into a list.
     pub fn to_vec(&self, alloc: Global) -> Result<Vec<Vote>, NoMemory>
         ensures { IfOk result (λ vs. vs.items ≡ self.now) }
     {
@@ -184,7 +187,7 @@ impl<'a> Model for PromiseRef<'a> {
 }
 
 impl<'a> PromiseRef<'a> {
-    /// The Promise at the front of some bytes, and what stands after it.
+    /// Reads the Promise at the start of the bytes in place, and returns it with the bytes after it.
     #[tactic(auto, unfolding(crate::specs::Reading::read_promise, crate::specs::Reading::read_votes))]
     pub fn of(bytes: &'a [u8]) -> Option<(PromiseRef<'a>, &'a [u8])>
         ensures { Finds (λ x. (x.0, x.1.now)) result (read_promise bytes.now) }
@@ -228,7 +231,7 @@ impl<'a> PromiseRef<'a> {
         &self.votes
     }
 
-    /// The same Promise, owning its votes.
+    /// Copies the Promise, with its votes, into memory of its own.
     pub fn copy(&self, alloc: Global) -> Result<Promise, NoMemory>
         ensures { IfOk result (λ p. p ≡ self.now) }
     {

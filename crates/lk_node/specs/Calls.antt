@@ -1,4 +1,4 @@
--- What a replica promises of a call, for every history that its node fits.
+-- The contract of a replica's call, for every history that its node fits.
 use Rattle.std.specs.Prelude.{◌≡◌, ℕ, List, take, Contains, Option, Some, None}
 use Rattle.lk_messages.specs.Grammar.{Spells}
 use Rattle.lk_messages.specs.declared.message.NodeMessage.{NodeMessage}

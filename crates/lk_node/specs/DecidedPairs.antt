@@ -1,4 +1,4 @@
--- How a node handles decided pairs.
+-- How a node takes the commands of a Decided, one after another.
 use Rattle.std.specs.Prelude.{◌≡◌, ℕ, ◌+◌, Some, List, ◌∷◌, slice_get}
 use Rattle.lk_state.specs.Meanings.{Meaning}
 use Rattle.lk_agreement.specs.Chosen.{ChosenAt}

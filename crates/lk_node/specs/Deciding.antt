@@ -1,4 +1,4 @@
--- How a node handles a vote.
+-- How a node counts a vote, and what follows if that decides a position.
 use Rattle.std.specs.Prelude.{◌≡◌, ◌⊎◌, ℕ, Option, Some, None, List, map}
 use Rattle.lk_types.specs.declared.member.Member.{Member}
 use Rattle.lk_types.specs.declared.vote.Vote.{Vote}

@@ -1,4 +1,4 @@
--- Entries of a live file that fit what happened, and what each further one rests on.
+-- When the entries of a live file fit a history, and what each further entry presupposes.
 use Rattle.std.specs.Prelude.{◌≡◌, ℕ, List, length}
 use Rattle.lk_types.specs.declared.entry.Entry.{Entry}
 use Rattle.lk_types.specs.declared.entry.Entry.TheVariants.{Promise, Vote, Decided}

@@ -1,4 +1,4 @@
--- What has happened, as far as safety is concerned.
+-- A history: the genesis, all datagrams sent and all requests asked, and when it is lawful.
 pub use Rattle.lk_types.specs.declared.genesis.Genesis.{Genesis}
 pub use Rattle.lk_types.specs.declared.command.Request.{Request as RequestValue}
 pub use Rattle.lk_types.specs.declared.command.Command.{Command}

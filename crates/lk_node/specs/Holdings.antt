@@ -1,4 +1,4 @@
--- What a node that is up holds.
+-- What a running node holds, and when that fits a history.
 use Rattle.std.specs.Prelude.{◌≡◌, ℕ, List, Contains, Option, Some}
 use Rattle.lk_state.specs.Meanings.{Meaning}
 use Rattle.lk_agreement.specs.Nodes.{Term, View, ViewFits}

@@ -1,4 +1,4 @@
--- What ties what a replica holds in memory to its store.
+-- The invariant between what a replica holds in memory and its store.
 use Rattle.std.specs.Prelude.{◌≡◌, ◌⊎◌, ℕ, ◌≤◌, List, length, Some, Contains}
 use Rattle.std.specs.List.{AllByRecursion}
 use Rattle.lk_types.specs.declared.entry.Entry.{Entry}

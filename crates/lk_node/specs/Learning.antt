@@ -1,4 +1,4 @@
--- What a node learns of the list.
+-- How a node keeps and writes a decided command.
 use Rattle.std.specs.Prelude.{◌≡◌, ◌⊎◌}
 use Rattle.lk_types.specs.declared.entry.Entry.TheVariants.{Decided}
 use Rattle.lk_learner.specs.Learners.{Pair, LearnerValue, IsWanted, keeping}

@@ -1,4 +1,4 @@
--- What a stop may leave of a node.
+-- What a stop may leave on a node's disks, and when that fits a history.
 use Rattle.std.specs.Prelude.{◌≡◌, ℕ, List, [], length, None}
 use Rattle.lk_state.specs.Meanings.{Meaning}
 use Rattle.lk_disk.specs.Disk.{Disk}

@@ -1,4 +1,4 @@
--- An acceptor and a learner of one node.
+-- The invariant between a node's acceptor and its learner.
 use Rattle.std.specs.Prelude.{◌≡◌, ◌≤◌, ◌+◌, ◌*◌, Contains}
 use Rattle.lk_agreement.specs.Datagrams.{Vote}
 use Rattle.lk_acceptor.specs.AcceptorValue.{AcceptorValue}

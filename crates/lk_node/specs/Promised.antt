@@ -1,4 +1,4 @@
--- A node leads in ballots that it has promised.
+-- The invariant between a node's acceptor and its leader: it leads only in ballots that it has promised.
 use Rattle.std.specs.Prelude.{◌≡◌, Some}
 use Rattle.lk_types.specs.Ballots.{IsAtMost}
 use Rattle.lk_acceptor.specs.AcceptorValue.{AcceptorValue}

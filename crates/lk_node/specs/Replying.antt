@@ -1,4 +1,4 @@
--- The result of a message that gets one message in reply, or none.
+-- The outbox of a step that sends a single message.
 use Rattle.std.specs.Prelude.{◌≡◌}
 use Rattle.lk_messages.specs.Grammar.{spelling, IsMessage}
 use Rattle.lk_messages.specs.declared.message.NodeMessage.{NodeMessage}

@@ -1,4 +1,4 @@
--- To whom a node sends a message.
+-- The address of another node: its number, and its port in the window.
 use Rattle.std.specs.Prelude.{ℕ}
 use Rattle.lk_node_io.specs.declared.to.To.{To}
 use Rattle.lk_node_io.specs.Recipients as recipients

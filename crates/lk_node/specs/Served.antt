@@ -1,4 +1,4 @@
--- What a node's notes and the datagrams to clients rest on: a chosen list that bears them out.
+-- When a chosen list justifies a node's notes, and its messages to clients.
 use Rattle.lk_node_io.specs.declared.note.Note.{Note}
 use Rattle.lk_node_io.specs.declared.note.Note.TheVariants as note
 pub use Rattle.lk_node.specs.Histories.{text}

@@ -1,4 +1,4 @@
--- What a part of a step does, as far as safety is concerned.
+-- When a part of a step is safe: what it writes and sends is permitted in every history that the node fits.
 use Rattle.std.specs.Prelude.{◌≡◌, ℕ, Bool, true, false, List, [], ◌∷◌, Contains}
 use Rattle.std.specs.List.{AllByRecursion}
 use Rattle.lk_types.specs.declared.entry.Entry.{Entry}

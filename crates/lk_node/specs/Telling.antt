@@ -1,4 +1,4 @@
--- Messages of a node to other nodes, and to several of them.
+-- Letters of a node to another node, and the same message to several.
 use Rattle.std.specs.Prelude.{ℕ, List, map}
 use Rattle.lk_messages.specs.Grammar.{spelling}
 use Rattle.lk_messages.specs.declared.message.NodeMessage.{NodeMessage}

@@ -17,7 +17,8 @@ use lk_state::Machine;
 use lk_types::{NoMemory, NodeNo, Position, RealBallot, Vote};
 
 impl<M: Machine> Node<M> {
-    // The response's entry, and its reply to the node that asked.
+    // Returns an outbox with the response's entry, and its reply to the node that asked. If the reply grants, ticks
+    // count from 0: a leader was heard. Ends a term of a ballot below the promised one.
     fn respond(&mut self, from: NodeNo, response: Response) -> Result<Outbox, NoMemory>
         ensures outbox { IfOk result (λ o. o ≡ reply_to self.old from response) }
         ensures fits { OnOk result (IsMessage (saying self.old.header response.reply)) }
@@ -38,7 +39,7 @@ impl<M: Machine> Node<M> {
         Ok(out)
     }
 
-    // Replies to a Prepare.
+    // Passes a Prepare to the acceptor, and sends its reply.
     fn answer_prepare(
         &mut self,
         from: NodeNo,
@@ -54,7 +55,7 @@ impl<M: Machine> Node<M> {
         self.respond(from, response)
     }
 
-    // Replies to an Accept.
+    // Passes an Accept to the acceptor, and sends its reply.
     fn answer_accept(&mut self, from: NodeNo, vote: Vote) -> Result<Outbox, NoMemory>
         ensures { IfOk result (λ o. Responds self.old from
             (AnswersAccept self.old.acceptor self.old.learner.whole.roster.executed vote) self.new o) }
@@ -64,7 +65,7 @@ impl<M: Machine> Node<M> {
         Ok(out)
     }
 
-    // Handles a Prepare.
+    // Handles a Prepare. Adds to `answer_prepare` only the clause `goes_on`: that this is safe.
     #[tactic(auto, using(crate::proofs::AcceptorLaws::prepare_goes_on))]
     pub(crate) fn handle_prepare(
         &mut self,
@@ -81,7 +82,7 @@ impl<M: Machine> Node<M> {
         Ok(out)
     }
 
-    // Handles an Accept, and records its ballot's round.
+    // Handles an Accept: records its ballot's round, even if the acceptor rejects it, and replies.
     pub(crate) fn handle_accept(&mut self, from: NodeNo, vote: Vote) -> Result<Outbox, NoMemory>
         ensures exact { IfOk result
             (λ o. Responds (with_round vote.ballot self.old) from

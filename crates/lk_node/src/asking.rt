@@ -11,7 +11,8 @@ use lk_types::{ClientNo, Member, NoMemory, Request};
 use lk_wire::{Elsewhere, NodeMessage};
 
 impl<M: Machine> Node<M> {
-    // The known leader, with its port in the window, if the window names it.
+    // Returns the known leader with its port in the window; `None` if no leader is known, or the window does not name
+    // it.
     fn known_leader(&self) -> Option<Member>
         ensures { result ≡ leader_in self.now.known self.now.learner.whole.roster.sets }
     {
@@ -20,7 +21,7 @@ impl<M: Machine> Node<M> {
         Some(Member { node, port })
     }
 
-    // Redirects the client to the known leader, if the window names it.
+    // Redirects the client to the known leader with an Elsewhere. Sends nothing if there is none in the window.
     fn redirect(&self, request: &Request) -> Result<Outbox, NoMemory>
         ensures { IfOk result (λ o. PointsTo
             (leader_in self.now.known self.now.learner.whole.roster.sets) self.now request.now self.now o) }
@@ -38,7 +39,7 @@ impl<M: Machine> Node<M> {
         Ok(out)
     }
 
-    // At a node with a term a new request waits.
+    // Handles a request that is new: queues it if there is a term, and redirects its client otherwise.
     fn take_new(&mut self, request: &Request) -> Result<Outbox, NoMemory>
         ensures { IfOk result (λ o. TakesNew self.old.leader.term self.old request.now self.new o) }
     {
@@ -50,7 +51,7 @@ impl<M: Machine> Node<M> {
         Ok(Outbox::new(self.alloc))
     }
 
-    // Handles a request, by its place relative to its client's last one.
+    // Replies from the client's session to a request that is not new; queues or redirects a new one.
     fn take_request(&mut self, request: &Request) -> Result<Outbox, NoMemory>
         ensures { IfOk result (λ o. HearsRequest self.old request.now self.new o) }
     {
@@ -63,7 +64,7 @@ impl<M: Machine> Node<M> {
         Ok(out)
     }
 
-    // Handles a client's request.
+    // Handles a client's request. Adds to `take_request` only the clause `goes_on`: that this is safe.
     pub(crate) fn handle_request(&mut self, request: &Request) -> Result<Outbox, NoMemory>
         ensures exact { IfOk result (λ o. HearsRequest self.old request.now self.new o) }
         ensures goes_on { IfOk result

@@ -12,7 +12,8 @@ use lk_types::{NoMemory, Position, RealBallot};
 use lk_wire::NodeMessage;
 
 impl<M: Machine> Node<M> {
-    // Promises the ballot, and begins a term with it: asks the nodes of the window for their promises.
+    // Promises the ballot, begins a term with it, and sends Prepare to all nodes of the window, itself included if it
+    // is one, for the positions from the next one on.
     pub(crate) fn begin(&mut self, ballot: RealBallot) -> Result<Outbox, NoMemory>
         requires below { IsBelow self.old.acceptor.state.promised ballot }
         requires own { ballot.node ≡ self.old.header.node }

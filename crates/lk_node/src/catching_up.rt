@@ -42,7 +42,8 @@ impl<M: Machine> Node<M> {
         Ok(out)
     }
 
-    // Sends whatever is served from the position on to the other node.
+    // Sends the other node up to 16 executed commands from the position on; or, if the snapshot has replaced the
+    // position, the snapshot from the offset on; or nothing, if the position is not executed.
     fn feed(&self, other: NodeNo, first: Position, offset: u32) -> Result<Outbox, NoMemory>
         ensures { IfOk result (λ o. Feeds self.now other first offset o) }
     {
@@ -53,7 +54,7 @@ impl<M: Machine> Node<M> {
         Ok(out)
     }
 
-    // Sends the other node a Want for what follows the executed positions.
+    // Sends the other node a Want for what follows the executed positions; nothing after the last one, 2^48.
     fn send_want(&self, other: NodeNo) -> Result<Outbox, NoMemory>
         ensures { IfOk result (λ o. AsksOn self.now other o) }
     {
@@ -64,7 +65,8 @@ impl<M: Machine> Node<M> {
         Ok(out)
     }
 
-    // The other node has executed this many positions: sends it a Want if that is more, and feeds it if that is less.
+    // Compares progress with the other node, which has executed `theirs` positions: asks it with a Want if these are
+    // more, and sends it what it lacks if they are fewer.
     fn level(&self, other: NodeNo, theirs: Executed) -> Result<Outbox, NoMemory>
         ensures { IfOk result (λ o. Levels self.now other theirs o) }
     {
@@ -78,7 +80,7 @@ impl<M: Machine> Node<M> {
         }
     }
 
-    // Handles a Want for commands, or for a snapshot.
+    // Handles a Want: sends its sender commands or parts of the snapshot.
     pub(crate) fn handle_want(&mut self, from: NodeNo, want: &Want) -> Result<Outbox, NoMemory>
         ensures exact { IfOk result (λ o. HearsWant self.old from want.now self.new o) }
         ensures goes_on { IfOk result (λ o. GoesOn M.meaning (λ h. Unit {0}) self.old self.new nothing o) }
@@ -87,7 +89,8 @@ impl<M: Machine> Node<M> {
         Ok(out)
     }
 
-    // Handles the rejection of a ballot: records both ballots.
+    // Handles a Nack: catches up with its sender or helps it, and records the rejected and the promised ballot, which
+    // ends a term of a ballot below either.
     pub(crate) fn handle_nack(&mut self, from: NodeNo, nack: &Nack) -> Result<Outbox, NoMemory>
         ensures exact { IfOk result (λ o. HearsNack self.old from nack.now self.new o) }
         ensures goes_on { IfOk result (λ o. GoesOn M.meaning (λ h. Unit {0}) self.old self.new nothing o) }
@@ -109,7 +112,7 @@ impl<M: Machine> Node<M> {
         Ok(out)
     }
 
-    // Rejects a ballot below the promised one, with a Nack.
+    // Sends the other node a Nack of this ballot, with the promised one and how many positions are executed.
     fn send_nack(&self, other: NodeNo, ballot: RealBallot) -> Result<Outbox, NoMemory>
         ensures { IfOk result (λ o. SaysAlone self.now (to_node self.now other)
             (kinds.Nack (refusal ballot self.now)) o) }
@@ -123,7 +126,7 @@ impl<M: Machine> Node<M> {
         Ok(out)
     }
 
-    // The ballot's node becomes the known leader, and ticks count from the start.
+    // Records the ballot's node as the known leader, and counts ticks from 0.
     fn follow(&mut self, ballot: RealBallot)
         ensures { self.new ≡ following ballot self.old }
     {
@@ -131,7 +134,8 @@ impl<M: Machine> Node<M> {
         self.ticks.reset();
     }
 
-    // Rejects a leader's notice, or follows it.
+    // Rejects a leader's notice if its ballot is below the promised one. Otherwise follows it, and asks its sender for
+    // commands if that has executed more.
     fn answer_lead(
         &mut self,
         from: NodeNo,
@@ -151,7 +155,8 @@ impl<M: Machine> Node<M> {
         Ok(out)
     }
 
-    // Handles a leader's notice: its node leads in this ballot, and has executed this many positions.
+    // Handles a Lead: the node of this ballot leads, and has executed this many positions. Adds to `answer_lead` only
+    // the clause `goes_on`: that this is safe.
     pub(crate) fn handle_lead(
         &mut self,
         from: NodeNo,

@@ -1,4 +1,4 @@
-// How a node decides a position: by the votes that it hears.
+// How a node decides a position: it counts the votes for its own proposals.
 ghost use Rattle.std.specs.Prelude.{IfOk, OnOk};
 ghost use Rattle.lk_messages.specs.declared.message.NodeMessage.TheVariants as kinds;
 ghost use Rattle.lk_agreement.specs.Chosen.{ChosenAt};
@@ -14,7 +14,8 @@ use lk_state::Machine;
 use lk_types::{Command, Members, NoMemory, NodeNo, Position, Vote};
 
 impl<M: Machine> Node<M> {
-    // Counts a node's vote. Returns the members of the position, if the vote gives it a majority of them.
+    // Counts a node's vote for a proposal of the own term. Returns the members of the position if this vote completes a
+    // majority of them, and `None` otherwise.
     fn count_vote(&mut self, from: NodeNo, vote: &Vote) -> Option<Members>
         ensures { HearsVote from vote.now self.old self.new result }
     {
@@ -31,7 +32,7 @@ impl<M: Machine> Node<M> {
         Some(members.copy())
     }
 
-    // The letters that tell the other nodes of the window of the pair.
+    // Returns a letter with a Decided of this command for each other node of the window.
     fn decided_letters(
         &self,
         position: Position,
@@ -45,7 +46,8 @@ impl<M: Machine> Node<M> {
         Ok(letters)
     }
 
-    // A majority of these members has accepted the command at the position.
+    // Decides the command at the position, which a majority of these members has accepted: notes that, keeps and writes
+    // the command, executes what it can, and sends Decided to the other nodes.
     fn decide(
         &mut self,
         members: Members,
@@ -60,6 +62,7 @@ impl<M: Machine> Node<M> {
             (λ h. ChosenAt h.genesis h.sent position command.now) self.old self.new out.old out.new) }
     {
         out.note(Note::Counted(self.header.node(), position, members, command.copy()))?;
+        // Before execution, which may move the window: they go to the nodes of the present one.
         let letters = self.decided_letters(position, command)?;
         self.learn(position, command, out)?;
         self.execute(out)?;
@@ -67,7 +70,7 @@ impl<M: Machine> Node<M> {
         Ok(())
     }
 
-    // Handles an Accepted.
+    // Handles an Accepted: counts it as a vote, and decides the position if that completes a majority.
     pub(crate) fn handle_accepted(&mut self, from: NodeNo, vote: &Vote) -> Result<Outbox, NoMemory>
         ensures exact { IfOk result (λ o. HearsAccepted M.meaning from vote.now self.old self.new o) }
         ensures goes_on { IfOk result

@@ -9,7 +9,8 @@ use lk_state::{Machine, Ran, Session};
 use lk_types::{Command, NoMemory};
 
 impl<M: Machine> Node<M> {
-    // The session has become its client's last: replies to the waiting request up to it, which waits no longer.
+    // Replies to the client's waiting request, and removes it, if its number is at most that of the session, which has
+    // just become the client's last.
     pub(crate) fn reply_to_waiting(
         &mut self,
         session: Session,
@@ -28,7 +29,7 @@ impl<M: Machine> Node<M> {
         Ok(())
     }
 
-    // Replies to the waiting request up to the session that has become its client's last, if one has.
+    // Does `reply_to_waiting` if executing a command has left a session.
     fn reply_if_answered(
         &mut self,
         session: Option<Session>,
@@ -50,7 +51,7 @@ impl<M: Machine> Node<M> {
         self.leader.has_term() && !self.roster().is_in_window(self.header.node())
     }
 
-    // Ends the term if no set of the window names the node.
+    // Ends the term if no set of the window names the node: such a node does not lead.
     pub(crate) fn leave_outside(&mut self)
         ensures { self.new ≡ while_named self.old }
     {
@@ -59,7 +60,7 @@ impl<M: Machine> Node<M> {
         }
     }
 
-    // Executes the command of the next position, if it is kept, and returns it.
+    // Executes the command of the next position, if it is kept, and returns it with its position and answer.
     fn run_next(&mut self) -> Result<Option<(Command, Ran)>, NoMemory>
         ensures { IfOk result (λ r. RunsNext M.meaning self.old self.new r) }
     {
@@ -73,7 +74,8 @@ impl<M: Machine> Node<M> {
         Ok(Some((command.copy(), ran)))
     }
 
-    // Executes the command of the next position, if it is kept. Returns whether it was.
+    // Executes the command of the next position, if it is kept: notes it, replies to its client's waiting request, and
+    // ends the term of a node that the window names no longer. Returns whether it was kept.
     fn execute_one(&mut self, out: &mut Outbox) -> Result<bool, NoMemory>
         ensures exact { IfOk result (λ went. ExecutesOne M.meaning went self.old out.old self.new out.new) }
         ensures goes_on { OnOk result (GoesOn M.meaning (λ h. Unit {0}) self.old self.new out.old out.new) }

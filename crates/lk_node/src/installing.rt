@@ -35,7 +35,8 @@ impl<M: Machine> Node<M> {
         Ok(())
     }
 
-    // The learner has installed a state: answers waiting requests from it, and executes what it can.
+    // Finishes after the learner has installed a state: asks for a rebase of the store, replies to waiting requests
+    // from the state's sessions, ends the term if the window does not name the node, and executes what it can.
     fn install_gathered(&mut self) -> Result<Outbox, NoMemory>
         ensures exact { IfOk result (λ o. InstallsGathered M.meaning self.old self.new o) }
         ensures goes_on { IfOk result (λ o. GoesOn M.meaning (λ h. Unit {0}) self.old self.new nothing o) }
@@ -49,7 +50,7 @@ impl<M: Machine> Node<M> {
         Ok(out)
     }
 
-    // Handles a part of another node's snapshot.
+    // Handles a part of another node's snapshot: adopts the snapshot if it is now complete.
     pub(crate) fn handle_part(&mut self, part: &PartRef<'_>) -> Result<Outbox, NoMemory>
         ensures exact { IfOk result (λ o. HearsPart M.meaning M.IsText self.old part.now self.new o) }
         ensures goes_on { (from : ℕ)

@@ -1,4 +1,4 @@
-//! What follows from a node's steps: laws about the definitions alone. A function without a body ensures each of them.
+//! Laws of a node's steps, about the definitions alone: each is the contract of a function without a body.
 ghost use Rattle.std.specs.Prelude.{◌≡◌, ℕ, ◌≤◌, false, List, take};
 ghost use Rattle.lk_types.specs.declared.entry.Entry.{Entry};
 ghost use Rattle.lk_entries.specs.Standings.{with_all};
@@ -13,22 +13,24 @@ ghost use Rattle.lk_node.specs.Steps.{Steps};
 
 use lk_state::Machine;
 
-/// A step that does not rebase tells its store what its node learns, executes and votes for: if the store's standing
-/// told of the node before, it does again with the step's entries, and none of these lies more than twice alpha above
-/// what a restart from the entries before it executes.
+/// The entries of a step that does not rebase keep the store up to date: if a restart from it executes at least as much
+/// as the node before, a restart with them executes at least as much as the node after. None of them is of a position
+/// more than 2 alpha above what a restart from the entries before it executes.
 pub fn a_step_tells_of_its_node<M: Machine>()
     ensures { (old new : NodeValue) (i : Input) (out : OutboxValue) → Steps M.meaning M.IsText old i new out
         → out.rebase ≡ false → TellsOn old new out.entries }
 {}
 
-/// So does the Base that a node writes: nothing in it lies farther, and it tells of the node.
+/// The same of the Base that a node writes: nothing in it is of a position farther above, and a restart from it
+/// executes at least as much as the node.
 pub fn a_base_tells_of_its_node()
     ensures near { (node : NodeValue) → HoldsNear node → AllLieNear (alpha node.learner) (standing_of node) }
     ensures tells { (node : NodeValue) → HoldsNear node → 1 ≤ alpha node.learner
         → TellsOf (alpha node.learner) (standing_of node) (with_snapshot node) }
 {}
 
-/// Wherever a stop cuts such entries, no vote or pair lies farther: so far as this goes a restart is never refused.
+/// Whatever prefix of such entries a stop leaves, no vote or pair is farther above, so a restart does not fail for
+/// that.
 pub fn what_a_stop_leaves_lies_near()
     ensures { (ahead : ℕ) (s : StandingValue) (es : List Entry) (k : ℕ) → AllLieNear ahead s
         → EntriesLieNear ahead s es → AllLieNear ahead (with_all (take k es) s) }

@@ -1,4 +1,4 @@
-// How a leader handles what it hears, and what it proposes.
+// How a leader handles a Promise, and how it proposes.
 ghost use Rattle.std.specs.Prelude.{◌≡◌, ◌⊎◌, List, IfOk, OnOk, MatchOption};
 ghost use Rattle.lk_types.specs.declared.member.Member.{Member as MemberValue};
 ghost use Rattle.lk_messages.specs.Grammar.{IsMessage};
@@ -22,7 +22,7 @@ use lk_types::{NoMemory, NodeNo, Vote};
 use lk_wire::{NodeMessage, PromiseRef};
 
 impl<M: Machine> Node<M> {
-    // The leader records a promise.
+    // Passes a promise to the leader, which drops it unless it is the node's first in the term's ballot.
     fn keep_promise(&mut self, from: NodeNo, promise: &PromiseRef<'_>) -> Result<(), NoMemory>
         ensures { OnOk result (KeepsPromise self.old from promise.now self.new
             ⊎ DropsPromise self.old from promise.now self.new) }
@@ -34,7 +34,7 @@ impl<M: Machine> Node<M> {
         Ok(())
     }
 
-    // Handles a Promise.
+    // Handles a Promise. Adds to `keep_promise` only the clause `goes_on`: that this is safe. Sends nothing.
     #[tactic(auto, using(crate::proofs::TermLaws::promise_goes_on))]
     pub(crate) fn handle_promise(
         &mut self,
@@ -52,14 +52,15 @@ impl<M: Machine> Node<M> {
 }
 
 impl<M: Machine> Node<M> {
-    // The term's ballot is promised. The function does nothing.
+    // Shows the prover that the term's ballot is at most the promised one. Has no effect.
     pub(crate) fn facts(&self)
         ensures { HasPromised self.now.acceptor self.now.leader }
     {
         let _ = &self.alloc;
     }
 
-    // What the term proposes next, as a vote of its ballot.
+    // Records the term's next proposal, and returns it as the vote to ask for. `None`, without a change, if there is
+    // none.
     fn next_vote(&mut self) -> Option<Vote>
         ensures { MatchOption result (NothingOpen self.old × (self.new ≡ self.old))
             (λ x. (p : ProposesVote self.old x) × (self.new ≡ having_proposed self.old x p)) }
@@ -93,7 +94,7 @@ impl<M: Machine> Node<M> {
         Ok(())
     }
 
-    // Proposes what comes next to the members of its position. Returns whether there was anything.
+    // Records the next proposal, and sends it to the members of its position. Returns whether there was one.
     fn propose_next(&mut self, out: &mut Outbox) -> Result<bool, NoMemory>
         ensures exact { IfOk result (λ more. ProposesNext more self.old self.new out.old out.new) }
         ensures goes_on { OnOk result (GoesOn M.meaning (λ h. Unit {0}) self.old self.new out.old out.new) }
@@ -106,7 +107,7 @@ impl<M: Machine> Node<M> {
         Ok(true)
     }
 
-    // Proposes everything that is open, at rising positions, each to the members of its position.
+    // Proposes whatever it can, at rising positions, each to the members of its position.
     pub(crate) fn propose(&mut self, out: &mut Outbox) -> Result<(), NoMemory>
         ensures exact { OnOk result (ProposesOpen self.old self.new out.old out.new) }
         ensures done { OnOk result (NothingOpen self.new) }

@@ -1,4 +1,4 @@
-// What a node learns of the list.
+// How a node learns decided commands.
 ghost use Rattle.std.specs.Prelude.{◌≡◌, ℕ, None, [], length, IfOk, IfSome, OnOk};
 ghost use Rattle.lk_messages.specs.declared.message.NodeMessage.TheVariants as kinds;
 ghost use Rattle.lk_agreement.specs.Chosen.{ChosenAt};
@@ -16,7 +16,7 @@ use lk_types::{Command, Entry, NoMemory, Position};
 use lk_wire::{Commands, DecidedRef};
 
 impl<M: Machine> Node<M> {
-    // A command is decided at the position. Keeps it and writes it, if it is wanted.
+    // Keeps a decided command and writes its entry, if the learner wants the position; otherwise changes nothing.
     pub(crate) fn learn(
         &mut self,
         position: Position,
@@ -33,7 +33,7 @@ impl<M: Machine> Node<M> {
         Ok(())
     }
 
-    // Learns a command that is chosen at the position, and then executes everything it can.
+    // Keeps and writes a command that is chosen at the position, and then executes what it can.
     pub(crate) fn take_pair(
         &mut self,
         position: Position,
@@ -49,8 +49,8 @@ impl<M: Machine> Node<M> {
         Ok(())
     }
 
-    // Decides the first of these commands at the position; the others are still to come. Reads it if it is wanted, and
-    // skips it otherwise.
+    // Takes the first of these commands as the one decided at the position, and executes what it can. Skips it unread
+    // if the learner does not want the position. Returns the commands after it, or `None` if there is no first one.
     fn take_first<'a>(
         &mut self,
         position: Position,
@@ -73,7 +73,7 @@ impl<M: Machine> Node<M> {
         Ok(Some(others))
     }
 
-    // Handles Decided: takes its commands in order.
+    // Handles Decided: takes its commands in order, the first at position `first`.
     pub(crate) fn handle_decided(&mut self, decided: &DecidedRef<'_>) -> Result<Outbox, NoMemory>
         ensures exact { IfOk result
             (λ o. TakesPairs M.meaning decided.now.first decided.now.commands self.old nothing

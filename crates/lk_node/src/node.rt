@@ -1,4 +1,4 @@
-// The node: what it is, and how it handles any input. It has no access to a disk, socket or clock.
+// The node, and how it sends a message. It has no access to a disk, socket or clock: a step only fills an `Outbox`.
 ghost use Rattle.std.specs.Prelude.{◌≡◌, ◌∷◌, [], None, true, false, OnOk, OnErr, IsErr};
 ghost use Rattle.lk_messages.specs.Grammar.{spelling, IsMessage};
 ghost use Rattle.lk_leader.specs.Terms.{idle};
@@ -19,7 +19,8 @@ use lk_wire::NodeMessage;
 use std::alloc::Global;
 use std::marker::Model;
 
-/// A node in memory: its header, its acceptor, its learner and its leader, and what little it remembers of time.
+/// A node in memory: its number and genesis (`header`), its three parts of Paxos, and what decides when it begins a
+/// ballot and where it redirects clients.
 #[derive(Drop)]
 pub struct Node<M: Machine> {
     pub(crate) alloc: Global,
@@ -27,9 +28,13 @@ pub struct Node<M: Machine> {
     pub(crate) acceptor: Acceptor,
     pub(crate) learner: Learner<M>,
     pub(crate) leader: Leader,
+    // How many ticks have passed since it heard of a leader.
     pub(crate) ticks: TickCount,
+    // The greatest round that it has seen in ballots of messages.
     pub(crate) rounds: SeenRound,
+    // The node that it takes for the leader: that of the last notice that it followed.
     pub(crate) known: Option<NodeNo>,
+    // It has run out of memory in a step, which may have left it half changed.
     pub(crate) halted: bool,
 }
 
@@ -55,7 +60,7 @@ impl<M: Machine> Model for Node<M> {
 }
 
 impl<M: Machine> Node<M> {
-    /// A node that holds this and has learned that. It has no term, and remembers nothing else.
+    /// Creates a node with this acceptor and learner. It has no term, knows no leader, and has counted no ticks.
     pub fn new(alloc: Global, header: Header, acceptor: Acceptor, learner: Learner<M>) -> Node<M>
         requires near { AreNear acceptor learner }
         ensures { result ≡ record {
@@ -82,28 +87,28 @@ impl<M: Machine> Node<M> {
         }
     }
 
-    /// Whether it has halted: then each step fails with `Halted`.
+    /// Whether it has run out of memory in a step: then every further step fails with `Halted`.
     pub fn halted(&self) -> bool
         ensures { result ≡ self.now.halted }
     {
         self.halted
     }
 
-    /// Its number, and the genesis of its cluster.
+    /// Returns its number and the genesis of its cluster.
     pub fn header(&self) -> &Header
         ensures { result.now ≡ self.now.header }
     {
         &self.header
     }
 
-    /// The roster after all executed commands.
+    /// Returns the roster after all executed commands: the members of the next alpha positions, and what joins need.
     pub fn roster(&self) -> &Roster
         ensures { result.now ≡ self.now.learner.whole.roster }
     {
         self.learner.whole().roster()
     }
 
-    // Sends a message to a node or a client.
+    // Adds a letter with this message to a node or a client.
     pub(crate) fn send(
         &self,
         to: To,
@@ -119,7 +124,7 @@ impl<M: Machine> Node<M> {
         Ok(())
     }
 
-    // Sends a message to a node, at its port in the window.
+    // Adds a letter with this message to a node, at its port in the window.
     pub(crate) fn send_to_node(
         &self,
         node: NodeNo,

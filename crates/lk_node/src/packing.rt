@@ -1,4 +1,4 @@
-// What a node writes as the Base of another file, and what it then holds.
+// What a node writes as the Base of the other file, and how it then drops what the Base's snapshot replaces.
 ghost use Rattle.std.specs.Prelude.{◌≡◌, ◌+◌, ◌≤◌, ◌↔◌, IsTrue, IfOk};
 ghost use Rattle.lk_learner.specs.Learners.{executed};
 ghost use Rattle.lk_log.specs.Stores.{MayBegin};
@@ -14,8 +14,8 @@ use lk_state::Machine;
 use lk_types::NoMemory;
 
 impl<M: Machine> Node<M> {
-    /// The Base of another file: everything that the node holds, with a snapshot of its state in place of what it has
-    /// executed.
+    /// Returns the Base for the other file: everything that the node holds, with a snapshot of its state in place of
+    /// what it has executed. Changes nothing in the node: see `set_snapshot`.
     pub fn standing(&self) -> Result<Standing, NoMemory>
         ensures value { IfOk result (λ s. s ≡ standing_of self.now) }
         ensures may { IfOk result MayBegin }
@@ -36,7 +36,7 @@ impl<M: Machine> Node<M> {
         })
     }
 
-    /// Whether 256 positions or more are executed above the snapshot.
+    /// Whether 256 positions or more are executed above the snapshot, so that a rebase is due.
     pub fn is_snapshot_old(&self) -> bool
         ensures { IsTrue result ↔ (self.now.acceptor.state.snapshot_position + 256 ≤ executed self.now.learner) }
     {
@@ -44,7 +44,8 @@ impl<M: Machine> Node<M> {
         self.learner.whole().executed().get() >= snapshot + 256
     }
 
-    /// The snapshot with this text replaces the votes and the executed commands up to there. Takes no memory.
+    /// Replaces the votes and commands of executed positions by a snapshot of the state, of this packed text. Call it
+    /// once the store has that snapshot. Takes no memory.
     pub fn set_snapshot(&mut self, snapshot: Vec<u8>)
         requires text { snapshot.items ≡ packed self.old.learner.whole }
         ensures { self.new ≡ with_snapshot self.old }

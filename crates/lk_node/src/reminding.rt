@@ -1,4 +1,4 @@
-// What a node with a term repeats as time passes.
+// What a node with a term resends at a tick, as datagrams may be lost.
 ghost use Rattle.std.specs.Prelude.{◌≡◌, ◌+◌, IfOk, OnOk};
 ghost use Rattle.lk_node_io.specs.Outboxes.{nothing};
 ghost use Rattle.lk_node.specs.Leading.{NothingOpen};
@@ -25,7 +25,7 @@ impl<M: Machine> Node<M> {
         Ok(())
     }
 
-    // The same, for the term's ballot.
+    // Does `resend_prepares` for the term's ballot. Adds only the clause `goes_on`: that this is safe.
     fn resend_prepares_of_term(&self, ballot: RealBallot, out: &mut Outbox) -> Result<(), NoMemory>
         requires { IsTermOf ballot self.now.leader }
         ensures exact { OnOk result (AsksAgain self.now ballot out.old out.new) }
@@ -36,7 +36,7 @@ impl<M: Machine> Node<M> {
         Ok(())
     }
 
-    // Sends Accept again for what is open at the position, to its members that have not been heard to accept it.
+    // Sends Accept again for the undecided proposal at the position, if any, to the members that have not accepted it.
     fn resend_accept(
         &self,
         ballot: RealBallot,
@@ -62,7 +62,7 @@ impl<M: Machine> Node<M> {
         Ok(())
     }
 
-    // The same, for the term's ballot.
+    // Does `resend_accept` for the term's ballot. Adds only the clause `goes_on`: that this is safe.
     fn resend_accept_of_term(
         &self,
         ballot: RealBallot,
@@ -78,7 +78,7 @@ impl<M: Machine> Node<M> {
         Ok(())
     }
 
-    // Sends Accept again for what is open at the positions of the window, in order.
+    // Sends Accept again for the undecided proposals of the window, in order of their positions.
     fn resend_accepts(&self, ballot: RealBallot, out: &mut Outbox) -> Result<(), NoMemory>
         requires { IsTermOf ballot self.now.leader }
         ensures exact { OnOk result (OffersAll self.now ballot out.old out.new) }
@@ -93,7 +93,7 @@ impl<M: Machine> Node<M> {
         Ok(())
     }
 
-    // Sends Lead to the other nodes of the window.
+    // Sends Lead to the other nodes of the window: who leads, and how many positions it has executed.
     pub(crate) fn send_lead(&self, ballot: RealBallot, out: &mut Outbox) -> Result<(), NoMemory>
         ensures exact { OnOk result (TellsLead self.now ballot out.old out.new) }
         ensures goes_on { OnOk result (GoesOn M.meaning (λ h. Unit {0}) self.now self.now out.old out.new) }
@@ -104,7 +104,7 @@ impl<M: Machine> Node<M> {
         Ok(())
     }
 
-    // A tick in a term of this ballot.
+    // Handles a tick in a term of this ballot: sends Prepare and Accept again, proposes what it can, and sends Lead.
     pub(crate) fn remind(&mut self, ballot: RealBallot) -> Result<Outbox, NoMemory>
         requires { IsTermOf ballot self.old.leader }
         ensures exact { IfOk result (λ o. Reminds ballot self.old self.new o) }

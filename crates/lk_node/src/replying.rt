@@ -1,4 +1,4 @@
-// The result of a message that gets one message in reply.
+// Outboxes with a single message.
 ghost use Rattle.std.specs.Prelude.{◌≡◌, IfOk};
 ghost use Rattle.lk_node.specs.Replying.{SaysAlone};
 ghost use Rattle.lk_node.specs.Saying.{to_node};
@@ -10,7 +10,7 @@ use lk_types::{NoMemory, NodeNo};
 use lk_wire::NodeMessage;
 
 impl<M: Machine> Node<M> {
-    // An outbox with one message, to a node or a client.
+    // Returns an outbox with one message, to a node or a client.
     pub(crate) fn send_one(&self, to: To, message: NodeMessage) -> Result<Outbox, NoMemory>
         ensures { IfOk result (λ o. SaysAlone self.now to message o) }
     {
@@ -19,7 +19,7 @@ impl<M: Machine> Node<M> {
         Ok(out)
     }
 
-    // An outbox with one message, to a node at its port in the window.
+    // Returns an outbox with one message, to a node at its port in the window.
     pub(crate) fn send_one_to_node(
         &self,
         node: NodeNo,

@@ -11,21 +11,21 @@ use lk_types::{NoMemory, NodeNo};
 use lk_wire::NodeMessage;
 
 impl<M: Machine> Node<M> {
-    // The nodes of the window, in rising order.
+    // Returns the nodes that some set of the window names, in rising order.
     pub(crate) fn window_nodes(&self) -> Result<Vec<NodeNo>, NoMemory>
         ensures { IfOk result (λ ns. AreWindowNodes self.now ns.items) }
     {
         window_nodes(self.alloc, self.roster())
     }
 
-    // The other nodes of the window, in rising order.
+    // Returns the nodes of the window except this one, in rising order.
     pub(crate) fn others(&self) -> Result<Vec<NodeNo>, NoMemory>
         ensures { IfOk result (λ ns. AreOthers self.now ns.items) }
     {
         others(self.alloc, self.roster(), self.header.node())
     }
 
-    // Sends the same to each of the nodes, in order.
+    // Adds a letter with the same message to each of the nodes, in order.
     pub(crate) fn send_to_all(
         &self,
         nodes: &[NodeNo],

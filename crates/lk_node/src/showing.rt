@@ -1,4 +1,4 @@
-// What a node shows of itself to its operator.
+// What a node reports of itself, for its status.
 ghost use Rattle.std.specs.Prelude.{◌≡◌, ◌↔◌, IsTrue, length};
 ghost use Rattle.std.specs.Option.{option_map};
 ghost use Rattle.lk_leader.specs.Proposing.{Leads};
@@ -22,14 +22,14 @@ impl<M: Machine> Node<M> {
         self.acceptor.snapshot_position()
     }
 
-    /// The ballot that it has promised.
+    /// Returns the ballot that it has promised: it votes in none below.
     pub fn promised(&self) -> Ballot
         ensures { result ≡ self.now.acceptor.state.promised }
     {
         self.acceptor.promised()
     }
 
-    /// The ballot of its term, if it has one.
+    /// Returns the ballot of its term, if it has one: it is a candidate or leads.
     pub fn term(&self) -> Option<RealBallot>
         ensures { result ≡ option_map (λ t. t.ballot) self.now.leader.term }
     {
@@ -43,7 +43,7 @@ impl<M: Machine> Node<M> {
         self.leader.is_elected(self.roster())
     }
 
-    /// The node that it takes for the leader.
+    /// Returns the node that it takes for the leader: that of the last notice that it followed, if any.
     pub fn presumed_leader(&self) -> Option<NodeNo>
         ensures { result ≡ self.now.known }
     {

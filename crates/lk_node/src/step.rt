@@ -1,4 +1,5 @@
-// How a node handles any input.
+// How a node handles a tick or a datagram. A clause `exact` states what a function does, and `goes_on` that this is
+// safe in every history in which the message that it handles was sent.
 ghost use Rattle.std.specs.Prelude.{◌≡◌, true, false, IfOk, OnOk, OnErr, IsErr};
 ghost use Rattle.lk_wire.specs.Shown.{shown_node, shown_content};
 ghost use Rattle.lk_agreement.specs.Datagrams.{HasSent};
@@ -45,7 +46,7 @@ impl<M: Machine> Node<M> {
     }
 
     #[tactic(auto, using(crate::proofs::Serving::rests_here))]
-    // Dispatches a message of the cluster.
+    // Dispatches a message of this cluster: a client's request, or a node's message.
     fn handle_message(&mut self, content: &ContentRef<'_>) -> Result<Outbox, NoMemory>
         ensures exact { IfOk result (λ o. Hears M.meaning M.IsText self.old (shown_content content.now) self.new o) }
         ensures goes_on { IfOk result
@@ -58,7 +59,7 @@ impl<M: Machine> Node<M> {
     }
 
     #[tactic(auto, using(crate::proofs::Serving::rests_here, crate::proofs::Serving::bytes_go_on))]
-    // Handles any bytes.
+    // Parses and handles a datagram. Ignores bytes that are no message of this cluster.
     fn take_bytes(&mut self, datagram: &Datagram<'_>) -> Result<Outbox, NoMemory>
         ensures exact { IfOk result (λ o. TakesBytes M.meaning M.IsText self.old datagram.now self.new o) }
         ensures goes_on { IfOk result
@@ -74,7 +75,7 @@ impl<M: Machine> Node<M> {
         Ok(out)
     }
 
-    // Handles any bytes, and then proposes what it can.
+    // Handles a datagram, and then proposes whatever it can.
     fn take_datagram(&mut self, datagram: &Datagram<'_>) -> Result<Outbox, NoMemory>
         ensures exact { IfOk result (λ o. TakesDatagram M.meaning M.IsText self.old datagram.now self.new o) }
         ensures done { OnOk result (NothingOpen self.new) }
@@ -99,11 +100,11 @@ impl<M: Machine> Node<M> {
         }
     }
 
-    /// Takes a tick or a datagram, and returns what to write, note and send, in that order. It also executes what it
-    /// learns, as far as possible: afterwards it does not keep the command of the next position, if it did not before.
-    /// It has proposed what is open.
+    /// Handles a tick or a datagram, and returns what to write, note and send, in that order. Afterwards it has
+    /// proposed whatever it can. It has also executed every command that it can, provided that it had so before.
     ///
-    /// It fails with `Halted` if it runs out of memory; after that every call fails with `Halted`.
+    /// It fails with `Halted` if it runs out of memory, and may then be half changed; after that every call fails so,
+    /// and changes nothing.
     pub fn step(&mut self, input: Input) -> Result<Outbox, Halted>
         ensures steps { IfOk result (λ o. Steps M.meaning M.IsText self.old input.entry self.new o) }
         ensures goes_on { IfOk result

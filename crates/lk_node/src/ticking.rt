@@ -1,4 +1,4 @@
-// What a node does as time passes.
+// How a node handles a tick.
 ghost use Rattle.std.specs.Prelude.{◌≡◌, IfOk};
 ghost use Rattle.lk_node_io.specs.Outboxes.{nothing};
 ghost use Rattle.lk_node_io.specs.Ticks.{is_enough};
@@ -12,7 +12,8 @@ use lk_state::Machine;
 use lk_types::NoMemory;
 
 impl<M: Machine> Node<M> {
-    // Whether the node has waited long enough for a leader.
+    // Whether the node has waited long enough for a leader to begin a ballot; never if it is no member of the next
+    // position.
     fn is_due(&self) -> bool
         ensures { result ≡ is_enough self.now.ticks (place_of self.now) }
     {
@@ -21,7 +22,7 @@ impl<M: Machine> Node<M> {
     }
 
     #[tactic(auto, using(crate::proofs::Serving::rests_here))]
-    // Begins a ballot if it has waited long enough.
+    // Begins the next ballot if it has waited long enough, and its round is at most 2^48.
     fn begin_if_due(&mut self) -> Result<Outbox, NoMemory>
         ensures exact { IfOk result (λ o. BeginsWhereDue self.old self.new o) }
         ensures goes_on { IfOk result (λ o. GoesOn M.meaning (λ h. Unit {0}) self.old self.new nothing o) }
@@ -38,7 +39,7 @@ impl<M: Machine> Node<M> {
     }
 
     #[tactic(auto, using(crate::proofs::BallotLaws::ticked_goes_on))]
-    // Counts a tick without a term.
+    // Handles a tick without a term: counts it, and begins a ballot if it has now waited long enough.
     fn wait(&mut self) -> Result<Outbox, NoMemory>
         ensures exact { IfOk result (λ o. BeginsWhereDue (ticked self.old) self.new o) }
         ensures goes_on { IfOk result (λ o. GoesOn M.meaning (λ h. Unit {0}) self.old self.new nothing o) }
@@ -48,7 +49,7 @@ impl<M: Machine> Node<M> {
         Ok(out)
     }
 
-    // Some time has passed.
+    // Handles a tick: with a term it resends (`remind`), without one it waits for a leader (`wait`).
     pub(crate) fn tick(&mut self) -> Result<Outbox, NoMemory>
         ensures exact { IfOk result (λ o. Ticks self.old self.new o) }
         ensures goes_on { IfOk result (λ o. GoesOn M.meaning (λ h. Unit {0}) self.old self.new nothing o) }

@@ -7,7 +7,7 @@ use lk_state::Machine;
 use lk_types::Ballot;
 
 impl<M: Machine> Node<M> {
-    // Ends the term, forgets what waits, and counts ticks from the start.
+    // Ends the term, forgets the waiting requests, and counts ticks from 0.
     pub(crate) fn leave_term(&mut self)
         ensures { self.new ≡ without_term self.old }
     {
@@ -15,7 +15,7 @@ impl<M: Machine> Node<M> {
         self.ticks.reset();
     }
 
-    // Records a ballot. If it is above the term's, the term ends.
+    // Ends the term if this ballot is above its ballot. Records nothing: see `see`.
     pub(crate) fn yield_to(&mut self, ballot: Ballot)
         ensures { self.new ≡ yielded ballot self.old }
     {
@@ -27,14 +27,14 @@ impl<M: Machine> Node<M> {
         }
     }
 
-    // Records the ballot of a proposal.
+    // Records the round of a ballot that was seen, so that the own next ballot exceeds it.
     pub(crate) fn see_round(&mut self, ballot: Ballot)
         ensures { self.new ≡ with_round ballot self.old }
     {
         self.rounds.see(ballot.round());
     }
 
-    // Records the ballot of a rejection or of a leader's notice.
+    // Records the round of a ballot in a Nack or a Lead, and ends a term of a smaller ballot.
     pub(crate) fn see(&mut self, ballot: Ballot)
         ensures { self.new ≡ seeing ballot self.old }
     {

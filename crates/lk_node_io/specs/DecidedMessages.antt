@@ -1,4 +1,4 @@
--- What the other nodes are told of a decided position.
+-- The Decided message of one position.
 use Rattle.std.specs.Prelude.{[], ◌∷◌}
 use Rattle.lk_messages.specs.declared.message.NodeMessage.{NodeMessage}
 use Rattle.lk_messages.specs.declared.message.NodeMessage.TheVariants as kinds

@@ -1,4 +1,4 @@
--- The reply to a client's request that is not new, and the session that one leaves.
+-- The reply to a client's request that is not new, and the session that an executed command leaves.
 use Rattle.std.specs.Prelude.{ℕ, nat_lt, if◌then◌else◌, Option, Some, None}
 use Rattle.lk_types.specs.declared.answer.Answer.{Answer as AnswerValue}
 use Rattle.lk_members.specs.Effects.{Command, Noop, Request}

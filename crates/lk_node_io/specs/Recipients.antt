@@ -1,4 +1,4 @@
--- To which nodes a step sends, and its letters to several of them. The sets are those of the node's window.
+-- The nodes to which a step sends, and its letters to several of them. The sets are those of the node's window.
 use Rattle.std.specs.Prelude.{◌≡◌, ℕ, not, ◌==◌, Option, List, [], ◌∷◌, map, filter}
 use Rattle.std.specs.List.{position}
 use Rattle.lk_types.specs.declared.member.Member.{Member}

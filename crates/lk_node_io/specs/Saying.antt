@@ -1,4 +1,4 @@
--- A node's message.
+-- A node's message, with its cluster and its sender.
 use Rattle.lk_messages.specs.declared.message.Content.TheVariants as content
 use Rattle.lk_messages.specs.declared.message.Message.{Message}
 use Rattle.lk_messages.specs.declared.message.NodeMessage.{NodeMessage}

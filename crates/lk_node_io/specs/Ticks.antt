@@ -1,4 +1,4 @@
--- How many ticks a node counts.
+-- How many ticks a node counts, and when it has waited long enough for a leader.
 use Rattle.std.specs.Prelude.{ℕ, ◌+◌, ◌*◌, Bool, false, nat_le, Option, Some, None}
 
 -- the first member waits this many ticks for a leader before it begins a ballot, and each further one this many more

@@ -1,4 +1,4 @@
-// What the other nodes are told of a decided position.
+// The Decided message of one position.
 ghost use Rattle.std.specs.Prelude.{◌≡◌, IfOk};
 ghost use Rattle.lk_node_io.specs.DecidedMessages.{decided_message};
 
@@ -6,7 +6,7 @@ use lk_types::{Command, NoMemory, Position};
 use lk_wire::{Decided, NodeMessage};
 use std::alloc::Global;
 
-/// One command is decided at the position.
+/// Builds the Decided message of one command at the position.
 pub fn decided_message(
     alloc: Global,
     position: Position,

@@ -10,7 +10,8 @@ use lk_types::NoMemory;
 use thiserror::Error;
 
 /// Why a replica rejected a call. After `Device`, `NoMemory`, `Failed` and `Halted` every call fails with `Failed`,
-/// until the replica restarts from its disks. After `Send` it goes on.
+/// until the replica restarts from its disks. After `Send` it goes on. Only a restart returns `Damaged` or
+/// `WrongStore`.
 #[derive(Debug, Drop, Error)]
 pub enum ReplicaFault {
     #[error("the device failed")]

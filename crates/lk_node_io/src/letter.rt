@@ -1,7 +1,7 @@
 use crate::to::To;
 use std::marker::Model;
 
-/// A letter of a node: its recipient, and its bytes.
+/// A message to send: its recipient, and its bytes as `spelled` returns them.
 #[derive(Drop)]
 pub struct Letter {
     pub to: To,

@@ -7,9 +7,9 @@ use lk_types::{Entry, NoMemory};
 use std::alloc::Global;
 use std::marker::Model;
 
-/// The result of a step: the entries to write, whether they are synced before anything is sent, the notes, and the
-/// letters, in order. If it says so, the store is rebased to what the node then holds, before anything is sent, and
-/// the entries are not written.
+/// The result of a step, for the replica to carry out: write `entries`, sync them if `sync`, and only then send
+/// `letters`, in order. `notes` are for the trace. If `rebase`, the store is instead rebased to what the node then
+/// holds, before anything is sent, and `entries` are not written.
 #[derive(Drop)]
 pub struct Outbox {
     pub rebase: bool,
@@ -34,7 +34,7 @@ impl Model for Outbox {
 }
 
 impl Outbox {
-    /// Nothing to write, to note or to send.
+    /// Creates an outbox with nothing to write, note or send. Takes no memory.
     pub fn new(alloc: Global) -> Outbox
         ensures { result ≡ nothing }
     {
@@ -47,7 +47,8 @@ impl Outbox {
         }
     }
 
-    /// One more entry. A promise or a vote is synced, together with everything that is written.
+    /// Appends an entry to write. A promise or a vote sets `sync`: all entries are then synced before anything is sent.
+    /// A failed call may leave `sync` set.
     pub fn write(&mut self, entry: Entry) -> Result<(), NoMemory>
         ensures { OnOk result (self.new ≡ with_entry entry self.old) }
     {
@@ -58,14 +59,14 @@ impl Outbox {
         Ok(())
     }
 
-    /// The store is rebased.
+    /// Asks for a rebase of the store in place of writing the entries.
     pub fn rebase_store(&mut self)
         ensures { self.new ≡ with_rebase self.old }
     {
         self.rebase = true;
     }
 
-    /// One more note.
+    /// Appends a note.
     pub fn note(&mut self, note: Note) -> Result<(), NoMemory>
         ensures { OnOk result (self.new ≡ with_note note self.old) }
     {
@@ -75,7 +76,7 @@ impl Outbox {
 }
 
 impl Outbox {
-    /// Adds these letters.
+    /// Appends these letters, in order.
     pub fn add_letters(&mut self, letters: Vec<Letter>) -> Result<(), NoMemory>
         ensures { OnOk result (self.new ≡ with_letters letters.items self.old) }
     {
@@ -85,7 +86,8 @@ impl Outbox {
     }
 }
 
-// Whether an entry is synced before anything is sent.
+// Whether an entry has to be synced before anything is sent: a promise or a vote, but no decided command, which other
+// nodes can supply again.
 fn is_synced(entry: &Entry) -> bool
     ensures { result ≡ is_synced entry.now }
 {

@@ -12,8 +12,8 @@ pub struct SendFault;
 
 /// Something that sends datagrams.
 ///
-/// What is said of sent letters holds if the post reveals them; the effect of each letter on the post holds in any
-/// case. Each `Err` is counted: the count of failures increases by one, up to 2^64 - 1, and is unchanged at `Ok`.
+/// The clauses about `sent` hold only for a post that `is_telling`; `Carries`, the effect of a letter on the post,
+/// holds for any. `failures` increases by one at each `Err`, up to 2^64 - 1, and is unchanged at `Ok`.
 pub trait Post {
     /// What was sent, in order.
     ghost sent: { Self → List LetterValue };

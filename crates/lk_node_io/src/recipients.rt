@@ -1,4 +1,5 @@
-// To which nodes a step sends, and its letters to several of them.
+// The nodes to which a step sends, and a letter to each of several nodes. The window is the sets of members of the next
+// alpha positions.
 ghost use Rattle.std.specs.Prelude.{◌≡◌, IfOk, OnOk};
 ghost use Rattle.lk_messages.specs.Grammar.{IsMessage};
 ghost use Rattle.lk_node_io.specs.Recipients.{AreWindowNodes, AreOthers, place_in, to_node, letters_to};
@@ -13,7 +14,7 @@ use lk_types::{NoMemory, NodeNo};
 use lk_wire::NodeMessage;
 use std::alloc::Global;
 
-/// The nodes of the window, in rising order.
+/// Returns the nodes that some set of the window names, in rising order, without repetition.
 pub fn window_nodes(alloc: Global, roster: &Roster) -> Result<Vec<NodeNo>, NoMemory>
     ensures { IfOk result (λ ns. AreWindowNodes roster.now.sets ns.items) }
 {
@@ -26,7 +27,7 @@ pub fn window_nodes(alloc: Global, roster: &Roster) -> Result<Vec<NodeNo>, NoMem
     Ok(nodes)
 }
 
-/// The nodes of the window without this one, in rising order.
+/// Returns the nodes of the window except this one, in rising order.
 pub fn others(alloc: Global, roster: &Roster, own: NodeNo) -> Result<Vec<NodeNo>, NoMemory>
     ensures { IfOk result (λ ns. AreOthers roster.now.sets own ns.items) }
 {
@@ -41,7 +42,7 @@ pub fn others(alloc: Global, roster: &Roster, own: NodeNo) -> Result<Vec<NodeNo>
     Ok(others)
 }
 
-/// The place of the node, from 0, among the members of the next position; `None` if it is no member.
+/// Returns the index of the node, from 0, among the members of the next position; `None` if it is not one of them.
 pub fn place_of(roster: &Roster, node: NodeNo) -> Option<usize>
     ensures { result ≡ place_in roster.now.sets node }
 {
@@ -49,7 +50,7 @@ pub fn place_of(roster: &Roster, node: NodeNo) -> Option<usize>
     members.iter().position(|member| member.node == node)
 }
 
-// These bytes, to a node at its port in the window.
+// Addresses a copy of these bytes to a node at its port in the window, or at port 0 if no set names it.
 fn letter_to(alloc: Global, roster: &Roster, node: NodeNo, bytes: &[u8]) -> Result<Letter, NoMemory>
     ensures { IfOk result (λ l. l ≡ record { to = to_node roster.now.sets node; bytes = bytes.now }) }
 {
@@ -58,7 +59,7 @@ fn letter_to(alloc: Global, roster: &Roster, node: NodeNo, bytes: &[u8]) -> Resu
     Ok(Letter { to, bytes })
 }
 
-/// The same message to each of the nodes, at its port in the window, in order.
+/// Returns a letter with this message for each of the nodes, in order, at its port in the window.
 pub fn letters_to(
     alloc: Global,
     header: &Header,

@@ -1,4 +1,4 @@
-// The greatest round that a node has seen of others.
+// The greatest round that a node has seen in ballots of messages, so that its next ballot exceeds them.
 ghost use Rattle.std.specs.Prelude.{◌≡◌, ◌≤◌, max, MatchOption};
 ghost use Rattle.lk_types.specs.Ballots.{IsBelow};
 ghost use Rattle.lk_types.specs.Limits.{max_count};
@@ -26,14 +26,14 @@ impl Model for SeenRound {
 }
 
 impl SeenRound {
-    /// None was seen.
+    /// Creates the record of a node that has seen no round.
     pub fn new() -> SeenRound
         ensures { result ≡ 0 }
     {
         SeenRound { round: 0 }
     }
 
-    /// Records a round.
+    /// Records a round; one that is not greater changes nothing.
     pub fn see(&mut self, round: u64)
         ensures { self.new ≡ max self.old round }
     {
@@ -42,14 +42,15 @@ impl SeenRound {
         }
     }
 
-    /// The round.
+    /// Returns the greatest round recorded, 0 if there was none.
     pub fn get(&self) -> u64
         ensures { result ≡ self.now }
     {
         self.round
     }
 
-    /// The node's ballot in the round above this one and the promised ballot's, or none if that would exceed 2^48.
+    /// Returns the node's ballot in the round after the greater of this one and the promised ballot's; `None` if that
+    /// exceeds 2^48.
     pub fn next_ballot(&self, promised: Ballot, node: NodeNo) -> Option<RealBallot>
         ensures { MatchOption result (max_count ≤ greater_round promised self.now)
             (λ b. (b ≡ ballot_above promised self.now node) × IsBelow promised b) }

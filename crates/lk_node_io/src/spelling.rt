@@ -9,7 +9,7 @@ use lk_types::NoMemory;
 use lk_wire::{Content, Message, NodeMessage, write};
 use std::alloc::Global;
 
-/// The bytes of this message from a node of this header.
+/// Serialises a message of the header's node in the header's cluster. The bytes fit into a datagram.
 pub fn spelled(alloc: Global, header: &Header, message: NodeMessage) -> Result<Vec<u8>, NoMemory>
     ensures bytes { IfOk result (λ bytes. bytes.items ≡ spelling (saying header.now message)) }
     ensures fits { IfOk result (λ bytes. IsMessage (saying header.now message)) }

@@ -1,4 +1,4 @@
--- Which numbers and addresses words spell.
+-- Which numbers and addresses words spell, and the error of a word that spells none.
 use Rattle.std.specs.Prelude.{◌≡◌, ◌≤◌, ℕ, List, codes}
 use Rattle.std.specs.Fmt.{decimal}
 use Rattle.std.specs.Net.Grammar.{IsIpText}

@@ -17,11 +17,11 @@ use Rattle.lk_options.specs.declared.argument_error.ArgumentError.{ArgumentError
 abbrev pub IsWait : ℕ → Type 0
 IsWait n = n ≤ 60000
 
--- so many receives of 100 ms last as long, one at least
+-- how many receives of 100 ms last as long, one at least
 abbrev pub receives_of : ℕ → ℕ
 receives_of wait = if wait == 0 then 1 else wait / 100 + min 1 (wait % 100)
 
--- so many receives may bring nothing: as many as last as long as the word says
+-- how many receives may bring nothing: as many as last as long as the word spells
 abbrev pub IsPatience : List ℕ → ℕ → Type 0
 IsPatience word receives = (wait : ℕ) × Spells IsWait word wait × (receives ≡ receives_of wait)
 
@@ -36,11 +36,11 @@ IsPatienceOf (Some word) receives = IsPatience word receives
 abbrev pub IsTime : ℕ → Type 0
 IsTime n = (1 ≤ n) × (n ≤ 86400)
 
--- the words are `ready` and so many seconds
+-- the words are `ready` and this number of seconds
 abbrev pub SpellsReady : List (List ℕ) → ℕ → Type 0
 SpellsReady words seconds = IsTime seconds × (words ≡ codes "ready" ∷ decimal seconds ∷ [])
 
--- so many seconds are waited, none where no words are given
+-- how many seconds are waited, none if no words are given
 abbrev pub IsTimeOf : Option (List (List ℕ)) → ℕ → Type 0
 IsTimeOf None seconds = seconds ≡ 0
 IsTimeOf (Some words) seconds = SpellsReady words seconds

@@ -64,7 +64,7 @@ fn wanted_of(argument: &str) -> &'static str {
     "not valid"
 }
 
-/// The error of an invalid word of an argument.
+/// Returns the error of an argument with an invalid word, with the text of `WANTED` for that argument.
 pub fn invalid_word<'a>(argument: &'a str, value: &'a str) -> ArgumentError<'a>
     ensures { Names argument.now value.now result }
 {
@@ -75,7 +75,8 @@ pub fn invalid_word<'a>(argument: &'a str, value: &'a str) -> ArgumentError<'a>
     }
 }
 
-/// The error of an invalid argument, with the word that was given for it, the first if there are several.
+/// Returns the error of an invalid argument, with its word from the command line: the first of several, or empty if
+/// none was given.
 pub fn invalid_argument<'a>(matches: &ArgMatches<'a>, argument: &'a str) -> ArgumentError<'a>
     ensures { Names argument.now (word_of matches.now argument.now) result }
 {
@@ -85,7 +86,8 @@ pub fn invalid_argument<'a>(matches: &ArgMatches<'a>, argument: &'a str) -> Argu
     }
 }
 
-// What the members of a genesis have to be.
+// Returns what the members of an invalid genesis have to be. A list that reads can only be out of order, or name a node
+// twice.
 fn wanted_members(words: &[u8]) -> &'static str {
     match read_members(words, b',') {
         Some(_) => "list the members in ascending order of node number, each once",
@@ -99,7 +101,7 @@ fn wanted_members(words: &[u8]) -> &'static str {
     }
 }
 
-// What the words of a genesis after the cluster have to be.
+// Returns what alpha or the members of an invalid genesis have to be. `words` is its text after the cluster.
 fn wanted_behind(words: &[u8]) -> &'static str {
     let Some((alpha, members)) = split_at(words, b',') else {
         return "must be CLUSTER,ALPHA,NODE:PORT,..";
@@ -110,7 +112,7 @@ fn wanted_behind(words: &[u8]) -> &'static str {
     }
 }
 
-// What a genesis has to be.
+// Returns what the first invalid part of a genesis has to be.
 fn wanted_genesis(text: &[u8]) -> &'static str {
     match split_at(text, b',') {
         None => "must be CLUSTER,ALPHA,NODE:PORT,..",
@@ -121,7 +123,7 @@ fn wanted_genesis(text: &[u8]) -> &'static str {
     }
 }
 
-/// The error of an invalid genesis.
+/// Returns the error of an invalid genesis, which names its first invalid part.
 pub fn invalid_genesis<'a>(text: &'a str) -> ArgumentError<'a>
     ensures { Names (codes "genesis") text.now result }
 {

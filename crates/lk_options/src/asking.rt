@@ -11,7 +11,8 @@ use lk_client::question::Question;
 use lk_types::{Op, Port, Request};
 use std::alloc::{AllocError, Global};
 
-/// The question of an operation that `locks ask` is to send.
+/// Returns the question that `locks ask` sends for an operation, with cluster, port, client and number from the
+/// arguments, or the error of the first invalid one. Its destination is this machine, without a key.
 pub fn question_of<'a>(matches: &ArgMatches<'a>, op: Op) -> Result<Question, ArgumentError<'a>>
     ensures ok { IfOk result (AsksAs matches.now op) }
     // The first of the four numbers that is invalid is refused.
@@ -32,7 +33,7 @@ pub fn question_of<'a>(matches: &ArgMatches<'a>, op: Op) -> Result<Question, Arg
 // How often each port is asked, where there are several.
 const ROUNDS: u32 = 3;
 
-// Adds the ports of these words to those that are asked in turn.
+// Appends the ports that these words spell. The inner error is that of an invalid port, the outer one out of memory.
 fn add_ports<'a>(
     words: &[&'a str],
     turns: &mut Vec<Port>,
@@ -46,7 +47,8 @@ fn add_ports<'a>(
     Ok(Ok(()))
 }
 
-/// The ports that `locks ask` asks in turn, three times each; none where one alone is named.
+/// Returns the ports that `locks ask` tries in turn, each three times. Empty if only one port is given. The inner error
+/// is that of an invalid port, the outer one out of memory.
 pub fn turns_of<'a>(
     alloc: Global,
     matches: &ArgMatches<'a>,

@@ -1,4 +1,4 @@
-//! The program and its subcommands, as `clap` reads them.
+//! The tables of the program's subcommands and arguments, and the `clap` parser made of them.
 
 use clap::{Arg, ArgAction, Command};
 use std::alloc::{AllocError, Global};
@@ -13,15 +13,15 @@ enum Kind {
     Word,
     // An optional word after `--NAME`.
     Given,
-    // A word after `--NAME`, which has to be given, once or more.
+    // A required word after `--NAME`; the option may be repeated.
     Several,
     // An optional `--NAME` alone.
     Flag,
     // One or more required words without `--NAME`.
     Words,
-    // Words after `--NAME`, one or more, which have to be given.
+    // One or more required words after `--NAME`; the option may be repeated.
     Many,
-    // Two words after `--NAME`, which may be given.
+    // Two optional words after `--NAME`.
     Pair,
 }
 
@@ -96,7 +96,7 @@ const SUBCOMMANDS: &[Usage] = &[
     ]),
 ];
 
-// A word after `--NAME`.
+// Makes a required argument `--NAME WORD`.
 fn word<'a>(alloc: Global, name: &'a str) -> Arg<'a> {
     Arg::new(alloc, name)
         .long(name)
@@ -104,7 +104,7 @@ fn word<'a>(alloc: Global, name: &'a str) -> Arg<'a> {
         .action(ArgAction::Set)
 }
 
-// An argument.
+// Makes the argument of a row.
 fn argument<'a>(alloc: Global, kind: Kind, name: &'a str, help: &'a str) -> Arg<'a> {
     let argument = match kind {
         Kind::Word => word(alloc, name),
@@ -118,7 +118,7 @@ fn argument<'a>(alloc: Global, kind: Kind, name: &'a str, help: &'a str) -> Arg<
     argument.help(help)
 }
 
-// A subcommand.
+// Makes a subcommand with the arguments of these rows. Fails if it is out of memory.
 fn subcommand<'a>(
     alloc: Global,
     name: &'a str,
@@ -132,7 +132,7 @@ fn subcommand<'a>(
     Ok(command)
 }
 
-// The program without its subcommands.
+// Makes the program's command without subcommands.
 fn alone<'a>(alloc: Global) -> Command<'a> {
     Command::new(alloc, "locks")
         .about("a replicated service of named locks with fencing numbers")
@@ -140,7 +140,7 @@ fn alone<'a>(alloc: Global) -> Command<'a> {
         .subcommand_required(true)
 }
 
-// The program with these subcommands.
+// Makes the program's command with these subcommands. Fails if it is out of memory.
 fn with_all<'a>(alloc: Global, rows: &'a [Usage<'a>]) -> Result<Command<'a>, AllocError> {
     let mut program = alone(alloc);
     for (name, about, arguments) in rows {
@@ -150,7 +150,7 @@ fn with_all<'a>(alloc: Global, rows: &'a [Usage<'a>]) -> Result<Command<'a>, All
     Ok(program)
 }
 
-/// The program and its subcommands.
+/// Returns the `clap` command of the program with all its subcommands. Fails if it is out of memory.
 pub fn program<'a>(alloc: Global) -> Result<Command<'a>, AllocError> {
     with_all(alloc, SUBCOMMANDS)
 }

@@ -7,7 +7,7 @@ use crate::argument_error::ArgumentError;
 use lk_locks::Name;
 use std::io::Write;
 
-// The operations, by their first word, and whether the second is a name.
+// The operations: the first word, what the words have to be, and whether the second is a name.
 #[rattlefmt::skip]
 const FORMS: [(&str, &str, bool); 10] = [
     ("acquire", "must be acquire NAME", true),
@@ -22,10 +22,10 @@ const FORMS: [(&str, &str, bool); 10] = [
     ("raw", "must be raw HEX, with HEX spelling 1 to 64 bytes", false),
 ];
 
-// What a name is.
+// What a name has to be.
 const NAME: &str = "a name has 1 to 32 bytes, of a-z 0-9 - . /";
 
-// What an operation with that first word has to be.
+// Returns what the words of an operation with that first word have to be.
 fn form_of(first: &str) -> &'static str {
     for (word, form, _) in FORMS {
         if word == first {
@@ -46,14 +46,15 @@ pub fn invalid_operation<'a>(first: &'a str) -> ArgumentError<'a>
     }
 }
 
-// Whether the word of an operation is followed by a name.
+// Whether the second word of an operation with that first word is a name.
 fn takes_name(first: &str) -> bool {
     FORMS
         .iter()
         .any(|(word, _, names)| *names && *word == first)
 }
 
-/// Warns where the name of an operation is none to the lock table, which will answer `bad`.
+/// Warns if the name in an operation is not valid for the lock table. The operation is sent all the same, and the table
+/// answers `bad`. A failed write is ignored.
 pub fn warn_of_name<E: Write>(words: &[&str], err: &mut E) {
     match words {
         [first, name, ..] if takes_name(first) && Name::of(name.as_bytes()).is_none() => {

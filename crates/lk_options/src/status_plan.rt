@@ -1,4 +1,4 @@
-//! What the words of `locks status` ask for.
+//! Reads the arguments of `locks status` as a plan.
 
 ghost use Rattle.std.specs.Prelude.{◌≡◌, ◌≤◌, ℕ, [], None, Ok, true, false, map, codes};
 ghost use Rattle.std.specs.Prelude.{IfOk, IfErr, IsErrAnd, IfSome, IsNone};
@@ -20,18 +20,19 @@ use lk_transport::fault::ServiceFault;
 use lk_types::ClientNo;
 use std::alloc::Global;
 
-// The milliseconds of a receive, and the most that are waited in all.
+// How long a receive waits, in milliseconds.
 const A_RECEIVE: u64 = 100;
 
+// The greatest `--wait`, in milliseconds.
 const MOST_WAIT: u64 = 60_000;
 
-// The receives that may bring nothing where no wait is given.
+// How many receives may bring nothing if there is no `--wait`.
 const PATIENCE: u32 = 5;
 
-// The most seconds until nodes are ready.
+// The greatest `--until ready SECONDS`: a day.
 const MOST_SECONDS: u64 = 86_400;
 
-// How many receives last so many milliseconds, one at least.
+// Returns how many receives of 100 ms last as long as `wait` milliseconds, rounded up, one at least.
 fn receives_of(wait: u64) -> u64
     ensures value { result ≡ receives_of wait }
     ensures few { wait ≤ 60000 → result ≤ 600 }
@@ -42,7 +43,7 @@ fn receives_of(wait: u64) -> u64
     wait.div_ceil(A_RECEIVE)
 }
 
-// How many receives last as many milliseconds as a word spells.
+// Reads a wait in milliseconds, 60000 at most, and returns it as a number of receives.
 fn read_patience<'a>(word: &'a str) -> Result<u32, ArgumentError<'a>>
     ensures ok { IfOk result (IsPatience word.now) }
     ensures err { IfErr result (IsRefused IsWait (codes "wait") word.now) }
@@ -51,7 +52,7 @@ fn read_patience<'a>(word: &'a str) -> Result<u32, ArgumentError<'a>>
     Ok(receives_of(wait) as u32)
 }
 
-// How many receives may bring nothing.
+// Reads `--wait` as the number of receives that may bring nothing, five without it.
 fn patience_in<'a>(matches: &ArgMatches<'a>) -> Result<u32, ArgumentError<'a>>
     ensures ok { IfOk result (IsPatienceOf (first_value (found_of matches.now) (codes "wait"))) }
     ensures err { IfErr result (IsRefused IsWait (codes "wait") (word_of matches.now (codes "wait"))) }
@@ -62,7 +63,7 @@ fn patience_in<'a>(matches: &ArgMatches<'a>) -> Result<u32, ArgumentError<'a>>
     }
 }
 
-// The seconds that a word spells, at most a day, or `None` if it spells none.
+// Reads seconds from 1 to 86400. `None` if the word spells none of them.
 fn time_of(word: &[u8]) -> Option<u32>
     ensures some { IfSome result (Spells IsTime word.now) }
     ensures none { IsNone result → SpellsNone IsTime word.now }
@@ -74,7 +75,7 @@ fn time_of(word: &[u8]) -> Option<u32>
     Some(seconds as u32)
 }
 
-// The seconds in the words after `--until`: `ready SECONDS`.
+// Reads the words after `--until`, `ready SECONDS`. `None` if they are anything else.
 fn seconds_of(words: &[&str]) -> Option<u32>
     ensures some { IfSome result (SpellsReady (map (λ word. word.now) words.now)) }
     ensures none { IsNone result → (n : ℕ) → SpellsReady (map (λ word. word.now) words.now) n → ⊥ }
@@ -85,7 +86,7 @@ fn seconds_of(words: &[&str]) -> Option<u32>
     }
 }
 
-// The seconds until all are ready, 0 where that is not waited for.
+// Reads `--until` as the seconds to wait until all are ready, 0 without it.
 fn seconds_in<'a>(matches: &ArgMatches<'a>) -> Result<u32, ArgumentError<'a>>
     ensures ok { IfOk result (IsTimeOf (words_of matches.now (codes "until"))) }
     ensures err { IfErr result (IsNoTime (words_of matches.now (codes "until"))) }
@@ -99,7 +100,7 @@ fn seconds_in<'a>(matches: &ArgMatches<'a>) -> Result<u32, ArgumentError<'a>>
     }
 }
 
-// How the reports are printed.
+// Reads the form: lines, unless `--json` or `--prometheus` is given.
 fn form_in<'a>(matches: &ArgMatches<'a>) -> Result<Form, ArgumentError<'a>>
     ensures lines { IsUnset matches.now (codes "json") → IsUnset matches.now (codes "prometheus")
         → result ≡ Ok Form.Lines }
@@ -119,7 +120,7 @@ fn form_in<'a>(matches: &ArgMatches<'a>) -> Result<Form, ArgumentError<'a>>
     }
 }
 
-// The client whose key is given, which has to be named then.
+// Reads `--client`, the client whose key is used, `None` without it. A `--client-key` without `--client` is an error.
 fn asker_in<'a>(matches: &ArgMatches<'a>) -> Result<Option<ClientNo>, ArgumentError<'a>>
     ensures ok { IfOk result (IsAsker (first_value (found_of matches.now) (codes "client"))) }
     // Without a client no key may be given.
@@ -141,7 +142,8 @@ fn asker_in<'a>(matches: &ArgMatches<'a>) -> Result<Option<ClientNo>, ArgumentEr
     }
 }
 
-// What `locks status` is to ask of these places.
+// Returns the plan with these targets and all other arguments, or the error of the first invalid one. Its destination
+// is this machine, without a key.
 fn plan_of<'a>(matches: &ArgMatches<'a>, targets: Vec<Target>) -> Result<Plan, ArgumentError<'a>>
     ensures { IfOk result (PlansFor matches.now targets.items) }
 {
@@ -162,7 +164,8 @@ fn plan_of<'a>(matches: &ArgMatches<'a>, targets: Vec<Target>) -> Result<Plan, A
     })
 }
 
-// The error of the first of these words that names no place. If each names one, they are too many.
+// Returns the error of the first of these words that is neither `PORT` nor `NODE:PORT`. If there is none, there are too
+// many words.
 fn invalid_places<'a>(alloc: Global, words: &[&'a str]) -> Result<ArgumentError<'a>, ServiceFault>
     ensures { IfOk result (λ e. e.argument.now ≡ codes "port") }
 {
@@ -182,7 +185,7 @@ fn invalid_places<'a>(alloc: Global, words: &[&'a str]) -> Result<ArgumentError<
     })
 }
 
-/// What `locks status` is to ask. Fails if it is out of memory.
+/// Returns the plan of `locks status`. The inner error is that of an invalid argument, the outer one out of memory.
 pub fn status_plan<'a>(
     alloc: Global,
     matches: &ArgMatches<'a>,

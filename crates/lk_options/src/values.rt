@@ -16,7 +16,7 @@ use lk_types::limits::{MAX_CLIENT, MAX_COUNT};
 use lk_types::{ClientNo, Genesis, NodeNo, Port, RequestNumber};
 use std::net::IpAddr;
 
-/// The word of an argument, empty if it was not given.
+/// Returns the first word of an argument, empty if it was not given.
 pub fn word<'a>(matches: &ArgMatches<'a>, name: &str) -> &'a str
     ensures { result.now ≡ word_of matches.now name.now }
 {
@@ -26,7 +26,7 @@ pub fn word<'a>(matches: &ArgMatches<'a>, name: &str) -> &'a str
     }
 }
 
-/// The number that the word of an argument spells, up to the greatest.
+/// Reads a word as a decimal number without leading zeros, `greatest` at most. An error names `argument`.
 pub fn read_number_up_to<'a>(
     argument: &'a str,
     word: &'a str,
@@ -41,7 +41,7 @@ pub fn read_number_up_to<'a>(
     }
 }
 
-/// The number of an argument, up to the greatest.
+/// Reads an argument as a decimal number without leading zeros, `greatest` at most.
 pub fn number_in<'a>(
     matches: &ArgMatches<'a>,
     name: &'a str,
@@ -53,7 +53,7 @@ pub fn number_in<'a>(
     read_number_up_to(name, word(matches, name), greatest)
 }
 
-/// The address of an argument, if it was given.
+/// Reads an argument as an IP address, `None` if it was not given.
 pub fn address_in<'a>(
     matches: &ArgMatches<'a>,
     name: &'a str,
@@ -71,7 +71,7 @@ pub fn address_in<'a>(
     }
 }
 
-/// The genesis.
+/// Reads `--genesis`. The error names its first invalid part.
 pub fn genesis_in<'a>(matches: &ArgMatches<'a>) -> Result<Genesis, ArgumentError<'a>>
     ensures ok { IfOk result (λ g. SpellsGenesis (word_of matches.now (codes "genesis")) g.cluster g.alpha g.members) }
     ensures err { IfErr result (IsNoGenesis (word_of matches.now (codes "genesis"))) }
@@ -83,7 +83,7 @@ pub fn genesis_in<'a>(matches: &ArgMatches<'a>) -> Result<Genesis, ArgumentError
     }
 }
 
-// The node whose number a word spells.
+// Reads a word as the number of a node. An error names `--number`.
 fn read_node<'a>(word: &'a str) -> Result<NodeNo, ArgumentError<'a>>
     ensures ok { IfOk result (Spells IsNode word.now) }
     ensures err { IfErr result (IsRefused IsNode (codes "number") word.now) }
@@ -94,7 +94,7 @@ fn read_node<'a>(word: &'a str) -> Result<NodeNo, ArgumentError<'a>>
     }
 }
 
-/// The number of the node.
+/// Reads `--number`, the number of the node.
 pub fn node_in<'a>(matches: &ArgMatches<'a>) -> Result<NodeNo, ArgumentError<'a>>
     ensures ok { IfOk result (Spells IsNode (word_of matches.now (codes "number"))) }
     ensures err { IfErr result (IsRefused IsNode (codes "number") (word_of matches.now (codes "number"))) }
@@ -102,7 +102,7 @@ pub fn node_in<'a>(matches: &ArgMatches<'a>) -> Result<NodeNo, ArgumentError<'a>
     read_node(word(matches, "number"))
 }
 
-/// The port that a word spells.
+/// Reads a word as a port. An error names `--port`.
 pub fn read_port<'a>(word: &'a str) -> Result<Port, ArgumentError<'a>>
     ensures ok { IfOk result (Spells IsPort word.now) }
     ensures err { IfErr result (IsRefused IsPort (codes "port") word.now) }
@@ -113,7 +113,7 @@ pub fn read_port<'a>(word: &'a str) -> Result<Port, ArgumentError<'a>>
     }
 }
 
-/// The port, the first where there are several.
+/// Reads the first `--port`.
 pub fn port_in<'a>(matches: &ArgMatches<'a>) -> Result<Port, ArgumentError<'a>>
     ensures ok { IfOk result (Spells IsPort (word_of matches.now (codes "port"))) }
     ensures err { IfErr result (IsRefused IsPort (codes "port") (word_of matches.now (codes "port"))) }
@@ -121,7 +121,7 @@ pub fn port_in<'a>(matches: &ArgMatches<'a>) -> Result<Port, ArgumentError<'a>>
     read_port(word(matches, "port"))
 }
 
-// The client whose number a word spells, or `None` if it spells none.
+// Reads a word as the number of a client, 1 to 256. `None` if it spells none.
 fn client_of(word: &[u8]) -> Option<ClientNo>
     ensures some { IfSome result (Spells IsClient word.now) }
     ensures none { IsNone result → SpellsNone IsClient word.now }
@@ -130,7 +130,7 @@ fn client_of(word: &[u8]) -> Option<ClientNo>
     ClientNo::of(number as u16)
 }
 
-/// The client whose number a word spells.
+/// Reads a word as the number of a client. An error names `--client`.
 pub fn read_client<'a>(word: &'a str) -> Result<ClientNo, ArgumentError<'a>>
     ensures ok { IfOk result (Spells IsClient word.now) }
     ensures err { IfErr result (IsRefused IsClient (codes "client") word.now) }
@@ -141,7 +141,7 @@ pub fn read_client<'a>(word: &'a str) -> Result<ClientNo, ArgumentError<'a>>
     }
 }
 
-/// The client.
+/// Reads `--client`.
 pub fn client_in<'a>(matches: &ArgMatches<'a>) -> Result<ClientNo, ArgumentError<'a>>
     ensures ok { IfOk result (Spells IsClient (word_of matches.now (codes "client"))) }
     ensures err { IfErr result (IsRefused IsClient (codes "client") (word_of matches.now (codes "client"))) }
@@ -149,7 +149,7 @@ pub fn client_in<'a>(matches: &ArgMatches<'a>) -> Result<ClientNo, ArgumentError
     read_client(word(matches, "client"))
 }
 
-// The number of a request that a word spells, or `None` if it spells none.
+// Reads a word as the number of a request, 1 to 2^48. `None` if it spells none.
 fn request_of(word: &[u8]) -> Option<RequestNumber>
     ensures some { IfSome result (Spells IsCount word.now) }
     ensures none { IsNone result → SpellsNone IsCount word.now }
@@ -158,7 +158,7 @@ fn request_of(word: &[u8]) -> Option<RequestNumber>
     RequestNumber::of(number)
 }
 
-// The number of a request that a word spells.
+// Reads a word as the number of a request. An error names `--request`.
 fn read_request<'a>(word: &'a str) -> Result<RequestNumber, ArgumentError<'a>>
     ensures ok { IfOk result (Spells IsCount word.now) }
     ensures err { IfErr result (IsRefused IsCount (codes "request") word.now) }
@@ -169,7 +169,7 @@ fn read_request<'a>(word: &'a str) -> Result<RequestNumber, ArgumentError<'a>>
     }
 }
 
-/// The number of the request.
+/// Reads `--request`, the number of the request.
 pub fn request_in<'a>(matches: &ArgMatches<'a>) -> Result<RequestNumber, ArgumentError<'a>>
     ensures ok { IfOk result (Spells IsCount (word_of matches.now (codes "request"))) }
     ensures err { IfErr result (IsRefused IsCount (codes "request") (word_of matches.now (codes "request"))) }

@@ -3,32 +3,32 @@ use Rattle.std.specs.Prelude.{◌≡◌, ◌≤◌, ◌<◌, ◌-◌, ℕ, Bool,
 use Rattle.std.specs.Time.{instant_nanos}
 use Rattle.std.specs.declared.time.Instant.{Instant}
 
--- when they began: now, if they have not
+-- when the current period of 100 ms began: `now` if none has begun
 abbrev pub begun_by : Instant → Option Instant → Instant
 begun_by now None = now
 begun_by now (Some began) = began
 
--- how many nanoseconds of them have passed
+-- how many nanoseconds of the period have passed at `now`
 abbrev pub spent : Instant → Option Instant → ℕ
 spent now began = instant_nanos now - instant_nanos (begun_by now began)
 
--- so many nanoseconds of them are left at that reading of the clock: all of them where it fails, and then nothing
--- changes
+-- this many nanoseconds of the period are left at this reading of the clock, `None` if it failed: then all are left,
+-- and nothing changes. `old` and `new` are the start of the period before and after
 abbrev pub LeavesAt : Option Instant → Option Instant → Option Instant → ℕ → Type 0
 LeavesAt None old new left = (left ≡ 100000000) × (new ≡ old)
 LeavesAt (Some now) old new left = (left ≡ 100000000 - spent now old) × (new ≡ Some (begun_by now old))
 
--- at some reading
+-- the same for some reading
 abbrev pub Leaves : Option Instant → Option Instant → ℕ → Type 0
 Leaves old new left = (reading : Option Instant) × LeavesAt reading old new left
 
--- they have passed or not at that reading of the clock, and the next ones begin then; they have where it fails, and
--- then nothing changes
+-- whether the period has ended at this reading, where the next one then begins; if the clock failed it has, and nothing
+-- changes
 abbrev pub PassesAt : Option Instant → Option Instant → Option Instant → Bool → Type 0
 PassesAt None old new passed = (passed ≡ true) × (new ≡ old)
 PassesAt (Some now) old new true = (100000000 ≤ spent now old) × (new ≡ Some now)
 PassesAt (Some now) old new false = (spent now old < 100000000) × (new ≡ Some (begun_by now old))
 
--- at some reading
+-- the same for some reading
 abbrev pub Passes : Option Instant → Option Instant → Bool → Type 0
 Passes old new passed = (reading : Option Instant) × PassesAt reading old new passed

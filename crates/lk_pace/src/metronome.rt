@@ -1,4 +1,4 @@
-//! How long it is until the next tick of a server.
+//! Measures the 100 ms between two ticks of a server by a monotonic clock.
 
 ghost use Rattle.std.specs.Duration.{as_nanos};
 ghost use Rattle.std.specs.Prelude.{◌≡◌, ◌↔◌, ◌≤◌, ◌-◌, Some, None, true, false};
@@ -7,7 +7,7 @@ ghost use Rattle.lk_pace.specs.Metronomes.{Leaves, Passes, begun_by, spent};
 use std::time::{Clock, Duration, Instant};
 use std::{io, thread};
 
-// How long it is from one tick to the next, in milliseconds.
+// The time from one tick to the next, in milliseconds.
 const PERIOD: u64 = 100;
 
 /// A clock that never advances, for a turn without a clock.
@@ -24,23 +24,24 @@ impl Clock for Still {
     }
 }
 
-/// Counts 100 ms by a monotonic clock, again and again.
+/// Measures periods of 100 ms by a monotonic clock. A period begins at the first `left` or `has_passed` after `new` or
+/// `reset`, and at the `has_passed` that ends the one before.
 #[derive(Drop)]
 pub struct Metronome<C: Clock> {
     clock: C,
-    // when the 100 ms began, if they have
+    // when the current period began; `None` if none has begun
     began: Option<Instant>,
 }
 
 impl<C: Clock> Metronome<C> {
-    /// The 100 ms begin when it is first asked of them.
+    /// Makes a metronome whose first period begins at the first `left` or `has_passed`.
     pub fn new(clock: C) -> Metronome<C>
         ensures { result ≡ record { clock = clock; began = None } }
     {
         Metronome { clock, began: None }
     }
 
-    // What is left of the 100 ms at that time, at which they begin if they have not begun.
+    // Returns the rest of the period at `now`, where one begins if none has.
     fn left_at(&mut self, now: Instant) -> Duration
         ensures left { as_nanos result ≡ 100000000 - spent now self.old.began }
         ensures begins { self.new.began ≡ Some (begun_by now self.old.began) }
@@ -51,7 +52,7 @@ impl<C: Clock> Metronome<C> {
         Duration::from_millis(PERIOD).saturating_sub(now.duration_since(began))
     }
 
-    // Whether the 100 ms have passed at that time. If they have, the next ones begin then.
+    // Returns whether the period has ended at `now`; if so, the next one begins there.
     fn passes_at(&mut self, now: Instant) -> bool
         ensures passed { result ≡ true ↔ (100000000 ≤ spent now self.old.began) }
         ensures again { result ≡ true → self.new.began ≡ Some now }
@@ -65,9 +66,9 @@ impl<C: Clock> Metronome<C> {
         true
     }
 
-    /// What is left of the 100 ms: all of them where they begin now, or where the clock fails.
+    /// Returns the rest of the period: 100 ms if one begins now, or if the clock fails.
     pub fn left(&mut self) -> Duration
-        // By some reading of the clock, of which no contract speaks.
+        // This holds for some reading of the clock: no contract states which.
         ensures { Leaves self.old.began self.new.began (as_nanos result) }
     {
         match Instant::now(&self.clock) {
@@ -76,9 +77,10 @@ impl<C: Clock> Metronome<C> {
         }
     }
 
-    /// Whether the 100 ms have passed, or the clock fails. The next ones then begin now.
+    /// Returns whether the period has ended; if so, the next one begins now. If the clock fails it returns true, so
+    /// that ticks go on, and changes nothing.
     pub fn has_passed(&mut self) -> bool
-        // By some reading of the clock, of which no contract speaks.
+        // This holds for some reading of the clock: no contract states which.
         ensures { Passes self.old.began self.new.began result }
     {
         match Instant::now(&self.clock) {
@@ -87,19 +89,19 @@ impl<C: Clock> Metronome<C> {
         }
     }
 
-    /// Forgets when the 100 ms began: the next ones begin when it is asked of them.
+    /// Drops the current period; the next one begins at the next `left` or `has_passed`.
     pub fn reset(&mut self)
         ensures { self.new ≡ record self.old { began = None } }
     {
         self.began = None;
     }
 
-    /// What the clock shows, unless it fails.
+    /// Returns the clock's reading, or `None` if it fails.
     pub fn now(&self) -> Option<Instant> {
         Instant::now(&self.clock).ok()
     }
 
-    /// How long ago that was, or no time if the clock failed then or fails now.
+    /// Returns the time since `then`, or zero if the clock failed then or fails now.
     pub fn since(&self, then: Option<Instant>) -> Duration {
         match (then, self.now()) {
             (Some(then), Some(now)) => now.duration_since(then),
@@ -107,7 +109,7 @@ impl<C: Clock> Metronome<C> {
         }
     }
 
-    /// Lets this time pass.
+    /// Sleeps for this time.
     pub fn pass(&self, time: Duration) {
         thread::sleep(&self.clock, time);
     }

@@ -1,4 +1,4 @@
-//! What the ticks of a server go by.
+//! What triggers the ticks of a server: datagrams, or the clock alone.
 
 ghost use Rattle.std.specs.Prelude.{◌≡◌, true, false};
 ghost use Rattle.lk_pace.specs.Paces.{ticks_after};
@@ -7,10 +7,10 @@ use crate::metronome::Metronome;
 use crate::turn_input::TurnInput;
 use std::time::Clock;
 
-// So many datagrams bring a tick, however fast they come, where ticks go by them.
+// With `Pace::Datagrams` a tick follows every this many datagrams, at any rate.
 const DATAGRAMS_PER_TICK: u64 = 64;
 
-/// What the ticks of a server go by.
+/// What triggers the ticks of a server.
 #[derive(Clone, Copy, Debug, PartialEq, Eq)]
 pub enum Pace {
     /// Datagrams: a tick after every 64th, and after each 100 ms in which none came.
@@ -20,7 +20,7 @@ pub enum Pace {
 }
 
 impl Pace {
-    /// Whether a tick follows the datagram of that number at once.
+    /// Returns whether a tick follows this datagram at once. `number` counts all datagrams so far, this one included.
     pub fn ticks_after(self, number: u64) -> bool
         ensures { result ≡ ticks_after self number }
     {
@@ -30,9 +30,10 @@ impl Pace {
         }
     }
 
-    /// Whether a tick is due in a turn in which this was found. The next one is then 100 ms away.
+    /// Returns whether a tick is due at the end of a turn that found this. With `Datagrams` silence brings a tick and
+    /// input for the replica does not, and both restart the 100 ms; otherwise a tick is due once these have passed.
     pub fn is_due<C: Clock>(self, found: TurnInput, metronome: &mut Metronome<C>) -> bool
-        // By datagrams it is due where nothing came, and not where its replica was given something.
+        // With `Datagrams` it is due if nothing came, and not if the replica was given something.
         ensures none { self ≡ Pace.Datagrams → found ≡ TurnInput.Nothing → result ≡ true }
         ensures given { self ≡ Pace.Datagrams → found ≡ TurnInput.Something → result ≡ false }
     {

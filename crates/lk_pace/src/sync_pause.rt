@@ -1,12 +1,12 @@
-//! How long a server waits for more before it syncs. What comes in a pause is synced with what came before it, and
-//! would wait for another sync otherwise.
+//! Decides how long a server waits for more datagrams before it syncs a group: what arrives in such a pause shares the
+//! group's sync instead of waiting for the next one.
 
 ghost use Rattle.std.specs.Prelude.{◌≡◌, ◌≤◌, ◌<◌, ◌⊎◌, ◌+◌, ◌-◌, ◌*◌, ◌/◌, min, max, IfSome, IsNone};
 ghost use Rattle.std.specs.Duration.{as_nanos};
 
 use std::time::Duration;
 
-// A pause is this part of a sync, and a group has at most this many: all of them are no longer than a sync.
+// A pause lasts 1/16 of the longest recent sync, and a group has at most 16: together no longer than that sync.
 const PART: u8 = 16;
 
 // No pause is shorter than this many microseconds, since the system may take as long to end it.
@@ -15,18 +15,18 @@ const SHORTEST: u64 = 50;
 // A longer sync counts as this many microseconds: no pause is longer than 2 ms.
 const LONGEST: u64 = 32_000;
 
-/// What a server remembers of its syncs.
+/// The recent syncs of a server, from which it chooses the pauses of a group.
 #[derive(Clone, Copy)]
 pub struct SyncPause {
-    /// The longest one in microseconds, an eighth shorter at each that followed.
+    /// The longest sync in microseconds, which decays by an eighth at each later sync.
     pub longest: u64,
-    /// The most letters that waited for one, one less at each that followed.
+    /// The most letters that waited for one sync, which decays by one at each later sync.
     pub fullest: usize,
-    /// How many pauses the group may still have.
+    /// How many more pauses the current group may have.
     pub left: u8,
 }
 
-// The microseconds of a sync.
+// Converts to whole microseconds, at most `LONGEST`.
 fn micros_of(took: Duration) -> u64
     ensures { result ≡ min (as_nanos took / 1000) 32000 }
 {
@@ -37,14 +37,15 @@ fn micros_of(took: Duration) -> u64
 }
 
 impl SyncPause {
-    /// No sync yet.
+    /// The state before the first sync, in which no pause is due.
     pub const NONE: SyncPause = SyncPause {
         longest: 0,
         fullest: 0,
         left: PART,
     };
 
-    /// A group has ended with a sync, for which this many letters waited.
+    /// Records the sync that ended a group, and the number of letters that waited for it; the next group may have 16
+    /// pauses.
     pub fn note(&mut self, took: Duration, letters: usize)
         ensures longest { self.new.longest
             ≡ max (min (as_nanos took / 1000) 32000) (self.old.longest - self.old.longest / 8) }
@@ -57,8 +58,8 @@ impl SyncPause {
         self.left = PART;
     }
 
-    /// The next pause of a group that has this many letters, if one is due: more letters waited for an earlier sync,
-    /// the pause is not too short, and the group has had fewer than 16.
+    /// Returns the next pause of a group with this many letters. `None` if no recent sync had more letters, the pause
+    /// would be under 50 microseconds, or the group has had 16.
     pub fn next_pause(&mut self, letters: usize) -> Option<Duration>
         ensures some { IfSome result
             (λ d. (as_nanos d ≡ self.old.longest / 16 * 1000) × (50 ≤ self.old.longest / 16)

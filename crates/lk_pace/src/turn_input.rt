@@ -1,15 +1,15 @@
-//! What a server finds in a turn.
+//! The kinds of input that a turn of a server finds.
 
 ghost use Rattle.std.specs.Prelude.{◌≡◌, ◌↔◌, IsTrue};
 
-/// What a server finds in a turn.
+/// The kind of input that a turn of a server found.
 #[derive(Clone, Copy, Debug)]
 pub enum TurnInput {
     /// Nothing came.
     Nothing,
-    /// Something came, but nothing that a replica is given.
+    /// A datagram that its replica is not given: a probe, a report, or one from a node of another genesis.
     Beside,
-    /// Something that its replica was given.
+    /// Input that its replica was given.
     Something,
 }
 

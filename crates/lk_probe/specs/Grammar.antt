@@ -1,4 +1,4 @@
--- The one spelling of a probe and of a report, byte by byte, and which of them fit.
+-- The bytes of a probe and of a report, and the ranges of their parts.
 use Rattle.std.specs.Prelude.{◌≡◌, ℕ, ◌-◌, ◌<◌, ◌^◌, Bool, true, false, Option, Some, None, List, ◌∷◌, ◌++◌, length}
 use Rattle.std.specs.Prelude.{replicate, IfSome}
 use Rattle.std.specs.List.{AllByRecursion}
@@ -69,11 +69,11 @@ abbrev pub probe : Probe → List ℕ
 probe p = eight p.cluster
     ++ (four (or_zero (node_in p.origin)) ++ (two (or_zero p.client) ++ (eight p.token ++ genesis_in p.origin)))
 
--- the cluster, the node that answers, the client and the token of the probe, and what the node tells of itself
+-- the cluster, the node that answers, the client and the token of the probe, and the node's status
 abbrev pub report : Report → List ℕ
 report r = eight r.cluster ++ (four r.node ++ (two (or_zero r.client) ++ (eight r.token ++ status r.status)))
 
--- with zeros behind, up to that length
+-- with zeros up to that length
 unfoldable pub padded : List ℕ → List ℕ
 padded bytes = bytes ++ replicate (probe_length - length bytes) 0
 

@@ -1,5 +1,5 @@
--- What a node knows of the addresses from which nodes write to it: whether it has asked which genesis the node there
--- was started with, and what that told.
+-- The addresses from which nodes write to a node: whether it has asked which genesis the node there was started with,
+-- and what that reported.
 use Rattle.std.specs.Prelude.{◌≡◌, ◌≤◌, ◌+◌, ◌||◌, ℕ, nat_lt, nat_eq, Bool, true, false, if◌then◌else◌, List, [], ◌∷◌}
 use Rattle.std.specs.Prelude.{slice_get, slice_set, Option, Some, None}
 use Rattle.std.specs.Cmp.Lexicographic.{pointwise}
@@ -32,7 +32,7 @@ entry_for place (e ∷ es) = if is_for place e then 0 else entry_for place es + 
 
 -- ---- whose datagrams are dropped
 
--- where it is another genesis, so; else not
+-- this truth value if another genesis is known there, else false
 abbrev pub if_other : Knowledge → Bool → Bool
 if_other (Other origin) so = so
 if_other Unknown so = false
@@ -109,7 +109,7 @@ pub record Readmits (place : SocketAddr) (old new : Entries) : Type 0 where
       → new ≡ slice_set old (entry_for place old) (Some (record n { knowledge = readmitted n.knowledge }))
   pub unknown : ((n : Neighbour) → slice_get old (entry_for place old) ≡ Some (Some n) → ⊥) → new ≡ old
 
--- it was asked, and has not told
+-- it was asked, and has not reported
 abbrev pub is_open : Knowledge → Bool
 is_open Unknown = false
 is_open (Asked ticks) = true
@@ -117,7 +117,7 @@ is_open AskedTwice = true
 is_open Same = false
 is_open (Other origin) = false
 
--- an entry that is there is of one that was asked and has not told
+-- the entry exists, is not free, and its node was asked and has not reported
 abbrev pub is_open_at : Option (Option Neighbour) → Bool
 is_open_at None = false
 is_open_at (Some None) = false
@@ -135,7 +135,7 @@ other_of Same = None
 abbrev pub bound_by : Neighbour → Option Origin
 bound_by n = if n.binds then other_of n.knowledge else None
 
--- so at an entry that is there
+-- the same of an entry, none if it is free
 abbrev pub bound_at : Option Neighbour → Option Origin
 bound_at None = None
 bound_at (Some n) = bound_by n
@@ -150,11 +150,11 @@ abbrev pub bound_in : Entries → Option Origin
 bound_in [] = None
 bound_in (e ∷ es) = or_else (bound_at e) (bound_in es)
 
--- what is known once it tells this origin to a node of that genesis
+-- what a node of that genesis knows of a node that has reported this origin
 abbrev pub having_told : List ℕ → Origin → Knowledge
 having_told own told = if pointwise nat_eq told.genesis own then Same else Other told
 
--- it was asked and tells that; every other entry is as it was
+-- the node there was asked and has reported that origin; every other entry is unchanged
 pub record Learns (place : SocketAddr) (own : List ℕ) (told : Origin) (is : Neighbour)
     (old new : Entries) : Type 0 where
   pub neighbour : Neighbour

@@ -1,4 +1,4 @@
--- How a node asks which genesis the node at an address was started with, and what it takes of a report.
+-- The probe by which a node asks for the genesis of another one, and what it keeps of the report.
 use Rattle.std.specs.Prelude.{◌≡◌, ℕ, List, Option, Some, None}
 use Rattle.std.specs.declared.net.socket_addr.SocketAddr.{SocketAddr}
 use Rattle.lk_probe.specs.Grammar.{SpellsReport, Answers}
@@ -11,7 +11,7 @@ use Rattle.lk_probe.specs.declared.reported.Reported.{Reported}
 abbrev pub question : ℕ → Origin → Probe
 question cluster asker = record { cluster = cluster; origin = Some asker; client = None; token = asker.node }
 
--- what is taken of a datagram that came from there: what a report tells, if it answers the probe
+-- what is kept of a datagram that was received from there: what a report names, if it answers the probe
 abbrev pub IsReportedOf : Probe → SocketAddr × List ℕ → Option Reported → Type 0
 IsReportedOf p d None = (r : Report) → SpellsReport r d.1 → Answers p r → ⊥
 IsReportedOf p d (Some t) =

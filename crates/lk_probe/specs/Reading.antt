@@ -1,4 +1,4 @@
--- Reading each part of a probe and of a report, and both.
+-- Readers of each part of a probe and of a report, and of both.
 use Rattle.std.specs.Prelude.{ℕ, Bool, true, Option, Some, None, List, [], ◌∷◌, length, take, drop, nat_le, nat_lt}
 use Rattle.std.specs.Prelude.{◌==◌, ◌&&◌, if◌then◌else◌}
 use Rattle.lk_types.specs.Limits.{max_node, max_client}

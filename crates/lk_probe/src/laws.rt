@@ -1,4 +1,4 @@
-//! Laws of probes and reports alone.
+//! Laws of the datagrams of probes and reports. Each is stated as a function without a body.
 
 ghost use Rattle.std.specs.Prelude.{◌≡◌, List, ℕ, length};
 ghost use Rattle.lk_messages.specs.declared.message.Message.{Message};
@@ -9,13 +9,13 @@ ghost use Rattle.lk_probe.specs.declared.probe.Probe.{Probe};
 ghost use Rattle.lk_probe.specs.declared.probe.Report.{Report};
 ghost use Rattle.lk_probe.specs.Grammar.{SpellsProbe, SpellsReport, or_zero};
 
-/// A spelling has one probe, or one report.
+/// Bytes spell one probe at most, and one report at most.
 pub fn one_meaning()
     ensures probe { (p q : Probe) (bytes : List ℕ) → SpellsProbe p bytes → SpellsProbe q bytes → p ≡ q }
     ensures report { (r s : Report) (bytes : List ℕ) → SpellsReport r bytes → SpellsReport s bytes → r ≡ s }
 {}
 
-/// A probe is as long as a report.
+/// Each probe and each report has 174 bytes.
 pub fn lengths()
     ensures probe { (p : Probe) (bytes : List ℕ) → SpellsProbe p bytes → length bytes ≡ 174 }
     ensures report { (r : Report) (bytes : List ℕ) → SpellsReport r bytes → length bytes ≡ 174 }
@@ -28,8 +28,7 @@ pub fn kinds_are_disjoint()
     ensures both { (p : Probe) (r : Report) (bytes : List ℕ) → SpellsProbe p bytes → SpellsReport r bytes → ⊥ }
 {}
 
-/// A node that serves clients takes a probe out of its frame as it takes a request: by the key of the client that it
-/// names.
+/// A node opens the frame of a client's probe as it opens that of a request: with the key of the client that it names.
 pub fn is_heard_as_a_request()
     ensures kind { (p : Probe) (bytes : List ℕ) → SpellsProbe p bytes → only_request bytes ≡ bytes }
     ensures client { (p : Probe) (bytes : List ℕ) → SpellsProbe p bytes → client_in bytes ≡ or_zero p.client }

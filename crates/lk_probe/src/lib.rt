@@ -1,5 +1,5 @@
-//! Probes: datagrams beside the protocol by which a node is asked what it tells of itself, and the reports that answer
-//! them. They have a magic of their own, and a probe is as long as its report.
+//! Probes and reports: datagrams beside the protocol, by which a node is asked for its status and replies. Both begin
+//! with `LP` and have the same length, so a probe with a forged source address amplifies nothing.
 #![tactic(auto)]
 
 pub mod laws;

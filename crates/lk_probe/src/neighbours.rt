@@ -12,10 +12,10 @@ use lk_types::NodeNo;
 use std::marker::Model;
 use std::net::SocketAddr;
 
-// How many addresses are known. A node at a further one is heard, and never asked.
+// How many addresses are kept. Datagrams from a further one are accepted, but it is never probed.
 const ROOM: usize = 64;
 
-/// Which node it is, and the digest of the genesis that it was started with.
+/// A node, and the digest of the genesis that it was started with.
 #[derive(Clone, Copy)]
 pub struct Origin {
     pub node: NodeNo,
@@ -42,7 +42,7 @@ pub enum Knowledge {
 pub struct Neighbour {
     pub place: SocketAddr,
     pub knowledge: Knowledge,
-    /// Whether it has sent a Prepare, an Accept, a Lead or a Decided.
+    /// Whether it has sent a Prepare, an Accept, a Lead or a Decided: messages by which this node follows the sender.
     pub binds: bool,
 }
 
@@ -72,7 +72,7 @@ impl Knowledge {
         }
     }
 
-    // What is known once it is asked.
+    // Returns what is known after a probe at that count of ticks.
     fn having_asked(self, now: u64) -> Knowledge
         ensures { result ≡ having_asked now self }
     {
@@ -83,7 +83,7 @@ impl Knowledge {
         }
     }
 
-    // What is known once a node of this genesis asks from there.
+    // Returns what is known after a node of this genesis has asked from there: another genesis is forgotten.
     fn readmitted(self) -> Knowledge
         ensures { result ≡ readmitted self }
     {
@@ -93,7 +93,7 @@ impl Knowledge {
         }
     }
 
-    // The origin of a node of another genesis.
+    // Returns the origin that it reported, if that is of another genesis.
     fn as_stranger(&self) -> Option<Origin>
         ensures { result ≡ other_of self.now }
     {
@@ -110,7 +110,7 @@ impl Knowledge {
         matches!(self, Knowledge::Asked(_) | Knowledge::AskedTwice)
     }
 
-    // What is known of a node that reports this, by one of that genesis.
+    // Returns what a node of the genesis `own` knows of a node that has reported `told`.
     fn having_told(own: &[u8; DIGEST], told: Origin) -> Knowledge
         ensures { result ≡ having_told own.now told }
     {
@@ -132,7 +132,7 @@ fn is_for(place: SocketAddr, entry: &Option<Neighbour>) -> bool
     }
 }
 
-// An entry after a node has written from its address.
+// Returns an entry after a node has written from its address. `binds` stays set once it was.
 fn having_met(place: SocketAddr, binds: bool, entry: Option<Neighbour>) -> Neighbour
     ensures { result ≡ having_met place binds entry }
 {
@@ -149,7 +149,7 @@ fn having_met(place: SocketAddr, binds: bool, entry: Option<Neighbour>) -> Neigh
     }
 }
 
-// The node of another genesis at an address, where the entry has one there.
+// Returns the node of another genesis of an entry, if the entry is that of the address.
 fn stranger_at(place: SocketAddr, entry: &Option<Neighbour>) -> Option<NodeNo>
     ensures { is_some result ≡ is_stranger_at place entry.now }
 {
@@ -160,14 +160,14 @@ fn stranger_at(place: SocketAddr, entry: &Option<Neighbour>) -> Option<NodeNo>
 }
 
 impl Neighbour {
-    /// The origin of the node, where it is of another genesis.
+    /// Returns the origin of the node, if it is of another genesis.
     pub fn as_stranger(&self) -> Option<Origin>
         ensures { result ≡ other_of self.now.knowledge }
     {
         self.knowledge.as_stranger()
     }
 
-    /// The same where the node binds this one.
+    /// Returns the origin of the node, if it is of another genesis and this node follows it.
     pub fn followed_stranger(&self) -> Option<Origin>
         ensures { result ≡ bound_by self.now }
     {
@@ -175,7 +175,7 @@ impl Neighbour {
     }
 }
 
-// The origin of the node of an entry, where it is of another genesis and binds this one.
+// Returns the same for an entry, `None` if that is free.
 fn bound_at(entry: &Option<Neighbour>) -> Option<Origin>
     ensures { result ≡ bound_at entry.now }
 {
@@ -185,7 +185,7 @@ fn bound_at(entry: &Option<Neighbour>) -> Option<Origin>
     }
 }
 
-// The first such origin of these entries.
+// Returns the first origin of another genesis in these entries whose node this one follows.
 fn bound_in(entries: &[Option<Neighbour>]) -> Option<Origin>
     ensures { result ≡ bound_in entries.now }
 {
@@ -197,7 +197,7 @@ fn bound_in(entries: &[Option<Neighbour>]) -> Option<Origin>
     None
 }
 
-// The index of an address' entry, or of the first free one, or the number of the entries.
+// Returns the index of an address' entry, or else of the first free one, or else the number of entries.
 fn entry_for(place: SocketAddr, entries: &[Option<Neighbour>]) -> usize
     ensures is { result ≡ entry_for place entries.now }
     ensures within { result ≤ length entries.now }
@@ -229,7 +229,7 @@ fn first_due(now: u64, entries: &[Option<Neighbour>]) -> Option<(usize, Neighbou
     None
 }
 
-// The node of another genesis at an address, where one of the entries has one there.
+// Returns the node of another genesis at an address, by the entries.
 #[tactic(auto, unfolding(crate::specs::Neighbours::is_stranger))]
 fn stranger_in(place: SocketAddr, entries: &[Option<Neighbour>]) -> Option<NodeNo>
     ensures { is_some result ≡ is_stranger entries.now place }
@@ -243,7 +243,7 @@ fn stranger_in(place: SocketAddr, entries: &[Option<Neighbour>]) -> Option<NodeN
 }
 
 impl Neighbours {
-    /// No node has written.
+    /// Returns an empty table.
     #[tactic(auto, unfolding(crate::specs::Neighbours::is_stranger))]
     pub fn new() -> Neighbours
         ensures { (place : Address) → is_stranger result place ≡ false }
@@ -253,7 +253,8 @@ impl Neighbours {
         }
     }
 
-    /// A node has written from there, and binds this node by it or not.
+    /// Records that a node has written from an address, and whether this node follows it by that. Ignores the address
+    /// if it is new and the table is full.
     pub fn meet(&mut self, place: SocketAddr, binds: bool)
         ensures meets { Meets place binds self.old self.new }
         ensures strangers { is_stranger self.new ≡ is_stranger self.old }
@@ -264,7 +265,8 @@ impl Neighbours {
         }
     }
 
-    /// The address of a node for which a probe is due at that count of ticks. From now on it was asked.
+    /// Returns an address for which a probe is due at that count of ticks, and counts it as asked. `None` if none is
+    /// due.
     #[tactic(auto, using(crate::proofs::Strangers::asked_strangers))]
     pub fn next_to_probe(&mut self, now: u64) -> Option<SocketAddr>
         ensures some { IfSome result (λ place. Asks now place self.old self.new) }
@@ -281,7 +283,8 @@ impl Neighbours {
         Some(neighbour.place)
     }
 
-    /// A node of this genesis asks from there. If another genesis was known there, it is as if it was never asked.
+    /// Records that a node of this genesis has asked from an address. If another genesis was known there, it is
+    /// forgotten, so that the address is probed again.
     pub fn readmit(&mut self, place: SocketAddr)
         ensures { Readmits place self.old self.new }
     {
@@ -297,8 +300,8 @@ impl Neighbours {
         }
     }
 
-    /// What is known of the node at an address that was asked and reports this. `None`, and nothing is changed, if it
-    /// was not asked or has answered before.
+    /// Records the origin that the node at an address has reported, and returns its entry. `None`, and nothing changes,
+    /// if it was not asked, or has answered before.
     pub fn learn(
         &mut self,
         place: SocketAddr,
@@ -326,14 +329,14 @@ impl Neighbours {
         self.entries[at]
     }
 
-    /// The node of another genesis at that address, if there is one.
+    /// Returns the node of another genesis at that address, if there is one.
     pub fn stranger(&self, place: SocketAddr) -> Option<NodeNo>
         ensures { is_some result ≡ is_stranger self.now place }
     {
         stranger_in(place, &self.entries)
     }
 
-    /// The first node of another genesis that binds this one, if one does.
+    /// Returns the first node of another genesis that this node follows, if there is one.
     pub fn followed_stranger(&self) -> Option<Origin>
         ensures { result ≡ bound_in self.now }
     {

@@ -1,3 +1,4 @@
+// Probes and reports as values, and which report answers which probe.
 ghost use Rattle.std.specs.Prelude.{◌≡◌, ◌↔◌, IsTrue, IfSome};
 ghost use Rattle.lk_types.specs.Ranges.{IsClient};
 ghost use Rattle.lk_probe.specs.Grammar.{IsOrigin, IsProbe, IsReport, Answers, SpellsProbe, SpellsReport, node_in};
@@ -7,7 +8,7 @@ use crate::status::{LENGTH, Status};
 use crate::writing::{write_probe, write_report};
 use lk_types::{ClientNo, NodeNo};
 
-/// A question to a node: what it reports of itself.
+/// A request for a node's status.
 #[derive(Clone, Copy)]
 pub struct Probe {
     pub cluster: u64,
@@ -15,11 +16,11 @@ pub struct Probe {
     pub origin: Option<Origin>,
     /// The client by whose key it is sealed, if a client asks and has one.
     pub client: Option<ClientNo>,
-    /// What the report repeats.
+    /// A number that the report repeats, by which the asker matches them.
     pub token: u64,
 }
 
-/// What a node answers to a probe.
+/// A node's reply to a probe.
 #[derive(Drop)]
 pub struct Report {
     pub cluster: u64,
@@ -33,7 +34,7 @@ pub struct Report {
 }
 
 impl Origin {
-    // Each part is in its range. It does nothing.
+    // Proves that each part is in its range. Does nothing when run.
     fn facts(&self)
         ensures { IsOrigin self.now }
     {
@@ -42,7 +43,7 @@ impl Origin {
     }
 }
 
-// An origin that is there is in its range. It does nothing.
+// Proves that an origin, if there is one, is in its range. Does nothing when run.
 fn origin_facts(origin: &Option<Origin>)
     ensures { IfSome origin.now IsOrigin }
 {
@@ -51,7 +52,7 @@ fn origin_facts(origin: &Option<Origin>)
     }
 }
 
-// A client that is there is in its range. It does nothing.
+// Proves that a client, if there is one, is in its range. Does nothing when run.
 fn client_facts(client: Option<ClientNo>)
     ensures { IfSome client IsClient }
 {
@@ -61,7 +62,7 @@ fn client_facts(client: Option<ClientNo>)
 }
 
 impl Probe {
-    /// Each part is in its range. The function does nothing.
+    /// Proves that each part is in its range. Does nothing when run.
     pub fn facts(&self)
         ensures { IsProbe self.now }
     {
@@ -81,7 +82,7 @@ impl Probe {
         }
     }
 
-    /// Its bytes. It takes no memory.
+    /// Returns its datagram, with zeros up to `LENGTH`. Allocates nothing.
     pub fn datagram(&self) -> [u8; LENGTH]
         ensures { SpellsProbe self.now result }
     {
@@ -89,7 +90,7 @@ impl Probe {
         write_probe(self)
     }
 
-    /// The report of a node with this status.
+    /// Returns the report that answers this probe: with its cluster, client and token, and that node and status.
     pub fn answer(&self, node: NodeNo, status: Status) -> Report
         ensures answers { Answers self.now result }
         ensures node { result.node ≡ node }
@@ -106,7 +107,7 @@ impl Probe {
 }
 
 impl Report {
-    /// Each part is in its range. The function does nothing.
+    /// Proves that each part is in its range. Does nothing when run.
     pub fn facts(&self)
         ensures { IsReport self.now }
     {
@@ -117,7 +118,7 @@ impl Report {
         self.status.facts();
     }
 
-    /// Its bytes. It takes no memory.
+    /// Returns its datagram, with zeros up to `LENGTH`. Allocates nothing.
     pub fn datagram(&self) -> [u8; LENGTH]
         ensures { SpellsReport self.now result }
     {
@@ -125,7 +126,7 @@ impl Report {
         write_report(self)
     }
 
-    /// Whether it answers that probe.
+    /// Whether it answers that probe: cluster, client and token are the same.
     pub fn answers(&self, probe: &Probe) -> bool
         ensures { IsTrue result ↔ Answers probe.now self.now }
     {

@@ -1,3 +1,5 @@
+// Reads probes and reports. Each `read_..` returns a part and the bytes after it, or `None` if the bytes do not begin
+// with one.
 ghost use Rattle.std.specs.Prelude.{◌≡◌, IfSome, IsSomeAnd};
 ghost use Rattle.lk_fields.specs.Parser.{Finds};
 ghost use Rattle.lk_probe.specs.Grammar.{SpellsProbe, SpellsReport};
@@ -16,7 +18,7 @@ use lk_fields::{
 };
 use lk_types::{ClientNo, NodeNo};
 
-// A node, or none where four zeros stand.
+// Reads the number of a node; four zeros are no node.
 #[tactic(auto, unfolding(crate::specs::Reading::read_maybe_node))]
 fn read_maybe_node(bytes: &[u8]) -> Option<(Option<NodeNo>, &[u8])>
     ensures { Finds (λ x. (x.0, x.1.now)) result (read_maybe_node bytes.now) }
@@ -28,7 +30,7 @@ fn read_maybe_node(bytes: &[u8]) -> Option<(Option<NodeNo>, &[u8])>
     Some((Some(NodeNo::of(number)?), rest))
 }
 
-// A client, or none where two zeros stand.
+// Reads the number of a client; two zeros are no client.
 #[tactic(auto, unfolding(crate::specs::Reading::read_maybe_client))]
 fn read_maybe_client(bytes: &[u8]) -> Option<(Option<ClientNo>, &[u8])>
     ensures { Finds (λ x. (x.0, x.1.now)) result (read_maybe_client bytes.now) }
@@ -40,6 +42,7 @@ fn read_maybe_client(bytes: &[u8]) -> Option<(Option<ClientNo>, &[u8])>
     Some((Some(ClientNo::of(number)?), rest))
 }
 
+// Reads a byte that is 1 for true or 0 for false.
 #[tactic(auto, unfolding(crate::specs::Reading::read_flag))]
 fn read_flag(bytes: &[u8]) -> Option<(bool, &[u8])>
     ensures { Finds (λ x. (x.0, x.1.now)) result (read_flag bytes.now) }
@@ -168,7 +171,7 @@ fn read_status(bytes: &[u8]) -> Option<(Status, &[u8])>
     None
 }
 
-// The node that asks, with the digest of its genesis; zeros stand without a node.
+// Reads the digest of the genesis of `node`, the node that asks. It has to be zeros if no node asks.
 #[tactic(auto, unfolding(crate::specs::Reading::read_digest))]
 fn read_origin(node: Option<NodeNo>, bytes: &[u8]) -> Option<(Option<Origin>, &[u8])>
     ensures { Finds (λ x. (x.0, x.1.now)) result (read_origin node bytes.now) }
@@ -228,7 +231,7 @@ fn read_report_fields(bytes: &[u8]) -> Option<(Report, &[u8])>
     None
 }
 
-// Whether nothing but zeros stand there.
+// Whether all of these bytes are 0.
 fn are_zeros(bytes: &[u8]) -> bool
     ensures { result ≡ are_zeros bytes.now }
 {
@@ -240,7 +243,7 @@ fn are_zeros(bytes: &[u8]) -> bool
     true
 }
 
-// The probe that all of the bytes are.
+// Reads a whole datagram as a probe. `None` if length, letters, version, kind, a field or the zeros at its end differ.
 #[tactic(auto, unfolding(crate::specs::Reading::probe_of))]
 fn probe_of(bytes: &[u8]) -> Option<Probe>
     ensures { Finds (λ x. x) result (probe_of bytes.now) }
@@ -262,7 +265,7 @@ fn probe_of(bytes: &[u8]) -> Option<Probe>
     }
 }
 
-// The report that all of the bytes are.
+// Reads a whole datagram as a report. `None` if length, letters, version, kind, a field or the zeros at its end differ.
 #[tactic(auto, unfolding(crate::specs::Reading::report_of))]
 fn report_of(bytes: &[u8]) -> Option<Report>
     ensures { Finds (λ x. x) result (report_of bytes.now) }
@@ -285,11 +288,11 @@ fn report_of(bytes: &[u8]) -> Option<Report>
 }
 
 impl Probe {
-    /// The probe that the bytes spell. It takes no memory.
+    /// Reads a whole datagram as a probe, `None` if it is none. Allocates nothing.
     pub fn read(bytes: &[u8]) -> Option<Probe>
-        // What is read is spelled there.
+        // A value that is returned is spelled by the bytes.
         ensures found { IfSome result (λ p. SpellsProbe p bytes.now) }
-        // What is spelled so is read.
+        // Bytes that spell a value are read as that value.
         ensures only { (p : ProbeValue) → SpellsProbe p bytes.now → IsSomeAnd result (λ r. r ≡ p) }
     {
         probe_of(bytes)
@@ -297,11 +300,11 @@ impl Probe {
 }
 
 impl Report {
-    /// The report that the bytes spell. It takes no memory.
+    /// Reads a whole datagram as a report, `None` if it is none. Allocates nothing.
     pub fn read(bytes: &[u8]) -> Option<Report>
-        // What is read is spelled there.
+        // A value that is returned is spelled by the bytes.
         ensures found { IfSome result (λ r. SpellsReport r bytes.now) }
-        // What is spelled so is read.
+        // Bytes that spell a value are read as that value.
         ensures only { (r : ReportValue) → SpellsReport r bytes.now → IsSomeAnd result (λ s. s ≡ r) }
     {
         report_of(bytes)

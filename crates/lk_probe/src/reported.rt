@@ -1,4 +1,4 @@
-//! How a node asks which genesis the node at an address was started with, and what it takes of a report.
+//! The probe by which a node asks for the genesis of another one, and what it keeps of the report.
 
 ghost use Rattle.std.specs.Prelude.{◌≡◌};
 ghost use Rattle.lk_probe.specs.Questions.{IsReportedOf, question};
@@ -7,14 +7,14 @@ use crate::neighbours::Origin;
 use crate::probe::{Probe, Report};
 use std::net::SocketAddr;
 
-/// What a report says of the node at an address.
+/// The node and the genesis that a report names, and the address that it came from.
 #[derive(Clone, Copy)]
 pub struct Reported {
     pub from: SocketAddr,
     pub told: Origin,
 }
 
-/// The question of a node of the cluster: a probe that has its number as the token too.
+/// Returns the probe by which the node `asker` asks for a genesis. Its token is the asker's number.
 pub fn question(cluster: u64, asker: Origin) -> Probe
     ensures { result ≡ question cluster asker }
 {
@@ -28,7 +28,7 @@ pub fn question(cluster: u64, asker: Origin) -> Probe
 }
 
 impl Reported {
-    /// What the datagram that came from there says, if it is a report that answers the probe.
+    /// Reads a datagram from an address. `None` if it is no report, or answers another probe.
     pub fn by(probe: &Probe, from: SocketAddr, datagram: &[u8]) -> Option<Reported>
         ensures { IsReportedOf probe.now (from, datagram.now) result }
     {

@@ -1,13 +1,14 @@
+// The status that a report carries, and the sizes of its parts.
 ghost use Rattle.std.specs.Prelude.{IfSome};
 ghost use Rattle.lk_types.specs.Ranges.{IsNode};
 ghost use Rattle.lk_probe.specs.Grammar.{IsIdentity, IsLeadership, IsProgress, IsTraffic, IsStatus};
 
 use lk_types::{Ballot, Executed, Members, NodeNo};
 
-/// The length of a genesis' digest.
+/// The length of the SHA-256 digest of a genesis, in bytes.
 pub const DIGEST: usize = 32;
 
-/// The bytes of a probe, and of a report.
+/// The length of a probe's datagram, and of a report's, in bytes.
 pub const LENGTH: usize = 174;
 
 /// The version of a program.
@@ -25,7 +26,7 @@ pub const PROGRAM: Version = Version {
     patch: 0,
 };
 
-/// Which genesis, program, store and table a node has.
+/// The genesis of a node, and the versions of its program, store and lock table.
 #[derive(Clone, Copy)]
 pub struct Identity {
     /// The SHA-256 digest of its genesis.
@@ -45,27 +46,29 @@ pub struct Leadership {
     pub leads: bool,
     /// The node that it takes for the leader.
     pub leader: Option<NodeNo>,
-    /// How many ticks ago it last heard of a leader, or since its start where it never did.
+    /// How many ticks ago it last heard of a leader, or since its start if it never did: 28 at most, where the count
+    /// stays.
     pub silence: u64,
     /// The ballot that it has promised.
     pub promised: Ballot,
 }
 
-/// How far a node is.
+/// How far a node has executed the list.
 #[derive(Clone, Copy)]
 pub struct Progress {
     /// How many positions it has executed.
     pub executed: Executed,
     /// The position of its snapshot.
     pub snapshot: Executed,
-    /// How many positions, from the next one on, come before the last join or leave is in force.
+    /// How many positions, from the next one on, precede the first for which the last join or leave is in force: 0 if
+    /// none is pending, 255 if there are more.
     pub pending: u8,
 }
 
-/// What a node counts.
+/// Counts of a node's waiting requests, datagrams and ticks.
 #[derive(Clone, Copy)]
 pub struct Traffic {
-    /// The requests that wait to be proposed.
+    /// The requests that wait to be proposed, 65535 if there are more.
     pub waiting: u16,
     /// The datagrams since its start that could not be read.
     pub unread: u64,
@@ -75,7 +78,7 @@ pub struct Traffic {
     pub ticks: u64,
 }
 
-/// What a node reports of itself.
+/// What a node reports of itself to whoever probes it.
 #[derive(Drop)]
 pub struct Status {
     pub identity: Identity,
@@ -86,7 +89,7 @@ pub struct Status {
     pub members: Members,
 }
 
-/// A node that is there is in its range. It does nothing.
+/// Proves that a node, if there is one, is in its range. Does nothing when run.
 pub fn node_facts(node: Option<NodeNo>)
     ensures { IfSome node IsNode }
 {
@@ -96,7 +99,7 @@ pub fn node_facts(node: Option<NodeNo>)
 }
 
 impl Identity {
-    /// Each part is in its range. The function does nothing.
+    /// Proves that each part is in its range. Does nothing when run.
     pub fn facts(&self)
         ensures { IsIdentity self.now }
     {
@@ -112,7 +115,7 @@ impl Identity {
 }
 
 impl Leadership {
-    /// Each part is in its range. The function does nothing.
+    /// Proves that each part is in its range. Does nothing when run.
     pub fn facts(&self)
         ensures { IsLeadership self.now }
     {
@@ -123,7 +126,7 @@ impl Leadership {
 }
 
 impl Progress {
-    /// Each part is in its range. The function does nothing.
+    /// Proves that each part is in its range. Does nothing when run.
     pub fn facts(&self)
         ensures { IsProgress self.now }
     {
@@ -134,7 +137,7 @@ impl Progress {
 }
 
 impl Traffic {
-    /// Each part is in its range. The function does nothing.
+    /// Proves that each part is in its range. Does nothing when run.
     pub fn facts(&self)
         ensures { IsTraffic self.now }
     {
@@ -146,7 +149,7 @@ impl Traffic {
 }
 
 impl Status {
-    /// Each part is in its range. The function does nothing.
+    /// Proves that each part is in its range. Does nothing when run.
     pub fn facts(&self)
         ensures { IsStatus self.now }
     {

@@ -1,3 +1,4 @@
+// Writes probes and reports as datagrams. Numbers are big-endian; each `put_..` appends one field, and requires room.
 ghost use Rattle.std.specs.Prelude.{◌≡◌, ◌≤◌, ◌+◌, ◌*◌, ◌++◌, [], length};
 ghost use Rattle.arrayvec.specs.ArrayVec.{array_vec_len};
 ghost use Rattle.lk_types.specs.Limits.{max_members};
@@ -12,7 +13,7 @@ use crate::status::{DIGEST, Identity, LENGTH, Leadership, Progress, Status, Traf
 use arrayvec::ArrayVec;
 use lk_types::{Ballot, ClientNo, Member, NodeNo};
 
-// What is written of a datagram so far.
+// The bytes of a datagram that have been written so far.
 type Bytes = ArrayVec<u8, LENGTH>;
 
 fn put(out: &mut Bytes, bytes: &[u8])
@@ -58,7 +59,7 @@ fn put_u64(out: &mut Bytes, value: u64)
     put(out, &value.to_be_bytes());
 }
 
-// A node, or four zeros.
+// Appends the number of a node, four zeros for none.
 fn put_maybe_node(out: &mut Bytes, node: Option<NodeNo>)
     requires { array_vec_len out.old + 4 ≤ probe_length }
     ensures items { out.new.items ≡ out.old.items ++ four (or_zero node) }
@@ -70,7 +71,7 @@ fn put_maybe_node(out: &mut Bytes, node: Option<NodeNo>)
     }
 }
 
-// A client, or two zeros.
+// Appends the number of a client, two zeros for none.
 fn put_maybe_client(out: &mut Bytes, client: Option<ClientNo>)
     requires { array_vec_len out.old + 2 ≤ probe_length }
     ensures items { out.new.items ≡ out.old.items ++ two (or_zero client) }
@@ -82,7 +83,7 @@ fn put_maybe_client(out: &mut Bytes, client: Option<ClientNo>)
     }
 }
 
-// The digest of the genesis of the node that asks, or zeros.
+// Appends the digest of the asking node's genesis, 32 zeros if no node asks.
 fn put_genesis(out: &mut Bytes, origin: &Option<Origin>)
     requires { array_vec_len out.old + 32 ≤ probe_length }
     ensures items { out.new.items ≡ out.old.items ++ genesis_in origin.now }
@@ -115,6 +116,7 @@ fn put_identity(out: &mut Bytes, value: &Identity)
     put_u8(out, value.table);
 }
 
+// Appends a ballot, which may be `Ballot::ZERO`: its round, then its node.
 fn put_mark(out: &mut Bytes, value: Ballot)
     requires { array_vec_len out.old + 12 ≤ probe_length }
     ensures items { out.new.items ≡ out.old.items ++ ballot value }
@@ -177,6 +179,7 @@ fn put_member(out: &mut Bytes, value: Member)
     put_u16(out, value.port.get());
 }
 
+// Appends how many members there are, then each of them.
 fn put_members(out: &mut Bytes, list: &[Member])
     requires few { length list.now ≤ max_members }
     requires room { array_vec_len out.old + 43 ≤ probe_length }
@@ -201,7 +204,7 @@ fn put_status(out: &mut Bytes, value: &Status)
     put_members(out, value.members.as_slice());
 }
 
-// The letters and the version, and which of both it is.
+// Returns the first four bytes: `LP`, version 1, and the kind, 9 for a probe or 10 for a report.
 fn begun(kind: u8) -> Bytes
     ensures items { result.items ≡ front kind [] }
     ensures len { array_vec_len result ≡ 4 }
@@ -211,7 +214,7 @@ fn begun(kind: u8) -> Bytes
     out
 }
 
-// The same with zeros behind.
+// Returns what is written, with zeros up to `LENGTH`.
 #[tactic(auto, unfolding(crate::specs::Grammar::padded))]
 fn filled(written: &Bytes) -> [u8; LENGTH]
     ensures { result ≡ padded written.now.items }
@@ -222,7 +225,7 @@ fn filled(written: &Bytes) -> [u8; LENGTH]
     bytes
 }
 
-/// The bytes of a probe.
+/// Returns the datagram of a probe.
 pub fn write_probe(value: &Probe) -> [u8; LENGTH]
     ensures { result ≡ probe_spelling value.now }
 {
@@ -235,7 +238,7 @@ pub fn write_probe(value: &Probe) -> [u8; LENGTH]
     filled(&out)
 }
 
-/// The bytes of a report.
+/// Returns the datagram of a report.
 pub fn write_report(value: &Report) -> [u8; LENGTH]
     ensures { result ≡ report_spelling value.now }
 {

@@ -1,6 +1,6 @@
 -- A restart always comes back: whatever a stop leaves of a node's files, no restart takes it for damage or for the
--- store of another node. It is refused for nothing but memory, a call of the device that failed, or, if the file has
--- format 1, which no node of today writes, because no generation is left to write it anew.
+-- store of another node. It fails only when out of memory, at a call of the device that failed, or for a file of format
+-- 1, which no current node writes, whose generation is the last, so that it cannot be written anew.
 --
 -- That what a crash may leave is what recovery takes: Chen et al., Using Crash Hoare Logic for Certifying the FSCQ File
 -- System, 2015.

@@ -1,4 +1,4 @@
--- Convergence: nodes that have executed as many commands are equal, to the byte.
+-- Convergence: nodes that have executed equally many commands have the same state, to the byte.
 --
 -- State machine replication: Schneider, Implementing fault-tolerant services using the state machine approach, 1990.
 use Rattle.std.specs.Prelude.{◌≡◌, ℕ, List, length, Contains}

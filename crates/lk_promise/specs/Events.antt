@@ -1,7 +1,6 @@
--- Events: how a world begins, what each event does to it of which the promise speaks, when one is refused, and what a
--- run of them does.
+-- Events: how a world begins, what each event does to it, when one is refused, and what a run of events does.
 --
--- As on the page of the promise, all is said in words of its own, but for the contract of a replica, which is named.
+-- As in `Promise.antt`, all is restated independently, except for the contract of a replica, which is named.
 use Rattle.std.specs.Prelude.{◌≡◌, ℕ, ◌+◌, ◌<◌, ◌≤◌, ◌⊎◌, false, Option, Some, None, Ok, Err, List, [], ◌∷◌, ◌++◌}
 use Rattle.std.specs.Prelude.{length, take, set, slice_get, Contains}
 use Rattle.std.specs.List.{filter_map, flat_map}

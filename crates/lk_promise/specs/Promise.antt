@@ -1,7 +1,7 @@
 -- The promise: what holds of every world of replicas of the lock table, whatever has happened.
 --
 -- `Plain.antt` has what a list of commands leaves and `Chosen.antt` which lists are chosen; this page has what a
--- chosen list explains, and the promise. What the disks keep of it stands in `Disks.antt`, and what an event does in
+-- chosen list explains, and the promise. What the disks keep of it is in `Disks.antt`, and what an event does is in
 -- `Events.antt`.
 --
 -- All of that is stated here a second time, in words of its own. Of the crates below, these files import the values,

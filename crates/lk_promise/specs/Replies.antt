@@ -1,4 +1,4 @@
--- What the datagrams to clients say: as much as the trace tells of them.
+-- The datagrams to clients: a list explains them as it explains the answers and passes of the trace.
 use Rattle.std.specs.Prelude.{ℕ, List}
 use Rattle.lk_types.specs.declared.answer.Answer.{Answer}
 use Rattle.lk_types.specs.declared.command.Command.{Command}

@@ -1,4 +1,4 @@
-//! Laws about the definitions alone.
+//! Laws that follow from the definitions of the promise: linearizability, fencing, exactly once, convergence, restarts.
 ghost use Rattle.std.specs.Prelude.{ℕ, List};
 ghost use Rattle.lk_simulated_disk.specs.Memory.{Memory};
 ghost use Rattle.lk_entries.specs.Values.{HeaderValue};
@@ -65,29 +65,29 @@ pub fn operations_take_effect_exactly_once()
     ensures { (world : Scene ReplicaValue) → KeepsPromise world → AreServedOnce world.genesis world.sent world.trace }
 {}
 
-/// Convergence: in a world that keeps the promise nodes that have executed as many commands keep the same, to the
-/// byte, and so do snapshots.
+/// Convergence: in a world that keeps the promise, nodes that have executed equally many commands have the same state,
+/// to the byte, and so do snapshots of one position.
 pub fn nodes_converge()
     ensures { (world : Scene ReplicaValue) → KeepsPromise world → Converges world }
 {}
 
 /// Restarts are idempotent: however often a node is stopped and started again, and whatever its disks keep of what was
-/// not synced, it is the same node and notes the same; and it comes up again, but for memory or a call of the device
-/// that failed.
+/// not synced, it is the same node and notes the same. It restarts each time, unless memory runs out or a call of its
+/// device fails.
 pub fn restarts_are_idempotent()
     ensures { (header : HeaderValue) (device : Memory) (replica : ReplicaValue) (notes : List Note)
         → ReadsFormatTwo device → ComesUp header device replica notes → IsIdempotent header replica notes }
 {}
 
-/// Whatever a run of events makes of a reachable world is reachable.
+/// A run of events leads from a reachable world to a reachable world, even if one of them is rejected.
 pub fn worlds_stay_reachable()
     ensures { (genesis : Genesis) (world : Scene ReplicaValue) (events : List Event) (how : RunEnd)
         (new : Scene ReplicaValue) → IsReachable genesis world → IsRun world events how new → IsReachable genesis new }
 {}
 
-/// A restart always comes back: in every reachable world a Restart of a node that is down is refused for nothing but
-/// memory, and leaves the node up, but for a call of its device that a trap fails or stops, or a file of format 1 at
-/// the last generation. What a crash may leave is what recovery takes (Chen et al., FSCQ, 2015).
+/// A restart always succeeds: in every reachable world a Restart of a node that is down is rejected only when out of
+/// memory. It leaves the node up, unless a trap fails or stops a call of its device, or its file has format 1 and the
+/// last generation. So recovery accepts whatever a crash may leave (Chen et al., FSCQ, 2015).
 pub fn a_node_comes_back()
     ensures { (genesis : Genesis) (world : Scene ReplicaValue) → IsReachable genesis world → ComesBack world }
 {}

@@ -1,4 +1,5 @@
-//! The promise: what holds of every world of replicas of the lock table, stated a second time, on one page.
+//! The promise: everything that is promised of the lock service in every simulated world, stated a second time in few
+//! definitions.
 #![tactic(auto)]
 
 pub mod laws;

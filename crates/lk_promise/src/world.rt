@@ -1,4 +1,4 @@
-// A world of replicas of the lock table.
+// The simulated world of lock tables, with the promise as the contract of each call.
 ghost use Rattle.lk_promise.specs.Events.{Compacts, IsDone, IsRefused, IsRun, nothing};
 ghost use Rattle.lk_promise.specs.Promise.{KeepsPromise};
 ghost use Rattle.std.specs.Prelude.{◌≡◌, OnOk, IfErr};
@@ -13,14 +13,14 @@ use std::alloc::Global;
 /// Replicas of the lock table, with disks in memory.
 pub type Replicas = Replica<LockTable, MemoryDisk>;
 
-/// A world in which nothing has happened.
+/// Returns a world of this genesis in which nothing has happened.
 pub fn begin(alloc: Global, genesis: Genesis) -> World<Replicas>
     ensures begins { result ≡ nothing genesis }
 {
     World::new(alloc, genesis)
 }
 
-/// One event happens, and the promise holds, whether the event is done or rejected.
+/// Executes one event. The promise holds afterwards, whether the event was done or rejected.
 pub fn apply(world: &mut World<Replicas>, event: Event) -> Result<(), Refused>
     ensures promised { KeepsPromise world.new }
     // An event that is done has the effect stated for it.
@@ -33,7 +33,7 @@ pub fn apply(world: &mut World<Replicas>, event: Event) -> Result<(), Refused>
     world.apply(event)
 }
 
-/// Events happen in order, up to the first that is rejected, and the promise holds.
+/// Executes events in order, up to the first that is rejected. The promise holds afterwards.
 pub fn run(world: &mut World<Replicas>, events: &[Event]) -> RunEnd
     ensures promised { KeepsPromise world.new }
     // Each event has the effect stated for it, up to the first that is rejected.

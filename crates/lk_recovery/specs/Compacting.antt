@@ -1,4 +1,4 @@
--- What a call that rebases the store of a replica has done.
+-- When a rebase is due, and what a rebase has done to a node and its store.
 use Rattle.std.specs.Prelude.{◌≡◌, ℕ, ◌+◌, ◌≤◌, ◌==◌, ◌⊎◌, if◌then◌else◌, List, [], ◌∷◌, length}
 use Rattle.lk_disk.specs.Disk.{Disk, contents}
 use Rattle.lk_disk.specs.declared.device.Side.{Side}
@@ -50,11 +50,11 @@ pub record Renews (node : NodeValue) (store : StoreValue) (new : NodeValue) (aft
   pub rebases : store.format ≡ 1 → Rebases node store new after
   pub rests : store.format ≡ 2 → (new ≡ node) × (after ≡ store)
 
--- how many changing calls of the device that takes
+-- how many changing calls of the device it takes to convert a store of this format to format 2
 abbrev pub renew_calls : ℕ → ℕ
 renew_calls format = if format == 2 then 0 else rebase_calls
 
--- what was due was done, and nothing else
+-- a rebase was made if it was due, and nothing else
 pub record RebasesWhereDue (node : NodeValue) (store : StoreValue) (new : NodeValue) (after : StoreValue) : Type 0 where
   pub due : IsDue node store → Rebases node store new after
   pub rests : (IsDue node store → ⊥) → (new ≡ node) × IsSameStore store after
@@ -75,7 +75,7 @@ AreLeft node old new =
 abbrev pub KeepsOrSwitchesFiles : NodeValue → StoreValue → StoreValue → Type 0
 KeepsOrSwitchesFiles node old new = KeepsItsFile old new ⊎ (IsDue node old × (new.generation ≡ old.generation + 1))
 
--- how many changing calls of the device that takes
+-- how many changing calls of the device it takes to rebase if that is due
 pub record CallsWhereDue (node : NodeValue) (store : StoreValue) (k : ℕ) : Type 0 where
   pub due : IsDue node store → k ≡ rebase_calls
   pub rests : (IsDue node store → ⊥) → k ≡ 0

@@ -1,4 +1,4 @@
--- What a rebase of a node and its store has done, what it leaves, and why it failed.
+-- What holds after a rebase of a node and its store, at Ok and after an error.
 use Rattle.std.specs.Prelude.{◌≡◌, ℕ, ◌+◌, ◌<◌, ◌≤◌, false, [], length}
 use Rattle.lk_types.specs.Limits.{max_base, max_count}
 use Rattle.lk_disk.specs.Disk.{Disk, contents}

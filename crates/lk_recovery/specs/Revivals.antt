@@ -1,4 +1,4 @@
--- What a restart makes of what a store stands for.
+-- How a node restarts: the node that a standing becomes, when a restart fails, and what it leaves on the disks.
 use Rattle.std.specs.Prelude.{◌≡◌, ℕ, ◌⊎◌, ◌+◌, ◌*◌, ◌≤◌, ◌==◌, if◌then◌else◌, false, None, List, [], ◌∷◌, length, drop}
 use Rattle.std.specs.Prelude.{Contains}
 use Rattle.lk_types.specs.Limits.{max_count}
@@ -58,7 +58,7 @@ relearned m w pairs = record {
   gathered = None;
 }
 
--- how many positions are executed then
+-- how many positions are executed after these pairs
 abbrev pub reached : ℕ → List Pair → ℕ
 reached e pairs = e + length (run_from e pairs)
 
@@ -92,7 +92,7 @@ pub record Restores (m : Meaning) (IsText : List ℕ → Type 0) (whose : Header
   pub node_is : node ≡ revived m whose s whole
   pub notes_are : notes ≡ notes_of whose.node s.position (run_from s.position s.pairs)
 
--- what these disks stand for, or a new store, restarts as this store and this node, with these notes
+-- the standing of these disks, or of a new store, restarts as this store and this node, with these notes
 pub record TakesUp (m : Meaning) (IsText : List ℕ → Type 0) (disks : Side → Disk) (whose : HeaderValue)
     (node : NodeValue) (store : StoreValue) (notes : List Note) : Type 0 where
   pub genesis : Genesis
@@ -114,7 +114,7 @@ pub record IsTakenUp (header : HeaderValue) (node : NodeValue) (store : StoreVal
 abbrev pub IsOld : Image → Type 0
 IsOld image = (es : List Stored) × IsLive image es × (format es ≡ 1)
 
--- it has, and it has the last generation
+-- the live file has format 1 and the last generation, so it cannot be converted
 abbrev pub IsLastOld : Image → Type 0
 IsLastOld image = (es : List Stored) × IsLive image es × (format es ≡ 1) × (max_count ≤ generation es)
 
@@ -123,16 +123,16 @@ pub record RenewsBy (image : Image) (k : ℕ) : Type 0 where
   pub old : IsOld image → k ≡ rebase_calls
   pub rests : (IsOld image → ⊥) → k ≡ 0
 
--- the calls of a metered device in which a store was opened
+-- the changing calls of a metered device in which a store was opened
 abbrev pub CallsOfOpening : (Side → Disk) → Meter → Meter → Type 0
 CallsOfOpening disks m n = (k : ℕ) × OpensBy (seen disks) k × Passes m n k
 
--- and converted to format 2 if it was not
+-- the same, and it was converted to format 2 if it had format 1
 abbrev pub CallsOfRevival : (Side → Disk) → Meter → Meter → Type 0
 CallsOfRevival disks m n = (k j : ℕ) × OpensBy (seen disks) k × RenewsBy (seen disks) j × Passes m n (k + j)
 
--- each image of the new disks amounts to what an image of the old ones did, or to a new store if there was none, or,
--- if the file had format 1, has its entries or the Base of format 2 of the next generation alone
+-- each image of the new disks has the verdict and the entries of an image of the old ones, or is a new store if there
+-- was none, or, if the file had format 1, has its entries or the Base of format 2 of the next generation alone
 abbrev pub NarrowsOrRenews : (Side → Disk) → (Side → Disk) → HeaderValue → List ℕ → Type 0
 NarrowsOrRenews old new whose zero = (image : Image) → MayLeaveBoth new image
     → ((before : Image) × MayLeaveBoth old before × SameMeaning before image)
@@ -141,7 +141,7 @@ NarrowsOrRenews old new whose zero = (image : Image) → MayLeaveBoth new image
     × (IsLive image es ⊎ ((b : BaseValue) × (b.format ≡ 2) × (b.generation ≡ generation es + 1)
     × IsLive image (Base b ∷ []))))
 
--- no node may restart from what these disks stand for
+-- no node may restart from the standing of these disks
 pub record NoneRevives (m : Meaning) (IsText : List ℕ → Type 0) (disks : Side → Disk)
     (whose : HeaderValue) : Type 0 where
   pub genesis : Genesis
@@ -150,7 +150,7 @@ pub record NoneRevives (m : Meaning) (IsText : List ℕ → Type 0) (disks : Sid
   pub stands : StandsAs whose (text m genesis []) (seen disks) standing
   pub none : (w : WholeValue) → MayRevive IsText whose standing w → ⊥
 
--- a node may restart from what these disks stand for
+-- a node may restart from the standing of these disks
 pub record SomeRevives (m : Meaning) (IsText : List ℕ → Type 0) (disks : Side → Disk)
     (whose : HeaderValue) : Type 0 where
   pub genesis : Genesis

@@ -1,4 +1,4 @@
-// Writing everything that a node holds as the Base of the other file.
+// Rebasing: writing everything that a node holds as the Base of the other file, and when that is due.
 ghost use Rattle.std.specs.Prelude.{◌≡◌, ◌+◌, ◌≤◌, ◌<◌, length, List, false, ◌↔◌, IsTrue, OnOk, IfOk, IfErr, IsErrAnd};
 ghost use Rattle.std.specs.Prelude.{IsErrOf, ⊤};
 ghost use Rattle.lk_types.specs.Limits.{max_base, max_count};
@@ -46,6 +46,7 @@ pub fn write_base<M: Machine, D: LogDisk + Drop>(
     ensures last { max_count ≤ store.old.generation → (store.new ≡ store.old) × IsErrOf result ReplicaFault.Failed }
     ensures cause { RaisesFailures store.old.failures store.new.failures result }
 {
+    // Packed before the check: its contract has the clause `near`, which this one promises at every exit.
     let packed = node.standing();
     if store.generation() >= MAX_COUNT {
         return Err(ReplicaFault::Failed);
@@ -56,8 +57,8 @@ pub fn write_base<M: Machine, D: LogDisk + Drop>(
     Ok(())
 }
 
-/// Whether a rebase is due: the live file has grown to half of its maximum, or 256 positions are executed above the
-/// snapshot.
+/// Returns whether a rebase is due: the live file has 131,072 bytes, half of its maximum, or more, or 256 positions are
+/// executed above the snapshot.
 pub fn is_rebase_due<M: Machine, D: LogDisk + Drop>(
     node: &Node<M>,
     store: &mut Store<D>,
@@ -76,7 +77,7 @@ pub fn is_rebase_due<M: Machine, D: LogDisk + Drop>(
     Ok(length >= 131_072 || node.is_snapshot_old())
 }
 
-/// Writes the node's Base if that is due.
+/// Writes the node's Base if that is due, as `write_base` does.
 pub fn rebase_if_due<M: Machine, D: LogDisk + Drop>(
     node: &mut Node<M>,
     store: &mut Store<D>,

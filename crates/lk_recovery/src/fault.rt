@@ -1,6 +1,7 @@
+// Why a replica did not restart.
 use lk_node_io::ReplicaFault;
 
-/// Why a replica did not restart, and the device.
+/// Why a replica did not restart, with the device, which the caller gets back.
 #[derive(Drop)]
 pub struct ReviveFault<D: Drop> {
     pub fault: ReplicaFault,

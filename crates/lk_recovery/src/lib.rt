@@ -1,5 +1,5 @@
-//! How a node restarts from its store, and keeps that short: what a stop has left is read again, and a Base takes the
-//! place of everything executed.
+//! Restarts a node from its store, and keeps the store short: reads again what a stop has left, and replaces what is
+//! executed by a Base, a checkpoint.
 #![tactic(auto)]
 
 mod base;

@@ -1,4 +1,4 @@
-// What a node learns again when it restarts.
+// Executing the stored decided commands again when a node restarts.
 ghost use Rattle.std.specs.Prelude.{◌≡◌, ◌⊎◌, ℕ, ◌+◌, ◌*◌, ◌<◌, ◌≤◌, ◌++◌, [], ◌∷◌, Contains, IsTrue, length, OnOk};
 ghost use Rattle.std.specs.Prelude.{IfOk, IfErr, IsErrOf};
 ghost use Rattle.lk_learner.specs.Learners.{Command as CommandValue, Pair, IsLearner, IsNext, IsWanted, executed};
@@ -14,7 +14,7 @@ use lk_state::{Machine, Whole};
 use lk_types::{Command, NoMemory, NodeNo, Position};
 use std::alloc::Global;
 
-// Executes the command of the next position, if it is kept, and notes that.
+// Executes the command of the next position, if the learner has it, and notes that. `command` must be that command.
 fn run_next<M: Machine>(
     learner: &mut Learner<M>,
     notes: &mut Vec<Note>,
@@ -34,7 +34,8 @@ fn run_next<M: Machine>(
     Ok(())
 }
 
-// Learns of a pair, and executes it if it is the next one.
+// Gives the learner a decided command, and executes it if its position is the next one. The error is `Damaged` if the
+// learner does not want it: it is more than twice alpha above what is executed, or its position has one already.
 fn learn<M: Machine>(
     learner: &mut Learner<M>,
     notes: &mut Vec<Note>,
@@ -61,8 +62,9 @@ fn learn<M: Machine>(
     Ok(())
 }
 
-/// The learner for this state and the packed text of its snapshot, after it has learned of these pairs, and the notes
-/// of what it executed.
+/// Makes the learner of a node whose snapshot unpacks to `whole`, gives it the stored pairs, and executes those from
+/// the next position on, up to the first gap. Returns it with the notes of what it executed. It fails with `Damaged` if
+/// a pair is more than twice alpha above what is then executed, and with `NoMemory`.
 pub fn relearn<M: Machine>(
     alloc: Global,
     node: NodeNo,

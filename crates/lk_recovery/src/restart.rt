@@ -34,7 +34,7 @@ use lk_state::{Machine, Whole};
 use lk_types::{Executed, Genesis, NoMemory, Vote};
 use std::alloc::Global;
 
-// The packed text of the state before any command is executed.
+// Packs the state before any command is executed.
 fn zero_text<M: Machine>(alloc: Global, genesis: &Genesis) -> Result<BytesMut, NoMemory>
     ensures text { IfOk result (λ t. t.items ≡ text M.meaning genesis.now []) }
     ensures some { IfOk result (λ t. 1 ≤ length t.items) }
@@ -47,7 +47,8 @@ fn zero_text<M: Machine>(alloc: Global, genesis: &Genesis) -> Result<BytesMut, N
     Ok(out)
 }
 
-// The state of a snapshot, at its position and with this alpha.
+// Unpacks the state of a snapshot. It is `Damaged` if it is no packed state, or is at another position or has another
+// alpha than these.
 fn unpacked<M: Machine>(
     alloc: Global,
     alpha: u8,
@@ -67,7 +68,7 @@ fn unpacked<M: Machine>(
     Ok(whole)
 }
 
-// Whether no vote is more than twice alpha above what is executed.
+// Returns whether no vote is more than twice alpha above what is executed: an acceptor accepts none above that.
 fn are_near(votes: &[Vote], executed: Executed, alpha: u8) -> bool
     ensures { result ≡ list_all (λ v. nat_le v.position (executed + 2 * alpha)) votes.now }
 {
@@ -75,7 +76,8 @@ fn are_near(votes: &[Vote], executed: Executed, alpha: u8) -> bool
     votes.iter().all(|vote| vote.position.get() <= farthest)
 }
 
-// The node for this standing, and the notes of what it executed.
+// Rebuilds a node from its standing, and returns it with the notes of what it executed. It fails with `Damaged` if the
+// snapshot does not unpack or a vote or pair is too far above what is executed, and with `NoMemory`.
 fn restored<M: Machine>(
     alloc: Global,
     header: &Header,
@@ -105,7 +107,7 @@ fn restored<M: Machine>(
     Ok((Node::new(alloc, header.copy(), acceptor, learner), notes))
 }
 
-/// A node and its store, restarted, whatever the format of its file, and the notes of what it executed.
+/// A restarted node with its store, of format 1 or 2, and the notes of what it executed.
 #[derive(Drop)]
 pub struct TakenUp<M: Machine, D: LogDisk + Drop> {
     pub node: Node<M>,
@@ -139,8 +141,8 @@ pub fn take_up<M: Machine, D: LogDisk + Drop>(
     // Its store keeps what its acceptor holds, whatever has happened to the disks.
     ensures remembers { D.is_honest → (genesis : GenesisValue) (n : ℕ) → header.now ≡ header_of genesis n
         → IfOk result (λ r. Remembers r.node r.store genesis n) }
-    // It restarts exactly what the disks stand for, and executes nothing else. The store is new exactly if there was no
-    // Base.
+    // It restarts exactly from the standing of the disks, and executes nothing else. The store is new exactly if there
+    // was no Base.
     ensures exact { D.is_honest
         → IfOk result (λ r. TakesUp M.meaning M.IsText (D.disk device) header.now r.node r.store r.notes.items
         × (IsTrue r.is_new ↔ IsEmpty (seen (D.disk device)))) }
@@ -150,7 +152,7 @@ pub fn take_up<M: Machine, D: LogDisk + Drop>(
     ensures refused { D.is_honest
         → IfErr result (λ e. IsRefusedFor M.meaning M.IsText (D.disk device) header.now
         (fault_number e.fault) (D.disk e.device)) }
-    // After an error every image amounts to what an image before it did, or to a new store.
+    // After an error every image has the verdict and the entries of an image before it, or is a new store.
     ensures stays_err { D.is_honest → (genesis : GenesisValue) → header.now ≡ header_of genesis header.now.node
         → IfErr result (λ e. NarrowsOrBegins (D.disk device) (D.disk e.device) header.now (text M.meaning genesis [])) }
     // It fails with 7 to 10, and with `Device` exactly if a call of the device has failed.

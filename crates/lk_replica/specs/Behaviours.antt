@@ -28,7 +28,7 @@ Reviving R = Memory → HeaderValue → Result (R × List Note) (ℕ × Memory) 
 abbrev pub Compacting : Type 0 → Type 1
 Compacting R = R → R → Result (Unit {0}) ℕ → Type 0
 
--- what a kind of replica shows, and does in its calls
+-- the device of a kind of replica, and the results of its calls
 pub record Behaviour (R : Type 0) : Type 1 where
   -- its device, two disks in memory
   pub memory : R → Memory

@@ -137,9 +137,9 @@ IsCovered m genesis n g s =
     (x : NodeMessage) (d : Datagram) → Contains (batch_of n g.letters) d → Spells (said_by genesis n x) d.bytes
     → AllCover m genesis n (disks (as_sent g.needs_sync s)) x
 
--- What a call leaves on the disks in the middle of a group, however it ends: where the history has what the call was
--- given, each image that a stop may leave fits the history as it was, in which nothing of the group is sent; each
--- covers what every image covered; and neither file is longer than it was, or else than so many bytes.
+-- What a call leaves on the disks in the middle of a group, however it ends: if the history has the call's input, each
+-- image that a stop may leave fits the earlier history, in which nothing of the group is sent; each covers what every
+-- image covered; and neither file has grown, except up to this many bytes.
 pub record LeavesInGroup (m : Meaning) (Hears : History → Type 0) (most : ℕ) (node : NodeValue) (store : StoreValue)
     (needs_sync : Bool) (after : Side → Disk) : Type 0 where
   pub ends : (h : History) (n : ℕ) → GroupStays m h n node store needs_sync → Hears h → DisksFit m h n after
@@ -147,8 +147,8 @@ pub record LeavesInGroup (m : Meaning) (Hears : History → Type 0) (most : ℕ)
       → AllCover m genesis n (disks store) x → AllCover m genesis n after x
   pub room : StaysWithin most (disks store) after
 
--- What a step keeps of a group: where nothing of it is sent, the node fits as it did; its store has what its acceptor
--- holds; and once all is synced that waits for it, whatever the group has said is covered.
+-- What a step preserves in a group: in a history in which nothing of the group is sent, the node still fits; its store
+-- has what its acceptor holds; and everything that the group has said is covered once everything that waits is synced.
 pub record KeepsGroup (m : Meaning) (Hears : History → Type 0) (node : NodeValue) (store : StoreValue)
     (group : GroupValue) (new : NodeValue) (after : StoreValue) (now : GroupValue) : Type 0 where
   pub stays : (h : History) (n : ℕ) → GroupStays m h n node store group.needs_sync → Hears h
@@ -164,13 +164,13 @@ pub record KeepsGroup (m : Meaning) (Hears : History → Type 0) (node : NodeVal
 abbrev pub settle_calls : Bool → ℕ
 settle_calls needs_sync = if needs_sync then 1 else 0
 
--- how many it takes to make room: those of a rebase, where that is due, after a sync where something waits for that
+-- how many it takes to make room: those of a rebase if that is due, after a sync if something waits for that
 pub record CallsOfRoom (node : NodeValue) (store : StoreValue) (needs_sync : Bool) (k : ℕ) : Type 0 where
   pub due : IsDue node store → k ≡ settle_calls needs_sync + rebase_calls
   pub rests : (IsDue node store → ⊥) → k ≡ 0
 
--- Room was made for a step: a rebase was made where that was due, after a sync where something waited for that; after
--- a rebase nothing waits. A device that counts its calls (`Metered`) has had no others.
+-- Room was made for a step: a rebase was made if that was due, after a sync if something waited for that; after a
+-- rebase nothing waits. A device that counts its calls (`Metered`) has had no others.
 pub record MakesRoom (Metered : Type 0) (node : NodeValue) (store : StoreValue) (needs_sync : Bool) (new : NodeValue)
     (after : StoreValue) (still : Bool) : Type 0 where
   pub rebases : RebasesWhereDue node store new after
@@ -178,7 +178,7 @@ pub record MakesRoom (Metered : Type 0) (node : NodeValue) (store : StoreValue) 
   pub rests : (IsDue node store → ⊥) → still ≡ needs_sync
   pub calls : Metered → (k : ℕ) × CallsOfRoom node store needs_sync k × Passes store.meter after.meter k
 
--- how many calls a step writes by: those of its entries, or of a Base, after a sync where something waited for that
+-- how many calls a step writes by: those of its entries, or of a Base, after a sync if something waited for that
 abbrev pub gather_calls : Bool → OutboxValue → ℕ
 gather_calls needs_sync out = if out.rebase then settle_calls needs_sync + rebase_calls else put_calls out.entries false
 
@@ -198,9 +198,9 @@ pub record StepsToFile (m : Meaning) (IsText : List ℕ → Type 0) (Metered : T
   pub grows : out.rebase ≡ false → GrowsByStep (disks store) (disks after)
   pub calls : Metered → Passes store.meter after.meter (gather_calls needs_sync out)
 
--- One more input of a group was taken: room was made for it, a step was taken, and what its outbox says is written,
--- unsynced; its notes and its letters stand behind those of the steps before it, the group waits for a sync exactly
--- where something that it has written does, and nothing else was done.
+-- One more input of a group was taken: room was made for it, a step was taken, and its outbox is written, unsynced; its
+-- notes and letters follow those of the steps before it, the group waits for a sync exactly if something that it has
+-- written does, and nothing else was done.
 pub record IsGathered (m : Meaning) (IsText : List ℕ → Type 0) (Metered : Type 0) (node : NodeValue)
     (store : StoreValue) (before : GroupValue) (i : Input) (new : NodeValue) (after : StoreValue)
     (now : GroupValue) : Type 0 where
@@ -220,8 +220,8 @@ pub record IsSettled (Metered : Type 0) (old : ReplicaValue) (needs_sync : Bool)
   pub calls : Metered → Passes old.store.meter new.store.meter (settle_calls needs_sync)
   pub store_alive : old.store.failed ≡ false → new.store.failed ≡ false
 
--- A call of a group was refused with the fault of this number, as one of `take` is (`IsRefused`), and has ended the
--- replica: nothing of the group is sent. What the files then have `disks` says.
+-- A call of a group failed with the fault of this number, as one of `take` does (`IsRefused`), and has ended the
+-- replica: nothing of the group is sent. The clause `disks` says what the files then have.
 pub record IsRefusedInGroup (Honest Metered : Type 0) (old new : ReplicaValue) (number : ℕ) : Type 0 where
   pub told : IsNumberOfCalls number
   pub no_send : number ≡ 15 → ⊥

@@ -48,7 +48,7 @@ abbrev pub SendsAs : {T E : Type 0} → Result T E → List LetterValue → (old
 SendsAs (Ok _) letters old new before now = new ≡ old ++ letters
 SendsAs (Err _) letters old new before now = SendsSome letters old new before now
 
--- whether all of them were sent, by the count of failures: where some were not, that many sends have failed
+-- whether all of them were sent, by the count of failures: if some were not, that many sends have failed
 abbrev pub TellsSends : Bool → (before now : ℕ) → Type 0
 TellsSends true before now = now ≡ before
 TellsSends false before now = (lost : ℕ) × (lost ≢ 0) × (now ≡ more_by lost before)

@@ -1,4 +1,4 @@
--- What a call of a replica has done, and nothing else, and what it leaves, even after an error.
+-- What a call of `take` has done, exactly, and what it leaves on the disks, even after an error.
 use Rattle.std.specs.Prelude.{◌≡◌, ℕ, ◌+◌, ◌<◌, ◌≤◌, ⊤, true, false, if◌then◌else◌, Option, Result, Ok, Err, List, []}
 use Rattle.std.specs.Prelude.{◌++◌, length, Contains, Vec}
 use Rattle.std.specs.Global.{Global}
@@ -49,7 +49,7 @@ pub record Writes (node : NodeValue) (store : StoreValue) (out : OutboxValue) (n
   pub puts : out.rebase ≡ false → (new ≡ node) × Puts store out after
   pub grows : out.rebase ≡ false → GrowsByStep (disks store) (disks after)
 
--- how many changing calls of the device that takes
+-- how many changing calls of the device it takes to write an outbox
 abbrev pub write_calls : OutboxValue → ℕ
 write_calls out = if out.rebase then rebase_calls else put_calls out.entries out.sync
 

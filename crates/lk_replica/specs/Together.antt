@@ -1,4 +1,4 @@
--- The result of a group of inputs, step by step, when a replica takes them together.
+-- The result of a call of `take_all`, which takes several inputs as one group: its notes and datagrams, step by step.
 use Rattle.std.specs.Prelude.{◌≡◌, ◌⊎◌, ℕ, Bool, true, false, List, [], ◌∷◌, ◌++◌, map, take, drop, Option, Result, Ok}
 use Rattle.std.specs.Prelude.{Err, ⊤}
 use Rattle.lk_disk.specs.Disk.{Disk}

@@ -1,4 +1,4 @@
-// Compacting: a snapshot now.
+// Compacting: a rebase on demand, whether it is due or not.
 ghost use Rattle.std.specs.Prelude.{◌≡◌, ◌+◌, ◌≤◌, ◌<◌, false, true, OnOk, IfErr, IsErrOf, ⊤};
 ghost use Rattle.lk_types.specs.Limits.{max_base, max_count};
 ghost use Rattle.lk_log.specs.StoreValue.{disks};

@@ -1,3 +1,4 @@
+// A datagram of a world of replicas.
 use lk_agreement::Party;
 use std::marker::Model;
 

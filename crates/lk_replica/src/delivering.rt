@@ -1,11 +1,11 @@
-// Sends the letters of a step. It has no access to a device.
+// Sends the letters of a step or a group. It has no access to a device.
 ghost use Rattle.std.specs.Prelude.{◌≡◌, ◌≢◌, ℕ, true, false, [], ◌∷◌, ◌++◌, OnOk, OnErr};
 ghost use Rattle.lk_disk.specs.Disk.{one_more};
 ghost use Rattle.lk_replica.specs.Posts.{CarriesAll, SendsSome, more_by};
 
 use lk_node_io::{Letter, Post, SendFault};
 
-// Sends a letter. Returns whether it was sent.
+// Gives a letter to the post. Returns whether it was sent; if not, it is lost.
 fn is_sent<P: Post>(letter: &Letter, post: &mut P) -> bool
     ensures carries { P.Carries post.old letter.now result post.new }
     ensures sent { P.is_telling → result ≡ true → P.sent post.new ≡ P.sent post.old ++ letter.now ∷ [] }
@@ -19,7 +19,8 @@ fn is_sent<P: Post>(letter: &Letter, post: &mut P) -> bool
     }
 }
 
-/// Sends the letters in order. It tries each of them: a failed send loses that letter alone.
+/// Sends the letters in order. It tries each of them, and fails at the end if any was lost: a failed send loses that
+/// letter alone.
 pub fn deliver<P: Post>(letters: &[Letter], post: &mut P) -> Result<(), SendFault>
     ensures carries { CarriesAll P.Carries post.old letters.now post.new }
     ensures all { P.is_telling → OnOk result (P.sent post.new ≡ P.sent post.old ++ letters.now) }

@@ -75,7 +75,7 @@ impl Group {
         &self.notes
     }
 
-    /// Their letters, in order.
+    /// The letters of the steps, in order.
     pub fn letters(&self) -> &[Letter]
         ensures { result.now ≡ self.now.letters }
     {
@@ -89,7 +89,8 @@ impl Group {
         self.needs_sync
     }
 
-    /// The last step, given how many letters preceded it. Its notes are moved out.
+    /// Returns the last step, and removes its notes from the group; its letters stay. `before` is how many letters the
+    /// group had before it. Call this after each step: it takes all notes that the group has.
     pub fn take_step(&mut self, alloc: Global, before: usize) -> Step
         ensures notes { result.notes.items ≡ self.old.notes }
         ensures sends { result.sends ≡ length self.old.letters - before }
@@ -101,14 +102,15 @@ impl Group {
         }
     }
 
-    /// Its letters.
+    /// Returns the letters of the steps, in order.
     pub fn into_letters(self) -> Vec<Letter>
         ensures { result.items ≡ self.letters }
     {
         self.letters
     }
 
-    /// The group with one more step, given whether something waited before it.
+    /// Appends the notes and letters of a step. `needs_sync` is whether something waited for a sync before it; after a
+    /// rebase nothing waits. Out of memory it may have appended a part, so the caller must end the replica.
     pub fn add(&mut self, needs_sync: bool, outbox: Outbox) -> Result<(), NoMemory>
         ensures { OnOk result (self.new ≡ with_step needs_sync outbox self.old) }
     {
@@ -137,7 +139,7 @@ fn are_sent<P: Post>(letters: &[Letter], post: &mut P) -> bool
     }
 }
 
-/// Syncs the live file if something waits for that, and otherwise gives what was written to the system.
+/// Syncs the live file if something waits for that, and otherwise gives what was written to the operating system.
 pub fn sync_if_waiting<D: LogDisk + Drop>(
     store: &mut Store<D>,
     needs_sync: bool,
@@ -162,8 +164,8 @@ pub fn sync_if_waiting<D: LogDisk + Drop>(
     Ok(())
 }
 
-// Steps, and writes the step's entries unsynced; or, if the step says so, the node's Base in their place, after a sync
-// if something waits for one. Sends nothing.
+// Gives an input to the node, and writes the entries of its outbox unsynced; or, if the outbox asks for a rebase (a
+// snapshot was installed), the node's Base in their place, after a sync if something waits for one. Sends nothing.
 fn step_to_file<M: Machine, D: LogDisk + Drop>(
     node: &mut Node<M>,
     store: &mut Store<D>,
@@ -223,7 +225,8 @@ fn step_to_file<M: Machine, D: LogDisk + Drop>(
     Ok(outbox)
 }
 
-// Rebases if that is due, after a sync if something waits for one. Returns whether something still waits.
+// Rebases if that is due, after a sync if something waits for one. Returns whether something still waits: never after a
+// rebase.
 fn make_room<M: Machine, D: LogDisk + Drop>(
     node: &mut Node<M>,
     store: &mut Store<D>,
@@ -307,10 +310,11 @@ impl<M: Machine, D: LogDisk + Drop> Replica<M, D> {
     /// Takes a tick or a datagram into a group. Nothing is sent before `release`, and the step's entries are synced
     /// only there, unless a Base is written: before the step if a rebase is due, after it for an installed snapshot.
     ///
-    /// It fails as `take` does, and after that every call fails with `Failed` (11): nothing of the group is sent.
+    /// It fails as `take` does, but never with `Send`, and after that every call fails with `Failed` (11): nothing of
+    /// the group is sent.
     pub fn gather(&mut self, input: Input, group: &mut Group) -> Result<(), ReplicaFault>
-        // In each history that the node will fit once everything that waits is synced, it goes on: it is permitted its
-        // notes and letters by what it then holds. So the history may contain everything that the group said before.
+        // In each history that the node will fit once everything that waits is synced, it goes on: what it then holds
+        // permits its notes and letters. So the history may contain everything that the group said before.
         ensures goes { D.is_honest
             → OnOk result (Adds group.old group.new
             (λ notes letters. (genesis : Genesis) (k : ℕ)
@@ -322,9 +326,9 @@ impl<M: Machine, D: LogDisk + Drop> Replica<M, D> {
             → Goes M.meaning h n (Stands M.meaning self.new.node
             (as_sent group.new.needs_sync self.new.store) h.genesis n)
             (disks (as_sent group.new.needs_sync self.new.store)) notes (batch_of n sent))) }
-        // What is on the disks after any exit, where nothing of the group is sent. Each step first writes a Base if one
-        // is due. So no file exceeds half of its maximum by more than a step and, except for a Base, none grows by more
-        // than a step.
+        // After any exit, if nothing of the group is sent, the disks fit. Each step first writes a Base if one is due,
+        // so no file exceeds half of its maximum by more than a step and, except for a Base, none grows by more than a
+        // step.
         ensures disks { D.is_honest
             → LeavesInGroup M.meaning
             (λ h. InputFits h input.entry) max_after self.old.node self.old.store
@@ -336,7 +340,7 @@ impl<M: Machine, D: LogDisk + Drop> Replica<M, D> {
             → OnOk result (KeepsGroup M.meaning
             (λ h. InputFits h input.entry) self.old.node self.old.store group.old self.new.node
             self.new.store group.new) }
-        // It has taken a step and written what that told, in the calls that this takes, and nothing else.
+        // It has taken a step and written the outbox of it, in the calls that this takes, and nothing else.
         ensures exact { D.is_honest
             → OnOk result (IsGathered M.meaning M.IsText D.is_metered self.old.node self.old.store group.old
             input.entry self.new.node self.new.store group.new) }
@@ -358,9 +362,9 @@ impl<M: Machine, D: LogDisk + Drop> Replica<M, D> {
     }
 
     /// Ends a group: syncs once, if a promise or a vote of it waits for that, or else gives what was written to the
-    /// system, and then sends its letters in order. Returns whether all were sent.
+    /// operating system, and then sends its letters in order. Returns whether all were sent: a lost one is no error.
     ///
-    /// It fails with `Device` (7), `NoMemory` (8) and `Failed` (11), and then nothing of the group is sent.
+    /// It fails with `Device` (7), and with `Failed` (11) after an earlier error; then nothing of the group is sent.
     pub fn release<P: Post>(&mut self, group: &Group, post: &mut P) -> Result<bool, ReplicaFault>
         // The node fits each history that it was to fit once it was synced.
         ensures fits { D.is_honest → (genesis : Genesis) (k : ℕ)
@@ -370,7 +374,7 @@ impl<M: Machine, D: LogDisk + Drop> Replica<M, D> {
             (disks (as_sent group.now.needs_sync self.old.store))
             → IfOk result (λ all. NodeFits M.meaning h n (Stands M.meaning self.new.node self.new.store h.genesis n)
             (disks self.new.store)) }
-        // What is on the disks after any exit, where nothing of the group is sent: neither file has grown.
+        // After any exit, if nothing of the group is sent, the disks fit, and neither file has grown.
         ensures disks { D.is_honest
             → LeavesInGroup M.meaning
             (λ h. ⊤) 0 self.old.node self.old.store group.now.needs_sync (disks self.new.store) }

@@ -1,4 +1,4 @@
-// The replica with disks in memory.
+// Implements `MemoryReplica` for a replica whose disks are in memory.
 ghost use Rattle.std.specs.Prelude.{◌≡◌, [], refl};
 ghost use Rattle.lk_disk.specs.Meters.{trapped};
 ghost use Rattle.lk_replica.specs.ReplicaValue.{device_of};
@@ -23,7 +23,7 @@ use lk_types::{NoMemory, NodeNo};
 use std::alloc::Global;
 
 impl<M: Machine, D: LogDisk + Drop> Replica<M, D> {
-    // The number of its node.
+    // Returns the number of its node.
     fn number(&self) -> NodeNo
         ensures { result ≡ self.now.node.header.node }
     {
@@ -35,7 +35,7 @@ impl<M: Machine, D: LogDisk + Drop> Replica<M, D> {
         self.alloc
     }
 
-    // A post to which nothing was given.
+    // Returns a post without letters.
     fn empty_post(&self) -> MemoryPost
         ensures { result ≡ record { letters = []; failures = 0 } }
     {
@@ -73,6 +73,7 @@ impl<M: Machine> MemoryReplica for Replica<M, MemoryDisk> {
         let notes = Replica::take(self, input, &mut post)?;
         match post.into_datagrams(node) {
             Ok(sent) => Ok(Taken { notes, sent }),
+            // No datagram could be made of the letters, so all of them are lost.
             Err(NoMemory) => Err(ReplicaFault::Send(notes)),
         }
     }
@@ -91,6 +92,7 @@ impl<M: Machine> MemoryReplica for Replica<M, MemoryDisk> {
         self.sync_group(group.needs_sync())?;
         match datagrams(alloc, node, group.into_letters()) {
             Ok(sent) => Ok(TakenAll { steps, sent }),
+            // No datagram could be made of the letters, so all of them are lost, and the notes too.
             Err(NoMemory) => Err(ReplicaFault::Send(Vec::new(alloc))),
         }
     }

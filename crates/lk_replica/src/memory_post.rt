@@ -1,4 +1,4 @@
-// A post that keeps what is sent.
+// A post in memory, which keeps the letters that it is given.
 ghost use Rattle.std.specs.Prelude.{◌≡◌, ◌∷◌, ◌++◌, [], IfOk, OnOk, OnErr};
 ghost use Rattle.lk_node_io.specs.Letters.{LetterValue, party_of, datagram_of, batch_of};
 
@@ -9,7 +9,7 @@ use lk_types::{NoMemory, NodeNo};
 use std::alloc::Global;
 use std::marker::Model;
 
-/// The letters that were sent, in order, and how many were lost for want of memory.
+/// A post that keeps the letters that were sent, in order, and counts those that were lost for want of memory.
 #[derive(Drop)]
 pub struct MemoryPost {
     alloc: Global,
@@ -47,7 +47,7 @@ impl Post for MemoryPost {
     }
 }
 
-// The recipient of a letter, without its port.
+// Returns the recipient of a letter, without its port.
 fn party_of(to: To) -> Party
     ensures { result ≡ party_of to }
 {
@@ -57,7 +57,7 @@ fn party_of(to: To) -> Party
     }
 }
 
-// The datagram of a node's letter.
+// Converts a letter of a node to a datagram.
 fn datagram_of(node: NodeNo, letter: Letter) -> Datagram
     ensures { result ≡ datagram_of node letter }
 {
@@ -69,7 +69,7 @@ fn datagram_of(node: NodeNo, letter: Letter) -> Datagram
     }
 }
 
-/// Letters as datagrams of the node.
+/// Converts letters of a node to datagrams, in order.
 #[tactic(auto, using(lk_node::proofs::Nodes::mapped_append))]
 pub fn datagrams(
     alloc: Global,
@@ -88,7 +88,7 @@ pub fn datagrams(
 }
 
 impl MemoryPost {
-    /// Nothing has been sent.
+    /// Creates a post to which nothing has been sent.
     pub fn new(alloc: Global) -> MemoryPost
         ensures { result ≡ record { letters = []; failures = 0 } }
     {
@@ -99,7 +99,7 @@ impl MemoryPost {
         }
     }
 
-    // Keeps one more letter.
+    // Appends a letter. Out of memory it changes nothing.
     fn keep(&mut self, to: To, bytes: &[u8]) -> Result<(), NoMemory>
         ensures ok { OnOk result
             (self.new ≡ record {
@@ -113,7 +113,7 @@ impl MemoryPost {
         Ok(())
     }
 
-    /// The letters as datagrams of the node.
+    /// Converts the letters that were sent to datagrams of the node, in order.
     pub fn into_datagrams(self, node: NodeNo) -> Result<Vec<Datagram>, NoMemory>
         ensures ok { IfOk result (λ ds. ds.items ≡ batch_of node self.letters) }
         // Only letters need memory.

@@ -1,3 +1,4 @@
+// The trait of a replica with disks in memory, from which a world of replicas is made.
 ghost use Rattle.std.specs.Prelude.{◌≡◌, ℕ, [], map, Contains, Ok, Err, IfOk, IfErr, OnOk, OnErr};
 ghost use Rattle.std.specs.List.{AllByRecursion};
 ghost use Rattle.lk_types.specs.Limits.{max_base};
@@ -48,7 +49,7 @@ pub trait MemoryReplica: Sized + Drop {
     /// The replica is that of a node in a cluster with this genesis, and holds this.
     ghost Shows: { Self → Genesis → ℕ → Holding → Type 0 };
 
-    /// What it shows, and does in its calls.
+    /// Its device and the results of its calls, as a world sees them.
     ghost behaves: { Behaviour Self };
 
     /// The state that it has executed.
@@ -87,7 +88,7 @@ pub trait MemoryReplica: Sized + Drop {
         ensures refused { IfErr result
             (λ e. behaves.Revives device header.now (Err (fault_number e.fault, e.device))) };
 
-    /// Takes a tick or a datagram.
+    /// Takes a tick or a datagram. Returns its notes and the datagrams that it sent. It fails as `Replica::take` does.
     fn take(&mut self, input: Input) -> Result<Taken, ReplicaFault>
         ensures goes { (h : History) (n : ℕ)
             → NodeFits meaning h n (Shows self.old h.genesis n) (disks_by behaves self.old) → InputFits h input.entry
@@ -118,7 +119,7 @@ pub trait MemoryReplica: Sized + Drop {
         ensures refused { IfErr result
             (λ e. behaves.Takes self.old (heard_by input.entry) self.new (Err (fault_number e))) };
 
-    /// Takes ticks and datagrams together: each as `take` does, in order, but their entries are synced once, if
+    /// Takes ticks and datagrams as one group: each as `take` does, in order, but their entries are synced once, if
     /// something waits for that, and nothing is sent before. After an error nothing is sent.
     fn take_all(&mut self, inputs: Vec<Input<'_>>) -> Result<TakenAll, ReplicaFault>
         // At Ok it has gone on at each of them, in each history that contains what the steps before it have sent.
@@ -154,8 +155,8 @@ pub trait MemoryReplica: Sized + Drop {
     /// Writes a snapshot of everything executed, which replaces the commands and the votes up to there. It notes and
     /// sends nothing.
     ///
-    /// It fails with `Device` (7) and `NoMemory` (8), and, after an earlier error or without a further generation,
-    /// with `Failed` (11).
+    /// It fails with `Device` (7) and `NoMemory` (8), and, after an earlier error or at generation 2^48, with `Failed`
+    /// (11).
     fn compact(&mut self) -> Result<(), ReplicaFault>
         ensures goes { (h : History) (n : ℕ)
             → NodeFits meaning h n (Shows self.old h.genesis n) (disks_by behaves self.old)
@@ -191,7 +192,7 @@ pub trait MemoryReplica: Sized + Drop {
     fn trap(&mut self, trap: Trap)
         ensures sets { self.new ≡ behaves.with_trap trap self.old };
 
-    /// The device, as the replica leaves it.
+    /// Closes the replica and returns its device, with both files as they are.
     fn into_disks(self) -> MemoryDisk
         ensures is { result ≡ behaves.memory self };
 
@@ -208,8 +209,10 @@ pub trait MemoryReplica: Sized + Drop {
     // A trap belongs to its device, and shows nowhere else.
     ghost traps_alone: { TrapsAlone behaves };
 
+    // A trap changes nothing that the replica shows.
     ghost shows_on: { (t : TrapValue) (r : Self) (genesis : Genesis) (n : ℕ) (x : Holding) → Shows r genesis n x
         → Shows (behaves.with_trap t r) genesis n x };
 
+    // A trap changes nothing of the state that it has executed.
     ghost whole_stays: { (t : TrapValue) (r : Self) → whole (behaves.with_trap t r) ≡ whole r };
 }

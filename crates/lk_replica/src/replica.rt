@@ -35,12 +35,13 @@ use lk_state::Machine;
 use std::alloc::Global;
 use std::marker::Model;
 
-/// A node whose entries are on a device.
+/// A node with the store that saves what it promises, votes and learns.
 #[derive(Drop)]
 pub struct Replica<M: Machine, D: LogDisk + Drop> {
     pub(crate) alloc: Global,
     pub(crate) node: Node<M>,
     pub(crate) store: Store<D>,
+    // Set at the start of a call and cleared once it succeeds, so that an early return with an error leaves it set.
     pub(crate) failed: bool,
 }
 
@@ -115,7 +116,7 @@ impl<M: Machine, D: LogDisk + Drop> Replica<M, D> {
 }
 
 impl<M: Machine, D: LogDisk + Drop> Replica<M, D> {
-    /// Whether it has ended: then every call fails with `Failed`, until it restarts from its disks.
+    /// Returns whether it has ended: then every call fails with `Failed`, until it restarts from its disks.
     pub fn ended(&self) -> bool
         ensures { result ≡ self.now.failed }
     {
@@ -152,7 +153,7 @@ impl<M: Machine, D: LogDisk + Drop> Replica<M, D> {
         self.store.device()
     }
 
-    /// The device, as the replica leaves it.
+    /// Closes the replica and returns its device, with both files as they are.
     pub fn into_disks(self) -> D
         ensures disks { (s : Side) → D.disk result s ≡ disks self.store s }
         ensures failures { D.failures result ≡ self.store.failures }
@@ -169,7 +170,8 @@ impl<M: Machine, D: LogDisk + Drop> Replica<M, D> {
 }
 
 impl<M: Machine, D: Trapped + Drop> Replica<M, D> {
-    /// Sets the trap of the device, in place of a pending one. It changes no disk.
+    /// Sets the trap of the device, the call at which it is to fail or stop, in place of a pending one. It changes no
+    /// disk.
     pub fn trap(&mut self, trap: Trap)
         ensures node { self.new.node ≡ self.old.node }
         ensures store { D.is_honest → D.is_metered
@@ -182,8 +184,8 @@ impl<M: Machine, D: Trapped + Drop> Replica<M, D> {
 }
 
 #[tactic(auto, using(crate::proofs::NoSend::store_never_sends))]
-// Steps, and writes the step's entries, synced if the step says so; or, if the step says so, the node's Base in their
-// place. Sends nothing.
+// Gives an input to the node, and writes the entries of its outbox, synced if the outbox asks for that; or, if it asks
+// for a rebase (a snapshot was installed), the node's Base in their place. Sends nothing.
 fn step_to_disk<M: Machine, D: LogDisk + Drop>(
     node: &mut Node<M>,
     store: &mut Store<D>,
@@ -223,7 +225,7 @@ fn step_to_disk<M: Machine, D: LogDisk + Drop>(
     Ok(outbox)
 }
 
-// Rebases if that is due, and then steps and writes the step's entries. Sends nothing.
+// Rebases if that is due, and then gives the input to the node and writes its outbox. Sends nothing.
 fn rebase_and_step<M: Machine, D: LogDisk + Drop>(
     node: &mut Node<M>,
     store: &mut Store<D>,

@@ -24,8 +24,8 @@ use lk_state::Machine;
 use std::alloc::Global;
 
 impl<M: Machine, D: LogDisk + Drop> Replica<M, D> {
-    /// Takes up what a stop left on these disks, or begins where nothing stands. It gives the notes of what it
-    /// executed. Where the file has format 1 it is rebased at once, and so has format 2.
+    /// Restarts from what a stop left on these disks, or begins a store if there is none. Returns the notes of what it
+    /// executed. A file of format 1 is rebased at once, and so gets format 2.
     ///
     /// It fails with `Device` (7), `NoMemory` (8), `Damaged` (9) and `WrongStore` (10), and for a file of format 1 at
     /// generation 2^48 with `Failed` (11), after the checks for 9, and returns the device. `Damaged` also means that
@@ -52,8 +52,8 @@ impl<M: Machine, D: LogDisk + Drop> Replica<M, D> {
         // Its store keeps what its acceptor holds, whatever has happened to the disks.
         ensures remembers { D.is_honest → (genesis : GenesisValue) (n : ℕ) → header.now ≡ header_of genesis n
             → IfOk result (λ r. Remembers r.replica.node r.replica.store genesis n) }
-        // It restarts exactly what the disks stand for, and executes nothing else. A file of format 1 at generation
-        // 2^48 never restarts. The store is new exactly if there was no Base.
+        // It restarts exactly from the standing of the disks, and executes nothing else. A file of format 1 at
+        // generation 2^48 never restarts. The store is new exactly if there was no Base.
         ensures exact { D.is_honest
             → IfOk result (λ r. Revives M.meaning M.IsText (D.disk device) header.now r.replica r.notes.items
             × (IsTrue r.is_new ↔ IsEmpty (seen (D.disk device)))) }
@@ -64,8 +64,8 @@ impl<M: Machine, D: LogDisk + Drop> Replica<M, D> {
         ensures refused { D.is_honest
             → IfErr result (λ e. IsRefusedFor M.meaning M.IsText (D.disk device) header.now
             (fault_number e.fault) (D.disk e.device)) }
-        // After an error every image amounts to what an image before it did, or to a new store, or to what a file of
-        // format 1 held or the Base that was to replace it.
+        // After an error every image has the verdict and the entries of an image before it, or is a new store, or has
+        // the entries of the file of format 1, or the Base that was to replace it.
         ensures stays_err { D.is_honest → (genesis : GenesisValue) → header.now ≡ header_of genesis header.now.node
             → IfErr result (λ e. NarrowsOrRenews (D.disk device) (D.disk e.device) header.now
             (text M.meaning genesis [])) }

@@ -1,4 +1,4 @@
-// The end of a group whose letters the caller sends, and what remains of its steps.
+// Parts of a group whose letters the caller sends: keeping the result of each step, and the sync at the end.
 ghost use Rattle.std.specs.Prelude.{◌≡◌, ◌∷◌, ◌++◌, [], false, IfErr, OnOk, ⊤};
 ghost use Rattle.lk_log.specs.StoreValue.{disks};
 ghost use Rattle.lk_node_io.specs.Faults.{RaisesFailures, fault_number};
@@ -13,7 +13,7 @@ use lk_node_io::ReplicaFault;
 use lk_state::Machine;
 
 impl<M: Machine, D: LogDisk + Drop> Replica<M, D> {
-    // Keeps the result of a step. If it is out of memory, the replica ends.
+    // Appends the result of a step. Out of memory the replica ends.
     pub(crate) fn keep(&mut self, steps: &mut Vec<Step>, step: Step) -> Result<(), ReplicaFault>
         ensures kept { OnOk result (steps.new.items ≡ steps.old.items ++ step ∷ []) }
         ensures same { OnOk result (self.new ≡ self.old) }
@@ -31,7 +31,7 @@ impl<M: Machine, D: LogDisk + Drop> Replica<M, D> {
     // Syncs the live file once, if something waits for that, or else flushes it. If that fails, the replica ends.
     pub(crate) fn sync_group(&mut self, needs_sync: bool) -> Result<(), ReplicaFault>
         ensures exact { D.is_honest → OnOk result (IsSettled D.is_metered self.old needs_sync self.new) }
-        // What is on the disks after any exit, where nothing of the group is sent: neither file has grown.
+        // After any exit, if nothing of the group is sent, the disks fit, and neither file has grown.
         ensures disks { D.is_honest
             → LeavesInGroup M.meaning (λ h. ⊤) 0 self.old.node self.old.store needs_sync (disks self.new.store) }
         ensures refused { IfErr result

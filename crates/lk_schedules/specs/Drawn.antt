@@ -1,4 +1,4 @@
--- What is drawn.
+-- What each draw may give.
 use Rattle.std.specs.Prelude.{◌≡◌, ℕ, ◌<◌, ◌≤◌, ◌+◌, Bool, true, ⊤, List}
 use Rattle.std.specs.List.{AllByRecursion}
 use Rattle.lk_members.specs.Effects.{RequestValue}
@@ -9,11 +9,11 @@ use Rattle.lk_sim.specs.declared.event.Event.TheVariants as event
 use Rattle.lk_sim.specs.declared.event.Turn.{Turn}
 use Rattle.lk_sim.specs.declared.event.Turn.TheVariants as turn
 
--- a node that was started, or the one after these
+-- one of the nodes 1 to 3, which were started, or node 4
 abbrev pub IsNear : ℕ → Type 0
 IsNear n = n ≤ 4
 
--- a request of one of four clients, whose number is one of the next eight
+-- a request of one of four clients, whose number is one of the eight after this one
 pub record IsNext (about : ℕ) (r : RequestValue) : Type 0 where
   pub client : r.client ≤ 4
   pub above : about < r.number
@@ -24,12 +24,12 @@ abbrev pub IsKind : Bool → EventKind → Type 0
 IsKind groups kind.Group = groups ≡ true
 IsKind groups _ = ⊤
 
--- a tick, or one of so many datagrams
+-- a tick, or the place of one of so many datagrams, or 0
 abbrev pub IsPart : ℕ → Turn → Type 0
 IsPart sent turn.Tick = ⊤
 IsPart sent (turn.Deliver k) = k ≤ sent
 
--- an event that may be drawn where so many datagrams stand: any but a Start, and a Group only if groups are drawn
+-- an event that may be drawn after so many datagrams were sent: any but a Start, and a Group only if groups are drawn
 abbrev pub IsDrawn : Bool → ℕ → Event → Type 0
 IsDrawn groups sent (event.Start n) = ⊥
 IsDrawn groups sent (event.Restart n) = IsNear n

@@ -1,4 +1,4 @@
--- What a run prints.
+-- What a run of a schedule prints: its result, or a script of it.
 use Rattle.std.specs.Prelude.{◌≡◌, ℕ, ◌≤◌, ◌⊎◌, List, [], ◌∷◌, ◌++◌, codes}
 use Rattle.std.specs.Fmt.{decimal}
 use Rattle.lk_node_io.specs.declared.note.Note.{Note}
@@ -11,12 +11,12 @@ use Rattle.lk_sim.specs.declared.event.Event.{Event}
 use Rattle.lk_schedules.specs.Schedules.{IsNew, Fuzzes}
 use Rattle.lk_schedules.specs.declared.plan.Plan.{Plan}
 
--- the position that a note tells was executed, or 0
+-- the position that the note reports as executed, or 0
 abbrev pub ran_at : Note → ℕ
 ran_at (Ran n p c) = p
 ran_at _ = 0
 
--- some note tells so
+-- some note reports this position
 abbrev pub HasRun : List Note → ℕ → Type 0
 HasRun [] p = ⊥
 HasRun (note ∷ rest) p = (ran_at note ≡ p) ⊎ HasRun rest p

@@ -1,4 +1,4 @@
--- Random schedules: what happens in their worlds.
+-- Random schedules: which events happen in their worlds.
 use Rattle.std.specs.Prelude.{◌≡◌, ℕ, zero, suc, Bool, ◌⊎◌, ⊤, [], ◌∷◌, length}
 use Rattle.lk_node.specs.Histories.{Genesis}
 use Rattle.lk_replica.specs.Behaviours.{Behaviour}
@@ -28,17 +28,17 @@ pub record IsNew {R : Type 0} (w : Scene R) : Type 0 where
 
 -- ---- a drawn event
 
--- the event cannot happen as the world stands, whatever room and memory there is
+-- the reason of a rejection is neither room nor memory, so the event is replaced
 abbrev pub IsPassedBy : Refused → Type 0
 IsPassedBy WorldFull = ⊥
 IsPassedBy WorldMemory = ⊥
 IsPassedBy _ = ⊤
 
--- node 1 ticks, or comes up again where it is down
+-- the replacement of a rejected event: node 1 ticks, or restarts if it is down
 abbrev pub PassesBy : {R : Type 0} → Behaviour R → Scene R → Scene R → Type 0
 PassesBy b old new = Does b old (Tick 1) new ⊎ (MayNot old (Tick 1) NotUp × Does b old (Restart 1) new)
 
--- the event happens, or this in its place
+-- the event happens, or its replacement if it is rejected for a reason other than room and memory
 abbrev pub Happens : {R : Type 0} → Behaviour R → Scene R → Event → Scene R → Type 0
 Happens b old e new = Does b old e new ⊎ ((r : Refused) × IsPassedBy r × MayNot old e r × PassesBy b old new)
 

@@ -1,4 +1,4 @@
--- The script of what has happened in a world.
+-- The script of the events that were executed in a world.
 use Rattle.std.specs.Prelude.{◌≡◌, ℕ, Bool, true, false, List, [], ◌++◌}
 use Rattle.lk_replica.specs.Behaviours.{Behaviour}
 use Rattle.lk_lines.specs.EventLines.{lines_for}
@@ -17,6 +17,6 @@ abbrev pub Adds : {R : Type 0} → Behaviour R → List Event → Scene R → Tr
 Adds b events old t new u =
     Passes b events old new × (u.is_kept ≡ t.is_kept) × (u.text.items ≡ t.text.items ++ kept_lines t.is_kept events)
 
--- some events did, and nothing else
+-- some events happened, and their lines were added
 abbrev pub AddsSome : {R : Type 0} → Behaviour R → Scene R → Transcript → Scene R → Transcript → Type 0
 AddsSome b old t new u = (events : List Event) × Adds b events old t new u

@@ -1,8 +1,8 @@
-// Kinds of events.
+// The kinds of events that are drawn, and how often each is.
 ghost use Rattle.std.specs.Prelude.{Bool};
 ghost use Rattle.lk_schedules.specs.Drawn.{IsKind};
 
-/// The kinds of events that are drawn.
+/// The kinds of events that are drawn: all but a Start.
 #[derive(Clone, Copy)]
 pub enum EventKind {
     Restart,
@@ -18,7 +18,8 @@ pub enum EventKind {
 }
 
 impl EventKind {
-    /// The kind of that one of 256 cases, never a group.
+    /// Returns the kind for a drawn byte; how many bytes a kind has is its weight. Never a Group, which replaces some
+    /// deliveries.
     pub fn of(case: u8) -> EventKind
         ensures { (groups : Bool) → IsKind groups result }
     {

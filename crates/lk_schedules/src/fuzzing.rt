@@ -1,4 +1,4 @@
-//! Runs of random schedules, and what they print.
+//! Runs random schedules, and prints what came of one or a script of it.
 
 ghost use Rattle.std.specs.Prelude.{◌≡◌, ◌≤◌, ◌+◌, ◌++◌, ◌∷◌, ◌⊎◌, ℕ, List, [], true, Ok, Err, OnOk, IfOk, IfErr};
 ghost use Rattle.std.specs.Prelude.{string_bytes};
@@ -24,13 +24,13 @@ use lk_types::{Genesis, Member, NoMemory, NodeNo, Port};
 use std::alloc::{AllocError, Global};
 use std::io::Write;
 
-/// The most events of a run.
+/// The most events that a run draws.
 pub const MAX_EVENTS: u64 = 20_000;
 
-// The line of a script that begins the world.
+// The first line of a script, which sets up the world of `genesis`.
 const WORLD_LINE: &[u8] = b"genesis 5 2 1:7001 2:7002 3:7003\n";
 
-// The member of that number.
+// Returns the member with this number, at port 7000 plus the number.
 fn member(number: u16) -> Member
     requires { (1 ≤ number) × (number ≤ 3) }
     ensures { result ≡ record { node = number; port = 7000 + number } }
@@ -41,14 +41,14 @@ fn member(number: u16) -> Member
     }
 }
 
-// The genesis of the world.
+// Returns the genesis of each run: cluster 5, alpha 2, and nodes 1 to 3.
 fn genesis() -> Genesis
     ensures { IsOfThree result }
 {
     Genesis::of(5, 2, &[member(1), member(2), member(3)]).unwrap()
 }
 
-// Node 1 takes a tick, or restarts if it is down.
+// Gives node 1 a tick, or restarts it if it is down: the replacement of an event that was rejected.
 fn pass_by<R: MemoryReplica>(
     alloc: Global,
     world: &mut World<R>,
@@ -64,15 +64,14 @@ fn pass_by<R: MemoryReplica>(
     }
 }
 
-// Whether the rejection means that the event cannot happen in this world, whatever room and memory there is.
+// Whether a rejected event is replaced: its reason is neither room nor memory, so another event may succeed.
 fn is_passed_by(refused: Refused) -> bool
     ensures { result ≡ true → IsPassedBy refused }
 {
     !matches!(refused, Refused::WorldFull | Refused::WorldMemory)
 }
 
-// A drawn event happens. If it is rejected for a reason other than room and memory, a tick of node 1 happens in its
-// place, or a restart if that node is down.
+// Executes a drawn event, or its replacement if it is rejected for a reason other than room and memory.
 fn happen<R: MemoryReplica>(
     alloc: Global,
     world: &mut World<R>,
@@ -88,7 +87,7 @@ fn happen<R: MemoryReplica>(
     }
 }
 
-// The node of that number starts.
+// Starts the node of this number.
 fn start_one<R: MemoryReplica>(
     alloc: Global,
     world: &mut World<R>,
@@ -103,7 +102,7 @@ fn start_one<R: MemoryReplica>(
     transcript.apply(alloc, world, Event::Start(node))
 }
 
-// The three nodes start.
+// Starts the three nodes, in order.
 fn start<R: MemoryReplica>(
     alloc: Global,
     world: &mut World<R>,
@@ -118,7 +117,7 @@ fn start<R: MemoryReplica>(
     Ok(())
 }
 
-// The next event is drawn, and happens.
+// Draws the next event and executes it.
 fn step<R: MemoryReplica>(
     alloc: Global,
     world: &mut World<R>,
@@ -133,17 +132,16 @@ fn step<R: MemoryReplica>(
     happen(alloc, world, event, transcript)
 }
 
-/// A world of three nodes in which nothing has happened: cluster 5, alpha 2, and nodes 1, 2 and 3 at the ports 7001 to
-/// 7003.
+/// Returns a new world of three nodes: cluster 5, alpha 2, and nodes 1, 2 and 3 at the ports 7001 to 7003.
 pub fn world_of_three<R: MemoryReplica>(alloc: Global) -> World<R>
     ensures { IsNew result }
 {
     World::new(alloc, genesis())
 }
 
-/// The three nodes are started, and then as many events happen as the plan says, drawn from its number, or those up to
-/// the first that is refused. An event that is refused by 16 to 20 becomes a tick of node 1, or its restart where it
-/// is down. The transcript takes what happens.
+/// Starts the three nodes, executes as many drawn events as the plan says, and adds them to the transcript. An event
+/// that is rejected with 16 to 20 becomes a tick of node 1, or its restart if it is down. Any other rejection ends the
+/// run and is returned; what was executed before it stays.
 pub fn run_schedule<R: MemoryReplica>(
     alloc: Global,
     world: &mut World<R>,
@@ -161,7 +159,7 @@ pub fn run_schedule<R: MemoryReplica>(
     Ok(())
 }
 
-// The position in a note of an execution, or 0.
+// Returns the position that the note reports as executed, or 0.
 fn ran_at(note: &Note) -> u64
     ensures { result ≡ ran_at note.now }
 {
@@ -171,7 +169,7 @@ fn ran_at(note: &Note) -> u64
     }
 }
 
-// The greatest position that a node has executed, or 0.
+// Returns the greatest position that a node has executed, or 0.
 fn furthest(trace: &[Note]) -> u64
     ensures { IsFurthest trace.now result }
 {
@@ -182,21 +180,21 @@ fn furthest(trace: &[Note]) -> u64
     furthest
 }
 
-// A number after words.
+// Returns the words followed by the number.
 fn numbered(alloc: Global, words: &str, number: u64) -> Result<String, AllocError>
     ensures { IfOk result (λ text. string_bytes text ≡ words.now ++ decimal number) }
 {
     format!(in alloc; "{words}{number}")
 }
 
-// A line of two texts.
+// Returns the two texts as one line, with its line feed.
 fn lined(alloc: Global, front: &str, behind: &str) -> Result<String, AllocError>
     ensures { IfOk result (λ text. string_bytes text ≡ front.now ++ behind.now ++ 10 ∷ []) }
 {
     format!(in alloc; "{front}{behind}\n")
 }
 
-// The line of a run that nothing ended.
+// Returns the line `done COUNT positions FURTHEST` of a run that no rejection ended.
 fn done_text(alloc: Global, count: u64, furthest: u64) -> Result<String, AllocError>
     ensures { IfOk result (λ text. string_bytes text ≡ done_line count furthest) }
 {
@@ -216,7 +214,7 @@ fn write_text<W: Write>(text: &[u8], out: &mut W) -> Result<(), ScriptFault>
     }
 }
 
-// Writes the line of a run that nothing ended.
+// Writes the line of a run that no rejection ended.
 fn write_done<W: Write>(
     alloc: Global,
     count: u32,
@@ -232,7 +230,7 @@ fn write_done<W: Write>(
     }
 }
 
-// Writes the line of a run that a rejection ended, and reports the rejection.
+// Writes the line of the rejection that ended a run. It always fails: with `Ended`, or with the fault of the writing.
 fn write_refusal<W: Write>(alloc: Global, refused: Refused, out: &mut W) -> Result<(), ScriptFault>
     ensures ended { (result ≡ Ok tt) → ⊥ }
     ensures written { result ≡ Err (ScriptFault.Ended refused)
@@ -246,7 +244,7 @@ fn write_refusal<W: Write>(alloc: Global, refused: Refused, out: &mut W) -> Resu
     Err(ScriptFault::Ended(refused))
 }
 
-// Runs a schedule, and writes its line.
+// Runs a schedule in a new world, and writes its result as one line.
 fn write_run<R: MemoryReplica, W: Write>(
     alloc: Global,
     plan: Plan,
@@ -262,7 +260,7 @@ fn write_run<R: MemoryReplica, W: Write>(
     }
 }
 
-// A transcript that keeps lines, and has that of the world.
+// Returns a transcript that keeps lines and begins with the line that sets up the world.
 fn begun_script(alloc: Global) -> Result<Transcript, NoMemory>
     ensures kept { IfOk result (λ t. t.is_kept ≡ true) }
     ensures text { IfOk result (λ t. t.text.items ≡ world_line) }
@@ -272,7 +270,7 @@ fn begun_script(alloc: Global) -> Result<Transcript, NoMemory>
     Ok(transcript)
 }
 
-// Runs a schedule, and writes a script of it.
+// Runs a schedule in a new world, and writes it as a script. If a rejection ends the run, only that is written.
 fn write_script<R: MemoryReplica, W: Write>(
     alloc: Global,
     plan: Plan,
@@ -309,7 +307,8 @@ pub fn run_fuzz<R: MemoryReplica, W: Write, E: Write>(
     end(wrote, out, err)
 }
 
-/// The same, but what is written is a script of what happens, for `locks sim`.
+/// Runs the plan as `run_fuzz` does, but writes the executed events as a script for `locks sim`. If a rejection ends
+/// the run, only that is written. Returns the status as `run_fuzz` does.
 pub fn print_script<R: MemoryReplica, W: Write, E: Write>(
     alloc: Global,
     plan: Plan,

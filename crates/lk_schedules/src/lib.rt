@@ -1,4 +1,5 @@
-//! Random schedules: a world of three nodes, and events that are drawn from a number.
+//! Random schedules (`locks fuzz`): draws events from a seed, executes them in a world of three nodes, and prints the
+//! result or a script of them.
 #![tactic(auto)]
 
 mod draws;

@@ -1,4 +1,4 @@
-/// What is drawn: from which number, how many events, and whether nodes also take groups.
+/// A random schedule to run: its seed, how many events it draws, and whether it also draws groups.
 #[derive(Clone, Copy)]
 pub struct Plan {
     pub start: u64,

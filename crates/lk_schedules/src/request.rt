@@ -1,4 +1,4 @@
-// Requests that are drawn.
+// Draws the requests of clients.
 ghost use Rattle.std.specs.Prelude.{◌≤◌, ◌<◌};
 ghost use Rattle.lk_schedules.specs.Drawn.{IsNext};
 
@@ -7,13 +7,13 @@ use lk_locks::{Body, Name};
 use lk_types::limits::MAX_PAYLOAD;
 use lk_types::{ClientNo, Fence, NodeNo, Op, Payload, Port, Request, RequestNumber};
 
-// One of four names.
+// Draws one of the names `a` to `d`, so that clients compete for them.
 fn name(draws: &mut Draws) -> Name {
     let letter = b'a' + draws.below(4) as u8;
     Name::of(&[letter]).unwrap()
 }
 
-// The body of one of sixteen cases.
+// Returns the body of one of sixteen cases; how many cases a kind has is its weight.
 fn body_of(case: usize, name: Name, fence: Fence) -> Body {
     match case {
         0..=5 => Body::Acquire(name),
@@ -25,7 +25,7 @@ fn body_of(case: usize, name: Name, fence: Fence) -> Body {
     }
 }
 
-// A body that the table knows, with one of the first so many fences.
+// Draws a body that the table parses, with one of the fences 1 to `fences`.
 fn body(draws: &mut Draws, fences: usize) -> Payload
     requires { (0 < fences) × (fences ≤ 65536) }
 {
@@ -35,7 +35,7 @@ fn body(draws: &mut Draws, fences: usize) -> Payload
     body_of(case, name, fence).write()
 }
 
-// A body of any bytes.
+// Draws a body of 1 to `MAX_PAYLOAD` random bytes, which the table seldom parses.
 fn any_body(draws: &mut Draws) -> Payload {
     let mut bytes = [0; MAX_PAYLOAD];
     for i in 0..bytes.len() {
@@ -45,7 +45,8 @@ fn any_body(draws: &mut Draws) -> Payload {
     Payload::of(&bytes[..length]).unwrap()
 }
 
-// What a client asks, mostly of the table.
+// Draws an operation: mostly a body that the table parses; else random bytes, a raise, or a join or leave of nodes 1 to
+// 5.
 fn op(draws: &mut Draws, fences: usize) -> Op
     requires { (0 < fences) × (fences ≤ 65536) }
 {
@@ -62,7 +63,8 @@ fn op(draws: &mut Draws, fences: usize) -> Op
     }
 }
 
-/// A request of one of four clients. Its number is one of eight from about that one on.
+/// Draws a request of one of the clients 1 to 4, with a number from `about + 1` to `about + 8`, so that some numbers
+/// repeat or fall below an earlier one of the client.
 pub fn request(draws: &mut Draws, about: u16) -> Request
     ensures { IsNext about result }
 {

@@ -1,4 +1,4 @@
-// Events that are drawn.
+// Draws the events of a random schedule.
 ghost use Rattle.std.specs.Prelude.{◌≤◌, Bool, length, IfOk, IfSome};
 ghost use Rattle.std.specs.List.{AllByRecursion};
 ghost use Rattle.lk_schedules.specs.Drawn.{IsDrawn, IsKind, IsNear, IsPart};
@@ -13,13 +13,13 @@ use lk_types::limits::MAX_COUNT;
 use lk_types::{NoMemory, NodeNo};
 use std::alloc::Global;
 
-// The most bytes of a disk that a drawn stop leaves, where it does not leave all.
+// A drawn stop keeps all unsynced bytes of a disk, or fewer than this many.
 const SOME_BYTES: usize = 64;
 
-// How many datagrams are drawn for a group, of which those bound for its node join it.
+// How many datagrams are drawn for a group; those addressed to its node join it.
 const FOR_A_GROUP: usize = 16;
 
-/// What is drawn from, and how many events were drawn.
+/// A source of random events: a generator, and how many events were drawn, at most 65,535.
 #[derive(Drop)]
 pub struct Schedule {
     draws: Draws,
@@ -27,7 +27,7 @@ pub struct Schedule {
 }
 
 impl Schedule {
-    /// The schedule that begins at that number.
+    /// Returns the schedule of this seed, from which no event was drawn.
     pub fn of(start: u64) -> Schedule {
         Schedule {
             draws: Draws::of(start),
@@ -35,7 +35,7 @@ impl Schedule {
         }
     }
 
-    // A node that was started, or seldom one that was not.
+    // Draws node 1, 2 or 3, or in one of 32 cases node 4, which is never started.
     fn node(&mut self) -> NodeNo
         ensures { IsNear result }
     {
@@ -46,7 +46,7 @@ impl Schedule {
         NodeNo::of(number as u32).unwrap()
     }
 
-    // The place of a datagram among so many, mostly of one of the last 64. Places count from 1.
+    // Draws the place of one of `sent` datagrams, mostly of one of the last 64. It may draw 0, which is no place.
     fn place(&mut self, sent: usize) -> usize
         ensures { result ≤ sent }
     {
@@ -57,7 +57,7 @@ impl Schedule {
         sent.saturating_sub(self.draws.below(near))
     }
 
-    // How many unsynced bytes of a disk stay.
+    // Draws how many unsynced bytes of a disk a stop keeps: in one of four cases all.
     fn kept(&mut self) -> usize {
         if self.draws.is_one_of(4) {
             return MAX_COUNT as usize;
@@ -65,7 +65,7 @@ impl Schedule {
         self.draws.below(SOME_BYTES)
     }
 
-    // Bytes of a datagram, one of them changed.
+    // Copies the bytes of a datagram with one of them redrawn, seldom none.
     fn changed(&mut self, alloc: Global, datagram: &Datagram) -> Result<Vec<u8>, NoMemory> {
         let mut bytes = datagram.bytes.to_vec(alloc)?;
         let at = self.draws.below(bytes.len().saturating_add(1));
@@ -75,7 +75,7 @@ impl Schedule {
         Ok(bytes)
     }
 
-    // Any bytes, at least one: a script has no line for none.
+    // Draws 1 to 63 random bytes; at least one, as a script has no line that injects none.
     fn any_bytes(&mut self, alloc: Global) -> Result<Vec<u8>, NoMemory> {
         let mut bytes = Vec::new(alloc);
         for _ in 0..self.draws.below(64) {
@@ -87,7 +87,7 @@ impl Schedule {
         Ok(bytes)
     }
 
-    // Bytes that a node is to be handed.
+    // Draws bytes to inject: mostly those of a datagram that was sent with one of them redrawn, or else random ones.
     fn bytes(&mut self, alloc: Global, sent: &[Datagram]) -> Result<Vec<u8>, NoMemory> {
         match sent.get(self.place(sent.len())) {
             Some(datagram) => self.changed(alloc, datagram),
@@ -95,7 +95,7 @@ impl Schedule {
         }
     }
 
-    // A datagram that is drawn, as a part of a group of the node, if it is bound for that.
+    // Draws a datagram as a turn of the node's group, or `None` if it is not addressed to the node.
     fn part(&mut self, node: NodeNo, sent: &[Datagram]) -> Option<Turn>
         ensures { IfSome result (IsPart (length sent.now)) }
     {
@@ -107,7 +107,7 @@ impl Schedule {
         }
     }
 
-    // Datagrams that a node takes together.
+    // Draws the datagrams of a group of the node, some perhaps more than once.
     fn parts(
         &mut self,
         alloc: Global,
@@ -125,7 +125,8 @@ impl Schedule {
         Ok(turns)
     }
 
-    // The same, and at times a tick after them, or that alone.
+    // Draws the turns of a group of the node: its datagrams, and a tick after them in one of four cases or if there are
+    // none.
     fn turns(
         &mut self,
         alloc: Global,
@@ -141,7 +142,7 @@ impl Schedule {
         Ok(turns)
     }
 
-    // The kind of the next event. If groups are drawn, some take the place of deliveries.
+    // Draws the kind of the next event. If groups are drawn, they replace one in four deliveries.
     fn kind(&mut self, groups: bool) -> EventKind
         ensures { IsKind groups result }
     {
@@ -152,7 +153,7 @@ impl Schedule {
         kind
     }
 
-    // An event of that kind.
+    // Draws an event of that kind. The numbers of requests rise slowly, with how many events were drawn.
     fn event(
         &mut self,
         alloc: Global,
@@ -177,7 +178,7 @@ impl Schedule {
         Ok(event)
     }
 
-    /// The next event, where these datagrams stand.
+    /// Draws the next event of a world in which these datagrams were sent. Fails only when out of memory.
     pub fn next_event(
         &mut self,
         alloc: Global,

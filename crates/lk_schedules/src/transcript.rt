@@ -1,4 +1,4 @@
-//! The script of what has happened in a world.
+//! Executes events in a world, and keeps a script of them.
 
 ghost use Rattle.std.specs.Prelude.{◌≡◌, ◌++◌, ◌∷◌, [], Err, OnOk};
 ghost use Rattle.lk_sim.specs.Events.{Does};
@@ -13,7 +13,7 @@ use lk_sim::{Event, Refused, World};
 use lk_types::NoMemory;
 use std::alloc::Global;
 
-/// The lines of the events that have happened, if they are kept.
+/// The script lines of the events that were executed, if they are kept.
 #[derive(Drop)]
 pub struct Transcript {
     pub is_kept: bool,
@@ -21,7 +21,7 @@ pub struct Transcript {
 }
 
 impl Transcript {
-    /// A transcript without a line.
+    /// Returns a transcript without lines, which keeps them only if `is_kept`.
     pub fn new(alloc: Global, is_kept: bool) -> Transcript
         ensures kept { result.is_kept ≡ is_kept }
         ensures empty { result.text.items ≡ [] }
@@ -32,7 +32,7 @@ impl Transcript {
         }
     }
 
-    // Adds the line of an event, if lines are kept.
+    // Appends the script line of an event, if lines are kept.
     fn add(&mut self, alloc: Global, event: &Event) -> Result<(), NoMemory>
         ensures kept { self.new.is_kept ≡ self.old.is_kept }
         ensures text { OnOk result
@@ -44,7 +44,7 @@ impl Transcript {
         Ok(())
     }
 
-    /// An event happens in the world, and its line is added. A refused event adds none.
+    /// Executes the event in the world, and appends its line if lines are kept. A rejected event adds none.
     pub fn apply<R: MemoryReplica>(
         &mut self,
         alloc: Global,
@@ -57,6 +57,7 @@ impl Transcript {
             → MayNot world.old event r × Adds R.behaves [] world.old self.old world.new self.new }
     {
         let length = self.text.len();
+        // The world takes the event over, so its line is added first, and removed again if the event is rejected.
         self.add(alloc, &event)?;
         match world.apply(event) {
             Ok(()) => Ok(()),

@@ -31,7 +31,7 @@ impl Buffers {
         }
     }
 
-    /// Makes the text this one.
+    /// Replaces the text with this one.
     pub fn print(&mut self, text: &str) -> Result<(), NoMemory>
         ensures ok { OnOk result (self.new.text.items ≡ text.now) }
     {

@@ -1,4 +1,4 @@
-//! Laws of the rules of a script alone.
+//! A law about the definitions alone: in table mode a script determines its output.
 
 ghost use Rattle.std.specs.Prelude.{◌≡◌, List, ℕ};
 ghost use Rattle.lk_lines.specs.Lines.{lines_of};

@@ -1,4 +1,4 @@
-//! Scripts of `locks sim`: what each line prints, and how a run ends.
+//! Runs scripts of `locks sim`: in table mode against one lock table, in world mode against a simulated world.
 #![tactic(auto)]
 
 mod buffers;

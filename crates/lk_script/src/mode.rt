@@ -2,7 +2,7 @@ use crate::table_server::TableServer;
 use crate::world_run::WorldRun;
 use lk_replica::MemoryReplica;
 
-/// What a script has set up so far.
+/// The mode of a script, with what it has set up so far.
 #[derive(Drop)]
 pub enum Mode<R: MemoryReplica> {
     /// Nothing yet.

@@ -1,4 +1,4 @@
-//! What an event of a world prints.
+//! Prints what an event of a world noted and sent, and how it ended a node, as lines.
 
 ghost use Rattle.std.specs.Prelude.{◌≡◌, ◌++◌, OnOk};
 ghost use Rattle.lk_script.specs.Worlds.{refusal_name, refused_line};
@@ -12,7 +12,7 @@ use lk_wire::{Bad, ContentRef, MessageRef, NodeMessageRef, view};
 use std::alloc::Global;
 use std::io::Write;
 
-// Adds the line of what a node executed.
+// Appends `ran NODE POSITION noop` or `ran NODE POSITION CLIENT NUMBER`.
 fn print_ran(
     text: &mut Vec<u8>,
     node: NodeNo,
@@ -30,7 +30,7 @@ fn print_ran(
     printed.map_err(|_| NoMemory)
 }
 
-// Adds the line of a note.
+// Appends the line of a note.
 fn print_note(text: &mut Vec<u8>, note: &Note) -> Result<(), NoMemory> {
     let printed = match note {
         Note::Asked(request) => {
@@ -57,7 +57,7 @@ fn print_note(text: &mut Vec<u8>, note: &Note) -> Result<(), NoMemory> {
     printed.map_err(|_| NoMemory)
 }
 
-// The letter of a node or a client, and its number.
+// Returns `n` for a node or `c` for a client, and its number.
 fn party(party: Party) -> (char, u32) {
     match party {
         Party::Node(node) => ('n', node.get()),
@@ -65,7 +65,7 @@ fn party(party: Party) -> (char, u32) {
     }
 }
 
-// The name of the kind of a node's message.
+// Returns the name of the kind of a node's message.
 fn node_kind(message: &NodeMessageRef<'_>) -> &'static str {
     match message {
         NodeMessageRef::Prepare(..) => "prepare",
@@ -83,7 +83,7 @@ fn node_kind(message: &NodeMessageRef<'_>) -> &'static str {
     }
 }
 
-// The name of a datagram's kind, or `bad` where it spells no message.
+// Returns the name of a datagram's kind, or `bad` if it does not parse.
 fn kind(bytes: &[u8]) -> &'static str {
     match view(bytes) {
         Ok(message) => match &message.content {
@@ -94,7 +94,7 @@ fn kind(bytes: &[u8]) -> &'static str {
     }
 }
 
-// Adds the line of the datagram of this number.
+// Appends `sent K FROM TO KIND`, where K is the place of the datagram, from 1.
 fn print_datagram(text: &mut Vec<u8>, k: usize, datagram: &Datagram) -> Result<(), NoMemory> {
     let (from, sender) = party(datagram.from);
     let (to, receiver) = party(datagram.to);
@@ -102,12 +102,12 @@ fn print_datagram(text: &mut Vec<u8>, k: usize, datagram: &Datagram) -> Result<(
     writeln!(text, "sent {k} {from}{sender} {to}{receiver} {kind}").map_err(|_| NoMemory)
 }
 
-// Whether the note comes with a datagram to a client.
+// Whether the note reports an answer or a pass, and so is printed with its datagram.
 fn is_told(note: &Note) -> bool {
     matches!(note, Note::Answered(..) | Note::Told(..))
 }
 
-// Whether a note comes with the datagram: it is an Answer or a Passed.
+// Whether the datagram is an Answer or a Passed, and so has a note.
 fn is_reply(datagram: &Datagram) -> bool {
     match view(&datagram.bytes) {
         Ok(
@@ -120,7 +120,7 @@ fn is_reply(datagram: &Datagram) -> bool {
     }
 }
 
-// Adds the lines of the notes but of those that come with datagrams.
+// Appends the lines of all notes but those that are printed with their datagrams.
 fn print_notes(text: &mut Vec<u8>, notes: &[Note]) -> Result<(), NoMemory> {
     for note in notes {
         if !is_told(note) {
@@ -130,7 +130,7 @@ fn print_notes(text: &mut Vec<u8>, notes: &[Note]) -> Result<(), NoMemory> {
     Ok(())
 }
 
-// Adds the line of the first of the notes that comes with a datagram, and gives those behind it.
+// Appends the line of the first note of an answer or a pass, and returns the notes after it.
 fn print_told<'a>(text: &mut Vec<u8>, notes: &'a [Note]) -> Result<&'a [Note], NoMemory> {
     for i in 0..notes.len() {
         if is_told(&notes[i]) {
@@ -141,7 +141,7 @@ fn print_told<'a>(text: &mut Vec<u8>, notes: &'a [Note]) -> Result<&'a [Note], N
     Ok(&[])
 }
 
-// Adds the lines of the datagrams from that place on, and just before each the line of the note that comes with it.
+// Appends the lines of the datagrams from index `from` on, each Answer and Passed after the line of its note.
 fn print_sent(
     text: &mut Vec<u8>,
     sent: &[Datagram],
@@ -158,7 +158,7 @@ fn print_sent(
     Ok(())
 }
 
-// Adds the line of a fault that ended a node.
+// Appends `fault NODE NUMBER NAME`.
 fn print_fault(text: &mut Vec<u8>, node: NodeNo, number: u8) -> Result<(), NoMemory> {
     let node = node.get();
     let name = match number {
@@ -169,7 +169,7 @@ fn print_fault(text: &mut Vec<u8>, node: NodeNo, number: u8) -> Result<(), NoMem
     writeln!(text, "fault {node} {number} {name}").map_err(|_| NoMemory)
 }
 
-// Adds the line of how an event ended a node.
+// Appends how an event ended a node: a line `fault ..`, or `stopped NODE`.
 fn print_end(text: &mut Vec<u8>, end: &End) -> Result<(), NoMemory> {
     match end {
         End::Fault(node, number) => print_fault(text, *node, *number),
@@ -180,8 +180,8 @@ fn print_end(text: &mut Vec<u8>, end: &End) -> Result<(), NoMemory> {
     }
 }
 
-/// Adds what an event printed, which added the notes and the datagrams from these places on: its notes, of a group
-/// those of all steps, the datagrams, each answer and pass after its own note, and the fault that ended a node.
+/// Appends the lines of one event: its notes, then its datagrams, each Answer and Passed after its own note, and how it
+/// ended a node. `notes` and `datagrams` are the lengths of `trace` and `sent` before the event.
 pub fn print_event(
     text: &mut Vec<u8>,
     trace: &[Note],
@@ -198,7 +198,7 @@ pub fn print_event(
     }
 }
 
-// The name of a refusal.
+// Returns the name of a reason for which an event is rejected.
 fn name_of(refused: Refused) -> &'static str
     ensures { result.now ≡ refusal_name refused }
 {
@@ -213,7 +213,7 @@ fn name_of(refused: Refused) -> &'static str
     }
 }
 
-/// Adds the last line of a run that a refusal ended.
+/// Appends `refused NUMBER NAME`, the last line of a run that a rejected event ended.
 pub fn print_refusal(alloc: Global, refused: Refused, text: &mut Vec<u8>) -> Result<(), NoMemory>
     ensures ok { OnOk result (text.new.items ≡ text.old.items ++ refused_line refused) }
 {

@@ -1,4 +1,4 @@
-//! Scripts, line by line.
+//! Runs a script line by line, in the mode that its first line chooses.
 
 ghost use Rattle.std.specs.Prelude.{◌≡◌, ◌≢◌, ◌+◌, ◌<◌, ◌≤◌, ◌⊎◌, List, [], ℕ, Some, None, Ok, Err, IfOk, IfErr};
 ghost use Rattle.std.specs.Prelude.{IfSome, OnOk, IsErrOf, string_bytes};
@@ -26,7 +26,7 @@ use lk_types::Genesis;
 use std::alloc::{AllocError, Global};
 use std::io::{BufRead, Write};
 
-// The number after the word.
+// Returns the number after `table `, also where it is not in the one spelling that `cluster_of` admits.
 fn cluster_named(line: &[u8]) -> Option<u64>
     ensures { (cluster : ℕ) → IsTableLine line.now cluster → result ≡ Some cluster }
 {
@@ -35,14 +35,15 @@ fn cluster_named(line: &[u8]) -> Option<u64>
     digits.parse().ok()
 }
 
-// The line that begins table mode for the cluster.
+// Returns the line `table CLUSTER`.
 fn table_line(alloc: Global, cluster: u64) -> Result<String, AllocError>
     ensures { IfOk result (λ text. IsTableLine (string_bytes text) cluster) }
 {
     format!(in alloc; "table {cluster}")
 }
 
-// The cluster for which a line begins table mode.
+// Reads the line `table CLUSTER`. Only the decimal without sign or leading zeros is understood, so it is printed again
+// and compared.
 fn cluster_of(alloc: Global, line: &[u8]) -> Result<u64, LineFault>
     ensures ok { IfOk result (IsTableLine line.now) }
     ensures not_understood { IsErrOf result LineFault.NotUnderstood → (cluster : ℕ) → IsTableLine line.now cluster → ⊥ }
@@ -54,7 +55,7 @@ fn cluster_of(alloc: Global, line: &[u8]) -> Result<u64, LineFault>
     Ok(cluster)
 }
 
-// A table for the cluster.
+// Returns table mode: a lock table of this cluster before any request.
 fn table_mode<M: MemoryReplica>(alloc: Global, cluster: u64) -> Mode<M>
     ensures fits { Fits (table cluster []) result }
     ensures done { done_in result ≡ 0 }
@@ -62,7 +63,7 @@ fn table_mode<M: MemoryReplica>(alloc: Global, cluster: u64) -> Mode<M>
     Mode::Table(TableServer::new(alloc, cluster))
 }
 
-// A world in which nothing has happened.
+// Returns world mode: a world of this genesis in which nothing has happened.
 fn world_mode<M: MemoryReplica>(alloc: Global, genesis: Genesis) -> Mode<M>
     ensures fits { Fits (world (new_world genesis) 0) result }
     ensures done { done_in result ≡ 0 }
@@ -70,8 +71,8 @@ fn world_mode<M: MemoryReplica>(alloc: Global, genesis: Genesis) -> Mode<M>
     Mode::World(WorldRun::new(alloc, genesis))
 }
 
-// What the first line sets up. It is a function of its own since a server is large: in `take_line` each line would
-// pay for the place of a new one.
+// Sets up the mode that the first line asks for. It is not inlined, as a server is large: in `take_line` each line
+// would pay for the space of a new one.
 #[inline(never)]
 fn begin<M: MemoryReplica>(alloc: Global, line: &[u8]) -> Result<Mode<M>, LineFault>
     ensures ok { IfOk result (λ m. (after : Script M) × Takes M.behaves begun line.now [] after × Fits after m) }
@@ -88,7 +89,8 @@ fn begin<M: MemoryReplica>(alloc: Global, line: &[u8]) -> Result<Mode<M>, LineFa
     }
 }
 
-// Takes a line that is not empty, and makes the text what it prints. An event of it may be refused.
+// Executes a line that is not empty, and puts what it prints into the text of the buffers. Returns why an event of the
+// line was rejected, if one was.
 fn take_line<M: MemoryReplica>(
     alloc: Global,
     mode: &mut Mode<M>,
@@ -129,14 +131,14 @@ fn write_text<W: Write>(writer: &mut W, text: &[u8]) -> Result<(), ScriptFault>
     }
 }
 
-// The line that stands last in world mode where nothing was refused.
+// Returns `done COUNT`, the last line in world mode if no event was rejected.
 fn done_text(alloc: Global, done: u64) -> Result<String, AllocError>
     ensures { IfOk result (λ text. string_bytes text ≡ done_line done) }
 {
     format!(in alloc; "done {done}\n")
 }
 
-// Writes what stands last where the input is at its end.
+// Writes the last line at the end of the input: `done COUNT` in world mode, otherwise none.
 fn write_last<M: MemoryReplica, W: Write>(
     alloc: Global,
     mode: &Mode<M>,
@@ -157,7 +159,7 @@ fn write_last<M: MemoryReplica, W: Write>(
     }
 }
 
-// Writes what a line printed. A refusal of the world ends the run.
+// Writes what a line printed. If one of its events was rejected, returns the fault `Ended`, which ends the run.
 fn write_line<W: Write>(
     ended: Option<Refused>,
     text: &[u8],
@@ -176,7 +178,8 @@ fn write_line<W: Write>(
     }
 }
 
-/// Runs the script that the reader gives, line by line, and writes what each line prints. Gives what it has set up.
+/// Runs the script from the reader, writes what each line prints, and returns the mode with what the script has set up.
+/// Empty lines print nothing, but count in the line numbers of faults.
 ///
 /// In world mode the replicas are of the type `M`.
 pub fn run_script<M: MemoryReplica, R: BufRead, W: Write>(

@@ -19,7 +19,7 @@ use lk_types::{Answer, Command, Genesis, Member, NoMemory, NodeNo, Op, Request};
 use lk_wire::{Answered, Bad, Content, ContentRef, Message, MessageRef, NodeMessage, view};
 use std::alloc::Global;
 
-// The request in a datagram's message, if it is one to the cluster.
+// Returns the client's request in the message, if it is one to this cluster.
 fn request_to(cluster: u64, message: &MessageRef<'_>) -> Option<Request>
     ensures some { IfSome result (λ r. shown message.now ≡ from_client cluster r) }
     ensures none { IsNone result → is_request_to cluster (shown message.now) ≡ false }
@@ -30,7 +30,7 @@ fn request_to(cluster: u64, message: &MessageRef<'_>) -> Option<Request>
     }
 }
 
-// The request that some bytes spell, if they are a datagram and it is a request to the cluster.
+// Returns the request to the cluster that a datagram holds, or `None` if it holds any other message.
 fn read_request(cluster: u64, bytes: &[u8]) -> Result<Option<Request>, Bad>
     ensures request { IfOk result (λ found. IfSome found (λ r. Spells (from_client cluster r) bytes.now)) }
     ensures other { IfOk result
@@ -51,7 +51,7 @@ fn is_for_table(op: &Op) -> bool
     }
 }
 
-/// A cluster of node 1 alone, which answers each request to it at once.
+/// The lock table of a cluster of node 1 alone, which executes each request at once.
 #[derive(Drop)]
 pub struct TableServer {
     cluster: u64,
@@ -67,7 +67,7 @@ impl TableServer {
     ghost use Rattle.lk_lines.specs.HexLines.{SpellsBytes};
     ghost use Rattle.lk_script.specs.TableServers.{HasServed, executed_of};
 
-    /// The server of a cluster before any request.
+    /// Returns the server of a cluster before any request.
     pub fn new(alloc: Global, cluster: u64) -> TableServer
         ensures cluster { result.cluster ≡ cluster }
         ensures empty { HasServed [] result }
@@ -78,7 +78,7 @@ impl TableServer {
         TableServer { cluster, whole }
     }
 
-    // Executes a request that takes effect, and answers it.
+    // Executes a new request, and returns its answer.
     fn run(&mut self, request: &Request) -> Result<Answer, NoMemory>
         requires room { executed_of self.old < max_count }
         requires table { is_for_table request.now.op ≡ true }
@@ -95,7 +95,8 @@ impl TableServer {
         Ok(ran.answer.unwrap())
     }
 
-    /// Replies to a request for the lock table, after executing it if it is new.
+    /// Returns the reply to a request for the lock table: that of the client's session if its number is not new, or
+    /// else after executing it.
     pub fn reply(&mut self, request: &Request) -> Result<NodeMessage, NoMemory>
         requires room { executed_of self.old < max_count }
         requires table { is_for_table request.now.op ≡ true }
@@ -117,7 +118,7 @@ impl TableServer {
         }))
     }
 
-    // Makes the text what a client's request to the cluster prints.
+    // Replaces the text with the reply to the request, in hex, or with `not here` if it is to join or leave.
     fn print_request(&mut self, request: &Request, buffers: &mut Buffers) -> Result<(), NoMemory>
         requires { executed_of self.old < max_count }
         ensures ok { OnOk result
@@ -139,7 +140,8 @@ impl TableServer {
         buffers.print_message(&message)
     }
 
-    // Makes the text what the bytes of a datagram print.
+    // Replaces the text with the result of the datagram in `buffers.bytes`: the reply in hex, `not here`, `not a
+    // request`, or `bad` if it does not parse.
     fn print(&mut self, buffers: &mut Buffers) -> Result<(), NoMemory>
         requires { executed_of self.old < max_count }
         ensures ok { OnOk result ((L : List CommandValue) → HasServed L self.old
@@ -156,7 +158,7 @@ impl TableServer {
         }
     }
 
-    /// Makes the text what a line of table mode prints.
+    /// Executes a line of table mode, a datagram in hex, and replaces the text with what it prints.
     pub fn print_line(&mut self, line: &[u8], buffers: &mut Buffers) -> Result<(), LineFault>
         requires { executed_of self.old < max_count }
         ensures ok { OnOk result ((L : List CommandValue) → HasServed L self.old

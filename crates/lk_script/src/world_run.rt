@@ -1,4 +1,4 @@
-// A world that a script runs.
+// World mode: executes the lines of a script in a world, and prints what their events do.
 ghost use Rattle.std.specs.Prelude.{◌≡◌, ◌+◌, ◌*◌, ◌<◌, ◌≤◌, ◌++◌, ℕ, List, replicate, Ok, Some, None, IfOk, IsErrOf};
 ghost use Rattle.lk_sim.specs.Events.{Does, IsRefused};
 ghost use Rattle.lk_sim.specs.declared.event.Event.TheVariants.{Tick};
@@ -25,7 +25,7 @@ pub struct WorldRun<R: MemoryReplica> {
 }
 
 impl<R: MemoryReplica> WorldRun<R> {
-    /// A world in which nothing has happened.
+    /// Returns a run in a world of this genesis in which nothing has happened.
     pub fn new(alloc: Global, genesis: Genesis) -> Self
         ensures world { result.world ≡ new_world genesis }
         ensures done { result.done ≡ 0 }
@@ -36,14 +36,14 @@ impl<R: MemoryReplica> WorldRun<R> {
         }
     }
 
-    /// How many events were done.
+    /// Returns how many events were done.
     pub fn done(&self) -> u64
         ensures { result ≡ self.now.done }
     {
         self.done
     }
 
-    /// The world.
+    /// Ends the run and returns its world.
     pub fn into_world(self) -> World<R>
         ensures { result ≡ self.world }
     {
@@ -51,7 +51,7 @@ impl<R: MemoryReplica> WorldRun<R> {
         world
     }
 
-    // One event happens, and what it prints is appended to the text. It may be rejected.
+    // Executes one event and appends what it prints. Returns why it was rejected, if it was.
     fn happen(&mut self, event: Event, text: &mut Vec<u8>) -> Result<Option<Refused>, NoMemory>
         requires { self.old.done < 2 * max_count }
         ensures does { result ≡ Ok None
@@ -70,7 +70,7 @@ impl<R: MemoryReplica> WorldRun<R> {
         Ok(None)
     }
 
-    // A node ticks this many times, or until a tick is rejected.
+    // Gives the node this many ticks, or those up to the first that is rejected.
     fn tick(
         &mut self,
         node: NodeNo,
@@ -91,7 +91,7 @@ impl<R: MemoryReplica> WorldRun<R> {
         Ok(None)
     }
 
-    // Does what a line asks for, or as much of it as is not rejected, and appends what that prints to the text.
+    // Executes the events of a line, or those up to the first that is rejected, and appends what they print.
     fn follow(
         &mut self,
         instruction: Instruction,
@@ -109,7 +109,8 @@ impl<R: MemoryReplica> WorldRun<R> {
         }
     }
 
-    /// Does what a line asks for, and makes the text what that prints. An event of it may be rejected.
+    /// Executes a line and replaces the text with what it prints. If an event is rejected, its line is the last, and
+    /// the reason is returned.
     pub fn print_line(
         &mut self,
         alloc: Global,

@@ -22,7 +22,8 @@ purpose_byte Replying = 3
 abbrev pub head : Purpose → List ℕ
 head p = 76 ∷ 83 ∷ 1 ∷ purpose_byte p ∷ []
 
--- the tagged bytes that precede the datagram: the purpose, the cluster, the digest of its genesis, and the recipient
+-- the tagged bytes in front of the datagram, which are not sent: the purpose, the cluster, the digest of its genesis,
+-- and the receiving node or the client
 unfoldable pub front : Scope → List ℕ
 front s = label s.purpose ++ (to_be_bytes w64 s.cluster ++ (s.genesis ++ to_be_bytes w32 s.bound))
 

@@ -4,12 +4,12 @@ use Rattle.std.specs.List.{flat_map, list_any}
 use Rattle.std.specs.Result.{result_ok}
 use Rattle.hex.specs.Hex.{decode_sized, encode_lower}
 
--- a byte stands in front of the first line
+-- these lines, with a byte put in front of the first one
 abbrev pub in_first : ℕ → List (List ℕ) → List (List ℕ)
 in_first byte [] = (byte ∷ []) ∷ []
 in_first byte (line ∷ lines) = (byte ∷ line) ∷ lines
 
--- the lines of a text: a line feed stands between two
+-- the lines of a text, separated by line feeds
 abbrev pub lines : List ℕ → List (List ℕ)
 lines [] = [] ∷ []
 lines (byte ∷ text) = if byte == 10 then [] ∷ lines text else in_first byte (lines text)
@@ -33,7 +33,7 @@ both None keys = None
 both (Some key) None = None
 both (Some key) (Some keys) = Some (key ∷ keys)
 
--- the keys that lines spell. None where one of them spells none, and is not idle
+-- the keys that lines spell. None if a line is no key, not empty and no comment
 abbrev pub keys_in : List (List ℕ) → Option (List (List ℕ))
 keys_in [] = Some []
 keys_in (line ∷ lines) = if is_idle line then keys_in lines else both (key_in line) (keys_in lines)

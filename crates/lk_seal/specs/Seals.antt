@@ -8,7 +8,7 @@ use Rattle.lk_seal.specs.declared.frame.Purpose.TheVariants.{ToNode, Asking, Rep
 use Rattle.lk_seal.specs.declared.frame.Scope.{Scope}
 use Rattle.lk_seal.specs.declared.seals.Seals.{Seals}
 
--- a message of a node of the same genesis to that node
+-- the scope of a message to that node, of a node of the same genesis
 abbrev pub to_node : Seals → ℕ → Scope
 to_node s node = record { purpose = ToNode; cluster = s.cluster; genesis = s.genesis; bound = node }
 
@@ -16,15 +16,15 @@ to_node s node = record { purpose = ToNode; cluster = s.cluster; genesis = s.gen
 abbrev pub no_genesis : List ℕ
 no_genesis = replicate 32 0
 
--- a request of that client
+-- the scope of a request of that client
 abbrev pub asking : ℕ → ℕ → Scope
 asking cluster client = record { purpose = Asking; cluster = cluster; genesis = no_genesis; bound = client }
 
--- a node's reply to that client
+-- the scope of a node's reply to that client
 abbrev pub replying : ℕ → ℕ → Scope
 replying cluster client = record { purpose = Replying; cluster = cluster; genesis = no_genesis; bound = client }
 
--- the first that is there
+-- the first of two, if there is one, or else the second
 abbrev pub first_of : Option (List ℕ) → Option (List ℕ) → Option (List ℕ)
 first_of None other = other
 first_of (Some d) other = Some d
@@ -34,7 +34,7 @@ abbrev pub opened_by : List (List ℕ) → Scope → List ℕ → Option (List �
 opened_by [] s frame = None
 opened_by (key ∷ keys) s frame = first_of (opened key s frame) (opened_by keys s frame)
 
--- nothing, if clients do not send this kind
+-- the datagram if it is of a request's kind, and otherwise nothing
 abbrev pub only_request : List ℕ → List ℕ
 only_request datagram = if slice_index datagram 3 == 9 then datagram else []
 
@@ -42,18 +42,18 @@ abbrev pub only_request_in : Option (List ℕ) → List ℕ
 only_request_in None = []
 only_request_in (Some datagram) = only_request datagram
 
--- what that client has sent, under the keys that the masters yield for it
+-- the request in a frame of that client, under the keys derived for it; nothing if it does not open to one
 abbrev pub heard_of : ℕ → List (List ℕ) → ℕ → List ℕ → List ℕ
 heard_of client masters cluster frame =
     only_request_in (opened_by (client_keys client masters) (asking cluster client) frame)
 
--- what a client has sent; nothing if it is not a client's kind, or if there are masters and no key that they yield for
--- the named client opens it
+-- the request in what arrives: with masters, under the keys derived for the client that it names; without masters, as
+-- it is
 abbrev pub heard_of_client : List (List ℕ) → ℕ → List ℕ → List ℕ
 heard_of_client [] cluster frame = only_request frame
 heard_of_client (key ∷ keys) cluster frame = heard_of (client_in (drop 36 frame)) (key ∷ keys) cluster frame
 
--- a node's message to this one, or else what a client has sent
+-- the first, if there is one, or else the other
 abbrev pub said_or : Option (List ℕ) → List ℕ → List ℕ
 said_or (Some d) other = d
 said_or None other = other

@@ -15,7 +15,7 @@ pub struct AskerSeals {
 }
 
 impl AskerSeals {
-    // What that client asks, or the reply to it.
+    // Returns the scope of that client's requests or of the replies to them.
     fn scope(&self, purpose: Purpose, client: u16) -> Scope
         ensures { result ≡ record {
           purpose = purpose;
@@ -32,7 +32,8 @@ impl AskerSeals {
         }
     }
 
-    /// What is sent for a request of that client. Its frame, if there is a key, overwrites the frame buffer.
+    /// Seals a request of that client: writes its frame into the buffer and returns that. Without a key it returns the
+    /// request itself.
     pub fn frame_of<'a>(
         &self,
         client: u16,
@@ -41,15 +42,15 @@ impl AskerSeals {
     ) -> Result<&'a [u8], AllocError>
         ensures ok { IfOk result
             (λ f. f.now ≡ framed_by (key_list self.now.keys) (asking self.now.cluster client) request.now) }
-        // Only a frame needs memory.
+        // Without a key it cannot fail: only a frame needs memory.
         ensures refused { IsErr result → key_list self.now.keys ≢ [] }
     {
         self.keys
             .frame_of(&self.scope(Purpose::Asking, client), request, frame)
     }
 
-    /// What the client takes from what arrives: a node's reply to it, and nothing else. Without a key everything is
-    /// unchanged.
+    /// Opens what arrives at the client: returns a node's reply to it, and no bytes for anything else. Without a key it
+    /// returns what arrives, unchecked.
     pub fn heard<'a>(&self, client: u16, frame: &'a [u8]) -> &'a [u8]
         ensures { result.now ≡ replied (key_list self.now.keys) self.now.cluster client frame.now }
     {

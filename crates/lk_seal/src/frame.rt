@@ -7,13 +7,13 @@ use crate::key::Key;
 use crate::mac::TAG;
 use std::alloc::AllocError;
 
-// The bytes before the tag.
+// The length of what precedes the tag.
 const HEAD: usize = 4;
 
 /// The bytes that a frame adds to its datagram.
 pub const OVERHEAD: usize = HEAD + TAG;
 
-// The tagged bytes that precede a datagram.
+// The length of the tagged bytes in front of a datagram.
 const FRONT: usize = 60;
 
 /// The length of a genesis' digest.
@@ -30,8 +30,8 @@ pub enum Purpose {
     Replying,
 }
 
-/// What a tag vouches for besides the datagram: the purpose, the cluster, the genesis, and the node, or 0. Clients
-/// have zeros in place of the genesis' digest.
+/// What a tag covers besides the datagram. `bound` is the node that receives a node's message, and otherwise the
+/// client. Requests and replies have zeros as the genesis' digest, since a client knows only the cluster's number.
 #[derive(Clone, Copy)]
 pub struct Scope {
     pub purpose: Purpose,
@@ -41,7 +41,7 @@ pub struct Scope {
 }
 
 impl Purpose {
-    // 16 letters.
+    // Returns the 16 letters that the tagged bytes begin with.
     fn label(self) -> [u8; 16]
         ensures { result ≡ label self }
     {
@@ -52,7 +52,7 @@ impl Purpose {
         }
     }
 
-    // The first bytes of a frame.
+    // Returns the first bytes of a frame: the letters LS, version 1 and the purpose.
     fn head(self) -> [u8; HEAD]
         ensures { result ≡ head self }
     {
@@ -65,7 +65,8 @@ impl Purpose {
     }
 }
 
-// The tagged bytes that precede a datagram.
+// Returns the bytes that the tag covers in front of the datagram: the label of the purpose, the cluster, the genesis
+// and `bound`. They are not sent.
 #[tactic(auto, unfolding(crate::specs::Frames::front))]
 fn front_of(scope: &Scope) -> [u8; FRONT]
     ensures { result ≡ front scope.now }
@@ -78,7 +79,7 @@ fn front_of(scope: &Scope) -> [u8; FRONT]
     bytes
 }
 
-// The tag of a datagram.
+// Returns the tag of a datagram in this scope.
 #[tactic(auto, unfolding(crate::specs::Frames::seal_tag))]
 fn tag_in(key: &Key, scope: &Scope, datagram: &[u8]) -> [u8; TAG]
     ensures { result ≡ seal_tag key.now scope.now datagram.now }
@@ -94,7 +95,8 @@ fn has_head(bytes: &[u8], purpose: Purpose) -> bool
     bytes == head.as_slice()
 }
 
-// Whether two tags are equal. It reads every byte of both, wherever they differ; no clause speaks of its time.
+// Whether two tags are equal. It always reads every byte of both, so that its time does not reveal where they differ;
+// no clause states its time.
 fn is_same(left: &[u8; TAG], right: &[u8]) -> bool
     requires { length right.now ≡ 32 }
     ensures { IsTrue result ↔ (left.now ≡ right.now) }
@@ -106,7 +108,7 @@ fn is_same(left: &[u8; TAG], right: &[u8]) -> bool
     difference == 0
 }
 
-/// Overwrites the frame buffer with the frame of a datagram.
+/// Seals a datagram: overwrites the buffer with its frame. After an error the buffer may hold a part of it.
 #[tactic(auto, unfolding(crate::specs::Frames::sealed))]
 pub fn seal(
     key: &Key,
@@ -124,7 +126,7 @@ pub fn seal(
     Ok(())
 }
 
-/// The datagram in this frame.
+/// Opens a frame: returns its datagram, or `None` if it is too short, has another purpose, or its tag is wrong.
 pub fn open<'a>(key: &Key, scope: &Scope, frame: &'a [u8]) -> Option<&'a [u8]>
     ensures some { IfSome result (λ d. frame.now ≡ sealed key.now scope.now d.now) }
     ensures none { IsNone result → (d : List ℕ) → frame.now ≡ sealed key.now scope.now d → ⊥ }

@@ -8,7 +8,7 @@ use std::marker::Model;
 /// The length of a key.
 pub const KEY: usize = 32;
 
-/// A key, and HMAC under it.
+/// A key, with the state of HMAC under it, which is computed once.
 #[derive(Drop)]
 pub struct Key {
     bytes: [u8; KEY],
@@ -42,8 +42,8 @@ impl Key {
         self.bytes == other.bytes
     }
 
-    /// The key of a client, derived from this key, which is a master. Whoever has the key of one client can derive no
-    /// other client's.
+    /// Derives the key of a client from this key, which is a master. From one client's key no other client's can be
+    /// derived.
     #[tactic(auto, unfolding(crate::specs::Clients::client_key))]
     pub fn of_client(&self, client: u16) -> Key
         ensures { result ≡ client_key client self.now }

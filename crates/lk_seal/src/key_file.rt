@@ -11,14 +11,14 @@ use crate::keys::Keys;
 use std::io;
 use std::io::Write;
 
-// Whether a line says nothing: it is empty, or a comment.
+// Whether a line is empty or a comment, which begins with `#`.
 fn is_idle(line: &[u8]) -> bool
     ensures { result ≡ is_idle line.now }
 {
     line.first().copied().unwrap_or(b'#') == b'#'
 }
 
-// The key that a line spells.
+// Parses a line of 64 hex digits as a key.
 fn key_in(line: &[u8]) -> Option<Key>
     ensures some { IfSome result (λ key. key_in line.now ≡ Some key) }
     ensures none { IsNone result → key_in line.now ≡ None }
@@ -30,7 +30,7 @@ fn key_in(line: &[u8]) -> Option<Key>
     }
 }
 
-// The first line of a text, and what stands after its line feed. `None` where there is no line feed.
+// Splits a text at its first line feed, which it drops. `None` if there is none.
 fn first_line(text: &[u8]) -> Option<(&[u8], &[u8])>
     ensures some { IfSome result (λ p. IsLine p.0.now × (text.now ≡ p.0.now ++ 10 ∷ p.1.now)) }
     ensures none { IsNone result → IsLine text.now }
@@ -52,7 +52,7 @@ fn digits_of(key: &Key) -> [u8; 2 * KEY]
     digits
 }
 
-// Writes a key in a line.
+// Writes a key in hex digits, and a line feed.
 #[tactic(auto, using(crate::proofs::KeyFileLaws::appends_more))]
 fn write_line<W: Write>(key: &Key, out: &mut W) -> io::Result<()>
     ensures { OnOk result (Appends (W.contents out.old) (W.contents out.new) (encode_lower key.now ++ 10 ∷ [])) }
@@ -63,8 +63,8 @@ fn write_line<W: Write>(key: &Key, out: &mut W) -> io::Result<()>
 }
 
 impl Keys {
-    // These keys, and that of the next line. `None` where the line spells none though it says something, and where
-    // they were two.
+    // Adds the key of a line, unless that is empty or a comment. `None` if the line is no key, or would be the third
+    // one.
     fn with_line(self, line: &[u8]) -> Option<Keys>
         ensures some { IfSome result
             (λ keys. (after : List (List ℕ))
@@ -85,7 +85,7 @@ impl Keys {
         }
     }
 
-    /// The keys of a key file: `None` where its lines are not one key or two, besides empty lines and comments.
+    /// Parses a key file. `None` if its lines are not one key or two, besides empty lines and comments.
     pub fn read(text: &[u8]) -> Option<Keys>
         ensures some { IfSome result (λ keys. key_file text.now ≡ Some (key_list keys)) }
         ensures none { IsNone result → key_file text.now ≡ None }
@@ -108,7 +108,8 @@ impl Keys {
         Some(keys)
     }
 
-    /// Writes a key file of these keys, and flushes the output.
+    /// Writes a key file of these keys, and flushes the output. Without keys it writes nothing, which is no valid key
+    /// file.
     #[tactic(auto, using(crate::proofs::KeyFileLaws::appends_more, crate::proofs::KeyFileLaws::appends_nothing, crate::proofs::KeyFileLaws::appends_kept))]
     pub fn write<W: Write>(&self, out: &mut W) -> io::Result<()>
         ensures { OnOk result (Appends (W.contents out.old) (W.contents out.new) (key_lines (key_list self.now))) }

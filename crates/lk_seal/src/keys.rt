@@ -22,7 +22,7 @@ impl Keys {
         matches!(self, Keys::NoKey)
     }
 
-    // Whether it is one of them.
+    // Whether this key is one of them.
     fn has(&self, key: &Key) -> bool
         ensures { IsTrue result ↔ IsAmong key.now (key_list self.now) }
     {
@@ -44,7 +44,7 @@ impl Keys {
         }
     }
 
-    /// The keys of a client, derived from these, which are masters.
+    /// Derives the keys of a client from these, which are masters.
     pub fn of_client(&self, client: u16) -> Keys
         ensures { key_list result ≡ client_keys client (key_list self.now) }
     {
@@ -57,7 +57,7 @@ impl Keys {
         }
     }
 
-    /// What the first key that opens a frame opens it to.
+    /// Opens a frame with the first key that fits, and returns its datagram. `None` if no key fits.
     pub fn open<'a>(&self, scope: &Scope, frame: &'a [u8]) -> Option<&'a [u8]>
         ensures some { IfSome result (λ d. opened_by (key_list self.now) scope.now frame.now ≡ Some d.now) }
         ensures none { IsNone result → opened_by (key_list self.now) scope.now frame.now ≡ None }
@@ -72,8 +72,8 @@ impl Keys {
         }
     }
 
-    /// What is sent for a datagram: its frame, or the datagram itself if there is no key. The frame overwrites the
-    /// frame buffer.
+    /// Seals a datagram under the first key: writes its frame into the buffer and returns that. Without a key it
+    /// returns the datagram itself, and cannot fail.
     pub fn frame_of<'a>(
         &self,
         scope: &Scope,

@@ -1,4 +1,5 @@
-//! Seals of datagrams: they show that someone with the key made them, and for whom.
+//! Message authentication: seals datagrams with HMAC tags, which show that someone with the key made them, and for
+//! whom; and the keys and key files for that.
 #![tactic(auto)]
 
 mod asker;

@@ -17,7 +17,7 @@ const INNER: u8 = 0x36;
 
 const OUTER: u8 = 0x5c;
 
-// The block of a key.
+// Fills a block with the key and then zeros; a key longer than a block is replaced by its digest.
 #[tactic(auto, unfolding(crate::specs::Hmac::key_block))]
 fn block_of(key: &[u8]) -> [u8; BLOCK]
     ensures { result ≡ key_block key.now }
@@ -32,7 +32,7 @@ fn block_of(key: &[u8]) -> [u8; BLOCK]
     block
 }
 
-// A block with a pad.
+// Returns the block with each byte XORed with the pad.
 fn padded(block: &[u8; BLOCK], pad: u8) -> [u8; BLOCK]
     ensures { result ≡ with_pad pad block.now }
 {
@@ -43,8 +43,8 @@ fn padded(block: &[u8; BLOCK], pad: u8) -> [u8; BLOCK]
     mixed
 }
 
-/// HMAC under a key: the hashers of the inner and of the outer digest, each of which has taken in the key's block. A
-/// tag begins with copies of them, so that the blocks are compressed once for all tags.
+/// The state of HMAC under a key: the hashers of the inner and the outer digest, each after the key's padded block.
+/// Each tag begins with copies of them, so that these blocks are hashed only once.
 #[derive(Drop)]
 pub struct Mac {
     inner: Sha256,
@@ -52,7 +52,7 @@ pub struct Mac {
 }
 
 impl Mac {
-    /// HMAC under that key.
+    /// Prepares HMAC under that key, of any length.
     pub fn new(key: &[u8]) -> Mac
         ensures { IsKeyed key.now result }
     {

@@ -1,4 +1,4 @@
-//! The masters of the clients' keys, and the keys that they yield, each derived once.
+//! The master keys, from which the keys of the clients are derived, with a table of these keys, each derived once.
 
 ghost use Rattle.std.specs.Prelude.{◌≡◌, ◌≢◌, ◌↔◌, [], Some, None, IsTrue, IfSome, IsNone, IfOk, IsErr};
 ghost use Rattle.lk_seal.specs.Clients.{client_keys};
@@ -10,10 +10,10 @@ use crate::keys::Keys;
 use std::alloc::{AllocError, Global};
 use std::marker::Model;
 
-// How many entries the table of the clients' keys has: clients are 1 to 256.
+// The length of the table of the clients' keys: clients are 1 to 256, and their number is the index.
 const ENTRIES: u16 = 257;
 
-/// The masters from which the keys of the clients are derived, and a table of these keys.
+/// The master keys, from which the keys of the clients are derived, and a table of these keys.
 #[derive(Drop)]
 pub struct Masters {
     keys: Keys,
@@ -33,7 +33,7 @@ impl Model for Masters {
     ghost invariant = { λ m. IfSome m.table (λ t. IsTable m.keys t.items) };
 }
 
-// The keys that masters yield for each client.
+// Derives the keys of each client.
 fn table_of(alloc: Global, masters: &Keys) -> Result<Vec<Keys>, AllocError>
     ensures { IfOk result (λ table. IsTable masters.now table.items) }
 {
@@ -45,7 +45,7 @@ fn table_of(alloc: Global, masters: &Keys) -> Result<Vec<Keys>, AllocError>
 }
 
 impl Masters {
-    /// No masters: clients have no keys.
+    /// Returns no masters, so that clients have no keys. Takes no memory.
     pub fn none() -> Masters
         ensures { key_list result ≡ [] }
     {
@@ -55,7 +55,7 @@ impl Masters {
         }
     }
 
-    /// These keys as masters.
+    /// Makes these keys masters, and derives the keys of all clients.
     pub fn of(alloc: Global, keys: Keys) -> Result<Masters, AllocError>
         ensures { IfOk result (λ m. m ≡ keys) }
     {
@@ -76,7 +76,7 @@ impl Masters {
         self.keys.is_none()
     }
 
-    // The keys of a client that the table has.
+    // Looks up the keys of a client in the table. `None` without masters, or for a number above 256.
     fn kept(&self, client: u16) -> Option<&Keys>
         ensures { IfSome result (λ keys. key_list keys.now ≡ client_keys client (key_list self.now)) }
     {
@@ -86,7 +86,7 @@ impl Masters {
         }
     }
 
-    /// What the first key of a client that opens a frame opens it to.
+    /// Opens a frame with the first key of that client that fits, and returns its datagram. `None` if no key fits.
     pub fn open<'a>(&self, client: u16, scope: &Scope, frame: &'a [u8]) -> Option<&'a [u8]>
         ensures some { IfSome result
             (λ d. opened_by (client_keys client (key_list self.now)) scope.now frame.now ≡ Some d.now) }
@@ -98,8 +98,8 @@ impl Masters {
         }
     }
 
-    /// What is sent for a datagram under the first key of a client: its frame, or the datagram itself if there is no
-    /// key. The frame overwrites the frame buffer.
+    /// Seals a datagram under the first key of that client: writes its frame into the buffer and returns that. Without
+    /// masters it returns the datagram itself, and cannot fail.
     pub fn frame_of<'a>(
         &self,
         client: u16,

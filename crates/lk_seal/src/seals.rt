@@ -15,8 +15,8 @@ const KIND: usize = 3;
 
 const REQUEST: u8 = 9;
 
-/// The keys by which a node knows a sender: its cluster, its genesis and its number, the keys of the nodes, and the
-/// masters from which the keys of the clients are derived.
+/// The keys with which a node checks and seals datagrams: those of the nodes, and the masters of the clients' keys. Its
+/// cluster, genesis and number are part of what a tag covers.
 #[derive(Drop)]
 pub struct Seals {
     pub cluster: u64,
@@ -30,7 +30,7 @@ pub struct Seals {
 // The offset of the client in a request, two bytes.
 const CLIENT: usize = 16;
 
-// What follows the tag of a frame.
+// Returns the bytes of a frame after its tag, unchecked; none if it is too short.
 fn behind_tag<'a>(frame: &'a [u8]) -> &'a [u8]
     ensures { result.now ≡ drop 36 frame.now }
 {
@@ -40,7 +40,7 @@ fn behind_tag<'a>(frame: &'a [u8]) -> &'a [u8]
     &frame[OVERHEAD..]
 }
 
-// The client that a request names.
+// Returns the client that a request names, unchecked. Missing bytes count as 0.
 fn client_in(datagram: &[u8]) -> u16
     ensures { result ≡ client_in datagram.now }
 {
@@ -49,7 +49,7 @@ fn client_in(datagram: &[u8]) -> u16
     u16::from_be_bytes([first, second])
 }
 
-// The datagram, if it is a client's kind.
+// Returns the datagram if it is of a request's kind, and otherwise no bytes.
 fn only_request<'a>(datagram: &'a [u8]) -> &'a [u8]
     ensures { result.now ≡ only_request datagram.now }
 {
@@ -60,7 +60,7 @@ fn only_request<'a>(datagram: &'a [u8]) -> &'a [u8]
 }
 
 impl Seals {
-    // A node's message to that node.
+    // Returns the scope of a message to that node.
     fn to_node(&self, node: u32) -> Scope
         ensures { result ≡ to_node self.now node }
     {
@@ -72,7 +72,7 @@ impl Seals {
         }
     }
 
-    // What that client asks, or the reply to it.
+    // Returns the scope of that client's requests or of the replies to them.
     fn with_client(&self, purpose: Purpose, client: u16) -> Scope
         ensures { result ≡ record {
           purpose = purpose;
@@ -89,7 +89,7 @@ impl Seals {
         }
     }
 
-    // What that client has sent, under the keys that the masters yield for it.
+    // Opens a frame as that client's, and returns its request; no bytes if it is not.
     fn heard_of<'a>(&self, client: u16, frame: &'a [u8]) -> &'a [u8]
         ensures { result.now ≡ heard_of client (key_list self.now.clients) self.now.cluster frame.now }
     {
@@ -100,7 +100,8 @@ impl Seals {
         }
     }
 
-    // What a client has sent.
+    // Opens a frame under the keys of the client that it names. Without masters requests are bare: it returns them as
+    // they are.
     fn heard_of_client<'a>(&self, frame: &'a [u8]) -> &'a [u8]
         ensures { result.now ≡ heard_of_client (key_list self.now.clients) self.now.cluster frame.now }
     {
@@ -110,8 +111,8 @@ impl Seals {
         self.heard_of(client_in(behind_tag(frame)), frame)
     }
 
-    /// What a node takes from what arrives: a message of a node of the cluster to it, what a client has sent, and
-    /// nothing else. If the nodes have no key, everything is unchanged.
+    /// Opens what arrives at the node: returns a node's message to it or a client's request, and no bytes for
+    /// anything else. If the nodes have no key, it returns what arrives, unchecked.
     pub fn heard<'a>(&self, frame: &'a [u8]) -> &'a [u8]
         ensures { result.now ≡ heard self.now frame.now }
     {
@@ -124,7 +125,8 @@ impl Seals {
         }
     }
 
-    /// What is sent for a datagram to a node. Its frame, if there is a key, overwrites the frame buffer.
+    /// Seals a datagram to a node: writes its frame into the buffer and returns that. Without a key it returns the
+    /// datagram itself, and cannot fail.
     pub fn frame_to_node<'a>(
         &self,
         node: u32,
@@ -138,7 +140,7 @@ impl Seals {
         self.nodes.frame_of(&self.to_node(node), datagram, frame)
     }
 
-    /// The same for a datagram to that client.
+    /// Seals a datagram to that client, as `frame_to_node` does for a node.
     pub fn frame_to_client<'a>(
         &self,
         client: u16,

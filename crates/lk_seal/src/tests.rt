@@ -81,7 +81,7 @@ fn of_node_2(alloc: Global) -> Result<Seals, Fail> {
     })
 }
 
-// Whether node 2 takes that from it.
+// Whether node 2 takes the second text of the row from the frame in its first.
 fn is_heard(alloc: Global, row: (&str, &str)) -> Result<bool, Fail> {
     let (frame, datagram) = row;
     let frame = hex::decode(alloc, frame)?;
@@ -89,7 +89,7 @@ fn is_heard(alloc: Global, row: (&str, &str)) -> Result<bool, Fail> {
     Ok(of_node_2(alloc)?.heard(&frame) == datagram.as_slice())
 }
 
-// Whether it takes from each what its row says.
+// Whether that holds of each row.
 fn are_heard<'a>(alloc: Global, rows: &'a [(&'a str, &'a str)]) -> Result<bool, Fail> {
     for row in rows {
         if !is_heard(alloc, *row)? {

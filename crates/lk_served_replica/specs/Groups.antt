@@ -3,11 +3,11 @@ use Rattle.std.specs.Prelude.{ℕ, List, [], ◌++◌, Option}
 use Rattle.lk_node_io.specs.Letters.{LetterValue}
 use Rattle.lk_replica.specs.Groups.{GroupValue}
 
--- how a replica speaks: the effect of a group, and its letters
+-- the type of `Says`: the replica before a group, its input, the letters that it produces, and the replica after
 abbrev pub Sayings : Type 0 → Type 1
 Sayings R = R → List (Option (List ℕ)) → List LetterValue → R → Type 0
 
--- how it gathers: the replica when the group began, its input since, the group so far, and the replica now
+-- the type of `Gathers`: the replica when the group began, its input since, the group so far, and the replica now
 abbrev pub Gatherings : Type 0 → Type 1
 Gatherings R = R → List (Option (List ℕ)) → GroupValue → R → Type 0
 

@@ -2,7 +2,8 @@
 use Rattle.lk_node_io.specs.declared.fault.ReplicaFault.{ReplicaFault}
 use Rattle.lk_node_io.specs.declared.fault.ReplicaFault.TheVariants as fault
 
--- only a restart finds damage and another's store, and a lost datagram refuses nothing
+-- the faults that a call of a group can return: only a restart finds damage or the store of another node, and a failed
+-- send is no fault of the replica
 abbrev pub IsOfGroups : ReplicaFault → Type 0
 IsOfGroups fault.Device = Unit {0}
 IsOfGroups fault.NoMemory = Unit {0}

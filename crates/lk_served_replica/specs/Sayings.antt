@@ -70,7 +70,7 @@ pub record SaysByGroup (m : Meaning) (IsText : List ℕ → Type 0) (Metered : T
       → (d : Datagram) → Contains (batch_of n letters) d → Spells (said_by genesis n x) d.bytes
       → AllCover m genesis n (disks new.store) x
 
--- it was rejected, and sends nothing
+-- the group was rejected: it sends nothing, and the replica has ended
 pub record IsSilenced (letters : List LetterValue) (new : ReplicaValue) : Type 0 where
   pub none : letters ≡ []
   pub ended : new.failed ≡ true
@@ -87,8 +87,9 @@ pub record GroupLeaves (m : Meaning) (Hears : History → Type 0) (most steps : 
   pub room : StaysWithin most (disks store) after
   pub grows : GrowsBySteps steps (disks store) after
 
--- one or the other; however it ends, whatever a stop may leave of its disks fits, covers what every image covered
--- before, and is not long. A replica that a call has ended does not change
+-- the effect of a group, taken (`SaysByGroup`) or rejected (`IsSilenced`). However it ends, whatever a stop may leave
+-- of the disks fits, covers what every image covered before, and is not long. A replica that a call has ended does not
+-- change
 pub record SaysOf (m : Meaning) (IsText : List ℕ → Type 0) (Metered : Type 0) (old : ReplicaValue)
     (given : List (Option (List ℕ))) (letters : List LetterValue) (new : ReplicaValue) : Type 0 where
   pub inputs : List Input

@@ -1,15 +1,15 @@
--- What a replica shows of itself.
+-- The values that a replica shows to a probe.
 use Rattle.std.specs.Prelude.{◌≡◌, ◌↔◌, ◌==◌, ◌+◌, ◌-◌, ℕ, if◌then◌else◌, length, min, slice_get, Some, IsTrue}
 use Rattle.lk_members.specs.Windows.{RosterValue}
 use Rattle.lk_leader.specs.Proposing.{Leads}
 use Rattle.lk_replica.specs.ReplicaValue.{ReplicaValue}
 use Rattle.lk_served_replica.specs.declared.probed_state.ProbedState.{ProbedState}
 
--- how many positions from the next one on come before the one from which on the last join or leave is in force
+-- how many positions remain before the last granted join or leave takes effect; 0 if none is pending
 abbrev pub pending_in : RosterValue → ℕ
 pending_in roster = if roster.changed == 0 then 0 else (roster.changed + length roster.sets) - (roster.executed + 1)
 
--- each part is the replica's
+-- each field has the replica's value, capped where the field is shorter
 pub record IsShown (r : ReplicaValue) (s : ProbedState) : Type 0 where
   pub leads : IsTrue s.leadership.leads ↔ Leads r.node.leader r.node.learner.whole.roster
   pub leader : s.leadership.leader ≡ r.node.known

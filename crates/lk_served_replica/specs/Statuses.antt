@@ -1,10 +1,10 @@
--- A replica's state, as others see it.
+-- A summary of a replica's state, for the log and the events of its server.
 use Rattle.std.specs.Prelude.{◌≡◌}
 use Rattle.std.specs.Option.{option_map}
 use Rattle.lk_replica.specs.ReplicaValue.{ReplicaValue}
 use Rattle.lk_served_replica.specs.declared.replica_status.ReplicaStatus.{ReplicaStatus}
 
--- each part is the replica's
+-- each field has the replica's value
 pub record IsStatusOf (r : ReplicaValue) (s : ReplicaStatus) : Type 0 where
   pub generation : s.generation ≡ r.store.generation
   pub snapshot : s.snapshot ≡ r.node.acceptor.state.snapshot_position

@@ -1,4 +1,4 @@
-//! What a replica shows of itself to whoever probes its node.
+//! The part of a node's report to a probe that its replica knows.
 
 ghost use Rattle.std.specs.Prelude.{◌≡◌, Some, min, length, slice_get};
 ghost use Rattle.lk_served_replica.specs.Showing.{pending_in, IsShown};
@@ -11,12 +11,12 @@ use lk_replica::Replica;
 use lk_state::Machine;
 use lk_types::Members;
 
-/// What a replica shows of itself to whoever probes its node.
+/// The part of a node's report to a probe that its replica knows.
 #[derive(Drop)]
 pub struct ProbedState {
     pub leadership: Leadership,
     pub progress: Progress,
-    /// The requests that wait to be proposed.
+    /// How many requests wait to be proposed; 65,535 if there are more.
     pub waiting: u16,
     /// The members of the next position.
     pub members: Members,
@@ -28,11 +28,13 @@ pub struct ProbedState {
 fn next_members(roster: &Roster) -> &Members
     ensures { slice_get roster.now.sets 0 ≡ Some result.now }
 {
+    // It does nothing; by its contract the window is not empty.
     roster.facts();
     roster.window().as_slice()[0].set()
 }
 
-// How many positions from the next one on come before the one from which on the last join or leave is in force.
+// Returns how many positions remain before the last granted join or leave takes effect: 0 if none is pending, and 255
+// at most.
 fn pending(roster: &Roster) -> u8
     ensures { result ≡ min (pending_in roster.now) 255 }
 {
@@ -45,7 +47,7 @@ fn pending(roster: &Roster) -> u8
     if left < 255 { left as u8 } else { 255 }
 }
 
-// How many requests wait to be proposed; 65,535 where there are more.
+// Returns how many requests wait to be proposed; 65,535 if there are more.
 fn waiting<M: Machine>(node: &Node<M>) -> u16
     ensures { result ≡ min (length node.now.leader.waiting) 65535 }
 {
@@ -54,7 +56,7 @@ fn waiting<M: Machine>(node: &Node<M>) -> u16
 }
 
 impl ProbedState {
-    /// What that replica shows.
+    /// Reads these values from a replica.
     pub fn of<M: Machine, D: LogDisk + Drop>(replica: &Replica<M, D>) -> ProbedState
         ensures { IsShown replica.now result }
     {

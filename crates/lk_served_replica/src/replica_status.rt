@@ -1,8 +1,8 @@
-//! A replica's state, as others see it.
+//! A summary of a replica's state, which a server compares before and after a step for its log and events.
 
 use lk_types::{Ballot, Executed, NodeNo, RealBallot};
 
-/// A replica's state between two turns, as others see it.
+/// A summary of a replica's state between two steps, for a server's log and events.
 #[derive(Clone, Copy)]
 pub struct ReplicaStatus {
     /// The generation of its store.

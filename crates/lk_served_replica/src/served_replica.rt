@@ -1,4 +1,4 @@
-//! A replica as a server runs it.
+//! The interface by which a server runs a replica.
 
 ghost use Rattle.std.specs.Prelude.{◌≡◌, ℕ, List, [], ◌∷◌, Option, Bool, true, false, IfOk, OnOk, OnErr, IfErr, IfSome};
 ghost use Rattle.lk_node_io.specs.Letters.{LetterValue};
@@ -25,7 +25,7 @@ use std::alloc::Global;
 
 /// A replica as a server runs it: it takes its input in groups.
 pub trait ServedReplica: Sized + Drop {
-    /// A call has ended it.
+    /// Whether a failed call has ended it.
     ghost failed: { Self → Bool };
 
     /// The effect of a group: the replica before, its input (the bytes of a datagram, or nothing for a tick), the
@@ -36,13 +36,13 @@ pub trait ServedReplica: Sized + Drop {
     /// now.
     ghost Gathers: { Self → List (Option (List ℕ)) → GroupValue → Self → Type 0 };
 
-    /// What it shows of itself to whoever probes its node.
+    /// Whether it may show this state to a probe.
     ghost Shows: { Self → ProbedStateValue → Type 0 };
 
-    /// What it may tell of whether its lock table was raised.
+    /// Whether it may return this from `is_raised`.
     ghost IsRaised: { Self → Bool → Type 0 };
 
-    /// Begins a group.
+    /// Returns an empty group, for `gather` and `release`.
     fn begin(&self, alloc: Global) -> Group
         ensures begins { Gathers self.now [] result self.now };
 
@@ -56,8 +56,8 @@ pub trait ServedReplica: Sized + Drop {
         ensures broken { OnErr result (failed self.new ≡ true) }
         ensures told { IfErr result IsOfGroups };
 
-    /// Ends a group, as `Replica::release` does, and returns whether all of its letters were sent. Any error ends the
-    /// replica.
+    /// Ends a group, as `Replica::release` does: syncs if a promise or vote waits for that, then gives the letters to
+    /// the post. Returns whether all were sent. Any error ends the replica.
     fn release<P: Post>(&mut self, group: &Group, post: &mut P) -> Result<bool, ReplicaFault>
         // It gives its letters to the post in order, each once, and nothing else.
         ensures hands { OnOk result
@@ -74,14 +74,15 @@ pub trait ServedReplica: Sized + Drop {
         ensures broken { OnErr result (failed self.new ≡ true) }
         ensures told { IfErr result IsOfGroups };
 
-    /// A summary of its state.
+    /// Returns a summary of its state.
     fn status(&self) -> ReplicaStatus;
 
-    /// What it shows of itself to whoever probes its node.
+    /// Returns what it shows to a probe.
     fn show(&self) -> ProbedState
         ensures { Shows self.now result };
 
-    /// Whether its lock table was raised, or `None` if it is out of memory. It packs and unpacks its state.
+    /// Returns whether its lock table was raised to the second version, or `None` if it is out of memory. It packs and
+    /// unpacks its state, which is expensive.
     fn is_raised(&self, alloc: Global) -> Option<bool>
         ensures { IfSome result (IsRaised self.now) };
 }

@@ -1,5 +1,6 @@
-//! The version of a node's lock table. A machine does not show it: a copy is raised, and its answer tells. That is
-//! dear, so a server remembers what it has read, and reads again only after a Raise or another node's snapshot.
+//! The version of a node's lock table. A machine has no call that returns it, so a copy is raised, and its answer shows
+//! whether it was raised before. As that is expensive, a server keeps the result, and reads again only after a Raise or
+//! another node's snapshot.
 
 ghost use Rattle.std.specs.Prelude.{◌≡◌, ◌↔◌, IfSome, IsTrue};
 ghost use Rattle.lk_state.specs.Packed.{packed, Packs};
@@ -14,17 +15,18 @@ use lk_state::{Machine, Whole};
 use lk_types::{Answer, Command, Op};
 use std::alloc::Global;
 
-/// What a server knows of the version of its lock table.
+/// The version of its lock table that a server has read.
 #[derive(Clone, Copy)]
 pub enum TableVersion {
-    /// It has to be read.
+    /// Unknown: it has to be read.
     Unread,
+    /// Not raised when it was read.
     First,
-    /// The second, for ever.
+    /// Raised to the second version, permanently.
     Raised,
 }
 
-// Whether a command that was executed may have raised the table.
+// Returns whether a note reports an executed Raise.
 fn is_raise(note: &Note) -> bool {
     match note {
         Note::Ran(_, _, Command::Request(request)) => matches!(request.op, Op::Raise),
@@ -33,7 +35,7 @@ fn is_raise(note: &Note) -> bool {
 }
 
 impl TableVersion {
-    /// The version that was read; still unread where that ran out of memory.
+    /// Makes it from what was read; `Unread` if that ran out of memory.
     pub fn of(is_raised: Option<bool>) -> TableVersion {
         match is_raised {
             Some(true) => TableVersion::Raised,
@@ -42,7 +44,7 @@ impl TableVersion {
         }
     }
 
-    /// Its number: 0 if it has to be read.
+    /// Returns its number in a report: 0 if it has to be read.
     pub fn number(self) -> u8 {
         match self {
             TableVersion::Unread => 0,
@@ -51,7 +53,7 @@ impl TableVersion {
         }
     }
 
-    // It may have changed, unless it is raised.
+    // Forgets the first version, which may have been raised since; a raised table stays raised.
     fn doubted(self) -> TableVersion {
         match self {
             TableVersion::Raised => TableVersion::Raised,
@@ -59,7 +61,7 @@ impl TableVersion {
         }
     }
 
-    /// What is known of it after a group with these notes.
+    /// Returns what is still known after a group with these notes: only a Raise changes the version.
     pub fn after(self, notes: &[Note]) -> TableVersion {
         for note in notes {
             if is_raise(note) {
@@ -69,7 +71,8 @@ impl TableVersion {
         self
     }
 
-    /// What is known of it after a step: nothing if that installed a snapshot.
+    /// Returns what is still known after a step: an installed snapshot, one above what was executed before, may be of a
+    /// raised table.
     pub fn after_step(self, before: &ReplicaStatus, after: &ReplicaStatus) -> TableVersion {
         if after.snapshot.get() > before.executed.get() {
             return self.doubted();
@@ -78,7 +81,7 @@ impl TableVersion {
     }
 }
 
-// Whether the machine of this text was raised, or `None` if it is out of memory.
+// Returns whether the machine of this packed text was raised, or `None` if it is out of memory.
 fn is_raised_text<M: Machine>(alloc: Global, text: &[u8]) -> Option<bool>
     ensures { IfSome result (λ is. IsTrue is ↔ WasRaised M.meaning text.now) }
 {
@@ -89,7 +92,7 @@ fn is_raised_text<M: Machine>(alloc: Global, text: &[u8]) -> Option<bool>
     Some(matches!(machine.raise(), Answer::AlreadyRaised))
 }
 
-// The text of the machine of a packed state, or `None` if it is out of memory.
+// Returns the packed text of the machine in a packed state, or `None` if it is out of memory.
 fn machine_text<M: Machine>(alloc: Global, state: &[u8]) -> Option<BytesMut>
     ensures { IfSome result (λ t. (w : WholeValue) → Packs M.IsText w state.now → t.items ≡ w.text) }
 {
@@ -103,7 +106,7 @@ fn machine_text<M: Machine>(alloc: Global, state: &[u8]) -> Option<BytesMut>
     }
 }
 
-// Whether the machine of a packed state was raised, or `None` if it is out of memory.
+// Returns whether the machine of a packed state was raised, or `None` if it is out of memory.
 fn is_raised_state<M: Machine>(alloc: Global, state: &[u8]) -> Option<bool>
     ensures { IfSome result (TellsRaised M.meaning M.IsText state.now) }
 {
@@ -113,7 +116,7 @@ fn is_raised_state<M: Machine>(alloc: Global, state: &[u8]) -> Option<bool>
     is_raised_text::<M>(alloc, &text)
 }
 
-/// Whether the machine of a node was raised, or `None` if it is out of memory.
+/// Returns whether the machine of a node was raised, or `None` if it is out of memory.
 pub fn is_raised<M: Machine>(alloc: Global, node: &Node<M>) -> Option<bool>
     ensures { IfSome result (TellsRaised M.meaning M.IsText (packed node.now.learner.whole)) }
 {

@@ -1,4 +1,4 @@
--- When a count of datagrams is told.
+-- When a count of datagrams is logged.
 use Rattle.std.specs.Prelude.{ℕ, Bool, count_ones, ◌==◌}
 
 -- it is a power of two: exactly one of its bits is set

@@ -10,8 +10,8 @@ use Rattle.lk_transport.specs.Posts.{HearsAll, is_filtered_out, all_filtered}
 use Rattle.lk_server.specs.Servers.{ServerValue, all_inputs, all_ticks, counted, datagrams_in, Given, GivenFirst}
 use Rattle.lk_server.specs.Servers.{HasReceived, IsFront, TakesLetters, HandsOn}
 
--- a replica is given nothing of these frames: there is none, or one, which stands beside the protocol or came from a
--- node of another genesis
+-- a replica is given nothing of these frames: there is none, or one, which is a probe or a report, or came from a node
+-- of another genesis
 abbrev pub AreFound : Filter → TurnInput → List (SocketAddr × List ℕ) → Type 0
 AreFound s Nothing frames = frames ≡ []
 AreFound s Beside frames = (frame : SocketAddr × List ℕ) × (frames ≡ frame ∷ []) × (is_filtered_out s frame ≡ true)
@@ -65,19 +65,19 @@ module _ {R : Type 0} (Gathers : Gatherings R) where
     pub ticks : new.ticks ≡ all_ticks old.ticks (all_inputs old.pace old.received datagrams)
     pub pace : new.pace ≡ old.pace
 
-  -- the first letters of the node to itself, at most this many
+  -- the first letters of the node to itself were taken, at most this many
   pub record TakesOwn (most : ℕ) (group now : GroupValue) (old new : ServerValue R) : Type 0 where
     pub takes : TakesAll (datagrams_in (take most old.own) []) group now old new
     pub left : new.own ≡ drop most old.own
 
-  -- the content of these frames, and their senders' addresses were recorded
+  -- the content of these frames was taken, and their senders' addresses were recorded
   pub record TakesHeard (frames : List (SocketAddr × List ℕ)) (group now : GroupValue)
       (old new : ServerValue R) : Type 0 where
     pub takes : TakesAll (datagrams_in [] (all_filtered (filter_of old.addresses) frames)) group now old new
     pub heard : HearsAll old.cluster (all_filtered (filter_of old.addresses) frames) old.addresses new.addresses
     pub network : IsSameFilter old.addresses new.addresses
 
-  -- exactly these frames came from the socket, in order
+  -- their content was taken, and exactly these frames came from the socket, in order
   pub record TakesSocket (tells : Type 0) (frames : List (SocketAddr × List ℕ)) (group now : GroupValue)
       (old new : ServerValue R) : Type 0 where
     pub takes : TakesHeard frames group now old new
@@ -110,14 +110,14 @@ module _ {R : Type 0} (Gathers : Gatherings R) where
     pub network : IsSameFilter old.addresses new.addresses
 
 module _ {R : Type 0} (Says : Sayings R) (Gathers : Gatherings R) where
-  -- a prefix of the input at these datagrams has ended it
+  -- the replica ended within the input at these datagrams, after this prefix of it
   pub record EndsWithin (datagrams : List (List ℕ)) (group : GroupValue) (old new : ServerValue R) : Type 0 where
     pub given : List (Option (List ℕ))
     pub front : IsFront given (all_inputs old.pace old.received datagrams)
     pub silent : SaysNoMore Says Gathers given group old.replica new.replica
     pub ticks : new.ticks ≡ all_ticks old.ticks given
 
-  -- at the first letters of the node to itself, of which it took this many
+  -- the replica ended at the first letters of the node to itself, of which it took this many
   pub record EndsOwn (most : ℕ) (group : GroupValue) (old new : ServerValue R) : Type 0 where
     pub count : ℕ
     pub at_most : count ≤ most
@@ -126,19 +126,20 @@ module _ {R : Type 0} (Says : Sayings R) (Gathers : Gatherings R) where
     pub ends : EndsWithin (datagrams_in (take count old.own) []) group old new
     pub left : new.own ≡ drop count old.own
 
-  -- at the content of these frames
+  -- the replica ended at the content of these frames
   pub record EndsHeard (frames : List (SocketAddr × List ℕ)) (group : GroupValue)
       (old new : ServerValue R) : Type 0 where
     pub ends : EndsWithin (datagrams_in [] (all_filtered (filter_of old.addresses) frames)) group old new
     pub heard : HearsAll old.cluster (all_filtered (filter_of old.addresses) frames) old.addresses new.addresses
     pub network : IsSameFilter old.addresses new.addresses
 
+  -- the replica ended at their content, and exactly these frames came from the socket, in order
   pub record EndsSocket (tells : Type 0) (frames : List (SocketAddr × List ℕ)) (group : GroupValue)
       (old new : ServerValue R) : Type 0 where
     pub ends : EndsHeard frames group old new
     pub comes : tells → old.coming ≡ frames ++ new.coming
 
-  -- at the input of a turn
+  -- the replica ended at the input of a turn
   pub record EndsGroup (tells : Type 0) (frames : List (SocketAddr × List ℕ)) (group : GroupValue)
       (old new : ServerValue R) : Type 0 where
     pub received : HasReceived tells frames old new

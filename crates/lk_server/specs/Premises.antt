@@ -34,7 +34,7 @@ IsToldOrAsked s frame =
 abbrev pub IsProbedByANode : Seals → List ℕ → Type 0
 IsProbedByANode s frame = IsSealedBy (key_list s.nodes) (to_node s s.node) frame (heard s frame)
 
--- so did a node, or someone who has the key of the client that the probe names; where it names none, that of client 0,
--- which only the masters yield and no client is given
+-- a node sealed a probe for this node, or someone did who has the key of the client that the probe names; where it
+-- names none, that of client 0, which only the masters yield and no client is given
 abbrev pub IsProbedByWhomItNames : Seals → List ℕ → Probe → Type 0
 IsProbedByWhomItNames s frame p = IsProbedByANode s frame ⊎ IsSealedByClient s (or_zero p.client) frame (heard s frame)

@@ -1,4 +1,4 @@
--- Probes: what a node tells, and how a server answers one.
+-- The report of a node, and how a server answers a probe with it.
 use Rattle.std.specs.Prelude.{◌≡◌, ℕ, List, Option, Some, None}
 use Rattle.lk_probe.specs.Grammar.{SpellsReport, Answers}
 use Rattle.lk_probe.specs.declared.probe.Probe.{Probe}

@@ -12,25 +12,29 @@ use Rattle.lk_transport.specs.declared.network.Network.{Network}
 use Rattle.lk_pace.specs.declared.pace.Pace.{Pace}
 use Rattle.lk_pace.specs.declared.pace.Pace.TheVariants.{Clock}
 
--- the number of its cluster and that of its node, what its ticks go by, its replica, the letters of the node to itself
--- that it has not taken yet, from where others wrote, how many datagrams came, how many ticks its replica was given,
--- whether a call has ended the replica, what its socket has sent, how often a send of that has failed, and the frames
--- that are to come to it, in order
+-- how clauses see a server
 pub record ServerValue (R : Type 0) : Type 0 where
   pub cluster : ℕ
   pub node : ℕ
+  -- what its ticks go by
   pub pace : Pace
   pub replica : R
+  -- the letters of the node to itself that it has not taken yet
   pub own : List LetterValue
+  -- from where others wrote, the hosts, the keys, and which genesis is known at which address
   pub addresses : AddressBook
+  -- how many datagrams came, and how many ticks its replica was given
   pub received : ℕ
   pub ticks : ℕ
+  -- whether a call has ended the replica
   pub failed : Bool
+  -- what its socket has sent, and how many of its sends failed
   pub sent : List (SocketAddr × List ℕ)
   pub socket_failures : ℕ
+  -- the frames that are to come to it, in order
   pub coming : List (SocketAddr × List ℕ)
 
--- it serves as that node of that cluster, its ticks go by that, and it knows these places and keys
+-- it serves as this node of this cluster, with this pace, these hosts and these keys
 pub record ServesAs {R : Type 0} (c n : ℕ) (p : Pace) (known : Network) (s : ServerValue R) : Type 0 where
   pub cluster : s.cluster ≡ c
   pub node : s.node ≡ n
@@ -46,7 +50,7 @@ pub record HasHeardNobody {R : Type 0} (s : ServerValue R) : Type 0 where
   pub clients : (c : ℕ) → IsClient c → client_at s.addresses c ≡ None
   pub nodes : (n : ℕ) → node_at s.addresses n ≡ None
 
--- it runs that replica, which a call has ended or not
+-- it runs this replica, which a call has ended or not
 pub record Runs {R : Type 0} (r : R) (ended : Bool) (s : ServerValue R) : Type 0 where
   pub replica : s.replica ≡ r
   pub failed : s.failed ≡ ended
@@ -60,7 +64,7 @@ pub record ServesOn {R : Type 0} (datagrams : List (SocketAddr × List ℕ)) (co
 
 -- ---- the input of a replica
 
--- the count of datagrams after one more
+-- the count of datagrams after one more, modulo 2^64
 abbrev pub one_more : ℕ → ℕ
 one_more received = (received + 1) % 2 ^ 64
 
@@ -107,7 +111,7 @@ datagrams_in own came = map (λ (l : LetterValue). l.bytes) own ++ map (λ (c : 
 abbrev pub IsFront : {X : Type 0} → List X → List X → Type 0
 IsFront {X} front whole = (rest : List X) × (whole ≡ front ++ rest)
 
--- a beginning of what a replica may be given in a turn
+-- a prefix of what a replica may be given in a turn
 pub record GivenFirst (pace : Pace) (received : ℕ) (datagrams : List (List ℕ))
     (given : List (Option (List ℕ))) : Type 0 where
   pub whole : List (Option (List ℕ))

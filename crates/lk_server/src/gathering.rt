@@ -42,14 +42,15 @@ impl<R: ServedReplica, S: DatagramSocket + Drop> Server<R, S> {
         self.post.next_own()
     }
 
-    // From now on a receive waits at most this long for the next datagram.
+    // Limits how long a receive waits for the next datagram; it may take up to 10 ms longer.
     fn set_timeout(&mut self, time: Duration)
         ensures { self.new ≡ self.old }
     {
         self.post.set_timeout(time);
     }
 
-    // The replica takes a tick or a datagram into the group, and logs what changes.
+    // Gives a tick or a datagram to the replica as a part of the group. Logs what changed, and records an installed
+    // snapshot for the events.
     fn add_input<L: Log>(
         &mut self,
         input: Input,
@@ -78,7 +79,7 @@ impl<R: ServedReplica, S: DatagramSocket + Drop> Server<R, S> {
         }
     }
 
-    // Adds a tick to the group, and counts it: some time has passed.
+    // Adds a tick to the group, and counts it.
     pub(crate) fn add_tick<L: Log>(&mut self, group: &mut Group, log: &L) -> Result<(), GroupFault>
         ensures gathers { OnOk result
             (GathersMore R.Gathers (None ∷ []) group.old group.new self.old.replica self.new.replica) }
@@ -94,7 +95,7 @@ impl<R: ServedReplica, S: DatagramSocket + Drop> Server<R, S> {
         self.add_input(Input::Tick, &Arrival::Tick, group, log)
     }
 
-    // Adds a datagram to the group, and a tick where one follows it.
+    // Counts a datagram and adds it to the group, with a tick after it if one is due by that count.
     pub(crate) fn add_datagram<L: Log>(
         &mut self,
         datagram: Datagram<'_>,
@@ -152,9 +153,9 @@ impl<R: ServedReplica, S: DatagramSocket + Drop> Server<R, S> {
         Ok(())
     }
 
-    // Adds what waits to the group: the letters of the node to itself, the first 64 of them, and where there is none
-    // what comes to the socket. Returns what was found. A letter that the group says is sent at its end, so it waits
-    // for another group.
+    // Adds what waits to the group: the first 64 letters of the node to itself, or if there is none what comes to the
+    // socket. Returns what was found. A letter that this group produces is sent only at its end, so it waits for a
+    // later one.
     pub(crate) fn add_pending<C: Clock, L: Log>(
         &mut self,
         buffer: &mut ReceiveBuffer,
@@ -185,7 +186,8 @@ impl<R: ServedReplica, S: DatagramSocket + Drop> Server<R, S> {
         Ok(TurnInput::Something)
     }
 
-    // Adds what waits to the group, and behind it a tick where one is due. Returns whether anything was added.
+    // Adds what waits to the group, or what comes before the next tick, and after it a tick if one is due. Returns
+    // whether anything was added.
     pub(crate) fn fill_group<C: Clock, L: Log>(
         &mut self,
         buffer: &mut ReceiveBuffer,

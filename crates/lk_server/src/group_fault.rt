@@ -22,7 +22,8 @@ pub enum GroupFault {
 }
 
 impl GroupFault {
-    /// The fault that reports why a replica refused a call of a group.
+    /// Converts the fault of a call of a group. Its other kinds cannot occur: only a restart finds damage or the store
+    /// of another node, and a failed send ends no group.
     pub fn of(fault: &ReplicaFault) -> GroupFault
         requires { IsOfGroups fault.now }
         ensures { service_fault result ≡ replica_fault fault.now }

@@ -1,4 +1,4 @@
-//! Counts of datagrams that mean nothing to a server.
+//! Counts the datagrams that mean nothing to a server: those that do not parse, and those of another cluster.
 
 ghost use Rattle.std.specs.Prelude.{◌≡◌, ◌≢◌, Some, None, if◌then◌else◌};
 ghost use Rattle.lk_server.specs.Counts.{is_power_of_two};
@@ -14,7 +14,7 @@ pub struct IgnoredCounts {
     foreign: u64,
 }
 
-// Logs a count that is a power of two. Returns whether it is one.
+// Logs a count if it is a power of two, so that the log stays short. Returns whether it is one.
 fn log_count<L: Log>(log: &L, what: &str, count: u64) -> bool
     ensures { result ≡ is_power_of_two count }
 {
@@ -33,15 +33,15 @@ impl IgnoredCounts {
         IgnoredCounts { bad: 0, foreign: 0 }
     }
 
-    /// How many datagrams came that do not read.
+    /// Returns how many datagrams did not parse.
     pub fn unread(&self) -> u64
         ensures { result ≡ self.now.bad }
     {
         self.bad
     }
 
-    /// Counts a datagram if it is one of them. Each count that is a power of two is logged at level debug. Returns such
-    /// a count of datagrams of another cluster.
+    /// Counts a datagram if it is one of them, and logs each count that is a power of two at level debug. Returns the
+    /// count of datagrams of another cluster if this one brought it to a power of two.
     pub fn count<L: Log>(&mut self, came: &Arrival, log: &L) -> Option<u64>
         ensures bad { came.now ≡ Arrival.Bad → self.new ≡ record self.old { bad = one_more self.old.bad } }
         ensures foreign { came.now ≡ Arrival.Foreign

@@ -18,11 +18,11 @@ use lk_transport::socket::DatagramSocket;
 use lk_types::NodeNo;
 use log::Log;
 
-// The ticks of a minute.
+// A minute in ticks of 100 ms. Where ticks go by datagrams they may be faster.
 const MINUTE: u64 = 600;
 
 impl<R: ServedReplica, S: DatagramSocket + Drop> Server<R, S> {
-    /// Which node it is, and the digest of its genesis.
+    /// Returns the node's number and the digest of its genesis.
     pub fn origin(&self) -> Origin
         ensures { result ≡ record { node = self.now.node; genesis = self.now.addresses.seals.genesis } }
     {
@@ -32,7 +32,7 @@ impl<R: ServedReplica, S: DatagramSocket + Drop> Server<R, S> {
         }
     }
 
-    // Warns, at most once a minute, that it hears a node of another genesis.
+    // Logs a warning, and records an event, that it hears a node of another genesis: once in 600 ticks at most.
     pub(crate) fn warn_of_stranger<L: Log>(&mut self, node: NodeNo, log: &L)
         ensures { self.new ≡ self.old }
     {
@@ -46,7 +46,7 @@ impl<R: ServedReplica, S: DatagramSocket + Drop> Server<R, S> {
         }
     }
 
-    // Warns of a node, if it was learned to be of another genesis.
+    // Warns of the node that a report was learned from, if it is of another genesis.
     fn warn_if_stranger<L: Log>(&mut self, learned: Option<Neighbour>, log: &L)
         ensures { self.new ≡ self.old }
     {
@@ -58,7 +58,7 @@ impl<R: ServedReplica, S: DatagramSocket + Drop> Server<R, S> {
         }
     }
 
-    // Hears the node again that has asked, if one of this genesis has.
+    // Hears the address of a probe again, if another genesis was known there and the probe names a node of this one.
     fn readmit(&mut self, asked: &Option<ReceivedProbe>)
         ensures readmits { ReadmitsKept asked.now self.old.addresses self.new.addresses }
         ensures network { IsSameNetwork self.old.addresses self.new.addresses }
@@ -69,7 +69,8 @@ impl<R: ServedReplica, S: DatagramSocket + Drop> Server<R, S> {
         }
     }
 
-    // Learns from the report that the buffer keeps, if it keeps one.
+    // Takes the kept report out of the buffer, if there is one, records the genesis of its node, and warns if it is
+    // another.
     fn learn<L: Log>(&mut self, buffer: &mut ReceiveBuffer, log: &L)
         ensures learns { LearnsKept buffer.old.reported self.old.addresses self.new.addresses }
         ensures kept { buffer.new ≡ record buffer.old { reported = None } }
@@ -83,7 +84,7 @@ impl<R: ServedReplica, S: DatagramSocket + Drop> Server<R, S> {
         self.warn_if_stranger(learned, log);
     }
 
-    // Asks which genesis the node at an address was started with, where that is due at this count of ticks.
+    // Probes one address for the genesis of its node, if that is due at this count of ticks. A failed send is counted.
     pub(crate) fn probe_next(&mut self, now: u64)
         ensures asks { AsksOne S.is_telling now self.old.node self.old.addresses self.new.addresses
             (tray_at self.old.own self.old) (tray_at self.new.own self.new) }
@@ -102,23 +103,25 @@ impl<R: ServedReplica, S: DatagramSocket + Drop> Server<R, S> {
         }
     }
 
-    // The ticks that its replica was given since its start.
+    // Returns how many ticks its replica was given since its start.
     fn now(&self) -> u64
         ensures { result ≡ self.now.ticks }
     {
         self.ticks
     }
 
-    // The first node of another genesis that this one has followed, if there is one.
+    // Returns the first node of another genesis that this one has followed: one that sent it a Prepare, an Accept, a
+    // Lead or a Decided.
     fn followed_stranger(&self) -> Option<Origin>
         ensures { result ≡ bound_in self.now.addresses.neighbours }
     {
         self.post.followed_stranger()
     }
 
-    /// After the letters of a turn: answers the probe that the buffer keeps, hears the node again that asks by it if
-    /// it is of this genesis, learns from the report that the buffer keeps, and probes one node where that is due.
-    /// Returns the first node of another genesis that this one has followed, if there is one.
+    /// Handles probes after the letters of a turn: answers the probe that the buffer keeps, hears the node again that
+    /// asks by it if it is of this genesis, learns from the report that the buffer keeps, and probes one node if that
+    /// is due. Returns the first node of another genesis that this one has followed, if there is one; the caller then
+    /// ends the node.
     pub fn handle_probes<L: Log>(&mut self, buffer: &mut ReceiveBuffer, log: &L) -> Option<Origin>
         ensures acts { HandlesProbes R.Shows S.is_telling buffer.old.asked buffer.old.reported self.old self.new }
         ensures kept { buffer.new ≡ record buffer.old { asked = None; reported = None } }

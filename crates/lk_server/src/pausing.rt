@@ -1,4 +1,4 @@
-//! The pauses of a server before a sync.
+//! Pauses before a sync, so that a datagram that arrives in the pause shares it.
 
 ghost use Rattle.std.specs.Prelude.{◌≡◌, ◌↔◌, ◌+◌, ◌++◌, [], None, true, IsTrue};
 ghost use Rattle.lk_server.specs.Pauses.{IsPauseDue};
@@ -14,10 +14,10 @@ use lk_transport::receive_buffer::ReceiveBuffer;
 use lk_transport::socket::DatagramSocket;
 use std::time::{Clock, Instant};
 
-// Lets a pause pass, if one is due before the sync of this group. Returns whether it was.
+// Sleeps for a pause, if one is due before the sync of this group. Returns whether it did.
 fn pauses<C: Clock>(pause: &mut SyncPause, metronome: &Metronome<C>, group: &Group) -> bool
     ensures due { IsTrue result ↔ IsPauseDue pause.old group.now }
-    // The group may have one pause less then.
+    // The group then has one pause fewer left.
     ensures fewer { result ≡ true → pause.new.left + 1 ≡ pause.old.left }
     ensures others { pause.new ≡ record pause.old { left = pause.new.left } }
 {
@@ -31,7 +31,7 @@ fn pauses<C: Clock>(pause: &mut SyncPause, metronome: &Metronome<C>, group: &Gro
     true
 }
 
-// Lets a pause pass, if one is due before the group's sync, and then receives a datagram that is waiting.
+// Sleeps for a pause, if one is due before the group's sync, and then receives a datagram that is waiting.
 fn receive_after_pause<S: DatagramSocket + Drop, C: Clock>(
     post: &mut SocketPost<S>,
     pause: &mut SyncPause,
@@ -39,7 +39,7 @@ fn receive_after_pause<S: DatagramSocket + Drop, C: Clock>(
     metronome: &Metronome<C>,
     group: &Group,
 )
-    // What has come in the pause is in the buffer.
+    // A datagram that arrived in the pause is in the buffer.
     ensures comes { S.is_telling → buffer.old.last ≡ None
         → post.old.coming ≡ listed buffer.new.last ++ post.new.coming }
     ensures none { S.is_telling → IsPauseDue pause.old group.now → buffer.new.last ≡ None → post.old.coming ≡ [] }
@@ -53,8 +53,8 @@ fn receive_after_pause<S: DatagramSocket + Drop, C: Clock>(
     }
 }
 
-// Receives a datagram that is already waiting, and where none is, one that comes in a pause, if one is due before the
-// group's sync.
+// Receives a datagram that is already waiting. If none is, it pauses if that is due before the group's sync, and
+// receives one that arrived meanwhile.
 pub(crate) fn receive_or_pause<S: DatagramSocket + Drop, C: Clock>(
     post: &mut SocketPost<S>,
     pause: &mut SyncPause,
@@ -79,7 +79,8 @@ pub(crate) fn receive_or_pause<S: DatagramSocket + Drop, C: Clock>(
 }
 
 impl<R: ServedReplica, S: DatagramSocket + Drop> Server<R, S> {
-    // Notes how long it took since then to end this group, if it waited for a sync.
+    // Records how long the end of this group took since `began`, and how many letters it had, if it needed a sync.
+    // Later pauses depend on both.
     pub(crate) fn note_sync<C: Clock>(
         &mut self,
         group: &Group,

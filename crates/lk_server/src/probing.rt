@@ -1,4 +1,4 @@
-//! What a server reports of its node, and how it answers a probe.
+//! Composes a node's report, and answers a probe with it.
 
 ghost use Rattle.std.specs.Prelude.{◌≡◌};
 ghost use Rattle.lk_server.specs.Probes.{AnswersKept, IsAnswer, Tells};
@@ -11,8 +11,8 @@ use lk_transport::received_probe::ReceivedProbe;
 use lk_transport::socket::DatagramSocket;
 
 impl<R: ServedReplica, S: DatagramSocket + Drop> Server<R, S> {
-    /// What it reports of its node: what the replica shows, the digest of the genesis, its count of ticks and what else
-    /// it has counted itself, and the version of the lock table, as it was last read.
+    /// Returns what it reports of its node: what the replica shows, the digest of the genesis, its count of ticks and
+    /// what else it has counted itself, and the version of the lock table, as it was last read.
     pub fn status(&self) -> Status
         ensures { (shown : ProbedStateValue) × R.Shows self.now.replica shown
             × Tells self.now.addresses.seals.genesis self.now.ticks shown result }
@@ -37,7 +37,7 @@ impl<R: ServedReplica, S: DatagramSocket + Drop> Server<R, S> {
         }
     }
 
-    // The version of the lock table, which is read now if that has to be.
+    // Returns the version of the lock table, which it reads if that is unknown.
     fn known_table(&self) -> TableVersion {
         match self.table {
             TableVersion::Unread => TableVersion::of(self.replica.is_raised(self.alloc)),
@@ -45,7 +45,7 @@ impl<R: ServedReplica, S: DatagramSocket + Drop> Server<R, S> {
         }
     }
 
-    // The report that answers a probe.
+    // Returns the bytes of the report that answers a probe.
     fn report(&self, asked: &ReceivedProbe) -> [u8; LENGTH]
         ensures { (shown : ProbedStateValue) × R.Shows self.now.replica shown
             × IsAnswer self.now.node self.now.addresses.seals.genesis self.now.ticks shown asked.now.probe result }
@@ -56,7 +56,8 @@ impl<R: ServedReplica, S: DatagramSocket + Drop> Server<R, S> {
             .datagram()
     }
 
-    /// Answers a probe, if there is one, by a report to where it came from.
+    /// Sends the report that answers a probe to where the probe came from, if there is one. Reads the lock table's
+    /// version first if that is unknown. A failed send is counted.
     pub fn answer(&mut self, asked: &Option<ReceivedProbe>)
         ensures answers { AnswersKept R.Shows S.is_telling asked.now self.old self.new }
         ensures others { self.new

@@ -43,16 +43,16 @@ pub struct Server<R: ServedReplica, S: DatagramSocket + Drop> {
     pub(crate) post: SocketPost<S>,
     // datagrams taken so far, modulo 2^64
     pub(crate) received: u64,
-    // those of them that mean nothing to the node
+    // how many of them did not parse, and how many were of another cluster
     pub(crate) ignored: IgnoredCounts,
     // what has happened since the last `take_events`
     pub(crate) events: TurnEvents,
     // the ticks that its replica was given, and the sends that failed, since its start
     pub(crate) ticks: u64,
     pub(crate) unsent: u64,
-    // what it knows of the version of the lock table
+    // the version of the lock table, as it was last read
     pub(crate) table: TableVersion,
-    // whether it waits for more before a sync
+    // its recent syncs, which decide how long it pauses before the next
     pub(crate) sync_pause: SyncPause,
     // the count of ticks at its last warning of a node of another genesis
     pub(crate) stranger_warned: Option<u64>,
@@ -80,7 +80,7 @@ impl<R: ServedReplica, S: DatagramSocket + Drop> Model for Server<R, S> {
 }
 
 impl<R: ServedReplica, S: DatagramSocket + Drop> Server<R, S> {
-    /// The server of this replica of the cluster, to which nobody has written yet.
+    /// Makes the server of a replica of this cluster. It has received nothing yet.
     pub fn new(
         alloc: Global,
         cluster: u64,
@@ -112,21 +112,22 @@ impl<R: ServedReplica, S: DatagramSocket + Drop> Server<R, S> {
         }
     }
 
-    /// The replica.
+    /// Returns the replica. Its contract also equates the server's `failed` with the replica's, which some callers
+    /// need.
     pub fn replica(&self) -> &R
         ensures is { result.now ≡ self.now.replica }
-        // The replica says whether the server has ended.
+        // The server has failed exactly if its replica has.
         ensures failed { self.now.failed ≡ R.failed self.now.replica }
     {
         &self.replica
     }
 
-    /// The socket on which it serves, for tests that carry its datagrams.
+    /// Returns the socket on which it serves, for tests that carry its datagrams.
     pub fn socket_mut(&mut self) -> &mut S {
         self.post.socket_mut()
     }
 
-    /// Takes out what has happened since the last call.
+    /// Returns the events since the last call, and forgets them.
     pub fn take_events(&mut self) -> TurnEvents
         ensures { self.new ≡ self.old }
     {
@@ -135,7 +136,7 @@ impl<R: ServedReplica, S: DatagramSocket + Drop> Server<R, S> {
         events
     }
 
-    /// The replica, as the server leaves it.
+    /// Drops the server with its socket, and returns the replica.
     pub fn into_replica(self) -> R
         ensures { result ≡ self.replica }
     {
@@ -164,7 +165,8 @@ impl<R: ServedReplica, S: DatagramSocket + Drop> Server<R, S> {
         self.replica.begin(self.alloc)
     }
 
-    // Releases a group: after its sync each letter is sent or kept. Logs their fate, and counts failed sends.
+    // Releases a group: after its sync each letter is sent, or kept if it is to the node itself. Logs their fate, and
+    // counts failed sends. Returns whether none failed.
     fn sync_and_send<L: Log>(&mut self, group: &Group, log: &L) -> Result<bool, ReplicaFault>
         ensures gives { OnOk result (HandsOnAll R.Says R.Gathers S.is_telling group.now self.old self.new) }
         ensures silent { OnErr result (SaysNothing R.Says R.Gathers group.now self.old self.new) }
@@ -185,7 +187,7 @@ impl<R: ServedReplica, S: DatagramSocket + Drop> Server<R, S> {
         released
     }
 
-    // Ends a group. What could not be sent is lost; the notes count all the same.
+    // Ends a group: syncs, sends its letters, and logs its notes. A letter whose send fails is lost; that is no error.
     fn end_group<L: Log>(&mut self, group: &Group, log: &L) -> Result<(), GroupFault>
         // Each letter of the group was sent to its destination, kept for the node itself, or lost by a failed send, in
         // order.
@@ -210,7 +212,7 @@ impl<R: ServedReplica, S: DatagramSocket + Drop> Server<R, S> {
         }
     }
 
-    /// Some time has passed: takes a group of one tick.
+    /// Gives the replica a tick, as a group of its own.
     pub fn tick<L: Log>(&mut self, log: &L) -> Result<(), GroupFault>
         // The replica took a tick and nothing else. Each of its letters was sent, kept, lost by a failed send, or
         // dropped since no address is known for it, and nothing else was sent.
@@ -228,8 +230,9 @@ impl<R: ServedReplica, S: DatagramSocket + Drop> Server<R, S> {
         self.end_group(&group, log)
     }
 
-    /// Takes what is waiting as one group: the first letters of the node to itself, or else what arrives at the
-    /// socket. Returns whether there was anything.
+    /// Takes what is waiting as one group: the first letters of the node to itself, or else what arrives at the socket.
+    /// Returns whether its replica was given anything. Unlike `node_turn` it reads no clock, and adds no tick for time
+    /// that has passed.
     pub fn serve_next<L: Log>(
         &mut self,
         buffer: &mut ReceiveBuffer,
@@ -261,19 +264,20 @@ impl<R: ServedReplica, S: DatagramSocket + Drop> Server<R, S> {
     }
 }
 
-/// One turn of a server: it takes a group of what waits, and a tick where one is due.
+/// Takes one turn of a server: takes a group of what waits or comes before the next tick, with a tick if one is due,
+/// and then syncs and sends.
 pub fn node_turn<R: ServedReplica, S: DatagramSocket + Drop, C: Clock, L: Log>(
     server: &mut Server<R, S>,
     buffer: &mut ReceiveBuffer,
     metronome: &mut Metronome<C>,
     log: &L,
 ) -> Result<(), GroupFault>
-    // Where the node wrote to itself it takes the first 64 letters of that, once and in order, and nothing of the
-    // socket. Else it takes the frames that came next, at most 64, and at least one if one was to come: of each what it
-    // opens to, from where it came. No other frame is lost. Its replica was given just that, as one group, and a tick
-    // where one was due. Its letters were each sent, kept for the node itself, lost by a failed send, or dropped since
-    // no address is known, in order, and nothing else was sent. A turn in which it was given nothing is idle. Of the
-    // probes in these frames the first is kept, unless one was kept before.
+    // If letters of the node to itself wait, it takes the first 64 of them, once and in order, and nothing of the
+    // socket. Otherwise it takes the frames that came next, at most 64, and at least one if one was to come: of each
+    // what it opens to, from where it came. No other frame is lost. The replica was given exactly that, as one group,
+    // and a tick if one was due. Each of its letters was sent, kept for the node itself, lost by a failed send, or
+    // dropped since no address is known, in order, and nothing else was sent. A turn that gives the replica nothing is
+    // idle. Of the probes in these frames the first is kept, unless one was kept before.
     ensures turn { OnOk result
         ((frames : List (Address × List ℕ)) × HasReceived S.is_telling frames server.old server.new
         × TakesTurn R.Says S.is_telling frames server.old server.new

@@ -1,4 +1,4 @@
-//! What comes to a server's socket, in a group.
+//! Takes what arrives at a server's socket into a group.
 //!
 //! `add_from_socket` takes the first datagram (`add_first_datagram`) and then up to 63 that wait behind it
 //! (`add_next_datagram`). `add_received` filters each.
@@ -31,7 +31,7 @@ use std::net::SocketAddr;
 use std::time::Clock;
 
 impl<R: ServedReplica, S: DatagramSocket + Drop> Server<R, S> {
-    // Receives the next datagram of the socket into the buffer, if one arrives.
+    // Receives the next datagram of the socket into the buffer, if one arrives before the timeout.
     pub(crate) fn receive(&mut self, buffer: &mut ReceiveBuffer)
         ensures comes { S.is_telling → self.old.coming ≡ listed buffer.new.last ++ self.new.coming }
         ensures none { S.is_telling → buffer.new.last ≡ None → self.old.coming ≡ [] }
@@ -42,8 +42,8 @@ impl<R: ServedReplica, S: DatagramSocket + Drop> Server<R, S> {
         self.post.receive(buffer);
     }
 
-    // Receives a datagram that is already waiting, and where none is, one that comes in a pause, if one is due before
-    // the group's sync.
+    // Receives a datagram that is already waiting. If none is, it pauses if that is due before the group's sync, and
+    // receives one that arrived meanwhile.
     fn receive_or_pause<C: Clock>(
         &mut self,
         buffer: &mut ReceiveBuffer,
@@ -65,7 +65,8 @@ impl<R: ServedReplica, S: DatagramSocket + Drop> Server<R, S> {
         );
     }
 
-    // Records the source of a datagram of this cluster, and counts a datagram that means nothing to it.
+    // Records the source of a datagram of this cluster, and counts one that does not parse or is of another. Returns
+    // what arrived, for the log.
     fn record_sender<L: Log>(
         &mut self,
         datagram: &Datagram<'_>,
@@ -84,8 +85,9 @@ impl<R: ServedReplica, S: DatagramSocket + Drop> Server<R, S> {
         came
     }
 
-    // Adds the datagram in the buffer, out of its frame, to the group, unless it is beside the protocol or came from a
-    // node of another genesis. Keeps the first probe and the first report. Returns what was found.
+    // Opens the frame in the buffer, if there is one, and adds its datagram to the group. The buffer keeps the first
+    // probe and the first report instead, and what comes from the address of a node of another genesis is dropped.
+    // Returns what was found.
     fn add_received<L: Log>(
         &mut self,
         buffer: &mut ReceiveBuffer,
@@ -137,7 +139,7 @@ impl<R: ServedReplica, S: DatagramSocket + Drop> Server<R, S> {
         Ok(TurnInput::Something)
     }
 
-    // Adds the next datagram of the socket to the group, if one comes. Returns what was found.
+    // Receives the next datagram of the socket, and adds it to the group. Returns what was found.
     fn add_first_datagram<L: Log>(
         &mut self,
         buffer: &mut ReceiveBuffer,
@@ -163,8 +165,8 @@ impl<R: ServedReplica, S: DatagramSocket + Drop> Server<R, S> {
         self.add_received(buffer, group, log)
     }
 
-    // Adds the next datagram of the socket to the group, if one waits already or comes in a pause before the sync,
-    // and if the group has something to send. Returns whether one came.
+    // Adds the next datagram of the socket to the group, if the group has something to send, and a datagram waits
+    // already or comes in a pause before the sync. Returns whether one came.
     fn add_next_datagram<C: Clock, L: Log>(
         &mut self,
         buffer: &mut ReceiveBuffer,

@@ -1,4 +1,4 @@
-//! What has happened to a node in a turn, for the observer of its events.
+//! What happened to a node in a turn, for the observer of its events.
 
 ghost use Rattle.std.specs.Prelude.{◌≡◌, ◌≤◌, ◌<◌, ℕ, Some, None};
 ghost use Rattle.lk_transport.specs.Arrivals.{sender};
@@ -8,12 +8,12 @@ use lk_transport::arrival::Arrival;
 use lk_transport::post::SendSummary;
 use lk_types::{Executed, NodeNo};
 
-/// What has happened to a node in a turn, beside what is seen of it then.
+/// What happened to a node in a turn that its state after the turn does not show.
 #[derive(Clone, Copy)]
 pub struct TurnEvents {
     /// The snapshot that it installed last, and the node that sent the last part of it.
     pub installed: Option<(Executed, NodeNo)>,
-    /// What became of what it sent.
+    /// The fate of what it sent.
     pub sends: SendSummary,
     /// The node of another genesis that it heard, if that is to be reported.
     pub stranger: Option<NodeNo>,
@@ -22,7 +22,7 @@ pub struct TurnEvents {
 }
 
 impl TurnEvents {
-    /// Nothing has.
+    /// Nothing happened.
     pub const NOTHING: TurnEvents = TurnEvents {
         installed: None,
         sends: SendSummary::NOTHING,
@@ -30,7 +30,7 @@ impl TurnEvents {
         foreign: None,
     };
 
-    /// Notes a snapshot that was installed by what came.
+    /// Records the snapshot that the replica installed at this input, if it did and a node sent the input.
     pub fn note_installed(&mut self, came: &Arrival, before: &ReplicaStatus, after: &ReplicaStatus)
         // A snapshot of more positions than were executed before was installed, and the node that sent what came sent
         // the last part of it.

@@ -1,5 +1,5 @@
-//! What a server logs of its replica besides the notes: lines of level debug, one fact each. A line that cannot be
-//! written is dropped.
+//! Logs what changes in a server and its replica besides the notes, one fact a line: at level debug, and at level warn
+//! that it hears a node of another genesis. A line that cannot be written is dropped.
 
 use lk_served_replica::replica_status::ReplicaStatus;
 use lk_transport::arrival::Arrival;
@@ -25,7 +25,7 @@ pub fn log_port<L: Log>(log: &L, port: Port) {
     log_number(log, "port", u64::from(port.get()));
 }
 
-/// Warns that a node hears one of another genesis.
+/// Logs at level warn that this node hears one of another genesis.
 pub fn log_stranger<L: Log>(log: &L, node: NodeNo) {
     warn!(log; "hears node {} of another genesis", node.get());
 }
@@ -41,13 +41,13 @@ fn log_begun<L: Log>(log: &L, term: RealBallot) {
     debug!(log; "term {}.{} begun", ballot.round(), ballot.node());
 }
 
-// Logs that a term has ended, and why.
+// Logs that a term has ended, and at which input.
 fn log_ended<L: Log>(log: &L, came: &Arrival, term: RealBallot) {
     let ballot = term.get();
     debug!(log; "term {}.{} ended by {came}", ballot.round(), ballot.node());
 }
 
-// Logs which term has ended and which has begun.
+// Logs which term has ended and which has begun, if the term is another one.
 fn log_term<L: Log>(
     log: &L,
     came: &Arrival,
@@ -76,6 +76,7 @@ fn log_known<L: Log>(log: &L, before: Option<NodeNo>, after: Option<NodeNo>) {
 
 // Logs a compaction of the store, and an installed snapshot of another node.
 fn log_store<L: Log>(log: &L, before: &ReplicaStatus, after: &ReplicaStatus) {
+    // an installed snapshot raises the generation too, without a compaction
     let rebases = after.generation.saturating_sub(before.generation);
     let is_installed = after.snapshot.get() > before.executed.get();
     if rebases > u64::from(is_installed) {
@@ -93,21 +94,21 @@ pub fn log_changes<L: Log>(log: &L, came: &Arrival, before: &ReplicaStatus, afte
     log_store(log, before, after);
 }
 
-/// Logs how many datagrams answer another node's Want.
+/// Logs how many datagrams the replica produced at another node's Want, if that is what came.
 pub fn log_served<L: Log>(log: &L, came: &Arrival, said: usize) {
     if let Arrival::Want(node) = came {
         debug!(log; "datagrams for the Want of node {}: {said}", node.get());
     }
 }
 
-// Logs that the node asks for what it has missed.
+// Logs to which node a Want was sent, if one was.
 fn log_wants<L: Log>(log: &L, sends: &SendSummary) {
     if let Some(node) = sends.wanted {
         log_number(log, "Want sent to node", u64::from(node.get()));
     }
 }
 
-// Logs why sends were lost.
+// Logs how many sends failed, if any did, and why the last one did.
 fn log_lost<L: Log>(log: &L, lost: u64, cause: Option<io::Error>) {
     match cause {
         _ if lost == 0 => {}
@@ -116,7 +117,7 @@ fn log_lost<L: Log>(log: &L, lost: u64, cause: Option<io::Error>) {
     }
 }
 
-/// Logs the fate of a turn's letters.
+/// Logs the Want among a turn's letters, and the sends that failed.
 pub fn log_sends<L: Log>(log: &L, sends: &SendSummary, cause: Option<io::Error>) {
     log_wants(log, sends);
     log_lost(log, sends.lost, cause);

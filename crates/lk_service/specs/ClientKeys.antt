@@ -1,4 +1,4 @@
--- What is printed for a client.
+-- The key file that `locks client-key` prints for a client.
 use Rattle.std.specs.Prelude.{◌≡◌, ℕ, List, Option, Some}
 use Rattle.std.specs.Io.KnownBytes.{Appends}
 use Rattle.lk_seal.specs.Clients.{client_keys}

@@ -1,4 +1,4 @@
--- Which machines can reach a node.
+-- Which addresses other machines can reach: there the nodes need a key.
 use Rattle.std.specs.Prelude.{◌≢◌, ◌⊎◌, []}
 use Rattle.std.specs.Net.Addr.{MatchIp, IsLoopbackV4, IsLoopbackV6}
 use Rattle.std.specs.Net.Socket.{socket_ip}
@@ -7,7 +7,7 @@ use Rattle.std.specs.declared.net.socket_addr.SocketAddr.{SocketAddr}
 use Rattle.lk_seal.specs.Seals.{key_list}
 use Rattle.lk_seal.specs.declared.seals.Seals.{Seals}
 
--- no other machine can reach it
+-- a loopback address, which no other machine can reach
 abbrev pub IsOfThisMachine : IpAddr → Type 0
 IsOfThisMachine a = MatchIp a IsLoopbackV4 IsLoopbackV6
 

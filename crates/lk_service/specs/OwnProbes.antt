@@ -20,6 +20,7 @@ pub record SocketValue : Type 0 where
   pub failures : ℕ
   pub coming : List (SocketAddr × List ℕ)
 
+-- these values of a socket, by the ghost functions of its type
 abbrev pub socket_value : {S : Type 0} → (S → List (SocketAddr × List ℕ)) → (S → ℕ)
     → (S → List (SocketAddr × List ℕ)) → S → SocketValue
 socket_value sent failures coming s = record { sent = sent s; failures = failures s; coming = coming s }
@@ -51,6 +52,7 @@ pub record StaysAway (frame : List ℕ) (most : ℕ) (old new : List (SocketAddr
   pub others : AreOthers frame lost
   pub all : (length lost ≡ most) ⊎ ((length lost < most) × (new ≡ []))
 
+-- whether these bytes came back among at most this many datagrams
 abbrev pub IsHeard : List ℕ → ℕ → Bool → List (SocketAddr × List ℕ) → List (SocketAddr × List ℕ) → Type 0
 IsHeard frame most true old new = ComesBack frame most old new
 IsHeard frame most false old new = StaysAway frame most old new
@@ -80,7 +82,7 @@ ProbesItself header s place is_back old new =
     (frame : List ℕ) × IsOwnProbe header s frame
     × (SendsAndHears place frame is_back old new ⊎ CannotSend is_back old new)
 
--- so at that port of that address, which is not heard where it does not come back
+-- the node sends that probe to this port of this address, and the port is unheard if it does not come back
 pub record ProbesAt (header : HeaderValue) (s : Seals) (host : IpAddr) (port : ℕ) (unheard : Option ℕ)
     (old new : SocketValue) : Type 0 where
   pub place : SocketAddr

@@ -18,11 +18,11 @@ pub record IsDue (r : PortReminder) (s : Status) (port : ℕ) : Type 0 where
   pub minute : r.due ≤ s.traffic.ticks
   pub nobody : KnowsNobody s.leadership
 
--- none is
+-- no warning is due
 abbrev pub IsNoneDue : PortReminder → Status → Type 0
 IsNoneDue r s = (port : ℕ) → IsDue r s port → ⊥
 
--- the next is due after a minute from that turn on
+-- the reminder after a warning: the next is due 600 ticks after this status
 abbrev pub having_warned : PortReminder → Status → PortReminder
 having_warned r s = record r { due = min (s.traffic.ticks + 600) 18446744073709551615 }
 

@@ -29,8 +29,8 @@ pub record ComesUp (m : Meaning) (header : HeaderValue) (old : Side → Disk) (r
       → Goes m h n (Stands m r.node r.store h.genesis n) (disks r.store) notes []
   pub room : StaysWithin max_base old (disks r.store)
 
--- none restarts from what these disks had, and they are left like this: whatever a stop may leave of them fits each
--- history that they fitted, and the files have not grown, except up to the size of a Base
+-- no replica restarts from what these disks had, and they are left like this: whatever a stop may leave of them fits
+-- each history that they fitted, and the files have not grown, except up to the size of a Base
 pub record StaysDown (m : Meaning) (header : HeaderValue) (old left : Side → Disk) : Type 0 where
   pub fits : (h : History) (n : ℕ) → header ≡ header_of h.genesis n → IsLawful m h
       → DisksFit m h n old → DisksFit m h n left

@@ -28,7 +28,7 @@ TellsFailure s = s.failed ≡ s.replica.failed
 abbrev pub GoesOn : ServerValue ReplicaValue → Type 0
 GoesOn s = bound_in s.addresses.neighbours ≡ None
 
--- it ends there, since it has
+-- it ends after a turn: it has followed a node of another genesis
 abbrev pub LeavesOff : ServerValue ReplicaValue → Type 0
 LeavesOff s = IsSome (bound_in s.addresses.neighbours)
 
@@ -122,7 +122,7 @@ module _ (Begins : ServerValue ReplicaValue → Type 0) (header : HeaderValue) (
     pub ended : ServerValue ReplicaValue
     pub turns : Repeats (TakesTurn Says tells) count begun ended
 
-  -- it did, and has taken fewer, and then one that ended its replica
+  -- it started in this way, and has taken fewer turns than this, and then one that ended its replica
   pub record EndsEarly (most : ℕ) : Type 0 where
     pub begun : ServerValue ReplicaValue
     pub begins : Begins begun
@@ -130,7 +130,8 @@ module _ (Begins : ServerValue ReplicaValue → Type 0) (header : HeaderValue) (
     pub ended : ServerValue ReplicaValue
     pub breaks : BreaksOff Says tells most begun ended
 
-  -- it did, and has taken fewer, and then one after which it ended, since it had followed a node of another genesis
+  -- it started in this way, and has taken fewer turns than this, and then one after which it ended, since it had
+  -- followed a node of another genesis
   pub record LeavesEarly (most : ℕ) : Type 0 where
     pub begun : ServerValue ReplicaValue
     pub begins : Begins begun

@@ -18,6 +18,7 @@ pub record Reminded : Type 0 where
   pub reminder : PortReminder
   pub written : Option (List ℕ)
 
+-- these three together
 abbrev pub reminded : ServerValue ReplicaValue → PortReminder → Option (List ℕ) → Reminded
 reminded s r bytes = record { server = s; reminder = r; written = bytes }
 

@@ -1,4 +1,4 @@
-//! The line with which a node ends that has followed a node of another genesis.
+//! Writes the line with which a node ends that has followed a node of another genesis.
 
 ghost use Rattle.std.specs.Prelude.{◌≡◌};
 
@@ -16,7 +16,7 @@ fn write_origin<E: Write>(origin: &Origin, err: &mut E) -> io::Result<()> {
     err.write_all(&digits)
 }
 
-// Writes the line.
+// Writes the line: `another genesis: node N of genesis HEX was led by node M of genesis HEX`.
 fn write_line<E: Write>(own: &Origin, leader: &Origin, err: &mut E) -> io::Result<()> {
     err.write_all(b"another genesis: ")?;
     write_origin(own, err)?;
@@ -25,7 +25,7 @@ fn write_line<E: Write>(own: &Origin, leader: &Origin, err: &mut E) -> io::Resul
     err.write_all(b"\n")
 }
 
-/// Writes that a node was led by one of another genesis.
+/// Writes that a node was led by one of another genesis, and returns `OtherGenesis`. A failed write is ignored.
 pub fn write_other_genesis<E: Write>(own: &Origin, leader: &Origin, err: &mut E) -> ServiceFault
     ensures { result ≡ ServiceFault.OtherGenesis }
 {

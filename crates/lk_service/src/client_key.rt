@@ -1,4 +1,4 @@
-//! The key of a client, for the operator of the nodes.
+//! `locks client-key`: prints the key of a client, for the operator of the nodes.
 
 ghost use Rattle.std.specs.Prelude.{◌≡◌, ◌≤◌, List, ℕ, OnOk};
 ghost use Rattle.lk_service.specs.ClientKeys.{Prints};

@@ -30,7 +30,7 @@ const CLUSTER: u64 = 1;
 const ALPHA: u8 = 2;
 // How many nodes it has.
 const NODES: usize = 3;
-// The clients' requests in order: the client, its number, and the words.
+// The clients' requests in order: the client, the number of the request, and its words as `locks ask` takes them.
 const STORY: [(u16, u64, &[u8]); 4] = [
     (1, 1, b"acquire db"),
     (2, 1, b"acquire db"),
@@ -41,7 +41,7 @@ const STORY: [(u16, u64, &[u8]); 4] = [
 const PATIENCE: u32 = 200;
 // How many idle turns pass before the client gives up.
 const IDLE_TURNS: u32 = 10_000;
-// The largest number of turns between two idle ones.
+// A bound for the turns between two idle ones, which a loop must have.
 const TURNS: u64 = 1 << 48;
 
 /// The sockets of the nodes, and that of their clients.
@@ -65,7 +65,7 @@ struct Cluster<M: Machine, S: DatagramSocket + Drop> {
     port: Port,
 }
 
-// The member that serves on a socket.
+// Makes the member that serves on a socket; `None` if the port of the socket is not known, or a number is out of range.
 fn member_at<S: DatagramSocket>(node: u32, socket: &S) -> Option<Member> {
     let port = socket.port()?;
     match (NodeNo::of(node), Port::of(port)) {
@@ -74,7 +74,7 @@ fn member_at<S: DatagramSocket>(node: u32, socket: &S) -> Option<Member> {
     }
 }
 
-// The genesis of a cluster whose members, numbered from 1, serve on these sockets.
+// Makes the genesis of a cluster whose members, numbered from 1, serve on these sockets.
 fn genesis_at<S: DatagramSocket>(alloc: Global, sockets: &[S]) -> Result<Genesis, ServiceFault> {
     let mut members = Vec::new(alloc);
     let mut node = 0u32;
@@ -88,7 +88,7 @@ fn genesis_at<S: DatagramSocket>(alloc: Global, sockets: &[S]) -> Result<Genesis
     Genesis::of(CLUSTER, ALPHA, &members).map_err(|_| ServiceFault::CannotOpen)
 }
 
-// The server of a member.
+// Starts the server of a member, on an empty disk in memory.
 fn start<M: Machine, S: DatagramSocket + Drop>(
     alloc: Global,
     node: NodeNo,
@@ -109,7 +109,7 @@ fn start<M: Machine, S: DatagramSocket + Drop>(
     }
 }
 
-// The servers of the members, in order, on these sockets.
+// Starts the servers of the members, in order, each on its socket.
 fn start_all<M: Machine, S: DatagramSocket + Drop>(
     alloc: Global,
     genesis: &Genesis,
@@ -122,7 +122,7 @@ fn start_all<M: Machine, S: DatagramSocket + Drop>(
     Ok(nodes)
 }
 
-// The question of a row of the story, for a port.
+// Makes the request of a row of the story, for the node at a port; `None` if its words or numbers are invalid.
 fn question_of(row: (u16, u64, &[u8]), port: Port) -> Option<Question> {
     let (client, number, words) = row;
     let op = read_operation(words)?;
@@ -138,7 +138,7 @@ fn question_of(row: (u16, u64, &[u8]), port: Port) -> Option<Question> {
 }
 
 impl<M: Machine, S: DatagramSocket + Drop> Cluster<M, S> {
-    // A new cluster on these sockets.
+    // Starts a new cluster on these sockets.
     fn begin(alloc: Global, sockets: Sockets<S>) -> Result<Cluster<M, S>, ServiceFault> {
         let Sockets { nodes, client } = sockets;
         let genesis = genesis_at(alloc, &nodes)?;
@@ -152,7 +152,7 @@ impl<M: Machine, S: DatagramSocket + Drop> Cluster<M, S> {
         })
     }
 
-    // Each node takes its next waiting datagram. Returns whether any node had one.
+    // Each node takes what is waiting for it as one group. Returns whether any replica was given something.
     fn serve(&mut self) -> Result<bool, ServiceFault> {
         let mut was_served = false;
         for node in &mut self.nodes {
@@ -169,7 +169,7 @@ impl<M: Machine, S: DatagramSocket + Drop> Cluster<M, S> {
         Ok(())
     }
 
-    // What the clients receive next. It follows an Elsewhere.
+    // Receives the next datagram for the clients. If it is an Elsewhere, resends the request to the node that it names.
     fn receive_reply(&mut self, question: &Question, bytes: &[u8]) -> Heard {
         match next_reply(&mut self.buffer, &mut self.client, question) {
             Heard::Reply(Reply::Elsewhere(member)) => {
@@ -248,7 +248,7 @@ pub fn run_demo<M: Machine, S: DatagramSocket + Drop, W: Write>(
     Ok(true)
 }
 
-// Sockets of this many free ports of 127.0.0.1.
+// Opens sockets at this many free ports of 127.0.0.1, whose receives do not wait.
 fn free_sockets<R: Net>(
     rt: &R,
     alloc: Global,
@@ -261,7 +261,7 @@ fn free_sockets<R: Net>(
     Ok(sockets)
 }
 
-// Plays the story on four free ports of 127.0.0.1.
+// Opens a socket for the clients and one for each node, at free ports of 127.0.0.1, and plays the story on them.
 fn play_on_ports<M: Machine, R: Net, W: Write>(
     rt: &R,
     alloc: Global,

@@ -1,4 +1,5 @@
-//! The service over files and sockets: what the program does besides scripts.
+//! `locks node`, `locks demo` and `locks client-key`, over files and sockets: reads what the options name, opens what a
+//! node runs on, takes its turns, and reports them.
 #![tactic(auto)]
 
 mod another_genesis;

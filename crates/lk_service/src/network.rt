@@ -24,7 +24,8 @@ use std::io::{Read, Write};
 use std::net::{IpAddr, Ipv4Addr, SocketAddr};
 use std::os::unix::fs::PermissionsExt;
 
-/// The options of a command line about other machines: the file of the hosts, the address to listen on, the key files.
+/// The options of a command line about other machines: the file of the hosts; the address that a node listens on, or
+/// that a client asks first; the key files of the nodes and of the clients.
 #[derive(Clone, Copy)]
 pub struct NetworkOptions<'a> {
     pub hosts: Option<&'a str>,
@@ -70,7 +71,7 @@ fn read_file<R: Files<File = File>, E: Write>(
     }
 }
 
-// A line of the hosts: NODE ADDRESS.
+// Parses a line of the hosts: NODE ADDRESS.
 fn host_of(line: &[u8]) -> Option<(NodeNo, IpAddr)> {
     let (node, address) = split_word(line)?;
     let node = node_of(node)?;
@@ -80,7 +81,7 @@ fn host_of(line: &[u8]) -> Option<(NodeNo, IpAddr)> {
     }
 }
 
-// Whether a line may follow the last one.
+// Returns whether a line may follow the last one: its node is higher, and its address is of the same family.
 fn may_follow(last: Option<&(NodeNo, IpAddr)>, host: &(NodeNo, IpAddr)) -> bool {
     match last {
         Some(last) => last.0 < host.0 && last.1.is_ipv4() == host.1.is_ipv4(),
@@ -93,8 +94,8 @@ fn is_idle(line: &[u8]) -> bool {
     line.is_empty() || line[0] == b'#'
 }
 
-// Reads the lines of hosts, or returns the number of the first invalid one. Nodes must rise, and all addresses must
-// be of one family.
+// Parses the lines of hosts, or returns the number, from 1, of the first invalid one. Nodes must rise, and all
+// addresses must be of one family. The outer error is out of memory.
 fn read_hosts(
     alloc: Global,
     text: &[u8],
@@ -114,7 +115,8 @@ fn read_hosts(
     Ok(Ok(hosts))
 }
 
-// Where the nodes live.
+// Reads the file of the hosts; if none is named, all nodes are at 127.0.0.1. If the file cannot be read or is invalid,
+// it writes the reason and returns `CannotOpen`.
 fn load_hosts<R: Files<File = File>, E: Write>(
     rt: &R,
     alloc: Global,
@@ -134,7 +136,8 @@ fn load_hosts<R: Files<File = File>, E: Write>(
     }
 }
 
-/// The keys of a file, which others than its owner may not have.
+/// Reads the keys of a file. If it cannot be read or is invalid, or others than its owner have access to it, it writes
+/// the reason and returns `CannotOpen`.
 pub fn keys_of<R: Files<File = File>, E: Write>(
     rt: &R,
     alloc: Global,
@@ -150,7 +153,7 @@ pub fn keys_of<R: Files<File = File>, E: Write>(
     }
 }
 
-// The same, and none where no file is named.
+// The same; no keys if no file is named.
 fn load_keys<R: Files<File = File>, E: Write>(
     rt: &R,
     alloc: Global,
@@ -163,13 +166,13 @@ fn load_keys<R: Files<File = File>, E: Write>(
     }
 }
 
-// Writes that no address of a node is known.
+// Writes that no address of a node is known, and returns `CannotOpen`.
 fn write_no_address<E: Write>(node: NodeNo, path: &str, err: &mut E) -> ServiceFault {
     let _ = writeln!(err, "{path}: no line of node {}, and no --bind", node.get());
     ServiceFault::CannotOpen
 }
 
-// The address on which a node listens.
+// Returns the address on which a node listens: that of `--bind`, or else its address among the hosts.
 fn place_of<E: Write>(
     header: &Header,
     hosts: &Hosts,
@@ -199,7 +202,7 @@ fn check_keys<E: Write>(
     Ok(())
 }
 
-// The keys of a header's node, in its cluster, for its genesis.
+// Reads the keys of the nodes and the masters of the clients, for a header's node, in its cluster, for its genesis.
 fn load_seals<R: Files<File = File>, E: Write>(
     rt: &R,
     alloc: Global,
@@ -241,7 +244,8 @@ fn check_reach<E: Write>(seals: &Seals, place: SocketAddr, err: &mut E) -> Resul
     Ok(())
 }
 
-/// Where the nodes live, the keys, and the address on which the node listens.
+/// Reads what the options name. Returns where the nodes live with the keys, and the address on which the node listens.
+/// On failure it writes the reason and returns `CannotOpen`; out of memory, it returns `NoMemory`.
 pub fn network_of<R: Files<File = File>, E: Write>(
     rt: &R,
     alloc: Global,
@@ -263,7 +267,8 @@ pub fn network_of<R: Files<File = File>, E: Write>(
     Ok((Network { hosts, seals }, place))
 }
 
-/// Where a client sends its requests, and its keys.
+/// Reads what a client's options name. Returns the address that it asks first (127.0.0.1 if none is given), where the
+/// nodes live, and its keys. It fails as `network_of` does.
 pub fn destination_of<R: Files<File = File>, E: Write>(
     rt: &R,
     alloc: Global,

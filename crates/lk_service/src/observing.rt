@@ -1,4 +1,4 @@
-//! What is reported to an operator of a node, turn by turn.
+//! Reports to an observer how a node starts, what each turn does, and why the node ends.
 
 ghost use Rattle.std.specs.Prelude.{◌≡◌};
 
@@ -14,10 +14,10 @@ use lk_transport::fault::ServiceFault;
 use lk_transport::socket::DatagramSocket;
 use lk_types::{Members, NodeNo};
 
-// The ticks within which a leader is heard again: from the next on a node waits for none.
+// A node follows a leader as long as fewer ticks than this have passed since it heard of it.
 const HEARD: u8 = 4;
 
-// The node that a node hears to lead.
+// Returns the leader that a node follows: another node, of which it has heard lately, while it has no term of its own.
 fn followed_leader<M: Machine>(node: &Node<M>) -> Option<NodeNo> {
     let known = node.presumed_leader()?;
     let is_heard = node.term().is_none() && node.ticks() < HEARD;
@@ -33,7 +33,7 @@ fn next_members<M: Machine>(node: &Node<M>) -> &Members {
     }
 }
 
-// What is seen of a node after what has happened to it.
+// Makes the observation of a node, from its state and from what happened in its turn.
 fn observation_of<M: Machine>(node: &Node<M>, events: &TurnEvents) -> Observation {
     let own = node.header().node();
     let members = next_members(node).copy();
@@ -54,12 +54,12 @@ fn observation_of<M: Machine>(node: &Node<M>, events: &TurnEvents) -> Observatio
     }
 }
 
-// Whether a node that has come up remembers nothing.
+// Returns whether the store of a node that has started was empty: nothing executed, and no ballot promised.
 fn is_empty<M: Machine>(node: &Node<M>) -> bool {
     node.executed().get() == 0 && node.promised().round() == 0
 }
 
-/// Reports to an observer that a node has come up.
+/// Reports to an observer that a node has started.
 pub fn observe_start<M: Machine, D: LogDisk + Drop, O: Observer>(
     replica: &Replica<M, D>,
     observer: &mut O,
@@ -70,7 +70,7 @@ pub fn observe_start<M: Machine, D: LogDisk + Drop, O: Observer>(
     }
 }
 
-/// Reports to an observer that a server has taken a turn.
+/// Reports to an observer that a server has taken a turn, and clears the server's events. Does nothing if it is off.
 pub fn observe_turn<M: Machine, D: LogDisk + Drop, S: DatagramSocket + Drop, O: Observer>(
     server: &mut Server<Replica<M, D>, S>,
     observer: &mut O,
@@ -83,7 +83,7 @@ pub fn observe_turn<M: Machine, D: LogDisk + Drop, S: DatagramSocket + Drop, O: 
     }
 }
 
-// The words for a fault.
+// Returns the text of a fault for an event, without a line end.
 fn words_for(fault: ServiceFault) -> &'static str {
     match fault {
         ServiceFault::OtherGenesis => "another genesis",

@@ -1,4 +1,5 @@
-//! The probe of a node to itself, at the port that the genesis names, where the node listens at another one.
+//! Finds out whether a node is heard at the port that the genesis names, if it listens at another one: sends a probe to
+//! itself there.
 
 ghost use Rattle.std.specs.Prelude.{◌≡◌, Ok, None, Some, true, false, IfOk, IfErr, OnErr, IfSome};
 ghost use Rattle.lk_service.specs.OwnProbes.{ComesNext, FindsUnheard, IsHeard, ProbesItself, socket_value};
@@ -16,12 +17,12 @@ use std::alloc::Global;
 use std::net::SocketAddr;
 use std::time::Duration;
 
-// In how many datagrams a node looks for its probe.
+// How many datagrams a node receives at most to find its probe.
 const RECEIVES: u32 = 30;
 // How long it waits for each, in milliseconds.
 const WAIT: u64 = 10;
 
-// Receives the next datagram, and drops it. Returns whether these are its bytes.
+// Receives the next datagram, and drops it. Returns whether it has these bytes.
 fn comes_next<S: DatagramSocket>(buffer: &mut ReceiveBuffer, socket: &mut S, frame: &[u8]) -> bool
     ensures comes { S.is_telling → ComesNext frame.now result (S.coming socket.old) (S.coming socket.new) }
     ensures unchanged { S.sent socket.new ≡ S.sent socket.old }
@@ -34,7 +35,8 @@ fn comes_next<S: DatagramSocket>(buffer: &mut ReceiveBuffer, socket: &mut S, fra
     }
 }
 
-// Drops what comes, up to these bytes, 30 datagrams or 300 ms. Returns whether they came.
+// Receives datagrams and drops them, up to one of these bytes: at most 30, each within about 10 ms. Returns whether it
+// came.
 fn comes_back<S: DatagramSocket>(socket: &mut S, frame: &[u8]) -> bool
     ensures heard { S.is_telling → IsHeard frame.now 30 result (S.coming socket.old) (S.coming socket.new) }
     ensures unchanged { S.sent socket.new ≡ S.sent socket.old }
@@ -76,8 +78,8 @@ fn probe_itself<S: DatagramSocket>(
     }
 }
 
-/// Returns the port that the genesis names, where the node listens at another one, unless a probe to that port at the
-/// node's address comes back.
+/// Probes the port that the genesis names, if the node listens at another one (`named`). Returns that port if the probe
+/// does not come back, or if no address of the node is known. Other datagrams that come meanwhile are lost.
 pub fn unheard_port<S: DatagramSocket>(
     alloc: Global,
     socket: &mut S,

@@ -1,4 +1,4 @@
-//! The warning, each minute, of a node that hears nobody and is not heard at the port that the genesis names.
+//! Warns, each minute, that a node has heard of no leader and is not heard at the port that the genesis names.
 
 ghost use Rattle.std.specs.Io.KnownBytes.{Appends};
 ghost use Rattle.std.specs.Prelude.{◌≡◌, ◌↔◌, None, Some, IsTrue, IfSome, IsNone, OnOk, OnErr, ℕ};
@@ -13,7 +13,8 @@ use std::io::Write;
 // The ticks between two warnings: a minute, since a node to which nobody writes ticks each 100 ms.
 const MINUTE: u64 = 600;
 
-/// When the next warning is due, and the port that the genesis names, if the node is not heard there.
+/// When the next warning is due, in ticks since the start, and the port that the genesis names, if the node is not
+/// heard there.
 #[derive(Clone, Copy)]
 pub struct PortReminder {
     pub unheard: Option<Port>,
@@ -58,7 +59,7 @@ impl PortReminder {
         }
     }
 
-    // The port of which a warning is due. The next one is then a minute away.
+    // Returns the port if a warning of it is due; the next one is then due a minute later.
     fn take_due(&mut self, status: &Status) -> Option<Port>
         ensures some { IfSome result
             (λ port. IsDue self.old status.now port × (self.new ≡ having_warned self.old status.now)) }

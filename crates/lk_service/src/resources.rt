@@ -1,4 +1,4 @@
-//! The resources of a node.
+//! Opens what a node runs on, and warns if the genesis names its port otherwise.
 
 ghost use Rattle.std.specs.Prelude.{◌≡◌, ◌≢◌, [], Some, None, IfOk, IfSome, OnErr};
 ghost use Rattle.lk_members.specs.Ports.{port_in};
@@ -24,8 +24,8 @@ use std::fs::{File, Files};
 use std::io::Write;
 use std::net::Net;
 
-/// Which node is run, at which port, what its ticks go by, in which folder its files are, and which files tell of the
-/// machines outside.
+/// What the command line of `locks node` asks for: the node with its genesis, its port, what its ticks go by, the
+/// folder of its files, and the options about other machines.
 #[derive(Drop)]
 pub struct NodePlan<'a> {
     pub header: Header,
@@ -49,7 +49,7 @@ pub struct Resources<D: Drop, S: Drop> {
 /// The files of a folder as a device.
 pub type FolderDisk = SystemDisk<File>;
 
-// The port that the members give the node, if they have it.
+// Returns the port that the members give the node, if it is one of them.
 fn named_port(members: &[Member], node: NodeNo) -> Option<Port>
     ensures { result ≡ port_in node members.now }
 {
@@ -71,7 +71,7 @@ fn write_warning<E: Write>(plan: &NodePlan<'_>, named: Port, err: &mut E) {
     );
 }
 
-// The port that the genesis gives the node, if it listens at another one.
+// Returns the port that the genesis gives the node, if it listens at another one.
 fn other_port(plan: &NodePlan<'_>) -> Option<Port>
     ensures { result ≡ misnamed plan.now.header plan.now.port }
 {
@@ -110,8 +110,8 @@ fn warn_of_port<S: DatagramSocket, E: Write>(
     Ok(unheard)
 }
 
-// What the ticks of a node go by that has these seals: with a key of the nodes by the clock, so that a stranger's
-// payloads neither bring nor prevent them.
+// Returns what the ticks of a node with these seals go by: the clock if the nodes have a key, so that a stranger's
+// payloads neither bring nor prevent ticks, or else what was asked for.
 fn pace_with(seals: &Seals, asked: Pace) -> Pace
     ensures key { key_list seals.now.nodes ≢ [] → result ≡ Pace.Clock }
     ensures none { key_list seals.now.nodes ≡ [] → result ≡ asked }
@@ -122,7 +122,7 @@ fn pace_with(seals: &Seals, asked: Pace) -> Pace
     }
 }
 
-// A further member at the port of this one.
+// Returns a member with a higher number at the port of this one.
 fn sharer(members: &[Member], member: Member) -> Option<Member> {
     members
         .iter()
@@ -130,7 +130,7 @@ fn sharer(members: &[Member], member: Member) -> Option<Member> {
         .copied()
 }
 
-// The first two members at one port.
+// Returns the first two members that share a port.
 fn at_one_port(members: &[Member]) -> Option<(Member, Member)> {
     for member in members {
         if let Some(other) = sharer(members, *member) {
@@ -140,7 +140,7 @@ fn at_one_port(members: &[Member]) -> Option<(Member, Member)> {
     None
 }
 
-// Warns where the genesis names two members at one port of this machine.
+// Warns if two members share a port, unless a file of hosts places them on several machines.
 fn warn_of_members<E: Write>(plan: &NodePlan<'_>, err: &mut E) {
     if plan.options.hosts.is_some() {
         return;
@@ -156,7 +156,7 @@ fn warn_of_members<E: Write>(plan: &NodePlan<'_>, err: &mut E) {
 
 /// Opens the resources of a plan's node: its files, which are created if they are missing, and its socket. The folder
 /// stays locked as long as the second value lives. On failure, or if another process serves from the folder, it writes
-/// the reason and returns `CannotOpen`.
+/// the reason and returns `CannotOpen`; out of memory, it returns `NoMemory`.
 pub fn open_resources<R: Files<File = File> + Net, E: Write>(
     rt: &R,
     alloc: Global,

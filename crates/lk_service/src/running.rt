@@ -1,4 +1,4 @@
-//! A node: its start from a device, and its turns.
+//! Runs a node: starts its server from a device, and takes its turns.
 
 ghost use Rattle.std.specs.Prelude.{◌≡◌, ◌≤◌, ◌^◌, ◌⊎◌, None, IfOk, IfErr, OnOk, OnErr};
 ghost use Rattle.lk_node_io.specs.Faults.{fault_number};
@@ -38,13 +38,13 @@ use std::alloc::Global;
 use std::io::Write;
 use std::time::Clock;
 
-// How many turns a node takes.
+// How many turns a node takes: a loop must have a bound, and this one lasts for years.
 const TURNS: u64 = 1 << 48;
 
 // The server of a node's replica on a device, with a socket.
 type NodeServer<M, D, S> = Server<Replica<M, D>, S>;
 
-// Restarts the replica from a device. Logs how it started and what it executed.
+// Restarts the replica from a device. Logs how it started and what it executed. An error returns the device too.
 fn take_up<M: Machine, D: LogDisk + Drop, L: Log>(
     alloc: Global,
     header: &Header,
@@ -55,7 +55,8 @@ fn take_up<M: Machine, D: LogDisk + Drop, L: Log>(
     ensures ready { IfOk result (λ r. MayGoOn header.now r) }
     // It restarts from what the device has.
     ensures comes_up { D.is_honest → IfOk result (ComesUp M.meaning header.now (D.disk device)) }
-    // It fails with 7 to 11, each with its cause, and what the device then has fits as what it had.
+    // It fails with a fault of 7 to 11, each for its own cause. The disks then fit each history that they fitted
+    // before.
     ensures refused { IfErr result
         (λ e. IsNotTakenUp M.meaning M.IsText D.is_honest (D.disk device) header.now
         (fault_number e.fault) (D.disk e.device)) }
@@ -66,7 +67,8 @@ fn take_up<M: Machine, D: LogDisk + Drop, L: Log>(
     Ok(revived.replica)
 }
 
-/// Starts the server of a node from a device. Logs how it started and what it executed.
+/// Starts the server of a node from a device. Logs how it started and what it executed. An error returns the device
+/// too.
 pub fn revive<M: Machine, D: LogDisk + Drop, S: DatagramSocket + Drop, L: Log>(
     alloc: Global,
     header: &Header,
@@ -79,7 +81,8 @@ pub fn revive<M: Machine, D: LogDisk + Drop, S: DatagramSocket + Drop, L: Log>(
     ensures serves { IfOk result (ServesAs header.now.cluster header.now.node resources.pace resources.network) }
     ensures socket { IfOk result
         (ServesOn (S.sent resources.socket) (S.failures resources.socket) (S.coming resources.socket)) }
-    // It fails with 7 to 11, each with its cause, and what the device then has fits as what it had.
+    // It fails with a fault of 7 to 11, each for its own cause. The disks then fit each history that they fitted
+    // before.
     ensures refused { IfErr result
         (λ e. IsNotTakenUp M.meaning M.IsText D.is_honest (D.disk resources.device) header.now
         (fault_number e.fault) (D.disk e.device)) }
@@ -104,7 +107,7 @@ pub fn revive<M: Machine, D: LogDisk + Drop, S: DatagramSocket + Drop, L: Log>(
     ))
 }
 
-// The same. After a refusal, writes what was found.
+// The same for a plan. If the store does not open, writes what was found and what to do.
 fn revive_plan<
     M: Machine,
     D: LogDisk + FailureCause + Drop,
@@ -152,6 +155,7 @@ fn end_turn<M: Machine, D: LogDisk + Drop, S: DatagramSocket + Drop, L: Log, O: 
     ensures quiet { OnOk result (E.contents err.new ≡ E.contents err.old) }
 {
     let leader = server.handle_probes(buffer, log);
+    // The contract of this call shows that the server knows whether its replica has failed.
     let _ = server.replica();
     observe_turn(server, observer);
     match leader {
@@ -178,10 +182,10 @@ fn take_turn<
     observer: &mut O,
     err: &mut E,
 ) -> Result<(), ServiceFault>
-    // Its replica was given as one group just what it wrote to itself, or what was taken of what came, and a tick
-    // where one was due. Of the letters that it said it keeps none but those of the node to itself, after the ones
-    // that wait. After that it handles probes: the probe and the report that were kept, or else the first that
-    // came. No node of another genesis has led it.
+    // Its replica was given as one group the letters of the node to itself, or else what was taken of the frames that
+    // came, and a tick if one was due. Of the letters that it produced, those to the node itself are kept, after the
+    // ones that wait. Then probes are handled: the probe and the report that were kept before, or else the first that
+    // came. No node of another genesis has led the node.
     ensures turn { OnOk result
         (TakesTurnWith ⟦<Replica<M, D> as ServedReplica>⟧.Says S.is_telling buffer.old.asked buffer.old.reported
         GoesOn server.old server.new) }
@@ -272,7 +276,7 @@ fn take_turns<
     Ok(())
 }
 
-// Takes 2^48 turns with a server that ends then. Logs its port, and reports its start to an observer.
+// Logs the port of a server, reports its start to an observer, and takes 2^48 turns. The server ends then.
 fn serve_turns<
     M: Machine,
     D: LogDisk + FailureCause + Drop,

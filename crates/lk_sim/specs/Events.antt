@@ -39,14 +39,14 @@ use Rattle.lk_sim.specs.declared.event.Event.{Event}
 use Rattle.lk_sim.specs.declared.event.Event.TheVariants as event
 use Rattle.lk_sim.specs.declared.event.Turn.{Turn}
 
--- only this node has changed
+-- of all nodes only this one has changed, from `s` to `t`, and has kept its number
 pub record Turns {R : Type 0} (old new : List (Seat R)) (s t : Seat R) : Type 0 where
   pub place : ℕ
   pub at : At old place s
   pub number : t.number ≡ s.number
   pub seats : new ≡ set old place t
 
--- a node itself notes what it counted and executed, and nothing else
+-- each of these notes is of what a node counted or executed
 abbrev pub AreOwn : List Note → Type 0
 AreOwn notes = (x : Note) → Contains notes x → IsOfNode x
 
@@ -108,7 +108,7 @@ pub record StopsSending {R : Type 0} (b : Behaviour R) (old new : Scene R) (r : 
   pub adds : Adds old new ((asked ++ notes) ++ told) (take sends batch)
   pub ended : new.ended ≡ Some (Stopped t.number)
 
--- the result of a tick, or of these bytes
+-- the result of a tick (`None`) or of these bytes: the node goes on, or stops at a send, or a fault ends it
 abbrev pub Comes : {R : Type 0} → Behaviour R → Scene R → Scene R → R → Seat R → Option (List ℕ) → List Note → Type 0
 Comes b old new r t o asked =
     GoesOn b old new r t o asked ⊎ StopsSending b old new r t o asked ⊎ Falls (Breaks b r o) old new t asked
@@ -221,6 +221,7 @@ pub record IsRevived {R : Type 0} (b : Behaviour R) (old new : Scene R) (t : Sea
   pub adds : Adds old new notes []
   pub ended : new.ended ≡ None
 
+-- the result of a restart: the node is up, or a fault has left it down
 abbrev pub ComesUp : {R : Type 0} → Behaviour R → Scene R → Scene R → Seat R → Memory → Type 0
 ComesUp b old new t device =
     IsRevived b old new t device ⊎ Falls (StaysDown b device (header_of old.genesis t.number)) old new t []
@@ -266,6 +267,7 @@ pub record IsCompacted {R : Type 0} (b : Behaviour R) (old new : Scene R) (n : �
 
 -- ---- a node goes down, or its device will fail
 
+-- the node stopped, and its disks kept up to `x` and `y` of their unsynced bytes
 pub record GoesDown {R : Type 0} (b : Behaviour R) (old new : Scene R) (n x y : ℕ) : Type 0 where
   pub seat : Seat R
   pub number : seat.number ≡ n
@@ -277,6 +279,7 @@ pub record GoesDown {R : Type 0} (b : Behaviour R) (old new : Scene R) (n x y : 
   pub adds : Adds old new [] []
   pub ended : new.ended ≡ None
 
+-- a trap was set at the device of the node
 pub record HasTrap {R : Type 0} (b : Behaviour R) (old new : Scene R) (n : ℕ) (trap : Trap) : Type 0 where
   pub seat : Seat R
   pub number : seat.number ≡ n
@@ -288,7 +291,7 @@ pub record HasTrap {R : Type 0} (b : Behaviour R) (old new : Scene R) (n : ℕ) 
 
 -- ---- an event
 
--- its result
+-- the result of each event
 abbrev pub Brings : {R : Type 0} → Behaviour R → Scene R → Event → Scene R → Type 0
 Brings b old (event.Start n) new = IsBegun b old new n
 Brings b old (event.Restart n) new = IsBack b old new n
@@ -302,7 +305,7 @@ Brings b old (event.Stop n x y) new = GoesDown b old new n x y
 Brings b old (event.FailAt n count) new = HasTrap b old new n (Fail count)
 Brings b old (event.Arm n count bytes) new = HasTrap b old new n (Arm count bytes)
 
--- what an event does if it is done
+-- the event is permitted, and has its result
 abbrev pub Does : {R : Type 0} → Behaviour R → Scene R → Event → Scene R → Type 0
 Does b old e new = May old e × Brings b old e new
 
@@ -364,22 +367,22 @@ pub record IsHalted {R : Type 0} (Left : Life R → Memory → Type 0) (old new 
   pub adds : Adds old new [] []
   pub ended : new.ended ≡ old.ended
 
--- what running out of memory leaves of bytes that no node has sent: they are a request, and there was no room for its
--- note, before its node stepped; or the node has stopped, and its call takes memory
+-- what running out of memory leaves of injected bytes: nothing has changed, as there was no room for the note of the
+-- request in them; or the node has stopped in a call that takes memory
 abbrev pub WantsInjection : {R : Type 0} → Behaviour R → Scene R → ℕ → List ℕ → Scene R → Type 0
 WantsInjection b old n bytes new =
     ((new ≡ old) × ((r : RequestValue) × Asks bytes (Some r))) ⊎ IsHalted (LeftBy b (Some bytes)) old new n
 
--- what refused memory leaves of a group: there was no room for what its node was to be given, which is something,
--- before the node stepped; or the node has stopped, and its call takes memory
+-- what running out of memory leaves of a group: nothing has changed, as there was no room for the inputs of a group
+-- that is not empty; or the node has stopped in a call that takes memory
 abbrev pub WantsGroup : {R : Type 0} → Behaviour R → Scene R → ℕ → List Turn → Scene R → Type 0
 WantsGroup b old n turns new =
     ((new ≡ old) × (0 < length turns)) ⊎ IsHalted (LeftByGroup b (map (given_by old.sent) turns)) old new n
 
--- what refused memory leaves of an event: the node that it steps, or revives, has stopped. Where no node was stepping
--- yet nothing has changed, nor where the node was never started before: it is as never started. A stop, and a trap
--- that is set, take no memory, nor does a call that came to another fault, or that left nothing to be noted or sent; a
--- client's datagram takes some each time, for its bytes. Nothing was noted or sent
+-- what running out of memory leaves of an event: nothing was noted or sent, and the node that was stepping, compacting
+-- or restarting has stopped. If no node was stepping yet, or on a Start, nothing has changed. A Stop and the setting of
+-- a trap take no memory, nor does a call that ended with another fault or left nothing to note or send; a client's
+-- request always takes some, for its bytes
 abbrev pub Wants : {R : Type 0} → Behaviour R → Scene R → Event → Scene R → Type 0
 Wants b old (event.Start n) new = new ≡ old
 Wants b old (event.Restart n) new = IsHalted (LeftByRevival b (header_of old.genesis n)) old new n
@@ -399,13 +402,13 @@ Wants b old (event.Arm n count bytes) new = ⊥
 abbrev pub IsRefused : {R : Type 0} → Behaviour R → Scene R → Event → Refused → Scene R → Type 0
 IsRefused b old e r new = (MayNot old e r × (new ≡ old)) ⊎ ((r ≡ WorldMemory) × May old e × Wants b old e new)
 
--- the same of bytes that no node has sent
+-- what a rejected injection leaves
 abbrev pub IsNotInjected : {R : Type 0} → Behaviour R → Scene R → ℕ → List ℕ → Refused → Scene R → Type 0
 IsNotInjected b old n bytes r new =
     (NoInjection old.seats old.sent n bytes r × (new ≡ old))
     ⊎ ((r ≡ WorldMemory) × MayInject old n bytes × WantsInjection b old n bytes new)
 
--- the same of a group
+-- what a rejected group leaves
 abbrev pub IsNotGrouped : {R : Type 0} → Behaviour R → Scene R → ℕ → List Turn → Refused → Scene R → Type 0
 IsNotGrouped b old n turns r new =
     (NoGroup old.seats old.sent n turns r × (new ≡ old))
@@ -413,6 +416,6 @@ IsNotGrouped b old n turns r new =
 
 -- ---- what every event keeps
 
--- the earlier datagrams are still there, and come first
+-- the earlier datagrams are still in the list, before all later ones
 abbrev pub Grows : {R : Type 0} → Scene R → Scene R → Type 0
 Grows old new = (more : List Datagram) × (new.sent ≡ old.sent ++ more)

@@ -32,6 +32,7 @@ abbrev pub WasSentTo : List Datagram → Input → Type 0
 WasSentTo sent Tick = Unit {0}
 WasSentTo sent (Heard bytes) = (d : Datagram) × Contains sent d × (bytes ≡ d.bytes)
 
+-- each of these inputs is a tick, or a datagram that was sent
 abbrev pub WereSentTo : List Datagram → List Input → Type 0
 WereSentTo sent [] = Unit {0}
 WereSentTo sent (i ∷ is) = WasSentTo sent i × WereSentTo sent is

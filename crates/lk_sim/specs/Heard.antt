@@ -1,4 +1,4 @@
--- Bytes that no node has sent.
+-- Bytes that no node has sent: the request that they spell, and when they are forged.
 use Rattle.std.specs.Prelude.{◌≡◌, ℕ, List, Option, Some}
 use Rattle.lk_messages.specs.Grammar.{Spells}
 use Rattle.lk_messages.specs.declared.message.Message.{Message}

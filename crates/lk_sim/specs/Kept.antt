@@ -22,7 +22,7 @@ abbrev pub EveryStanding : {R : Type 0} → (R → Side → Disk) → Meaning �
 EveryStanding disks m genesis s Is = (image : Image) → MayLeaveBoth (disks_of disks s.life) image
     → (x : StandingValue) × StandsAs (header_of genesis s.number) (text m genesis []) image x × Is x
 
--- it covers everything that the node has sent
+-- every standing that a stop may leave covers everything that the node has sent
 abbrev pub CoversAll : {R : Type 0} → (R → Side → Disk) → Meaning → Genesis → List Datagram → Seat R → Type 0
 CoversAll disks m genesis sent s =
     EveryStanding disks m genesis s (λ x. CoversSent genesis sent s.number (acceptor_of x))

@@ -40,37 +40,41 @@ AreFor sent n turns = AllByRecursion (IsFor sent n) turns
 
 -- ---- the reasons
 
--- a node must have been started
+-- the node must have been started
 abbrev pub NotStarted : {R : Type 0} → List (Seat R) → ℕ → Refused → Type 0
 NotStarted seats n NoSuchNode = HasNo seats n
 NotStarted seats n _ = ⊥
 
--- it must be up, and there must be room for what it sends
+-- the node must be up, and the world must have room for what it sends
 abbrev pub NoTurn : {R : Type 0} → List (Seat R) → List Datagram → ℕ → Refused → Type 0
 NoTurn seats sent n NoSuchNode = HasNo seats n
 NoTurn seats sent n NotUp = IsDown seats n
 NoTurn seats sent n WorldFull = IsUp seats n × IsFull sent
 NoTurn seats sent n _ = ⊥
 
+-- a Start: the node was started before, or 16 nodes were
 abbrev pub NoStart : {R : Type 0} → List (Seat R) → ℕ → Refused → Type 0
 NoStart seats n AlreadyUp = IsStarted seats n
 NoStart seats n WorldFull = HasNo seats n × (16 ≤ length seats)
 NoStart seats n _ = ⊥
 
+-- a client's request: its node must have been started, and the world must have room
 abbrev pub NoClient : {R : Type 0} → List (Seat R) → List Datagram → ℕ → Refused → Type 0
 NoClient seats sent n NoSuchNode = HasNo seats n
 NoClient seats sent n WorldFull = IsStarted seats n × IsFull sent
 NoClient seats sent n _ = ⊥
 
--- a client's datagram is not delivered to it
+-- a datagram must be addressed to a node that can take it; none is delivered to a client
 abbrev pub NoneBound : {R : Type 0} → List (Seat R) → List Datagram → Party → Refused → Type 0
 NoneBound seats sent (party.Node n) e = NoTurn seats sent n e
 NoneBound seats sent (party.Client c) e = e ≡ NoSuchDatagram
 
+-- the datagram must exist, and be deliverable
 abbrev pub NoDelivery : {R : Type 0} → List (Seat R) → List Datagram → Option Datagram → Refused → Type 0
 NoDelivery seats sent None e = e ≡ NoSuchDatagram
 NoDelivery seats sent (Some d) e = NoneBound seats sent d.to e
 
+-- injected bytes: the node must be up, and they must not be a node's datagram
 abbrev pub NoInjection : {R : Type 0} → List (Seat R) → List Datagram → ℕ → List ℕ → Refused → Type 0
 NoInjection seats sent n bytes NoSuchNode = HasNo seats n
 NoInjection seats sent n bytes NotUp = IsDown seats n
@@ -102,22 +106,23 @@ MayNot w (event.Arm n count bytes) e = NotStarted w.seats n e
 
 -- ---- what is not rejected for it
 
--- the node is up, and there is room
+-- the node is up, and the world has room
 abbrev pub MayTurn : {R : Type 0} → Scene R → ℕ → Type 0
 MayTurn w n = IsUp w.seats n × HasRoom w.sent
 
--- the datagram is addressed to such a node
+-- the datagram at this place is addressed to a node that may take it
 abbrev pub MayDeliver : {R : Type 0} → Scene R → ℕ → Type 0
 MayDeliver w k = (d : Datagram) × (n : ℕ) × (datagram_at w.sent k ≡ Some d) × (d.to ≡ party.Node n) × MayTurn w n
 
--- so is each datagram of a group
+-- the node may take a turn, and each datagram of the group is addressed to it
 abbrev pub MayGroup : {R : Type 0} → Scene R → ℕ → List Turn → Type 0
 MayGroup w n turns = MayTurn w n × AreFor w.sent n turns
 
--- and the bytes are none that only a node sends
+-- the node may take a turn, and the bytes are none that only a node sends
 abbrev pub MayInject : {R : Type 0} → Scene R → ℕ → List ℕ → Type 0
 MayInject w n bytes = MayTurn w n × (IsForged bytes → ⊥)
 
+-- the event is rejected for no reason but running out of memory
 abbrev pub May : {R : Type 0} → Scene R → Event → Type 0
 May w (event.Start n) = HasNo w.seats n × (length w.seats < 16)
 May w (event.Restart n) = IsDown w.seats n

@@ -1,4 +1,4 @@
--- What a world's trace has room for.
+-- Room in a world's trace for the note of a request.
 use Rattle.std.specs.Prelude.{◌<◌, Option, Some, None, Vec, vec_len, vec_capacity}
 use Rattle.std.specs.Global.{Global}
 use Rattle.lk_node_io.specs.declared.note.Note.{Note}

@@ -1,4 +1,4 @@
--- What a run of events does.
+-- What a run of events does: some events in order, up to the first that is rejected.
 use Rattle.std.specs.Prelude.{◌≡◌, ℕ, List, [], ◌∷◌, length, take, slice_get, Option, Some, None}
 use Rattle.lk_replica.specs.Behaviours.{Behaviour}
 use Rattle.lk_sim.specs.Events.{Does, IsRefused}
@@ -17,7 +17,7 @@ abbrev pub StopsAt : {R : Type 0} → Behaviour R → List Event → ℕ → Opt
 StopsAt b events done None last new = (done ≡ length events) × (new ≡ last)
 StopsAt b events done (Some r) last new = (e : Event) × (slice_get events done ≡ Some e) × IsRefused b last e r new
 
--- this many events were done in order, and then it ended like this
+-- this many events were done in order, and then the run ended like this
 pub record Runs {R : Type 0} (b : Behaviour R) (old : Scene R) (events : List Event) (how : RunEnd)
     (new : Scene R) : Type 0 where
   pub last : Scene R

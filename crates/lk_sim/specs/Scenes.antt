@@ -1,4 +1,4 @@
--- What is seen of a world.
+-- What contracts see of a world.
 use Rattle.std.specs.Prelude.{List, Option}
 use Rattle.lk_node_io.specs.declared.note.Note.{Note}
 use Rattle.lk_node.specs.Histories.{Genesis, Datagram}

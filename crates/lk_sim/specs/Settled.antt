@@ -1,4 +1,4 @@
--- What a world keeps of what a call of a node leaves.
+-- What a world keeps of a node's call or group: the notes and datagrams that it adds, and whether the node stopped.
 use Rattle.std.specs.Prelude.{◌≡◌, ℕ, List, [], ◌++◌, Option, set}
 use Rattle.lk_state.specs.Meanings.{Meaning}
 use Rattle.lk_agreement.specs.Nodes.{View}
@@ -27,7 +27,7 @@ pub record HasAdded {R : Type 0} (old new : Scene R) (asked mine : List Note) (b
   pub adds : Adds old new ((asked ++ mine) ++ told) batch
   pub ended : new.ended ≡ how
 
--- it was, and the node at this place has stopped if it has reached an armed stop
+-- the result was added, and the node at this place has stopped if it has reached an armed stop
 pub record HasSettled {R : Type 0} (Shows : R → Genesis → ℕ → Holding → Type 0) (b : Behaviour R) (m : Meaning)
     (old : Scene R) (i : ℕ) (new : Scene R) (asked mine : List Note) (batch : List Datagram) (how : Option End)
     (stop : Option ℕ) : Type 0 where
@@ -52,7 +52,7 @@ pub record HasAddedSteps {R : Type 0} (old new : Scene R) (steps : List Step) (b
   pub adds : Adds old new notes batch
   pub ended : new.ended ≡ how
 
--- it was, and the node at this place has stopped if it has reached an armed stop
+-- the results were added, and the node at this place has stopped if it has reached an armed stop
 pub record HasSettledSteps {R : Type 0} (Shows : R → Genesis → ℕ → Holding → Type 0) (b : Behaviour R) (m : Meaning)
     (old : Scene R) (i : ℕ) (new : Scene R) (steps : List Step) (batch : List Datagram) (how : Option End)
     (stop : Option ℕ) : Type 0 where
@@ -68,7 +68,7 @@ pub record HasSettledSteps {R : Type 0} (Shows : R → Genesis → ℕ → Holdi
   pub adds : Adds old new notes batch
   pub ended : new.ended ≡ how
 
--- the node at this place was stopped, and nothing was added
+-- the node at this place was stopped, as memory ran out, and nothing was added
 pub record HasGivenUp {R : Type 0} (Shows : R → Genesis → ℕ → Holding → Type 0) (b : Behaviour R) (m : Meaning)
     (old : Scene R) (i : ℕ) (new : Scene R) : Type 0 where
   pub seat : Seat R

@@ -23,6 +23,7 @@ happened genesis sent trace = record { genesis = genesis; sent = sent; asked = a
 
 -- ---- what was answered and told
 
+-- the note itself, if it is of an answer or a pass
 abbrev pub told_of : Note → List Note
 told_of (note.Asked r) = []
 told_of (note.Counted node i set v) = []

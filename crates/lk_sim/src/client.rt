@@ -1,4 +1,4 @@
-// A client sends a request: its datagram joins the list, addressed to a node that was started.
+// A client sends a request: its datagram is appended, addressed to a node that was started.
 ghost use Rattle.std.specs.Prelude.{◌≡◌, ◌++◌, [], ◌∷◌, IfOk, IfErr, OnOk, OnErr};
 ghost use Rattle.lk_messages.specs.Grammar.{Spells};
 ghost use Rattle.lk_messages.specs.declared.message.Content.TheVariants as content;
@@ -18,7 +18,7 @@ use lk_wire::{Content, Message, write};
 use lk_world_nodes::{Refused, find};
 use std::alloc::Global;
 
-// The bytes of a request.
+// Serialises a request as a datagram of this cluster.
 fn spelled(alloc: Global, cluster: u64, request: &Request) -> Result<Vec<u8>, NoMemory>
     ensures { IfOk result (λ b. Spells (record { cluster = cluster; content = content.Request request.now }) b.items) }
 {
@@ -32,7 +32,7 @@ fn spelled(alloc: Global, cluster: u64, request: &Request) -> Result<Vec<u8>, No
     Ok(out.as_slice().to_vec(alloc)?)
 }
 
-// Both join their lists, or neither does.
+// Appends the datagram and the note, or on an error neither.
 fn append_both(
     sent: &mut Vec<Datagram>,
     trace: &mut Vec<Note>,
@@ -44,13 +44,14 @@ fn append_both(
     ensures sent_err { OnErr result (sent.new.items ≡ sent.old.items) }
     ensures trace_err { OnErr result (trace.new.items ≡ trace.old.items) }
 {
+    // Room for the note comes first, so that nothing can fail once the datagram is appended.
     trace.reserve(1)?;
     sent.push(datagram)?;
     trace.push(note).unwrap();
     Ok(())
 }
 
-// The request joins the lists.
+// Appends the request's datagram, and notes the request as asked. On an error the world is unchanged.
 fn add_request<R: MemoryReplica>(
     parts: &mut WorldParts<R>,
     number: NodeNo,
@@ -71,7 +72,7 @@ fn add_request<R: MemoryReplica>(
     Ok(())
 }
 
-/// A client's request.
+/// Sends a client's request to a node that was started, whether up or down. No node takes it until it is delivered.
 pub fn client<R: MemoryReplica>(
     parts: &mut WorldParts<R>,
     number: NodeNo,

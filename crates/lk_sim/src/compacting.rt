@@ -1,4 +1,4 @@
-// Nodes compact.
+// Makes a node replace the commands that it has executed with a snapshot.
 ghost use Rattle.std.specs.Prelude.{ℕ, IfErr, OnOk, OnErr};
 ghost use Rattle.lk_replica.specs.Behaviours.{disks_by};
 ghost use Rattle.lk_world_nodes.specs.Seats.{IsUpAt};
@@ -12,7 +12,7 @@ use lk_replica::MemoryReplica;
 use lk_types::{NoMemory, NodeNo};
 use lk_world_nodes::{Refused, compact_node, find_up};
 
-// The node at this place, which is up, compacts.
+// Compacts the node at place `i`, which is up.
 fn compact_at<R: MemoryReplica>(parts: &mut WorldParts<R>, i: usize) -> Result<(), NoMemory>
     requires up { (n : ℕ) × IsUpAt parts.old.seats.items i n }
     requires holds { PartsHold R.Shows (disks_by R.behaves) R.meaning parts.old }
@@ -27,7 +27,7 @@ fn compact_at<R: MemoryReplica>(parts: &mut WorldParts<R>, i: usize) -> Result<(
     Ok(())
 }
 
-/// A node that is up writes a snapshot of everything executed.
+/// Makes a node that is up write a snapshot of everything that it has executed.
 pub fn compact<R: MemoryReplica>(parts: &mut WorldParts<R>, number: NodeNo) -> Result<(), Refused>
     requires { PartsHold R.Shows (disks_by R.behaves) R.meaning parts.old }
     ensures holds { PartsHold R.Shows (disks_by R.behaves) R.meaning parts.new }

@@ -1,4 +1,4 @@
-// The datagrams that were ever sent.
+// Looks up the datagrams that were ever sent.
 ghost use Rattle.std.specs.Prelude.{◌≡◌, ◌↔◌, None, Some, IsTrue, IfSome};
 ghost use Rattle.lk_sim.specs.Refusals.{datagram_at, HasRoom};
 
@@ -7,7 +7,7 @@ use lk_replica::Datagram;
 // A step may take the list beyond this many datagrams, but no step begins there.
 const MAX_DATAGRAMS: usize = 99_000;
 
-/// The datagram at this place. Places count from 1.
+/// Returns the datagram at place `k`. Places count from 1.
 pub fn datagram(sent: &[Datagram], k: usize) -> Option<&Datagram>
     ensures some { IfSome result (λ d. datagram_at sent.now k ≡ Some d.now) }
     ensures none { result ≡ None → datagram_at sent.now k ≡ None }
@@ -15,7 +15,7 @@ pub fn datagram(sent: &[Datagram], k: usize) -> Option<&Datagram>
     if k == 0 { None } else { sent.get(k - 1) }
 }
 
-/// Whether there is room for what a step sends.
+/// Whether a step may begin: whether there are at most 99,000 datagrams.
 pub fn has_room(sent: &[Datagram]) -> bool
     ensures { IsTrue result ↔ HasRoom sent.now }
 {

@@ -1,4 +1,4 @@
-// Nodes take ticks and datagrams, and clients send requests.
+// Events that give one input to a node: a tick, a datagram that was sent, or bytes that no node has sent.
 ghost use Rattle.std.specs.Prelude.{◌≡◌, ◌⊎◌, Some, IfOk, IfErr, OnOk, OnErr};
 ghost use Rattle.lk_agreement.specs.Datagrams.{Datagram as DatagramValue};
 ghost use Rattle.lk_agreement.specs.declared.party.Party.TheVariants as party;
@@ -24,7 +24,7 @@ use lk_types::{NoMemory, NodeNo, Request};
 use lk_wire::{ContentRef, Datagram};
 use lk_world_nodes::{Refused, find_up};
 
-// The place of the node of this number, which is up, with room for what it sends.
+// Returns the place of the node in `seats`, if it is up and the world has room for what it sends.
 fn find_ready<R: MemoryReplica>(parts: &WorldParts<R>, number: NodeNo) -> Result<usize, Refused>
     ensures ok { IfOk result (λ i. IsUpAt parts.now.seats.items i number × HasRoom parts.now.sent.items) }
     ensures err { IfErr result (λ e. NoTurn parts.now.seats.items parts.now.sent.items number e) }
@@ -36,7 +36,7 @@ fn find_ready<R: MemoryReplica>(parts: &WorldParts<R>, number: NodeNo) -> Result
     Ok(i)
 }
 
-/// A node takes a tick.
+/// Gives a tick to a node that is up.
 pub fn tick<R: MemoryReplica>(parts: &mut WorldParts<R>, number: NodeNo) -> Result<(), Refused>
     requires { PartsHold R.Shows (disks_by R.behaves) R.meaning parts.old }
     ensures holds { PartsHold R.Shows (disks_by R.behaves) R.meaning parts.new }
@@ -49,7 +49,8 @@ pub fn tick<R: MemoryReplica>(parts: &mut WorldParts<R>, number: NodeNo) -> Resu
     Ok(())
 }
 
-// The node to which the datagram at this place is addressed.
+// Returns the node to which the datagram at place `k` is addressed. One to a client is rejected, as the world has no
+// clients that receive.
 fn bound<R: MemoryReplica>(parts: &WorldParts<R>, k: usize) -> Result<NodeNo, Refused>
     ensures ok { IfOk result
         (λ n. (d : DatagramValue) × (datagram_at parts.now.sent.items k ≡ Some d) × (d.to ≡ party.Node n)) }
@@ -65,7 +66,7 @@ fn bound<R: MemoryReplica>(parts: &WorldParts<R>, k: usize) -> Result<NodeNo, Re
     }
 }
 
-// A copy of the bytes of the datagram at this place.
+// Copies the bytes of the datagram at place `k`, as the step appends to the list that holds them.
 fn bytes_of<R: MemoryReplica>(parts: &WorldParts<R>, k: usize) -> Result<Vec<u8>, NoMemory>
     requires { (d : DatagramValue) × (datagram_at parts.now.sent.items k ≡ Some d) }
     ensures { IfOk result (λ b. (d : DatagramValue)
@@ -77,7 +78,8 @@ fn bytes_of<R: MemoryReplica>(parts: &WorldParts<R>, k: usize) -> Result<Vec<u8>
     Ok(found.bytes.to_vec(parts.alloc)?)
 }
 
-/// The node to which the datagram at this place is addressed takes it.
+/// Delivers the datagram at place `k` to the node to which it is addressed. It stays in the list, and may be delivered
+/// again.
 pub fn deliver<R: MemoryReplica>(parts: &mut WorldParts<R>, k: usize) -> Result<(), Refused>
     requires { PartsHold R.Shows (disks_by R.behaves) R.meaning parts.old }
     ensures holds { PartsHold R.Shows (disks_by R.behaves) R.meaning parts.new }
@@ -92,7 +94,7 @@ pub fn deliver<R: MemoryReplica>(parts: &mut WorldParts<R>, k: usize) -> Result<
     Ok(())
 }
 
-// The request that is asked. A node's message would be forged.
+// Returns the request of a client's message. A node's message is rejected as `Forged`.
 fn request_of(said: &ContentRef<'_>) -> Result<Request, Refused>
     ensures ok { IfOk result (λ r. shown_content said.now ≡ content.Request r) }
     ensures err { IfErr result
@@ -104,7 +106,7 @@ fn request_of(said: &ContentRef<'_>) -> Result<Request, Refused>
     }
 }
 
-// The request that the bytes spell, if they spell one. A node's datagram would be forged.
+// Returns the client's request in the bytes, or `None` if they do not parse. A node's datagram is rejected as `Forged`.
 fn request_in(viewed: &Datagram<'_>) -> Result<Option<Request>, Refused>
     ensures ok { IfOk result (λ o. Asks viewed.now o) }
     ensures err { IfErr result (λ e. (e ≡ Refused.Forged) × IsForged viewed.now) }
@@ -128,7 +130,8 @@ fn make_room(trace: &mut Vec<Note>, asked: &Option<Request>) -> Result<(), NoMem
     Ok(())
 }
 
-/// A node takes bytes that no node has sent. The room for the note of a request is reserved before the node steps.
+/// Gives bytes that no node has sent to a node, and notes a request in them as asked. Room for that note is reserved
+/// before the node steps, as a step cannot be undone.
 pub fn inject<R: MemoryReplica>(
     parts: &mut WorldParts<R>,
     number: NodeNo,

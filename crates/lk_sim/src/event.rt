@@ -1,6 +1,6 @@
 use lk_types::{NodeNo, Request};
 
-/// A part of a group.
+/// One input of a group.
 #[derive(Clone, Copy)]
 pub enum Turn {
     /// A tick.

@@ -1,4 +1,4 @@
-// A node takes an input or restarts, and the world keeps what it sends and notes.
+// Gives an input to a node or restarts it, and appends what it notes and sends to the world.
 ghost use Rattle.std.specs.Prelude.{◌≡◌, ℕ, ◌<◌, ◌++◌, List, [], true, false, length, set, IfOk, OnOk, OnErr};
 ghost use Rattle.lk_node_io.specs.declared.note.Note.{Note as NoteValue};
 ghost use Rattle.lk_node.specs.Calls.{heard_by, InputFits};
@@ -19,8 +19,8 @@ use lk_types::{NoMemory, Request};
 use lk_world_nodes::{Outcome, add_notes, carry_out_stop, revive, step, stop};
 use std::alloc::Global;
 
-// All notes of a step: a request that was just asked, what the node noted, and its answers and passes in the order in
-// which they are sent.
+// Collects the notes of a step in this order: the request that was just asked, what the node noted, and its answers and
+// passes as they were sent.
 fn notes_of(
     alloc: Global,
     asked: Option<Request>,
@@ -38,7 +38,7 @@ fn notes_of(
     Ok(notes)
 }
 
-/// Both join their lists, or neither does.
+/// Appends the datagrams and the notes, or on an error neither.
 pub fn append_both(
     sent: &mut Vec<Datagram>,
     trace: &mut Vec<Note>,
@@ -50,13 +50,14 @@ pub fn append_both(
     ensures sent_err { OnErr result (sent.new.items ≡ sent.old.items) }
     ensures trace_err { OnErr result (trace.new.items ≡ trace.old.items) }
 {
+    // Room for the notes comes first, so that nothing can fail once the datagrams are appended.
     trace.reserve(notes.len())?;
     sent.append(&mut batch)?;
     trace.append(&mut notes).unwrap();
     Ok(())
 }
 
-// Whether a call has left nothing to note or send.
+// Whether a call left nothing to note or send.
 fn is_nothing(outcome: &Outcome) -> bool
     ensures notes { result ≡ true → outcome.now.notes.items ≡ [] }
     ensures sent { result ≡ true → outcome.now.sent.items ≡ [] }
@@ -65,7 +66,7 @@ fn is_nothing(outcome: &Outcome) -> bool
     outcome.notes.is_empty() && outcome.sent.is_empty()
 }
 
-// Notes a request that was just asked. Its room is reserved, so it takes no memory.
+// Notes a request that was just asked. The caller has reserved room for its note, so it takes no memory.
 fn note_asked(trace: &mut Vec<Note>, asked: Option<Request>)
     requires room { HasNoteRoom asked trace.old }
     ensures { trace.new.items ≡ trace.old.items ++ asked_note asked }
@@ -75,8 +76,8 @@ fn note_asked(trace: &mut Vec<Note>, asked: Option<Request>)
     }
 }
 
-/// Keeps the result of a call after a request that was just asked, whose note has its room, or nothing of it. If the
-/// call left nothing to keep, it takes no memory.
+/// Appends what a call noted and sent to the world, after the request that was just asked, or on an error nothing. The
+/// caller has reserved room for the request's note; if the call left nothing else, it takes no memory.
 pub fn add<R: MemoryReplica>(
     parts: &mut WorldParts<R>,
     asked: Option<Request>,
@@ -107,8 +108,8 @@ pub fn add<R: MemoryReplica>(
     Ok(())
 }
 
-/// Keeps the result of a call of the node at this place, and carries out an armed stop that it has reached; if it is
-/// out of memory, the node is stopped.
+/// Adds the result of a call to the world, then carries out an armed stop that the node at place `i` has reached. When
+/// out of memory, it adds nothing and stops the node.
 pub fn finish_call<R: MemoryReplica>(
     parts: &mut WorldParts<R>,
     i: usize,
@@ -136,7 +137,8 @@ pub fn finish_call<R: MemoryReplica>(
     }
 }
 
-/// The node at this place, which is up, takes the input. A request in it is noted as asked: its note has its room.
+/// Gives the input to the node at place `i`, which is up. The request in it, `asked`, is noted; the caller has reserved
+/// room for that.
 pub fn give<R: MemoryReplica>(
     parts: &mut WorldParts<R>,
     i: usize,
@@ -161,7 +163,7 @@ pub fn give<R: MemoryReplica>(
     Ok(())
 }
 
-/// The node at this place, which is down, restarts from its disks.
+/// Restarts the node at place `i`, which is down, from its disks.
 pub fn come_up<R: MemoryReplica>(parts: &mut WorldParts<R>, i: usize) -> Result<(), NoMemory>
     requires down { (n : ℕ) × IsDownAt parts.old.seats.items i n }
     requires holds { PartsHold R.Shows (disks_by R.behaves) R.meaning parts.old }

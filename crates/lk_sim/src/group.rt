@@ -1,4 +1,4 @@
-// A node takes several turns together: it syncs once for all of them, and only then sends.
+// Executes a group: one node takes several turns together, syncs once for all of them, and only then sends.
 ghost use Rattle.std.specs.Prelude.{◌≡◌, ◌↔◌, ℕ, ◌<◌, [], true, false, length, map, IsTrue, IfOk, IfErr, OnOk, OnErr};
 ghost use Rattle.lk_node.specs.Calls.{heard_by};
 ghost use Rattle.lk_replica.specs.Behaviours.{disks_by};
@@ -21,8 +21,7 @@ use lk_types::{NoMemory, NodeNo};
 use lk_world_nodes::{GroupOutcome, Refused, add_notes, carry_out_stop, find_up, step_all, stop};
 use std::alloc::Global;
 
-// All notes of the steps, one step after another: what the node noted, and its answers and passes in the order in
-// which they are sent.
+// Collects the notes of all steps, step by step: what the node noted, then the answers and passes that the step sent.
 fn notes_of(alloc: Global, steps: Vec<Step>, sent: &[Datagram]) -> Result<Vec<Note>, NoMemory>
     ensures { IfOk result (λ notes. AreNotesOf (parts_of steps.items sent.now) notes.items) }
 {
@@ -34,6 +33,7 @@ fn notes_of(alloc: Global, steps: Vec<Step>, sent: &[Datagram]) -> Result<Vec<No
             sends,
         } = step;
         notes.append(&mut own)?;
+        // An armed stop may have cut `sent` short: later steps then sent less than they count, or nothing.
         let (now, later) = rest.split_at(sends.min(rest.len()));
         add_notes(alloc, &mut notes, now)?;
         rest = later;
@@ -41,7 +41,7 @@ fn notes_of(alloc: Global, steps: Vec<Step>, sent: &[Datagram]) -> Result<Vec<No
     Ok(notes)
 }
 
-// Whether there is nothing to note or send.
+// Whether a group left nothing to note or send.
 fn is_nothing(outcome: &GroupOutcome) -> bool
     ensures steps { result ≡ true → outcome.now.steps.items ≡ [] }
     ensures sent { result ≡ true → outcome.now.sent.items ≡ [] }
@@ -50,7 +50,7 @@ fn is_nothing(outcome: &GroupOutcome) -> bool
     outcome.steps.is_empty() && outcome.sent.is_empty()
 }
 
-// Keeps the result of a group, or nothing of it. If there is nothing to keep, it takes no memory.
+// Appends what a group noted and sent to the world, or on an error neither. An empty result takes no memory.
 fn add_all<R: MemoryReplica>(
     parts: &mut WorldParts<R>,
     outcome: GroupOutcome,
@@ -77,8 +77,8 @@ fn add_all<R: MemoryReplica>(
     Ok(())
 }
 
-// Keeps the result of a group of the node at this place, and carries out an armed stop that it has reached; if it is
-// out of memory, the node is stopped.
+// Adds the result of a group to the world, then carries out an armed stop that the node at place `i` has reached. When
+// out of memory, it adds nothing and stops the node.
 fn finish_group<R: MemoryReplica>(
     parts: &mut WorldParts<R>,
     i: usize,
@@ -104,7 +104,7 @@ fn finish_group<R: MemoryReplica>(
     }
 }
 
-// The node at this place, which is up, takes the inputs together: ticks, and datagrams that were sent.
+// Gives the inputs to the node at place `i`, which is up, as one group: ticks, and datagrams that were sent.
 fn give_all<R: MemoryReplica>(
     parts: &mut WorldParts<R>,
     i: usize,
@@ -126,7 +126,7 @@ fn give_all<R: MemoryReplica>(
     Ok(())
 }
 
-// Whether the datagram of the turn exists, addressed to the node.
+// Whether the turn is a tick, or its datagram exists and is addressed to the node.
 fn is_for(sent: &[Datagram], number: NodeNo, turn: Turn) -> bool
     ensures { IsTrue result ↔ IsFor sent.now number turn }
 {
@@ -139,14 +139,14 @@ fn is_for(sent: &[Datagram], number: NodeNo, turn: Turn) -> bool
     }
 }
 
-// Whether each of them does.
+// Whether this holds of every turn.
 fn are_for(sent: &[Datagram], number: NodeNo, turns: &[Turn]) -> bool
     ensures { IsTrue result ↔ AreFor sent.now number turns.now }
 {
     turns.iter().all(|turn| is_for(sent, number, *turn))
 }
 
-// A copy of the bytes of the turn; none at a tick.
+// Copies the bytes of the turn's datagram, as the group appends to the list that holds them. Returns `None` for a tick.
 fn bytes_for<R: MemoryReplica>(
     parts: &WorldParts<R>,
     turn: Turn,
@@ -162,7 +162,7 @@ fn bytes_for<R: MemoryReplica>(
     }
 }
 
-// The same of each turn.
+// Copies the bytes of the datagram of each turn, in order; `None` for a tick.
 fn bytes_for_all<R: MemoryReplica>(
     parts: &WorldParts<R>,
     turns: &[Turn],
@@ -177,7 +177,7 @@ fn bytes_for_all<R: MemoryReplica>(
     Ok(all)
 }
 
-// The input that this gives a node.
+// Returns the node's inputs, one for each entry: a tick for `None`, or else these bytes as a datagram.
 fn inputs_of<'a>(alloc: Global, all: &'a [Option<Vec<u8>>]) -> Result<Vec<Input<'a>>, NoMemory>
     ensures ok { IfOk result (λ l. map heard_by l.items ≡ map copied all.now) }
     ensures memory { OnErr result (0 < length all.now) }
@@ -192,7 +192,7 @@ fn inputs_of<'a>(alloc: Global, all: &'a [Option<Vec<u8>>]) -> Result<Vec<Input<
     Ok(inputs)
 }
 
-/// A node takes the turns together.
+/// Gives the turns to a node together. All of them are checked before the node takes the first.
 pub fn group<R: MemoryReplica>(
     parts: &mut WorldParts<R>,
     number: NodeNo,

@@ -1,4 +1,4 @@
-// Events happen.
+// Dispatches each event to the function that executes it.
 ghost use Rattle.std.specs.Prelude.{OnOk, IfErr};
 ghost use Rattle.lk_replica.specs.Behaviours.{disks_by};
 ghost use Rattle.lk_sim.specs.Events.{Does, IsRefused};
@@ -16,7 +16,7 @@ use crate::world_parts::WorldParts;
 use lk_replica::MemoryReplica;
 use lk_world_nodes::Refused;
 
-/// One event happens.
+/// Executes one event. A rejected event changes nothing, except that its node may have stopped when out of memory.
 pub fn happen<R: MemoryReplica>(parts: &mut WorldParts<R>, event: &Event) -> Result<(), Refused>
     requires { PartsHold R.Shows (disks_by R.behaves) R.meaning parts.old }
     ensures holds { PartsHold R.Shows (disks_by R.behaves) R.meaning parts.new }
@@ -38,7 +38,7 @@ pub fn happen<R: MemoryReplica>(parts: &mut WorldParts<R>, event: &Event) -> Res
     }
 }
 
-/// Events happen in order, up to the first that is rejected.
+/// Executes events in order, up to the first that is rejected.
 pub fn happen_all<R: MemoryReplica>(parts: &mut WorldParts<R>, events: &[Event]) -> RunEnd
     requires { PartsHold R.Shows (disks_by R.behaves) R.meaning parts.old }
     ensures holds { PartsHold R.Shows (disks_by R.behaves) R.meaning parts.new }

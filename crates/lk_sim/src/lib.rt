@@ -1,4 +1,5 @@
-//! A world of replicas with disks in memory, whatever is delivered, lost, repeated or stopped.
+//! The simulator: a world of replicas with disks in memory, whose events the caller chooses: what is delivered, lost,
+//! repeated, injected or stopped.
 #![tactic(auto)]
 
 mod client;

@@ -1,4 +1,4 @@
-// Nodes start and stop.
+// Events that start, restart or stop a node, or set a trap at its device.
 ghost use Rattle.std.specs.Prelude.{◌≡◌, IfErr, OnOk, OnErr};
 ghost use Rattle.lk_replica.specs.Behaviours.{disks_by};
 ghost use Rattle.lk_sim.specs.Events.{Does, IsBegun, IsRefused, StartWants};
@@ -17,10 +17,10 @@ use lk_world_nodes::{
     Life, Refused, Seat, carry_out_stop, find, find_down, find_up, revive, set_trap, stop,
 };
 
-// The largest number of nodes that are ever started.
+// The most nodes that a world ever starts.
 const MAX_NODES: usize = 16;
 
-// A node that was never started starts with empty disks, and joins the others.
+// Starts a node of a new number with empty disks, and appends it to the world. On an error the world is unchanged.
 fn begin<R: MemoryReplica>(parts: &mut WorldParts<R>, number: NodeNo) -> Result<(), NoMemory>
     requires unused { HasNo parts.old.seats.items number }
     requires holds { PartsHold R.Shows (disks_by R.behaves) R.meaning parts.old }
@@ -32,6 +32,7 @@ fn begin<R: MemoryReplica>(parts: &mut WorldParts<R>, number: NodeNo) -> Result<
 {
     let life = Life::Down(MemoryDisk::new(parts.alloc));
     let mut seat = Seat { number, life };
+    // Room for the node comes first, so that nothing can fail once its notes are added.
     parts.seats.reserve(1)?;
     let outcome = revive(parts.alloc, &mut seat, &parts.genesis)?;
     let at = outcome.stop;
@@ -41,7 +42,7 @@ fn begin<R: MemoryReplica>(parts: &mut WorldParts<R>, number: NodeNo) -> Result<
     Ok(())
 }
 
-/// A new node starts with two empty disks.
+/// Starts a new node with two empty disks. One that was ever started is rejected, and so is a 17th.
 pub fn start<R: MemoryReplica>(parts: &mut WorldParts<R>, number: NodeNo) -> Result<(), Refused>
     requires { PartsHold R.Shows (disks_by R.behaves) R.meaning parts.old }
     ensures holds { PartsHold R.Shows (disks_by R.behaves) R.meaning parts.new }
@@ -61,7 +62,7 @@ pub fn start<R: MemoryReplica>(parts: &mut WorldParts<R>, number: NodeNo) -> Res
     Ok(())
 }
 
-/// A node that is down restarts from its disks.
+/// Restarts a node that is down from its disks.
 pub fn restart<R: MemoryReplica>(parts: &mut WorldParts<R>, number: NodeNo) -> Result<(), Refused>
     requires { PartsHold R.Shows (disks_by R.behaves) R.meaning parts.old }
     ensures holds { PartsHold R.Shows (disks_by R.behaves) R.meaning parts.new }
@@ -74,7 +75,7 @@ pub fn restart<R: MemoryReplica>(parts: &mut WorldParts<R>, number: NodeNo) -> R
     Ok(())
 }
 
-/// A node stops, and its disks keep up to `x` and `y` of their unsynced bytes.
+/// Stops a node that is up; its disks A and B keep up to `x` and `y` of their unsynced bytes.
 pub fn halt<R: MemoryReplica>(
     parts: &mut WorldParts<R>,
     number: NodeNo,
@@ -93,7 +94,7 @@ pub fn halt<R: MemoryReplica>(
     Ok(())
 }
 
-/// A future changing call of the node's device fails once.
+/// Makes the count-th append, sync or cut from now of the node's device fail once. It replaces a pending trap.
 pub fn fail_at<R: MemoryReplica>(
     parts: &mut WorldParts<R>,
     number: NodeNo,
@@ -111,7 +112,7 @@ pub fn fail_at<R: MemoryReplica>(
     Ok(())
 }
 
-/// A node will stop at a future changing call of its device, or at a send.
+/// Makes the node stop at its count-th append, sync, cut or send from now. It replaces a pending trap.
 pub fn arm<R: MemoryReplica>(
     parts: &mut WorldParts<R>,
     number: NodeNo,

@@ -1,4 +1,4 @@
-// A world of replicas.
+// The simulated world that callers see, and what is promised of it after each event.
 use crate::end::RunEnd;
 use crate::event::Event;
 use crate::happening::{happen, happen_all};
@@ -43,7 +43,7 @@ impl<R: MemoryReplica> World<R> {
     ghost use Rattle.lk_sim.specs.Runs.{Runs};
     ghost use Rattle.lk_world_nodes.specs.declared.seat.Seat.{Seat as SeatValue};
 
-    /// A world in which nothing has happened.
+    /// Returns a world of this genesis in which no node was started and nothing was sent.
     pub fn new(alloc: Global, genesis: Genesis) -> Self
         ensures { result ≡ record { genesis = genesis; seats = []; sent = []; trace = []; ended = None } }
     {
@@ -59,11 +59,11 @@ impl<R: MemoryReplica> World<R> {
         }
     }
 
-    /// One event happens. Whatever happens, what is promised of every world holds: some chosen list of no-ops and
-    /// asked requests explains everything that was noted and sent, and the rest of `Promises`.
+    /// Executes one event. Done or rejected, all of `Promises` holds afterwards: among others, some chosen list of
+    /// no-ops and asked requests explains everything that was noted and sent.
     ///
-    /// A rejected event changes nothing, except that under `WorldMemory` a node that was stepping or restarting may
-    /// have stopped.
+    /// A rejected event changes nothing, except that under `WorldMemory` a node that was stepping, compacting or
+    /// restarting may have stopped.
     pub fn apply(&mut self, event: Event) -> Result<(), Refused>
         ensures does { OnOk result (Does R.behaves self.old event self.new) }
         ensures refused { IfErr result (λ e. IsRefused R.behaves self.old event e self.new) }
@@ -77,7 +77,7 @@ impl<R: MemoryReplica> World<R> {
         result
     }
 
-    /// Events happen in order, up to the first that is rejected. Whatever happens, what `apply` promises holds.
+    /// Executes events in order, up to the first that is rejected. What `apply` promises holds afterwards.
     pub fn run(&mut self, events: &[Event]) -> RunEnd
         ensures runs { Runs R.behaves self.old events.now result self.new }
         ensures grows { Grows self.old self.new }
@@ -88,21 +88,23 @@ impl<R: MemoryReplica> World<R> {
         how
     }
 
-    /// What has happened so far, in order.
+    /// Returns what has happened so far, in order: requests asked, majorities counted, commands executed and replies
+    /// sent.
     pub fn trace(&self) -> &[Note]
         ensures { result.now ≡ self.now.trace }
     {
         &self.parts.trace
     }
 
-    /// All datagrams that were ever sent, in order.
+    /// Returns all datagrams that were ever sent, in order. The place of the first one is 1.
     pub fn datagrams(&self) -> &[Datagram]
         ensures { result.now ≡ self.now.sent }
     {
         &self.parts.sent
     }
 
-    /// How the last event ended a node, if it did. A fault has the number 7, 9 or 11.
+    /// Returns how the last event that was done ended a node, or `None` if it ended none. A fault has the number 7, 9
+    /// or 11.
     pub fn last_end(&self) -> Option<End>
         ensures is { result ≡ self.now.ended }
         ensures told { IsToldEnd result }
@@ -110,7 +112,7 @@ impl<R: MemoryReplica> World<R> {
         self.parts.ended
     }
 
-    /// How many bytes the disks A and B of this node have, synced or not, or `None` if it was never started.
+    /// Returns how many bytes the disks A and B of this node have, synced or not, or `None` if it was never started.
     pub fn lengths(&self, node: NodeNo) -> Option<(usize, usize)>
         ensures some { IfSome result (λ l. (k : ℕ) × (s : SeatValue R) × At self.now.seats k s × (s.number ≡ node)
             × (l.0 ≡ length (contents (disks_of (disks_by R.behaves) s.life A)))
@@ -121,7 +123,8 @@ impl<R: MemoryReplica> World<R> {
         Some(lengths(&self.parts.seats[i]))
     }
 
-    /// The nodes that were ever started, in the order of their starts, as the world leaves them. Memory may be refused.
+    /// Ends the world and returns the nodes that were ever started, with their disks, in the order of their starts.
+    /// Fails only when out of memory.
     pub fn into_nodes(self) -> Result<Vec<LeftNode>, NoMemory>
         ensures { IfOk result (λ nodes. nodes.items ≡ map (left_of R.behaves) self.seats) }
     {
@@ -137,7 +140,7 @@ impl<R: MemoryReplica> World<R> {
         all_left(alloc, seats)
     }
 
-    /// What is promised of every world holds of this one. The function does nothing.
+    /// Makes the promises available to proofs about this world. The function does nothing.
     pub fn facts(&self)
         ensures promised { Promises R.behaves R.whole R.meaning self.now }
     {

@@ -43,8 +43,8 @@ heeded m = record m { meter = asked m.meter }
 abbrev pub failed : Memory → Memory
 failed m = record m { failures = one_more m.failures }
 
--- what a stop inside a cut to n leaves that is armed for this many bytes: at least n of them, and no more than there
--- were
+-- the disk after a cut to n that an armed stop interrupts: it keeps this many bytes, but at least n, and no more than
+-- there were
 abbrev pub cut_within : ℕ → ℕ → Disk → Disk
 cut_within n bytes d = cut_to (min (max bytes n) (length (contents d))) d
 

@@ -24,7 +24,7 @@ impl Model for DiskBytes {
 }
 
 impl DiskBytes {
-    /// An empty file. Takes no memory.
+    /// Returns an empty disk. Takes no memory.
     pub fn new(alloc: Global) -> Self
         ensures { result ≡ record { synced = []; unsynced = [] } }
     {
@@ -41,7 +41,8 @@ impl DiskBytes {
         self.bytes.len()
     }
 
-    /// Whether there are that many bytes; only then does it fill the buffer.
+    /// Fills the buffer with the bytes from the offset on. Returns false, and leaves the buffer as it was, if there are
+    /// fewer.
     pub fn read_into(&self, offset: usize, buffer: &mut [u8]) -> bool
         ensures within { IsTrue result ↔ (offset + length buffer.old ≤ length (contents self.now)) }
         ensures value { IsTrue result
@@ -64,14 +65,14 @@ impl DiskBytes {
         self.bytes.extend_from_slice(piece)
     }
 
-    /// All bytes are synced.
+    /// Marks all bytes as synced.
     pub fn sync(&mut self)
         ensures { self.new ≡ flushed self.old }
     {
         self.synced = self.bytes.len();
     }
 
-    /// Cuts it to this many bytes, if it has more; what is left is synced.
+    /// Cuts the disk to this many bytes, if it has more. What is left is synced.
     pub fn cut(&mut self, len: usize)
         ensures { self.new ≡ cut_to len self.old }
     {
@@ -79,7 +80,8 @@ impl DiskBytes {
         self.synced = self.bytes.len();
     }
 
-    /// A stop that keeps up to this many unsynced bytes.
+    /// Simulates a stop of the machine: keeps the synced bytes and up to this many unsynced ones. What is left is
+    /// synced.
     pub fn stop(&mut self, unsynced: usize)
         ensures { self.new ≡ kept_by unsynced self.old }
     {

@@ -17,9 +17,9 @@ use std::marker::Model;
 
 /// Two disks in memory.
 ///
-/// A call fails by the trap, by the fuse, on request, when it is out of memory or past the end of a disk, and never
-/// otherwise; it is counted as a failure, and changes no disk except at an armed stop. Appends, syncs and cuts,
-/// including failed ones, are the changing calls; `length` and `read_into` are the reading ones.
+/// A call fails only by the trap, the fuse or `fail_read`, out of memory, or past the end of a disk. It is then counted
+/// as a failure, and changes no disk except at an armed stop. The changing calls are appends, syncs and cuts, including
+/// failed ones; the reading calls are `length` and `read_into`.
 #[derive(Drop)]
 pub struct MemoryDisk {
     a: DiskBytes,
@@ -37,7 +37,7 @@ impl Model for MemoryDisk {
 }
 
 impl MemoryDisk {
-    /// Two empty disks, which nothing makes fail.
+    /// Returns two empty disks, without a trap or a fuse.
     pub fn new(alloc: Global) -> Self
         ensures { result ≡ empty }
     {
@@ -49,8 +49,8 @@ impl MemoryDisk {
         }
     }
 
-    /// A stop that keeps up to `x` of the unsynced bytes of A and up to `y` of those of B. What is left is synced; the
-    /// trap and the fuse are gone.
+    /// Simulates a stop of the machine: keeps up to `x` of the unsynced bytes of A and up to `y` of those of B. What is
+    /// left is synced. Removes the trap and the fuse.
     pub fn stop(&mut self, x: usize, y: usize)
         ensures after { self.new ≡ stopped x y self.old }
         ensures image { (s : Side) → MayLeave (disk_of self.old s) (contents (disk_of self.new s)) }
@@ -97,14 +97,14 @@ impl MemoryDisk {
         self.meter.sprung
     }
 
-    /// The pending trap; for an armed one, with the rest of its count.
+    /// Returns the pending trap, with the rest of its count. An armed one stays, with count 0, after it went off.
     pub fn pending(&self) -> Trap
         ensures { result ≡ self.now.meter.trap }
     {
         self.meter.trap
     }
 
-    /// For how many bytes it has reached an armed stop since the trap was last set, if it has.
+    /// Returns how many unsynced bytes the armed stop is to keep, if it was reached since the trap was last set.
     pub fn stopping(&self) -> Option<usize>
         ensures { result ≡ stopping self.now.meter }
     {
@@ -118,8 +118,8 @@ impl MemoryDisk {
         self.meter.starved
     }
 
-    // Counts a changing call, which the trap or the fuse may fail. Returns for how many bytes it is an armed stop, if
-    // it is one.
+    // Counts a changing call. Fails if the trap or the fuse rejects it. Returns how many unsynced bytes the stop is to
+    // keep, if the call is an armed stop.
     fn begin(&mut self) -> Result<Option<usize>, DeviceFault>
         ensures ok { OnOk result ((is_refused self.old.meter ≡ false) × (self.new ≡ counted self.old)) }
         ensures stop { IfOk result (λ stop. stop ≡ stops_next self.old.meter.trap) }
@@ -131,7 +131,7 @@ impl MemoryDisk {
         }
     }
 
-    // Counts a reading call, which may have to fail.
+    // Counts a reading call. Fails if it is the one that `fail_read` chose.
     fn begin_read(&mut self) -> Result<(), DeviceFault>
         ensures ok { OnOk result ((is_unread self.old.meter ≡ false) × (self.new ≡ heeded self.old)) }
         ensures err { OnErr result ((is_unread self.old.meter ≡ true) × (self.new ≡ failed (heeded self.old))) }
@@ -245,6 +245,7 @@ impl LogDisk for MemoryDisk {
             (λ _. self.new ≡ wanting self.old) }
     {
         let stop = self.begin()?;
+        // At an armed stop too: the stop may then keep a prefix of the piece.
         if self.grow(side, piece).is_err() {
             self.meter.starved = true;
             return Err(self.fail());
@@ -304,6 +305,7 @@ impl LogDisk for MemoryDisk {
         }
         match stop {
             Some(bytes) => {
+                // The machine stops within the cut, which leaves any length from `len` to the present one.
                 self.shorten(side, bytes.max(len).min(size));
                 Err(self.fail())
             }

@@ -9,8 +9,8 @@ use lk_disk::{AppendFile, FileFault};
 use std::alloc::Global;
 use std::marker::Model;
 
-/// One file in memory. An append fails when it is out of memory, and a read or a cut past the end fails. After it is
-/// shortened each of these fails until it is synced. A failed call does not change the file.
+/// One file in memory. An append fails when it is out of memory; a read or a shorten past the end fails. Between a
+/// shorten and the next sync each of these fails. A failed call does not change the file.
 #[derive(Drop)]
 pub struct MemoryFile {
     bytes: DiskBytes,
@@ -39,7 +39,8 @@ impl MemoryFile {
         }
     }
 
-    /// A stop that keeps up to this many of the unsynced bytes. What is left is synced.
+    /// Simulates a stop of the machine: keeps up to this many of the unsynced bytes, and undoes a shorten that was not
+    /// synced. What is left is synced.
     pub fn stop(&mut self, unsynced: usize)
         ensures after { self.new ≡ record self.old { file = whole (kept_by unsynced (bytes_of self.old.file)) } }
         ensures image { MayLeave (left_of self.old.file) (contents (left_of self.new.file)) }

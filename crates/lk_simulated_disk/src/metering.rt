@@ -5,7 +5,7 @@ ghost use Rattle.lk_disk.specs.Traps.{is_due, stops_next, trap_after};
 
 use lk_disk::{DeviceFault, Meter, Trap};
 
-/// A meter by which nothing fails.
+/// Returns a meter without a trap or a fuse, which has counted no call.
 pub fn new_meter() -> Meter
     ensures { result ≡ fresh }
 {
@@ -19,7 +19,8 @@ pub fn new_meter() -> Meter
     }
 }
 
-// A changing call passes. Returns whether the trap goes off at it.
+// Counts the trap down by one changing call. Returns whether it goes off at that call. An armed trap stays afterwards,
+// with count 0, for `armed_stop`.
 fn pass(trap: &mut Trap) -> bool
     ensures due { result ≡ is_due trap.old }
     ensures behind { trap.new ≡ trap_after trap.old }
@@ -41,7 +42,7 @@ fn pass(trap: &mut Trap) -> bool
     }
 }
 
-// For how many bytes the device stops at the next changing call, if it does.
+// Returns how many unsynced bytes the stop is to keep, if the next changing call is an armed stop.
 fn next_stop(trap: Trap) -> Option<usize>
     ensures { result ≡ stops_next trap }
 {
@@ -51,8 +52,8 @@ fn next_stop(trap: Trap) -> Option<usize>
     }
 }
 
-/// Counts a changing call, which the trap or the fuse may reject. Returns for how many bytes it is an armed stop, if
-/// it is one.
+/// Counts a changing call. Fails if the trap or the fuse rejects it. Returns how many unsynced bytes the stop is to
+/// keep, if the call is an armed stop.
 pub fn count_call(meter: &mut Meter) -> Result<Option<usize>, DeviceFault>
     ensures ok { OnOk result (is_refused meter.old ≡ false) }
     ensures stop { IfOk result (λ stop. stop ≡ stops_next meter.old.trap) }
@@ -75,7 +76,7 @@ pub fn count_call(meter: &mut Meter) -> Result<Option<usize>, DeviceFault>
     }
 }
 
-/// Counts a reading call, which may have to fail.
+/// Counts a reading call. Fails if it is the one that was chosen to fail.
 pub fn count_read(meter: &mut Meter) -> Result<(), DeviceFault>
     ensures ok { OnOk result (is_unread meter.old ≡ false) }
     ensures err { OnErr result (is_unread meter.old ≡ true) }
@@ -86,7 +87,7 @@ pub fn count_read(meter: &mut Meter) -> Result<(), DeviceFault>
     if is_unread { Err(DeviceFault) } else { Ok(()) }
 }
 
-/// Sets the trap, in place of a pending one.
+/// Sets the trap, in place of a pending one, and resets `sprung` and `starved`.
 pub fn set_trap(meter: &mut Meter, trap: Trap)
     ensures { meter.new ≡ trapped trap meter.old }
 {
@@ -103,7 +104,7 @@ pub fn disarm(meter: &mut Meter)
     meter.fuse = None;
 }
 
-/// For how many bytes an armed stop has happened since the trap was last set, if one has.
+/// Returns how many unsynced bytes the armed stop is to keep, if it was reached since the trap was last set.
 pub fn armed_stop(meter: &Meter) -> Option<usize>
     ensures { result ≡ stopping meter.now }
 {

@@ -1,4 +1,4 @@
--- What a machine means, over its packed texts.
+-- The behaviour of a machine, in terms of its packed texts.
 use Rattle.std.specs.Prelude.{ℕ, List}
 use Rattle.lk_types.specs.Ranges.{IsClient}
 use Rattle.lk_types.specs.Answers.{IsAnswer}
@@ -15,7 +15,7 @@ pub record Meaning : Type 0 where
   pub next : ℕ → Task → List ℕ → List ℕ
   pub answer : ℕ → Task → List ℕ → Answer
 
--- it begins as a text, a text stays one, and each answer is in its range
+-- the first text and each text after a task are packed texts, and each answer is in its range
 pub record KeepsTexts (IsText : List ℕ → Type 0) (m : Meaning) : Type 0 where
   pub first : IsText m.first
   pub next : (client : ℕ) (task : Task) (before : List ℕ) → IsClient client → IsText before

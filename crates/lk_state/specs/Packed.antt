@@ -24,7 +24,7 @@ sessions_text sessions = two (length sessions) ++ flat_map session_text sessions
 abbrev pub packed : WholeValue → List ℕ
 packed w = (roster_text w.roster ++ sessions_text w.sessions) ++ w.text
 
--- what a state may hold, over a machine of these texts
+-- the state is valid: its parts are in range, and its text is a packed text of the machine
 pub record IsWhole (IsText : List ℕ → Type 0) (w : WholeValue) : Type 0 where
   pub roster : IsRoster w.roster
   pub sessions : AreSessions w.sessions

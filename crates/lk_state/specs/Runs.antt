@@ -1,4 +1,4 @@
--- One more command.
+-- The state after one more command, and its answer.
 use Rattle.std.specs.Prelude.{ℕ, Bool, true, false, ◌==◌, nat_lt, if◌then◌else◌, Option, Some, None, List}
 use Rattle.std.specs.Option.{option_map}
 use Rattle.lk_types.specs.declared.answer.Answer.{Answer}
@@ -16,7 +16,7 @@ abbrev pub in_effect_now : List Session → Command → Option RequestValue
 in_effect_now sessions Noop = None
 in_effect_now sessions (Request r) = if is_new (session_of r.client sessions) r.number then Some r else None
 
--- its answer
+-- the request with its answer, as a session
 abbrev pub session_for : Meaning → WholeValue → RequestValue → Session
 session_for m w r =
     record { client = r.client; number = r.number; answer = op_answer m (newest_roster w.roster) w.text r.client r.op }
@@ -50,7 +50,7 @@ abbrev pub is_body : Option RequestValue → Bool
 is_body None = false
 is_body (Some r) = is_table r.op
 
--- the place of a request relative to its client's last one
+-- how a request's number compares with that of its client's last one
 abbrev pub seen_as : Option Session → ℕ → Seen
 seen_as None number = seen.New
 seen_as (Some s) number =

@@ -1,4 +1,4 @@
--- What is kept of each client: its last request that took effect, and the answer.
+-- The sessions: for each client its last request that took effect, and the answer.
 pub use Rattle.lk_state.specs.declared.session.Session.{Session}
 use Rattle.std.specs.Prelude.{ℕ, Bool, true, false, ◌&&◌, ◌==◌, nat_lt, if◌then◌else◌, Option, Some, None, List, []}
 use Rattle.std.specs.Prelude.{◌∷◌, find, IsTrue}
@@ -15,7 +15,7 @@ abbrev pub own : ℕ → Option Session → Option Session
 own client None = None
 own client (Some s) = if s.client == client then Some s else None
 
--- it is the client's session
+-- there is a session, and it is the client's
 abbrev pub is_at : ℕ → Option Session → Bool
 is_at client None = false
 is_at client (Some s) = s.client == client
@@ -25,7 +25,7 @@ abbrev pub is_new : Option Session → ℕ → Bool
 is_new None number = true
 is_new (Some s) number = nat_lt s.number number
 
--- the sessions with s in place of an older one of its client
+-- the sessions with s inserted, in place of the one of the same client if there is one
 abbrev pub with_session : Session → List Session → List Session
 with_session s [] = s ∷ []
 with_session s (t ∷ sessions) =

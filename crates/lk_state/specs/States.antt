@@ -28,7 +28,7 @@ op_answer m roster text client Raise = m.answer client Raising text
 unfoldable pub text_of : Meaning → List Command → List ℕ
 text_of m L = fold (λ text q. next_text m text q.client q.op) m.first (effects L)
 
--- the answer of a request that takes effect, or none
+-- a request that takes effect, with its answer
 abbrev pub session_in : Meaning → PlainRoster → List ℕ → Option RequestValue → Option Session
 session_in m roster text None = None
 session_in m roster text (Some q) =
@@ -66,11 +66,11 @@ pub record WholeValue : Type 0 where
   pub sessions : List Session
   pub text : List ℕ
 
--- the roster after the list is executed
+-- the state after the list is executed
 unfoldable pub whole_after : Meaning → Genesis → List Command → WholeValue
 whole_after m genesis L =
     record { roster = roster_after genesis L; sessions = sessions_of m genesis L; text = text_of m L }
 
--- it stands for this list
+-- the state is the one after this list
 abbrev pub SumsUp : Meaning → Genesis → List Command → WholeValue → Type 0
 SumsUp m genesis L w = w ≡ whole_after m genesis L

@@ -1,4 +1,4 @@
-//! Laws about the definitions alone.
+//! Laws (theorems) about the definitions: each is an empty function, whose contract is the theorem.
 ghost use Rattle.std.specs.Prelude.{◌≡◌, ◌≤◌, ◌++◌, if◌then◌else◌, true, Some, None, List, length, ℕ, Contains};
 ghost use Rattle.std.specs.List.{list_all, AllByRecursion};
 ghost use Rattle.lk_types.specs.Limits.{max_count};
@@ -33,13 +33,13 @@ pub fn none_is_unused()
         → list_all (is_of_another client) L ≡ true }
 {}
 
-/// The answer of a client's last request that takes effect is its reply.
+/// The reply to a client's last request that takes effect is the answer kept with it.
 pub fn last_is_replied()
     ensures { (m : Meaning) (genesis : Genesis) (L : List Command) (client : ℕ) (s : Session)
         → last_served m genesis L client ≡ Some s → reply m genesis L client s.number ≡ Some s.answer }
 {}
 
-/// A reply is the answer that an entry that takes effect gets at its place.
+/// Each reply is the answer to an entry that takes effect, at its place in the list.
 pub fn replies_stand()
     ensures { (m : Meaning) (genesis : Genesis) (L : List Command) (client number : ℕ) (a : Answer)
         → reply m genesis L client number ≡ Some a
@@ -47,7 +47,7 @@ pub fn replies_stand()
         × (served m genesis p ≡ Some (record { client = client; number = number; answer = a })) }
 {}
 
-/// The answer that an entry gets at its place is the reply of its client's number.
+/// The answer that an entry gets at its place is the only reply to its client and number.
 pub fn one_reply()
     ensures { (m : Meaning) (genesis : Genesis) (L : List Command) (p : Placed) (s : Session) → Contains (placed L) p
         → served m genesis p ≡ Some s → reply m genesis L s.client s.number ≡ Some s.answer }
@@ -59,13 +59,13 @@ pub fn replies_stay()
         → reply m genesis L client number ≡ Some a → reply m genesis (L ++ rest) client number ≡ Some a }
 {}
 
-/// A session of the state of a list is its client's last request that takes effect.
+/// Each session in the state after a list is its client's last request that takes effect.
 pub fn sessions_are_last()
     ensures { (m : Meaning) (genesis : Genesis) (L : List Command) (s : Session) → Contains (sessions_of m genesis L) s
         → last_served m genesis L s.client ≡ Some s }
 {}
 
-/// The state after a list in range may be held, and so packed and unpacked again.
+/// The state after a list of valid commands is itself valid, and so can be packed and unpacked again.
 pub fn states_fit<M: Machine>()
     ensures { (genesis : Genesis) (L : List Command) → IsGenesis genesis → AllByRecursion IsCommand L
         → length L ≤ max_count → IsWhole M.IsText (whole_after M.meaning genesis L) }

@@ -10,10 +10,10 @@ use lk_types::{Answer, ClientNo, NoMemory};
 use std::alloc::{AllocError, AllocFailed, Global};
 use thiserror::Error;
 
-/// Why a text does not unpack.
+/// Why bytes cannot be unpacked into a state or a machine.
 #[derive(Clone, Copy, Debug, PartialEq, Eq, Error)]
 pub enum UnpackFault {
-    /// The bytes are no packed text.
+    /// The bytes are not the packed text of any value.
     #[error("not packed")]
     NotPacked = 12,
     /// Out of memory.
@@ -52,7 +52,7 @@ impl<T: Drop> From<AllocFailed<T>> for UnpackFault {
 }
 
 impl UnpackFault {
-    /// The number of this fault.
+    /// Returns the number of this fault: 12 or 13.
     pub fn number(self) -> u8
         ensures { result ≡ unpack_number self }
     {
@@ -60,8 +60,8 @@ impl UnpackFault {
     }
 }
 
-/// A state that the bodies of requests change. It means what its packed text means: two machines with one text give
-/// the same answers for ever.
+/// A deterministic state machine, such as the lock table. Contracts see it only by its packed text: two machines with
+/// the same text give the same answers for ever.
 pub trait Machine: Sized + Drop {
     // the packed text of a machine
     ghost text: { Self → List ℕ };
@@ -72,17 +72,18 @@ pub trait Machine: Sized + Drop {
     // the text of a machine that has executed nothing, the text after a task of a client, and the answer to the client
     ghost meaning: { Meaning };
 
-    /// A machine that has executed nothing. Takes no memory.
+    /// Returns a machine that has executed nothing. Takes no memory.
     fn begin(alloc: Global) -> Self
         ensures { text result ≡ meaning.first };
 
-    /// Executes the body of a client's request and returns the answer.
+    /// Executes the body of a client's request and returns the answer. An `Err` changes nothing.
     fn apply(&mut self, client: ClientNo, body: &[u8]) -> Result<Answer, NoMemory>
         ensures ok { OnOk result (text self.new ≡ meaning.next client (Running body.now) (text self.old)) }
         ensures answer { IfOk result (λ a. a ≡ meaning.answer client (Running body.now) (text self.old)) }
         ensures err { OnErr result (text self.new ≡ text self.old) };
 
-    /// Raises the machine, and returns whether it was raised before. Who asks does not matter. Takes no memory.
+    /// Raises the machine to its second version and returns the answer, which is the same for every client. Takes no
+    /// memory.
     fn raise(&mut self) -> Answer
         ensures next { (client : ℕ) → text self.new ≡ meaning.next client Raising (text self.old) }
         ensures answer { (client : ℕ) → result ≡ meaning.answer client Raising (text self.old) };
@@ -92,17 +93,17 @@ pub trait Machine: Sized + Drop {
         ensures ok { OnOk result (out.new.items ≡ out.old.items ++ text self.now) }
         ensures err { OnErr result (out.new.items ≡ out.old.items) };
 
-    /// The machine of this packed text. `Bad` exactly if the bytes are no packed text; it may run out of memory in
-    /// either case.
+    /// Returns the machine of this packed text. `NotPacked`: the bytes are not one. `NoMemory` may be returned for any
+    /// bytes.
     fn unpack(alloc: Global, bytes: &[u8]) -> Result<Self, UnpackFault>
         ensures ok { IfOk result (λ m. text m ≡ bytes.now) }
         ensures packed { OnOk result (IsText bytes.now) }
         ensures not_packed { IsErrOf result UnpackFault.NotPacked → IsText bytes.now → ⊥ };
 
-    // a machine begins as a text
+    // the text of a machine that has executed nothing is a packed text
     ghost first_is_text: { IsText meaning.first };
 
-    // a text stays one
+    // the text after a task is a packed text
     ghost next_is_text: { (client : ℕ) (task : Task) (before : List ℕ) → IsClient client → IsText before
         → IsText (meaning.next client task before) };
 
@@ -110,6 +111,6 @@ pub trait Machine: Sized + Drop {
     ghost answer_is_answer: { (client : ℕ) (task : Task) (before : List ℕ) → IsClient client → IsText before
         → IsAnswer (meaning.answer client task before) };
 
-    // no text is long
+    // a packed text has at most 36,000 bytes
     ghost short: { (bytes : List ℕ) → IsText bytes → length bytes ≤ max_machine };
 }

@@ -18,6 +18,7 @@ use lk_members::{Roster, Window};
 use lk_types::NoMemory;
 use std::alloc::AllocError;
 
+// Appends how many sets there are, and then each. Out of memory it may leave a prefix.
 fn put_window(out: &mut BytesMut, window: &Window) -> Result<(), AllocError>
     ensures { OnOk result (out.new.items ≡ out.old.items ++ sets_text window.now) }
 {
@@ -29,6 +30,8 @@ fn put_window(out: &mut BytesMut, window: &Window) -> Result<(), AllocError>
     Ok(())
 }
 
+// Appends the count of executed positions, the window, the greatest node and the last change. Out of memory it may
+// leave a prefix.
 fn put_roster(out: &mut BytesMut, roster: &Roster) -> Result<(), AllocError>
     ensures { OnOk result (out.new.items ≡ out.old.items ++ roster_text roster.now) }
 {
@@ -39,6 +42,7 @@ fn put_roster(out: &mut BytesMut, roster: &Roster) -> Result<(), AllocError>
     Ok(())
 }
 
+// Appends a client, a number and an answer. Out of memory it may leave a prefix.
 fn put_session(out: &mut BytesMut, session: &Session) -> Result<(), AllocError>
     ensures { OnOk result (out.new.items ≡ out.old.items ++ session_text session.now) }
 {
@@ -48,6 +52,7 @@ fn put_session(out: &mut BytesMut, session: &Session) -> Result<(), AllocError>
     Ok(())
 }
 
+// Appends how many sessions there are, and then each. Out of memory it may leave a prefix.
 fn put_sessions(out: &mut BytesMut, sessions: &[Session]) -> Result<(), AllocError>
     requires { length sessions.now ≤ max_client }
     ensures { OnOk result (out.new.items ≡ out.old.items ++ sessions_text sessions.now) }
@@ -60,7 +65,8 @@ fn put_sessions(out: &mut BytesMut, sessions: &[Session]) -> Result<(), AllocErr
 }
 
 impl<M: Machine> Whole<M> {
-    /// Each part is in its range, and the packed text is neither empty nor long. The function does nothing.
+    /// Brings into a proof that each part is in its range, and that the packed text has 1 to 42,087 bytes. Does nothing
+    /// at run time.
     pub fn facts(&self)
         ensures fits { IsWhole M.IsText self.now }
         ensures some { 1 ≤ length (packed self.now) }
@@ -75,6 +81,7 @@ impl<M: Machine> Whole<M> {
         ensures err { OnErr result (out.new.items ≡ out.old.items) }
         ensures fits { IsWhole M.IsText self.now }
     {
+        // A buffer of its own, since the parts may leave a prefix where memory runs out.
         let mut text = BytesMut::new(self.alloc);
         put_roster(&mut text, &self.roster)?;
         put_sessions(&mut text, self.sessions.as_slice())?;

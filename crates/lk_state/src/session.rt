@@ -17,7 +17,7 @@ pub struct Session {
 }
 
 impl Session {
-    /// What a request leaves that was answered so.
+    /// Returns the session of a request that took effect with this answer.
     pub fn of(request: &Request, answer: Answer) -> Session
         ensures { result ≡ record { client = request.now.client; number = request.now.number; answer = answer } }
     {
@@ -28,7 +28,7 @@ impl Session {
         }
     }
 
-    /// Each part is in its range. The function does nothing.
+    /// Brings into a proof that each part is in its range. Does nothing at run time.
     pub fn facts(self)
         ensures { IsSession self }
     {}
@@ -95,7 +95,7 @@ impl Sessions {
         self.list.as_slice()
     }
 
-    // The client's session.
+    // Returns the client's session, or `None` if it has none.
     pub(crate) fn get(&self, client: ClientNo) -> Option<Session>
         ensures { result ≡ session_of client self.now }
     {
@@ -103,7 +103,7 @@ impl Sessions {
         own_at(sessions, place_of(sessions, client), client)
     }
 
-    // Replaces an older session of the same client with this one.
+    // Inserts the session, in place of the one of the same client if there is one.
     pub(crate) fn put(&mut self, session: &Session)
         ensures { self.new ≡ with_session session.now self.old }
     {
@@ -117,7 +117,7 @@ impl Sessions {
     }
 }
 
-// Each part of the sessions is in its range. The function does nothing.
+// Brings into a proof that each part of the sessions is in its range. Does nothing at run time.
 fn facts_of(sessions: &[Session])
     ensures { AllByRecursion IsSession sessions.now }
 {
@@ -126,7 +126,7 @@ fn facts_of(sessions: &[Session])
     }
 }
 
-// Whether the clients rise strictly.
+// Returns whether each client is above the one before.
 fn are_rising(sessions: &[Session]) -> bool
     ensures { result ≡ are_sessions_above 0 sessions.now }
 {
@@ -141,7 +141,7 @@ fn are_rising(sessions: &[Session]) -> bool
     true
 }
 
-// How many sessions of smaller clients come first.
+// Returns the index at which the client's session is, or would be inserted: how many clients are smaller.
 fn place_of(sessions: &[Session], client: ClientNo) -> usize
     requires { IsTrue (are_sessions_above 0 sessions.now) }
     ensures place { result ≡ prefix_len (λ s. nat_lt s.client client) sessions.now }
@@ -150,7 +150,7 @@ fn place_of(sessions: &[Session], client: ClientNo) -> usize
     sessions.partition_point(|session| session.client < client)
 }
 
-// The session at this index, if it is the client's.
+// Returns the session at this index if there is one and it is the client's.
 fn own_at(sessions: &[Session], index: usize, client: ClientNo) -> Option<Session>
     ensures { result ≡ own client (slice_get sessions.now index) }
 {
@@ -160,7 +160,7 @@ fn own_at(sessions: &[Session], index: usize, client: ClientNo) -> Option<Sessio
     }
 }
 
-// Whether the session at this index is the client's.
+// Returns whether there is a session at this index and it is the client's.
 fn stands_at(sessions: &[Session], index: usize, client: ClientNo) -> bool
     ensures { result ≡ is_at client (slice_get sessions.now index) }
 {

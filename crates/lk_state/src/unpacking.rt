@@ -1,4 +1,4 @@
-//! Reading a packed state: all of the bytes are the roster, the sessions and the machine's text.
+//! Unpacks a state: the roster, the sessions, and the machine's text up to the last byte.
 
 ghost use Rattle.std.specs.Prelude.{◌≡◌, ◌<◌, ◌≤◌, length, IfSome};
 ghost use Rattle.lk_types.specs.Limits.{max_alpha, max_client};
@@ -18,6 +18,7 @@ use lk_members::{Roster, Window};
 use lk_types::limits::{MAX_ALPHA, MAX_CLIENT};
 use std::alloc::Global;
 
+// Reads this many sets of members, one after the other.
 fn many_sets(count: u8, bytes: &[u8]) -> Option<(Window, &[u8])>
     requires { count ≤ max_alpha }
     ensures read { Finds (λ x. (x.0, x.1.now)) result (many read_members count bytes.now) }
@@ -35,6 +36,7 @@ fn many_sets(count: u8, bytes: &[u8]) -> Option<(Window, &[u8])>
     Some((window, rest))
 }
 
+// Reads how many sets there are, 1 to 16, and then each.
 #[tactic(auto, unfolding(crate::specs::Reading::read_sets))]
 fn read_window(bytes: &[u8]) -> Option<(Window, &[u8])>
     ensures read { Finds (λ x. (x.0, x.1.now)) result (read_sets bytes.now) }
@@ -47,6 +49,7 @@ fn read_window(bytes: &[u8]) -> Option<(Window, &[u8])>
     many_sets(count, rest)
 }
 
+// Reads a roster, or returns `None` if a part is invalid or a set names a node above the greatest one.
 #[tactic(auto, unfolding(crate::specs::Reading::read_roster))]
 fn read_roster(bytes: &[u8]) -> Option<(Roster, &[u8])>
     ensures { Finds (λ x. (x.0, x.1.now)) result (read_roster bytes.now) }
@@ -69,6 +72,7 @@ fn read_roster(bytes: &[u8]) -> Option<(Roster, &[u8])>
     Some((roster, rest))
 }
 
+// Reads a client, a number and an answer.
 #[tactic(auto, unfolding(crate::specs::Reading::read_session))]
 fn read_session(bytes: &[u8]) -> Option<(Session, &[u8])>
     ensures { Finds (λ x. (x.0, x.1.now)) result (read_session bytes.now) }
@@ -90,6 +94,7 @@ fn read_session(bytes: &[u8]) -> Option<(Session, &[u8])>
     Some((session, rest))
 }
 
+// Reads this many sessions, one after the other, in any order.
 fn many_sessions(count: u16, bytes: &[u8]) -> Option<(ArrayVec<Session, 256>, &[u8])>
     requires { count ≤ max_client }
     ensures { Finds (λ x. (x.0.items, x.1.now)) result (many read_session count bytes.now) }
@@ -106,6 +111,7 @@ fn many_sessions(count: u16, bytes: &[u8]) -> Option<(ArrayVec<Session, 256>, &[
     Some((sessions, rest))
 }
 
+// Reads how many sessions there are, at most 256, and then each, rising by client.
 #[tactic(auto, unfolding(crate::specs::Reading::read_sessions))]
 fn read_sessions(bytes: &[u8]) -> Option<(Sessions, &[u8])>
     ensures { Finds (λ x. (x.0, x.1.now)) result (read_sessions bytes.now) }
@@ -123,7 +129,7 @@ fn read_sessions(bytes: &[u8]) -> Option<(Sessions, &[u8])>
     Some((sessions, rest))
 }
 
-// Everything before the machine's text.
+// Reads the roster and the sessions, and returns the bytes after them, which are the machine's text.
 #[tactic(auto, unfolding(crate::specs::Reading::read_front))]
 fn read_front(bytes: &[u8]) -> Option<(Roster, Sessions, &[u8])>
     ensures { Finds (λ x. ((x.0, x.1), x.2.now)) result (read_front bytes.now) }
@@ -142,7 +148,8 @@ impl<M: Machine> Whole<M> {
     ghost use Rattle.lk_state.specs.States.{WholeValue};
     ghost use Rattle.lk_state.specs.Packed.{Packs};
 
-    /// The state that the bytes pack. It fails exactly if they pack none; it may run out of memory in either case.
+    /// Returns the state whose packed text the bytes are. `NotPacked`: they are not the text of any state. `NoMemory`
+    /// may be returned for any bytes.
     pub fn unpack(alloc: Global, bytes: &[u8]) -> Result<Whole<M>, UnpackFault>
         ensures ok { IfOk result (λ w. Packs M.IsText w bytes.now) }
         ensures only { (w : WholeValue) → Packs M.IsText w bytes.now

@@ -11,19 +11,19 @@ use lk_types::{
 use std::alloc::Global;
 use std::marker::Model;
 
-/// The place of a request relative to the last one of its client that took effect.
+/// How a request's number compares with that of its client's last request that took effect.
 #[derive(Clone, Copy)]
 pub enum Seen {
-    /// Its number is above the client's last one.
+    /// Its number is above the client's last one, or the client has none: it would take effect.
     New,
     /// It has the number of the client's last one, which got this answer.
     Same(Answer),
-    /// The client's last number, which is above it.
+    /// Its number is below the client's last one, which is this.
     Passed(RequestNumber),
 }
 
 impl Seen {
-    /// The place of a number relative to its client's last request that took effect.
+    /// Compares a number with that of its client's last request that took effect, `None` if there is none.
     pub fn of(last: Option<Session>, number: RequestNumber) -> Seen
         ensures { result ≡ seen_as last number }
     {
@@ -40,16 +40,16 @@ impl Seen {
     }
 }
 
-/// The result of a command.
+/// The result of executing a command.
 #[derive(Clone, Copy)]
 pub struct Ran {
     /// The position of the command.
     pub position: Position,
-    /// The answer to its request, if it took effect.
+    /// The answer to its request; `None` for a no-op, and for a request that did not take effect.
     pub answer: Option<Answer>,
 }
 
-/// The result of the list of commands: the roster, each client's last request that took effect, and a machine.
+/// The state after the list of commands: the roster, each client's last request that took effect, and the machine.
 #[derive(Drop)]
 pub struct Whole<M: Machine> {
     pub(crate) alloc: Global,
@@ -123,7 +123,7 @@ impl<M: Machine> Whole<M> {
         &self.machine
     }
 
-    /// The place of a request of this client relative to its last one that took effect.
+    /// Compares a request's number with that of its client's last one that took effect.
     pub fn seen(&self, client: ClientNo, number: RequestNumber) -> Seen
         ensures value { result ≡ seen_as (session_of client self.now.sessions) number }
         ensures last { (genesis : Genesis) (L : List Command) → SumsUp M.meaning genesis L self.now
@@ -132,7 +132,7 @@ impl<M: Machine> Whole<M> {
         Seen::of(self.sessions.get(client), number)
     }
 
-    // Whether the client's request of this number takes effect.
+    // Returns whether the client's request of this number would take effect now.
     fn is_new(&self, client: ClientNo, number: RequestNumber) -> bool
         ensures { result ≡ is_new (session_of client self.now.sessions) number }
     {
@@ -164,7 +164,7 @@ impl<M: Machine> Whole<M> {
         Ok(Ran { position, answer })
     }
 
-    // The position that is executed next.
+    // Returns the next position to execute.
     fn next_position(&self) -> Position
         requires { self.now.roster.executed < max_count }
         ensures { result ≡ self.now.roster.executed + 1 }
@@ -189,7 +189,7 @@ impl<M: Machine> Whole<M> {
         }
     }
 
-    // Executes an op that takes effect, advancing by one position, and returns its answer.
+    // Executes an op that takes effect, advancing by one position, and returns its answer. Leaves the sessions alone.
     fn run_op(&mut self, client: ClientNo, op: &Op) -> Result<Answer, NoMemory>
         requires { self.old.roster.executed < max_count }
         ensures ok { OnOk result
@@ -225,7 +225,7 @@ impl<M: Machine> Whole<M> {
         }
     }
 
-    // Advances by one position with a request, and returns its answer if it takes effect.
+    // Advances by one position with a request, and returns its answer, or `None` if its number is not new.
     fn run_request(&mut self, request: &Request) -> Result<Option<Answer>, NoMemory>
         requires { self.old.roster.executed < max_count }
         ensures ok { OnOk result (self.new ≡ ran M.meaning (Command.Request request.now) self.old) }
@@ -243,7 +243,7 @@ impl<M: Machine> Whole<M> {
         Ok(Some(session.answer))
     }
 
-    // Advances by one position with nothing that takes effect.
+    // Advances by one position for a command that does not take effect.
     fn pass(&mut self)
         requires { self.old.roster.executed < max_count }
         ensures { self.new ≡ served_by M.meaning self.old None }
@@ -252,7 +252,7 @@ impl<M: Machine> Whole<M> {
         self.roster.facts();
     }
 
-    // Keeps the answer of the client's last request.
+    // Keeps a client's last request and its answer, in place of an earlier one.
     fn keep(&mut self, session: &Session)
         ensures { self.new ≡ record self.old { sessions = with_session session.now self.old.sessions } }
     {

@@ -1,4 +1,4 @@
--- The numbers that a node tells, and the node that others follow.
+-- The fields of a report that a status prints, with their names, kinds and help, and the node that others follow.
 use Rattle.std.specs.Prelude.{ℕ, nat_lt, ◌==◌, not, ◌&&◌, Bool, true, false, is_some, Option, None, List, [], ◌∷◌}
 use Rattle.std.specs.Prelude.{length, codes, if◌then◌else◌}
 use Rattle.std.specs.List.{list_any}

@@ -1,4 +1,4 @@
--- The lines of a status.
+-- The lines of a status: one for each target, and one for the cluster.
 use Rattle.std.specs.Prelude.{ℕ, ◌+◌, ◌-◌, ◌%◌, ◌^◌, ◌==◌, nat_eq, nat_lt, nat_le, Option, Some, None, List, [], ◌∷◌}
 use Rattle.std.specs.Prelude.{◌++◌, length, codes, if◌then◌else◌}
 use Rattle.std.specs.Cmp.Lexicographic.{pointwise}
@@ -100,7 +100,7 @@ target_lines token [] rs most = []
 target_lines token (t ∷ ts) rs most =
     target_line t.port (report_of token rs) most ++ target_lines ((token + 1) % (2 ^ 64)) ts rs most
 
--- a node that tells another genesis than the measure
+-- a node that names another genesis than the measure
 abbrev pub stranger_word : Report → Report → List ℕ
 stranger_word measure r =
     if pointwise nat_eq r.status.identity.genesis measure.status.identity.genesis then [] else 32 ∷ decimal r.node

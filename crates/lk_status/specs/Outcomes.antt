@@ -1,4 +1,4 @@
--- What the status of a cluster rests on.
+-- Which reports justify the exit status of `locks status`.
 use Rattle.std.specs.Prelude.{◌≡◌, ◌≢◌, ◌↔◌, ℕ, Bool, true, List, length, IsTrue}
 use Rattle.std.specs.declared.net.socket_addr.SocketAddr.{SocketAddr}
 use Rattle.lk_probe.specs.declared.probe.Report.{Report}
@@ -7,13 +7,13 @@ use Rattle.lk_health.specs.Verdicts.{IsServed, is_ready}
 use Rattle.lk_health.specs.declared.target.Inquiry.{Inquiry}
 use Rattle.lk_status.specs.declared.status.Plan.{Plan}
 
--- each target reports, and has executed what was the goal
+-- the cluster is served, and each target reports that it has executed the goal, whatever that was
 abbrev pub IsReady : Inquiry → List Report → Type 0
 IsReady i rs = (executed : ℕ) × (is_ready (length i.targets.items) executed rs ≡ true)
 
 module _ {S : Type 0} (sent coming : S → List (SocketAddr × List ℕ)) (failures : S → ℕ) (tells : Type 0) where
-  -- it shows the reports of a round, as they were asked for and heard. It is served only where they show that, and are
-  -- ready if that is waited for. If it is not, it is served exactly where they show that
+  -- the status that is printed: these reports are those of a round. It is served only if they show that, and are ready
+  -- if that is waited for; without waiting it is served exactly if they show that
   pub record Shows (p : Plan) (served : Bool) (ended : S) : Type 0 where
     pub first : ℕ
     pub reports : List Report
@@ -22,8 +22,7 @@ module _ {S : Type 0} (sent coming : S → List (SocketAddr × List ℕ)) (failu
     pub exact : p.seconds ≡ 0 → (IsTrue served ↔ IsServed reports)
     pub ready : p.seconds ≢ 0 → IsTrue served → IsReady p.inquiry reports
 
-  -- all targets were asked, and the reports that were heard then show that the cluster is served, and ready where that
-  -- was waited for
+  -- a round of reports was received that show that the cluster is served, and ready if that is waited for
   pub record IsShownServed (p : Plan) (ended : S) : Type 0 where
     pub first : ℕ
     pub reports : List Report

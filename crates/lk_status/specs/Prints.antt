@@ -1,4 +1,4 @@
--- What a status prints.
+-- The text that a status prints in each form.
 use Rattle.std.specs.Prelude.{ℕ, Option, List, ◌++◌}
 use Rattle.std.specs.Io.KnownBytes.{Appends}
 use Rattle.lk_probe.specs.declared.probe.Report.{Report}

@@ -1,3 +1,4 @@
+// The fields of a report that JSON and Prometheus print: the name, kind, help and value of each.
 ghost use Rattle.std.specs.Prelude.{◌≡◌};
 ghost use Rattle.lk_probe.specs.Grammar.{or_zero};
 ghost use Rattle.lk_status.specs.Fields.{field_name, field_kind, field_help, field_value};
@@ -5,7 +6,7 @@ ghost use Rattle.lk_status.specs.Fields.{field_name, field_kind, field_help, fie
 use lk_probe::Report;
 use lk_types::NodeNo;
 
-/// A number that a node reports.
+/// A number in a node's report, printed by name in JSON and as a metric.
 #[derive(Clone, Copy)]
 pub enum Field {
     Leads,
@@ -53,7 +54,7 @@ fn node_number(node: Option<NodeNo>) -> u64
 }
 
 impl Field {
-    /// Its name in JSON, and in a metric.
+    /// Returns its name in JSON. A metric has `locks_` before it.
     pub fn name(self) -> &'static str
         ensures { result.now ≡ field_name self }
     {
@@ -85,7 +86,7 @@ impl Field {
         }
     }
 
-    /// What it is.
+    /// Returns its help text in Prometheus.
     pub fn help(self) -> &'static str
         ensures { result.now ≡ field_help self }
     {

@@ -1,3 +1,4 @@
+// The form `--json`: everything as one JSON object on one line. A write error leaves a part of it written.
 ghost use Rattle.std.specs.Io.KnownBytes.{Appends};
 ghost use Rattle.std.specs.Option.{option_copied};
 ghost use Rattle.std.specs.Prelude.{◌≡◌, ◌∷◌, flat_map, OnOk};
@@ -33,7 +34,7 @@ fn write_genesis<W: Write>(genesis: &[u8; DIGEST], out: &mut W) -> io::Result<()
     Ok(())
 }
 
-// Writes the numbers of these members, each after a comma.
+// Writes the node numbers of these members, each after a comma.
 fn write_more_numbers<W: Write>(members: &[Member], out: &mut W) -> io::Result<()>
     ensures { OnOk result (Appends (W.contents out.old) (W.contents out.new) (more_numbers members.now)) }
 {
@@ -43,7 +44,7 @@ fn write_more_numbers<W: Write>(members: &[Member], out: &mut W) -> io::Result<(
     Ok(())
 }
 
-// Writes the numbers of these members, with commas between them.
+// Writes the node numbers of these members, with commas between them.
 #[tactic(auto, using(crate::proofs::Writing::appends_more, crate::proofs::Writing::appends_nothing))]
 fn write_numbers<W: Write>(members: &[Member], out: &mut W) -> io::Result<()>
     ensures { OnOk result (Appends (W.contents out.old) (W.contents out.new) (numbers members.now)) }
@@ -100,7 +101,7 @@ fn write_program<W: Write>(report: &Report, out: &mut W) -> io::Result<()>
     )
 }
 
-// Writes a report as what follows the port.
+// Writes what the object of a target has after its port: all that its node reports.
 fn write_report<W: Write>(report: &Report, out: &mut W) -> io::Result<()>
     ensures { OnOk result (Appends (W.contents out.old) (W.contents out.new) (report_part report.now)) }
 {
@@ -111,7 +112,7 @@ fn write_report<W: Write>(report: &Report, out: &mut W) -> io::Result<()>
     Ok(())
 }
 
-// Writes the target at that port, which reports.
+// Writes the object of the target at that port, whose node has reported.
 fn write_reporting<W: Write>(port: u16, report: &Report, out: &mut W) -> io::Result<()>
     ensures { OnOk result (Appends (W.contents out.old) (W.contents out.new) (target_object port (Some report.now))) }
 {
@@ -121,7 +122,7 @@ fn write_reporting<W: Write>(port: u16, report: &Report, out: &mut W) -> io::Res
     Ok(())
 }
 
-// Writes the target at that port.
+// Writes the object of the target at that port, with only `up: false` after the port if there is no report.
 fn write_target<W: Write>(port: u16, report: Option<&Report>, out: &mut W) -> io::Result<()>
     ensures { OnOk result (Appends (W.contents out.old) (W.contents out.new)
         (target_object port (option_copied report.entry))) }
@@ -133,7 +134,7 @@ fn write_target<W: Write>(port: u16, report: Option<&Report>, out: &mut W) -> io
     Ok(())
 }
 
-// The same after a comma.
+// Writes a comma, then the object of the target.
 #[tactic(auto, using(crate::proofs::Writing::appends_more))]
 fn write_next<W: Write>(port: u16, report: Option<&Report>, out: &mut W) -> io::Result<()>
     ensures { OnOk result (Appends (W.contents out.old) (W.contents out.new)
@@ -144,7 +145,8 @@ fn write_next<W: Write>(port: u16, report: Option<&Report>, out: &mut W) -> io::
     Ok(())
 }
 
-// Writes these targets, each after a comma, the first by the report with that token.
+// Writes the objects of these targets, each after a comma. The report of the first has the token `first`, that of each
+// other the next token.
 fn write_more_targets<W: Write>(
     first: u64,
     targets: &[Target],
@@ -162,7 +164,8 @@ fn write_more_targets<W: Write>(
     Ok(())
 }
 
-// Writes these targets, with commas between them, the first by the report with that token.
+// Writes the objects of these targets, with commas between them. The report of the first has the token `first`, that of
+// each other the next token.
 fn write_targets<W: Write>(
     first: u64,
     targets: &[Target],
@@ -189,7 +192,7 @@ fn write_head<W: Write>(cluster: u64, served: bool, one: bool, out: &mut W) -> i
     )
 }
 
-// Writes what the reports come to.
+// Writes the cluster and the verdict: whether it is served, and whether all reports name one genesis.
 fn write_verdict<W: Write>(cluster: u64, reports: &[Report], out: &mut W) -> io::Result<()>
     ensures { OnOk result (Appends (W.contents out.old) (W.contents out.new) (verdict_part cluster reports.now)) }
 {
@@ -204,7 +207,8 @@ fn write_counts<W: Write>(reporting: usize, count: usize, out: &mut W) -> io::Re
     write!(out, ",\"members_up\":{reporting},\"members\":{count}")
 }
 
-// Writes how many of the members of the measure report.
+// Writes how many members there are by the measure, the report with which the others are compared, and how many of them
+// have reported.
 fn write_measured<W: Write>(measure: &Report, reports: &[Report], out: &mut W) -> io::Result<()>
     ensures { OnOk result (Appends (W.contents out.old) (W.contents out.new)
         (majority_part (Some measure.now) reports.now)) }
@@ -214,7 +218,7 @@ fn write_measured<W: Write>(measure: &Report, reports: &[Report], out: &mut W) -
     Ok(())
 }
 
-// The same, if any node reports.
+// Writes these two counts, or nothing if no node reports.
 fn write_majority<W: Write>(
     measure: Option<&Report>,
     reports: &[Report],
@@ -230,7 +234,8 @@ fn write_majority<W: Write>(
     Ok(())
 }
 
-/// Writes all in one object and a line.
+/// Writes the verdict and all targets as one JSON object on one line. `first` is the token of the first target,
+/// `measure` the report with which the others are compared, if there is any.
 pub fn write_json<W: Write>(
     inquiry: &Inquiry,
     first: u64,

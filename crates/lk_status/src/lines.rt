@@ -1,3 +1,5 @@
+// The default form of a status: a line for each target, and one for the cluster. `most` is how many positions the
+// measure has executed: the report with which the others are compared.
 ghost use Rattle.std.specs.Io.KnownBytes.{Appends};
 ghost use Rattle.std.specs.Option.{option_copied};
 ghost use Rattle.std.specs.Prelude.{◌≡◌, OnOk};
@@ -65,7 +67,7 @@ fn write_leadership<W: Write>(report: &Report, out: &mut W) -> io::Result<()>
     Ok(())
 }
 
-// Writes the numbers of the members.
+// Writes the node numbers of the members.
 fn write_members<W: Write>(members: &[Member], out: &mut W) -> io::Result<()>
     ensures { OnOk result (Appends (W.contents out.old) (W.contents out.new) (members_text members.now)) }
 {
@@ -90,7 +92,7 @@ fn write_snapshot<W: Write>(report: &Report, out: &mut W) -> io::Result<()>
     write!(out, ", snapshot {}", report.status.progress.snapshot.get())
 }
 
-// Writes how many positions behind a node is, if it is.
+// Writes how many positions fewer than `most` a node has executed, ` (3 behind)`, or nothing if it is not behind.
 fn write_behind<W: Write>(executed: u64, most: u64, out: &mut W) -> io::Result<()>
     ensures { OnOk result (Appends (W.contents out.old) (W.contents out.new) (behind_text executed most)) }
 {
@@ -107,7 +109,8 @@ fn write_promised<W: Write>(promised: Ballot, out: &mut W) -> io::Result<()>
     write!(out, ", promised {}.{}", promised.round(), promised.node())
 }
 
-// Writes how far a node is: how many positions it has executed, how many fewer than that, its ballot and its snapshot.
+// Writes a node's progress: the positions that it has executed, how far it is behind, the ballot that it has promised,
+// and its snapshot.
 fn write_progress<W: Write>(report: &Report, most: u64, out: &mut W) -> io::Result<()>
     ensures { OnOk result (Appends (W.contents out.old) (W.contents out.new) (progress_text report.now most)) }
 {
@@ -118,7 +121,7 @@ fn write_progress<W: Write>(report: &Report, most: u64, out: &mut W) -> io::Resu
     Ok(())
 }
 
-// Writes a count and its words after a front, unless it is 0: `, 1 request waits`, `, 2 requests wait`.
+// Writes a comma, `front`, the count and its words, or nothing for 0: `, 1 request waits`, `, 2 requests wait`.
 fn write_count<W: Write>(
     front: &str,
     count: u64,
@@ -136,7 +139,7 @@ fn write_count<W: Write>(
     Ok(())
 }
 
-// Writes what waits and what failed, where there is any.
+// Writes the pending change of the members, the waiting requests and the failed sends, each only if it is not 0.
 fn write_traffic<W: Write>(report: &Report, out: &mut W) -> io::Result<()>
     ensures { OnOk result (Appends (W.contents out.old) (W.contents out.new) (traffic_text report.now)) }
 {
@@ -173,7 +176,7 @@ fn write_node<W: Write>(port: u16, report: &Report, most: u64, out: &mut W) -> i
     Ok(())
 }
 
-// Writes the line of the target at that port.
+// Writes the line of the target at that port: that of its node, or `no answer`.
 fn write_target<W: Write>(
     port: u16,
     report: Option<&Report>,
@@ -190,7 +193,7 @@ fn write_target<W: Write>(
     Ok(())
 }
 
-// Writes a line for each target.
+// Writes a line for each target. The report of the first has the token `first`, that of each other the next token.
 fn write_targets<W: Write>(
     inquiry: &Inquiry,
     first: u64,
@@ -210,7 +213,7 @@ fn write_targets<W: Write>(
     Ok(())
 }
 
-// Writes a node that names another genesis than the measure.
+// Writes the number of a report's node if it names another genesis than the measure.
 fn write_stranger<W: Write>(measure: &Report, report: &Report, out: &mut W) -> io::Result<()>
     ensures { OnOk result (Appends (W.contents out.old) (W.contents out.new) (stranger_word measure.now report.now)) }
 {
@@ -220,7 +223,7 @@ fn write_stranger<W: Write>(measure: &Report, report: &Report, out: &mut W) -> i
     Ok(())
 }
 
-// Writes which nodes name another genesis than the measure.
+// Writes which nodes name another genesis than the measure, or nothing if all name one.
 fn write_strangers<W: Write>(measure: &Report, reports: &[Report], out: &mut W) -> io::Result<()>
     ensures { OnOk result (Appends (W.contents out.old) (W.contents out.new) (strangers_text measure.now reports.now)) }
 {
@@ -234,7 +237,7 @@ fn write_strangers<W: Write>(measure: &Report, reports: &[Report], out: &mut W) 
     Ok(())
 }
 
-// Writes whether the table is raised.
+// Writes `; raised` if the measure's lock table has version 2.
 fn write_raised<W: Write>(measure: &Report, out: &mut W) -> io::Result<()>
     ensures { OnOk result (Appends (W.contents out.old) (W.contents out.new) (raised_text measure.now)) }
 {
@@ -244,7 +247,7 @@ fn write_raised<W: Write>(measure: &Report, out: &mut W) -> io::Result<()>
     Ok(())
 }
 
-// Writes how many members are up.
+// Writes how many of the measure's members have reported: `majority: 2 of 3 up`.
 fn write_majority<W: Write>(measure: &Report, reports: &[Report], out: &mut W) -> io::Result<()>
     ensures { OnOk result (Appends (W.contents out.old) (W.contents out.new) (majority_text measure.now reports.now)) }
 {
@@ -272,7 +275,8 @@ fn write_cluster<W: Write>(
     Ok(())
 }
 
-/// Writes a line for each target, and one for the cluster where any node reports.
+/// Writes a line for each target, and one for the cluster if any node reports. `first` is the token of the first
+/// target, `measure` the report with which the others are compared.
 pub fn write_lines<W: Write>(
     inquiry: &Inquiry,
     first: u64,

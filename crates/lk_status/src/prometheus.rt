@@ -1,3 +1,4 @@
+// The form `--prometheus`: metrics in the text format of Prometheus, all named `locks_..`.
 ghost use Rattle.std.specs.Io.KnownBytes.{Appends};
 ghost use Rattle.std.specs.Option.{option_copied};
 ghost use Rattle.std.specs.Prelude.{◌≡◌, flat_map, OnOk};
@@ -13,7 +14,7 @@ use lk_probe::Report;
 use std::io;
 use std::io::Write;
 
-// Writes what a metric is.
+// Writes the HELP and TYPE lines of a metric.
 fn write_head<W: Write>(name: &str, kind: &str, help: &str, out: &mut W) -> io::Result<()>
     ensures { OnOk result (Appends (W.contents out.old) (W.contents out.new) (head_text name.now kind.now help.now)) }
 {
@@ -23,7 +24,7 @@ fn write_head<W: Write>(name: &str, kind: &str, help: &str, out: &mut W) -> io::
     )
 }
 
-// Writes a metric of the cluster.
+// Writes a gauge of the whole cluster: its HELP and TYPE lines, and its one sample.
 #[tactic(auto, using(crate::proofs::Writing::appends_more))]
 fn write_gauge<W: Write>(
     cluster: u64,
@@ -40,7 +41,7 @@ fn write_gauge<W: Write>(
     Ok(())
 }
 
-// Writes a metric of the cluster that is 1 or 0.
+// Writes a gauge of the whole cluster that is 1 for true and 0 for false.
 fn write_flag<W: Write>(
     cluster: u64,
     name: &str,
@@ -73,7 +74,7 @@ fn write_genesis<W: Write>(cluster: u64, reports: &[Report], out: &mut W) -> io:
     Ok(())
 }
 
-// How many members of the measure report.
+// Returns how many of the measure's members have reported, 0 without a measure.
 fn members_up(measure: Option<&Report>, reports: &[Report]) -> u64
     ensures { result ≡ members_up (option_copied measure.entry) reports.now }
 {
@@ -83,7 +84,7 @@ fn members_up(measure: Option<&Report>, reports: &[Report]) -> u64
     }
 }
 
-// Writes how many members report.
+// Writes how many members have reported.
 fn write_members_up<W: Write>(
     cluster: u64,
     measure: Option<&Report>,
@@ -104,7 +105,7 @@ fn write_members_up<W: Write>(
     Ok(())
 }
 
-// Writes what the reports come to.
+// Writes the gauges of the cluster: whether it is served and has one genesis, and how many members are up.
 #[tactic(auto, using(crate::proofs::Writing::appends_more))]
 fn write_verdict<W: Write>(
     cluster: u64,
@@ -121,7 +122,7 @@ fn write_verdict<W: Write>(
     Ok(())
 }
 
-// Writes whether the target at that port reports.
+// Writes the sample of `locks_up` for the target at that port.
 fn write_up_line<W: Write>(cluster: u64, port: u16, is_up: bool, out: &mut W) -> io::Result<()>
     ensures { OnOk result (Appends (W.contents out.old) (W.contents out.new) (up_line cluster port is_up)) }
 {
@@ -132,7 +133,8 @@ fn write_up_line<W: Write>(cluster: u64, port: u16, is_up: bool, out: &mut W) ->
     )
 }
 
-// Writes whether each of these targets reports, the first by the report with that token.
+// Writes the sample of `locks_up` for each target. The report of the first has the token `first`, that of each other
+// the next token.
 fn write_up_lines<W: Write>(
     cluster: u64,
     first: u64,
@@ -151,7 +153,7 @@ fn write_up_lines<W: Write>(
     Ok(())
 }
 
-// Writes whether each target reports.
+// Writes the metric `locks_up`: whether each target has reported.
 fn write_up<W: Write>(
     inquiry: &Inquiry,
     first: u64,
@@ -172,7 +174,7 @@ fn write_up<W: Write>(
     Ok(())
 }
 
-// Writes a field of a report.
+// Writes the sample of a field for the node of a report.
 fn write_sample<W: Write>(field: Field, report: &Report, out: &mut W) -> io::Result<()>
     ensures { OnOk result (Appends (W.contents out.old) (W.contents out.new) (sample_line field report.now)) }
 {
@@ -184,7 +186,7 @@ fn write_sample<W: Write>(field: Field, report: &Report, out: &mut W) -> io::Res
     )
 }
 
-// Writes a field of each report.
+// Writes the sample of a field for each report.
 fn write_samples<W: Write>(field: Field, reports: &[Report], out: &mut W) -> io::Result<()>
     ensures { OnOk result (Appends (W.contents out.old) (W.contents out.new)
         (flat_map (sample_line field) reports.now)) }
@@ -195,7 +197,7 @@ fn write_samples<W: Write>(field: Field, reports: &[Report], out: &mut W) -> io:
     Ok(())
 }
 
-// Writes what a field is, and that of each report.
+// Writes the metric of a field: its HELP and TYPE lines, and a sample for each report.
 fn write_field<W: Write>(field: Field, reports: &[Report], out: &mut W) -> io::Result<()>
     ensures { OnOk result (Appends (W.contents out.old) (W.contents out.new) (field_text reports.now field)) }
 {
@@ -204,7 +206,7 @@ fn write_field<W: Write>(field: Field, reports: &[Report], out: &mut W) -> io::R
     Ok(())
 }
 
-// Writes these fields.
+// Writes the metrics of these fields.
 fn write_fields<W: Write>(fields: &[Field], reports: &[Report], out: &mut W) -> io::Result<()>
     ensures { OnOk result (Appends (W.contents out.old) (W.contents out.new)
         (flat_map (field_text reports.now) fields.now)) }
@@ -215,7 +217,8 @@ fn write_fields<W: Write>(fields: &[Field], reports: &[Report], out: &mut W) -> 
     Ok(())
 }
 
-/// Writes all in the text format of Prometheus.
+/// Writes the gauges of the cluster, `locks_up` of each target, and each field of each report. `first` is the token of
+/// the first target, `measure` the report whose members are counted.
 pub fn write_metrics<W: Write>(
     inquiry: &Inquiry,
     first: u64,

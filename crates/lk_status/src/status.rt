@@ -1,4 +1,4 @@
-//! `locks status`.
+//! `locks status`: asks the targets, on demand until all are ready, and prints what they report.
 
 ghost use Rattle.std.specs.Io.KnownBytes.{Appends};
 ghost use Rattle.std.specs.Option.{option_copied};
@@ -27,10 +27,11 @@ use std::io::Write;
 // The receives of 100 ms in a second.
 const A_SECOND: u32 = 10;
 
-// The tokens of a round: more than targets.
+// The tokens of a round: more than it can have targets, so that a late report of an earlier round fits none of its
+// probes.
 const TOKENS: u64 = 256;
 
-/// How the reports are printed.
+/// The form in which the reports are printed.
 #[derive(Clone, Copy)]
 pub enum Form {
     Lines,
@@ -38,8 +39,8 @@ pub enum Form {
     Prometheus,
 }
 
-/// What is asked, how it is printed, and how many seconds are waited until all are ready, 0 where that is not asked
-/// for.
+/// What `locks status` does: whom it asks, in which form it prints, and how many seconds it waits until all are ready,
+/// 0 if it does not wait.
 #[derive(Drop)]
 pub struct Plan {
     pub inquiry: Inquiry,
@@ -47,7 +48,8 @@ pub struct Plan {
     pub seconds: u32,
 }
 
-// A round of reports, the token of its first target, and whether it shows what was waited for.
+// The reports of a round, and the token of its first target. `is_ready` is whether all are ready, or true if nobody
+// waits for that.
 #[derive(Drop)]
 struct Round {
     first: u64,
@@ -72,7 +74,7 @@ fn write_text<W: Write>(
     Ok(())
 }
 
-// Writes the reports of a round in a form.
+// Writes the reports of a round in the form of the plan.
 fn write_form<W: Write>(
     plan: &Plan,
     first: u64,
@@ -92,7 +94,7 @@ fn write_form<W: Write>(
     Ok(())
 }
 
-// Prints the reports of a round. Whether they show that the cluster is served.
+// Prints the reports of a round, and flushes. Returns whether they show that the cluster is served.
 fn print<W: Write>(plan: &Plan, first: u64, reports: &[Report], out: &mut W) -> io::Result<bool>
     ensures served { IfOk result (λ is. IsTrue is ↔ IsServed reports.now) }
     ensures printed { OnOk result
@@ -103,14 +105,15 @@ fn print<W: Write>(plan: &Plan, first: u64, reports: &[Report], out: &mut W) -> 
     Ok(is_served(reports))
 }
 
-// Waits 100 ms, unless something comes.
+// Waits for a datagram, 100 ms at most, and drops it. Adds one to `idle` in either case.
 fn pause<S: DatagramSocket>(socket: &mut S, idle: &mut u32) {
     let mut buffer = ReceiveBuffer::new();
     buffer.receive(socket);
     *idle = idle.saturating_add(1);
 }
 
-// How many positions the measure has executed, where it leads.
+// Returns the goal to wait for: how many positions the leader has executed. `None` if the measure, the report with
+// which the others are compared, does not lead.
 fn goal_in(reports: &[Report]) -> Option<u64> {
     match measure_in(reports) {
         Some(measure) if measure.status.leadership.leads => {
@@ -120,7 +123,7 @@ fn goal_in(reports: &[Report]) -> Option<u64> {
     }
 }
 
-// Whether all that were asked report, and have executed what is the goal.
+// Whether the cluster is served, and all targets report that they have executed the goal. False without a goal.
 fn is_at(goal: Option<u64>, inquiry: &Inquiry, reports: &[Report]) -> bool
     ensures test { result ≡ is_at goal (length inquiry.now.targets.items) reports.now }
     ensures ready { IsTrue result → IsReady inquiry.now reports.now }
@@ -131,8 +134,9 @@ fn is_at(goal: Option<u64>, inquiry: &Inquiry, reports: &[Report]) -> bool
     }
 }
 
-// Asks until all targets report that they have executed what the leader had in its first report, or this many receives
-// brought nothing. Returns the last round.
+// Asks in rounds until the cluster is served and all targets have executed what the leader had in its first report, or
+// `most` receives of 100 ms brought nothing; the pause between two rounds counts as one. Returns the last round, which
+// is not ready if time ran out.
 fn wait_until_ready<S: DatagramSocket>(
     alloc: Global,
     socket: &mut S,
@@ -157,7 +161,7 @@ fn wait_until_ready<S: DatagramSocket>(
     Ok(round)
 }
 
-// A round.
+// Runs one round, whose tokens begin with `first`. Its `is_ready` is false: the caller decides that.
 fn ask_once<S: DatagramSocket>(
     alloc: Global,
     socket: &mut S,
@@ -176,7 +180,7 @@ fn ask_once<S: DatagramSocket>(
     })
 }
 
-// Asks as the plan says.
+// Runs one round, or, if the plan has seconds to wait, rounds until all are ready.
 fn round_of<S: DatagramSocket>(
     alloc: Global,
     socket: &mut S,
@@ -197,7 +201,7 @@ fn round_of<S: DatagramSocket>(
     Ok(round)
 }
 
-// Whether both are so.
+// Whether both are true.
 fn are_both(one: bool, other: bool) -> bool
     ensures { result ≡ (one && other) }
 {

@@ -1,3 +1,4 @@
+// The lines `why: ..` after those of the status: what may keep requests from being answered, and the remedy.
 ghost use Rattle.std.specs.Io.KnownBytes.{Appends};
 ghost use Rattle.std.specs.Option.{option_copied};
 ghost use Rattle.std.specs.Prelude.{◌≡◌, OnOk};
@@ -12,7 +13,8 @@ use lk_types::{Member, NodeNo};
 use std::io;
 use std::io::Write;
 
-// The ticks without a leader after which a node hears nobody: the last of seven members waits as long.
+// Ticks of silence after which a node is said to hear nobody: the last of seven members waits as long before it seeks
+// votes.
 const SILENT: u64 = 28;
 
 // Whether that node is one of these members.
@@ -30,7 +32,7 @@ fn follows(report: &Report) -> bool
     leadership.leader.is_some() && leadership.silence < SILENT && !seeks_votes(report)
 }
 
-// The leader that the first of these follows.
+// Returns the leader of the first of these nodes that follows one, `None` if none does.
 fn followed_in(reports: &[Report]) -> Option<NodeNo>
     ensures { result ≡ followed reports.now }
 {
@@ -74,8 +76,8 @@ fn write_geneses<W: Write>(reports: &[Report], out: &mut W) -> io::Result<()>
     Ok(())
 }
 
-// Writes of whom it comes that nobody leads: of a node that is followed and does not lead, which sends and does not
-// hear, or else of all.
+// Writes who keeps a leader from being elected: a node that others follow though it does not lead, so it sends and
+// hears nobody. Without such a node, all members.
 fn write_mute<W: Write>(node: Option<NodeNo>, out: &mut W) -> io::Result<()>
     ensures { OnOk result (Appends (W.contents out.old) (W.contents out.new) (mute_text node)) }
 {
@@ -90,7 +92,7 @@ fn write_mute<W: Write>(node: Option<NodeNo>, out: &mut W) -> io::Result<()>
     Ok(())
 }
 
-// Writes that nobody leads, and of whom that comes if it lasts.
+// Writes that nobody leads, and who is the cause if it lasts: see `write_mute`.
 #[tactic(auto, using(crate::proofs::Writing::appends_more))]
 fn write_leaderless<W: Write>(node: Option<NodeNo>, out: &mut W) -> io::Result<()>
     ensures { OnOk result (Appends (W.contents out.old) (W.contents out.new) (leaderless_line node)) }
@@ -100,7 +102,7 @@ fn write_leaderless<W: Write>(node: Option<NodeNo>, out: &mut W) -> io::Result<(
     Ok(())
 }
 
-// Writes that the measure does not lead, if it does not.
+// Writes that nobody leads, if the measure does not. The measure is the report with which the others are compared.
 fn write_unled<W: Write>(measure: &Report, reports: &[Report], out: &mut W) -> io::Result<()>
     ensures { OnOk result (Appends (W.contents out.old) (W.contents out.new) (leader_reason measure.now reports.now)) }
 {
@@ -159,7 +161,8 @@ fn write_outside<W: Write>(node: NodeNo, out: &mut W) -> io::Result<()>
     Ok(())
 }
 
-// Writes that a node is none of these members, or, where a majority of them is up, what it hears.
+// Writes that a node is not a member. Of a member it writes what it hears, but only if a majority is up: without one
+// nobody can lead, and hearing nobody shows nothing.
 fn write_node<W: Write>(
     majority: bool,
     members: &[Member],
@@ -177,7 +180,7 @@ fn write_node<W: Write>(
     Ok(())
 }
 
-// Writes which nodes are no members, and, where a majority of them is up, which seek votes or hear nobody.
+// Writes the same of each of these nodes that it applies to.
 fn write_nodes<W: Write>(
     majority: bool,
     members: &[Member],
@@ -193,7 +196,7 @@ fn write_nodes<W: Write>(
     Ok(())
 }
 
-// Writes that nobody leads and which node causes that, or that there is no majority.
+// Writes that there is no majority, or else that nobody leads, if that is so.
 fn write_leaders<W: Write>(
     majority: bool,
     measure: &Report,
@@ -211,7 +214,7 @@ fn write_leaders<W: Write>(
     Ok(())
 }
 
-// Writes what is wrong with the members, or with a node that is none.
+// Writes what the reports show about majority and leader, then about single nodes, by the members of the measure.
 #[tactic(auto, using(crate::proofs::Writing::appends_more))]
 fn write_members<W: Write>(measure: &Report, reports: &[Report], out: &mut W) -> io::Result<()>
     ensures { OnOk result (Appends (W.contents out.old) (W.contents out.new) (members_reason measure.now reports.now)) }

@@ -1,4 +1,4 @@
--- The addresses of clients and nodes, what is known of the nodes there, and the keys that identify them.
+-- The address book of a node: its entries for clients and nodes, and the filter of what arrives.
 use Rattle.std.specs.Prelude.{◌≡◌, ℕ, ◌+◌, ◌-◌, ◌==◌, Bool, false, List, [], ◌∷◌, ◌++◌, Option, Some, None}
 use Rattle.std.specs.Prelude.{if◌then◌else◌, length, take, drop, min, slice_index_or}
 use Rattle.std.specs.declared.net.socket_addr.SocketAddr.{SocketAddr}
@@ -55,7 +55,7 @@ moved_up places node from = Some (node, from) ∷ without (min (place_in places 
 abbrev pub IsSameNetwork : AddressBook → AddressBook → Type 0
 IsSameNetwork old new = (new.hosts ≡ old.hosts) × (new.seals ≡ old.seals)
 
--- the filter of what comes to a node: its keys, and the addresses at which nodes of another genesis are
+-- the filter of the datagrams that arrive at a node: its keys, and the addresses at which nodes of another genesis are
 pub record Filter : Type 0 where
   pub seals : Seals
   pub strangers : SocketAddr → Bool

@@ -1,4 +1,4 @@
--- Who asks a node by a probe, and where the answer goes.
+-- Probes that a node answers: which ones, whom they name, and where the report goes.
 use Rattle.std.specs.Prelude.{◌≡◌, ◌≢◌, ◌⊎◌, ◌++◌, ℕ, List, [], ◌∷◌, length, Option, Some, None, IsSome}
 use Rattle.std.specs.declared.net.socket_addr.SocketAddr.{SocketAddr}
 use Rattle.lk_probe.specs.Grammar.{SpellsProbe, node_in}
@@ -10,18 +10,17 @@ use Rattle.lk_node_io.specs.declared.to.To.TheVariants.{Node, Client}
 use Rattle.lk_transport.specs.Posts.{Tray, Loses, frame_of, keys_for}
 use Rattle.lk_transport.specs.declared.received_probe.ReceivedProbe.{ReceivedProbe}
 
--- a node names itself in a probe only if it seals it, where the nodes have a key: what was taken of the frame is
--- shorter than it
+-- if the nodes have a key, a probe that names a node came sealed: the datagram is shorter than the frame
 abbrev pub IsSealedAsNamed : Seals → List ℕ → Probe → Type 0
 IsSealedAsNamed s frame p = IsSome p.origin → key_list s.nodes ≢ [] → length frame ≢ length (heard s frame)
 
--- by this frame somebody asks the node that has these seals
+-- the frame carries this probe, which the node that has these seals answers
 pub record Asks (s : Seals) (frame : List ℕ) (p : Probe) : Type 0 where
   pub spelled : SpellsProbe p (heard s frame)
   pub cluster : p.cluster ≡ s.cluster
   pub sealed : IsSealedAsNamed s frame p
 
--- what a frame that came from there brings: the probe by which somebody asks, if it is one
+-- a frame, with its source, carries this probe, or none that the node answers
 abbrev pub BringsProbe : Seals → SocketAddr × List ℕ → Option ReceivedProbe → Type 0
 BringsProbe s d None = (p : Probe) → Asks s d.1 p → ⊥
 BringsProbe s d (Some a) = (a.from ≡ d.0) × Asks s d.1 a.probe
@@ -35,7 +34,7 @@ who None None = None
 abbrev pub asker : Probe → Option To
 asker p = who p.client (node_in p.origin)
 
--- as what a report is sent: by the seal for whoever asks, and as it is to one that names nobody
+-- the form in which a report is sent: framed for the asker, or unchanged if the probe names none
 abbrev pub frame_for : Seals → Option To → List ℕ → List ℕ
 frame_for s None report = report
 frame_for s (Some to) report = frame_of s to report
@@ -45,7 +44,7 @@ abbrev pub keys_to : Seals → Option To → List (List ℕ)
 keys_to s None = []
 keys_to s (Some to) = keys_for s to
 
--- a frame is sent there, once, if the socket tells that, and no letter is kept
+-- a frame is sent there, once, if the socket reveals that, and no letter is kept
 pub record SendsTo (tells : Type 0) (place : SocketAddr) (frame : List ℕ) (old new : Tray) : Type 0 where
   pub own : new.own ≡ old.own
   pub sent : tells → new.sent ≡ old.sent ++ (place, frame) ∷ []

@@ -1,4 +1,4 @@
--- Steps one after another.
+-- Chains of states, in which each state follows from the one before it by a relation.
 use Rattle.std.specs.Prelude.{◌≡◌, ℕ, List, [], ◌∷◌, length}
 
 -- these states follow one another: each follows from the one before it by this relation, and this is the last

@@ -1,4 +1,4 @@
--- Why a command of the service ended early.
+-- The fault by which a command of the service reports a fault of its store, its replica or a snapshot.
 use Rattle.lk_log.specs.declared.fault.OpenFault.{OpenFault}
 use Rattle.lk_log.specs.declared.fault.OpenFault.TheVariants as opening
 use Rattle.lk_state.specs.declared.machine.UnpackFault.{UnpackFault}
@@ -16,7 +16,7 @@ open_fault opening.NoMemory = NoMemory
 open_fault opening.Damaged = Damaged
 open_fault opening.WrongStore = WrongStore
 
--- the fault that reports a replica's fault; none is reported of a lost datagram
+-- the fault that reports a replica's fault; a lost datagram is never reported, so its value does not matter
 abbrev pub replica_fault : ReplicaFault → ServiceFault
 replica_fault replica.Device = Device
 replica_fault replica.NoMemory = NoMemory

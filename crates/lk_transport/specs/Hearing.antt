@@ -4,8 +4,7 @@ use Rattle.std.specs.declared.net.socket_addr.SocketAddr.{SocketAddr}
 use Rattle.lk_probe.specs.declared.reported.Reported.{Reported}
 use Rattle.lk_transport.specs.declared.received_probe.ReceivedProbe.{ReceivedProbe}
 
--- the datagram that came last: from where, and its bytes; the probe that is kept, if one is, and what the report tells
--- that is kept, if one is
+-- the source and the bytes of the latest datagram, the kept probe and the kept report, each if there is one
 pub record BufferValue : Type 0 where
   pub last : Option (SocketAddr × List ℕ)
   pub asked : Option ReceivedProbe

@@ -1,4 +1,5 @@
--- How a node finds out which genesis each node that writes to it was started with: whom it asks, and what it learns.
+-- How a node finds out which genesis each node that writes to it was started with: which address it asks, whose
+-- datagrams it accepts again, and what it records of a report.
 use Rattle.std.specs.Prelude.{◌≡◌, ◌≢◌, ◌⊎◌, ℕ, nat_eq, Bool, true, false, List, [], Option, Some, None, slice_get}
 use Rattle.std.specs.Cmp.Lexicographic.{pointwise}
 use Rattle.std.specs.List.{list_any}
@@ -32,7 +33,7 @@ IsAskedAt now None old new =
 abbrev pub question_by : Seals → ℕ → Probe
 question_by s node = question s.cluster (record { node = node; genesis = s.genesis })
 
--- the probe is sent there as it is, or lost by a send that failed; nothing is sent where there is no address
+-- the probe is sent there unframed, or lost by a send that failed; nothing is sent if there is no address
 abbrev pub SendsProbe : Type 0 → Probe → Option SocketAddr → Tray → Tray → Type 0
 SendsProbe tells p None old new = new ≡ old
 SendsProbe tells p (Some place) old new =
@@ -52,25 +53,25 @@ abbrev pub is_of : List ℕ → Option Origin → Bool
 is_of genesis None = false
 is_of genesis (Some asker) = pointwise nat_eq asker.genesis genesis
 
--- if so, what is known of the node at that address is forgotten where it is another genesis; else nothing changes
+-- if so, another genesis that is recorded for that address is forgotten; otherwise nothing changes
 abbrev pub ReadmitsIf : Bool → SocketAddr → AddressBook → AddressBook → Type 0
 ReadmitsIf true place old new =
     Readmits place old.neighbours new.neighbours × (new ≡ record old { neighbours = new.neighbours })
 ReadmitsIf false place old new = new ≡ old
 
--- so at the address from which a probe came that is kept, exactly if a node of the same genesis asks by it
+-- the same for the address of a kept probe, exactly if the probe names a node of the same genesis
 abbrev pub ReadmitsKept : Option ReceivedProbe → AddressBook → AddressBook → Type 0
 ReadmitsKept None old new = new ≡ old
 ReadmitsKept (Some a) old new = ReadmitsIf (is_of old.seals.genesis a.probe.origin) a.from old new
 
 -- ---- what it learns
 
--- what a frame that came from there tells, if it is a report that answers the question of the node of that number
+-- a frame, with its source, carries this report, which answers the question of the node of that number; or none does
 abbrev pub IsToldBy : ℕ → Seals → SocketAddr × List ℕ → Option Reported → Type 0
 IsToldBy node s d told = IsReportedOf (question_by s node) (d.0, heard s d.1) told
 
--- what a report tells is known from now on of the node at its address, which was asked and had not told; a report of
--- another address changes nothing
+-- a report's genesis is recorded for its address, which was asked and had not answered; a report from another address
+-- changes nothing
 abbrev pub LearnsOf : Reported → Option Neighbour → AddressBook → AddressBook → Type 0
 LearnsOf r (Some n) old new =
     Learns r.from old.seals.genesis r.told n old.neighbours new.neighbours
@@ -78,7 +79,7 @@ LearnsOf r (Some n) old new =
 LearnsOf r None old new =
     (is_open_at (slice_get old.neighbours (entry_for r.from old.neighbours)) ≡ false) × (new ≡ old)
 
--- so of a report that is kept, if one is
+-- the same for a kept report, if there is one
 abbrev pub LearnsKept : Option Reported → AddressBook → AddressBook → Type 0
 LearnsKept None old new = new ≡ old
 LearnsKept (Some r) old new = (n : Option Neighbour) × LearnsOf r n old new

@@ -1,4 +1,4 @@
--- What a receive buffer keeps of the frames that come: the first probe by which somebody asks, and the first report
+-- What a receive buffer keeps of the frames that arrive: the first probe that the node answers, and the first report
 -- that answers the node's question.
 use Rattle.std.specs.Prelude.{◌≡◌, ◌++◌, ℕ, List, ◌∷◌, Option, Some, None}
 use Rattle.std.specs.List.{AllByRecursion}

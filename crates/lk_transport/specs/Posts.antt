@@ -64,29 +64,29 @@ abbrev pub keys_for : Seals → To → List (List ℕ)
 keys_for s (Client c) = client_keys c (key_list s.clients)
 keys_for s (Node n port) = key_list s.nodes
 
--- it begins as a probe or a report does, by the letters LP: it stands beside the protocol
+-- it begins with the letters LP, as probes and reports do, which are not part of the protocol
 abbrev pub is_beside : List ℕ → Bool
 is_beside (l ∷ p ∷ rest) = if l == 76 then p == 80 else false
 is_beside _ = false
 
--- what came, out of its frame
+-- an arrived frame with its source, opened
 abbrev pub opened_as : Filter → SocketAddr × List ℕ → SocketAddr × List ℕ
 opened_as c d = (d.0, heard c.seals d.1)
 
--- a replica is given nothing of it: it stands beside the protocol, or came from a node of another genesis
+-- no replica gets it: it is a probe or a report, or came from a node of another genesis
 abbrev pub is_filtered_out : Filter → SocketAddr × List ℕ → Bool
 is_filtered_out c d = is_beside (heard c.seals d.1) || c.strangers d.0
 
--- what came, as a replica is given it
+-- an arrived frame as a replica gets it: opened, or nothing if it is filtered out
 abbrev pub filtered : Filter → SocketAddr × List ℕ → List (SocketAddr × List ℕ)
 filtered c d = if is_filtered_out c d then [] else opened_as c d ∷ []
 
--- so of each of these
+-- all arrived frames as a replica gets them, in order
 abbrev pub all_filtered : Filter → List (SocketAddr × List ℕ) → List (SocketAddr × List ℕ)
 all_filtered c [] = []
 all_filtered c (d ∷ came) = filtered c d ++ all_filtered c came
 
--- what goes there; nothing if there is no address
+-- the datagram that is sent to an address; nothing if there is none
 abbrev pub carried : Option SocketAddr → List ℕ → List (SocketAddr × List ℕ)
 carried None bytes = []
 carried (Some place) bytes = (place, bytes) ∷ []
@@ -130,7 +130,7 @@ pub record CarriesLetter (tells : Type 0) (old : PostValue) (l : LetterValue) (i
   pub still : tells → new.coming ≡ old.coming
   pub becomes : Becomes tells old.node old.addresses (tray_of old) l is_sent (tray_of new)
 
--- who takes it follows its sender: a Prepare, an Accept, a Decided or a Lead
+-- a node that accepts this message follows its sender: a Prepare, an Accept, a Decided or a Lead
 abbrev pub is_binding : NodeMessage → Bool
 is_binding (message.Prepare ballot first) = true
 is_binding (message.Promise p) = false

@@ -1,5 +1,5 @@
-//! The addresses of clients and nodes: where each last wrote from, where nodes live, what is known of the nodes there,
-//! and the keys that identify them.
+//! The address book of a node: from where each client and node last wrote, the hosts of the nodes, the keys that
+//! identify senders, and which genesis the node at each address has.
 
 ghost use Rattle.std.specs.Prelude.{◌≡◌, ◌≢◌, ℕ, Some, None, min};
 ghost use Rattle.lk_types.specs.Ranges.{IsClient};
@@ -17,7 +17,8 @@ use std::net::{IpAddr, SocketAddr};
 
 // How many clients there are.
 const CLIENTS: usize = 256;
-// How many nodes' addresses are kept. A node of the window has a known port, so these are for other nodes that ask.
+// How many nodes' addresses are kept. Only nodes outside the window, whose port is unknown, or with an unknown host
+// need one.
 const NODES: usize = 64;
 
 /// The address from which each client last wrote, and those of the last 64 nodes that wrote. Its size is fixed,
@@ -29,7 +30,7 @@ pub struct Addresses {
     nodes: [Option<(NodeNo, SocketAddr)>; NODES],
     hosts: Hosts,
     seals: Seals,
-    // what is known of the nodes at the addresses from which nodes wrote
+    // which genesis the node at each address from which nodes wrote was started with
     pub(crate) neighbours: Neighbours,
 }
 
@@ -47,7 +48,7 @@ impl Model for Addresses {
     } };
 }
 
-// The address in the first entry of a node.
+// Returns the address in the first entry of a node, if it has one.
 fn address_in(places: &[Option<(NodeNo, SocketAddr)>], node: NodeNo) -> Option<SocketAddr>
     ensures { result ≡ node_in places.now node }
 {
@@ -61,7 +62,7 @@ fn address_in(places: &[Option<(NodeNo, SocketAddr)>], node: NodeNo) -> Option<S
 }
 
 impl Addresses {
-    /// Nobody has written yet.
+    /// Creates an address book in which nobody has written yet.
     pub fn new(network: Network) -> Addresses
         ensures clients { (c : ℕ) → IsClient c → client_at result c ≡ None }
         ensures nodes { (n : ℕ) → node_at result n ≡ None }
@@ -78,7 +79,7 @@ impl Addresses {
         }
     }
 
-    /// The address at which a node lives, if it is known.
+    /// Returns the host of a node, if it is known.
     pub fn host(&self, node: NodeNo) -> Option<IpAddr>
         ensures { result ≡ host_of self.now.hosts node }
     {
@@ -92,14 +93,14 @@ impl Addresses {
         &self.seals
     }
 
-    /// The address from which the client last wrote.
+    /// Returns the address from which the client last wrote, if it ever did.
     pub fn client(&self, client: ClientNo) -> Option<SocketAddr>
         ensures { result ≡ client_at self.now client }
     {
         self.clients[client.get() as usize - 1]
     }
 
-    /// Records that a client wrote.
+    /// Records the address from which a client wrote, in place of its last one.
     pub fn record_client(&mut self, client: ClientNo, from: SocketAddr)
         ensures own { client_at self.new client ≡ Some from }
         ensures others { (c : ℕ) → IsClient c → c ≢ client → client_at self.new c ≡ client_at self.old c }
@@ -110,14 +111,14 @@ impl Addresses {
         self.clients[client.get() as usize - 1] = Some(from);
     }
 
-    /// The address from which the node last wrote, if it is among the last 64 that did.
+    /// Returns the address from which the node last wrote, if it is among the last 64 that did.
     pub fn node(&self, node: NodeNo) -> Option<SocketAddr>
         ensures { result ≡ node_at self.now node }
     {
         address_in(&self.nodes, node)
     }
 
-    // The index of a node's entry, or of the last entry.
+    // Returns the index of a node's entry, or of the last entry if it has none: the one to overwrite.
     fn place_of(&self, node: NodeNo) -> usize
         ensures { result ≡ min (place_in self.now.nodes node) 63 }
     {
@@ -132,7 +133,7 @@ impl Addresses {
     }
 
     /// Records that a node wrote: its entry moves to the front. If all entries are taken, the least recent one is
-    /// dropped. `binds` is whether this node follows the sender by what it wrote.
+    /// dropped. `binds` is whether this node, by accepting the message, follows the sender.
     pub fn record_node(&mut self, node: NodeNo, from: SocketAddr, binds: bool)
         ensures own { node_at self.new node ≡ Some from }
         ensures places { self.new.nodes ≡ moved_up self.old.nodes node from }
@@ -142,6 +143,7 @@ impl Addresses {
     {
         self.neighbours.meet(from, binds);
         let place = self.place_of(node);
+        // The entry to overwrite moves to the front, and those before it move back by one.
         self.nodes[..=place].rotate_right(1);
         self.nodes[0] = Some((node, from));
     }

@@ -18,7 +18,7 @@ pub enum Arrival {
     Foreign,
     /// A request of a client.
     Request(ClientNo),
-    /// A node asks for what it has missed.
+    /// A node's Want: it asks for what it has missed.
     Want(NodeNo),
     /// Any other message of a node, by its name.
     Said(&'static str, NodeNo),
@@ -43,7 +43,7 @@ pub fn name_of(message: &NodeMessageRef<'_>) -> &'static str {
 }
 
 impl Arrival {
-    /// A letter of the node to itself.
+    /// Classifies a letter of the node to itself; `Bad` if it is no message of a node.
     pub fn own(datagram: &Datagram<'_>) -> Arrival {
         match datagram.message() {
             Ok(
@@ -56,7 +56,7 @@ impl Arrival {
         }
     }
 
-    /// The node that said it, if one did.
+    /// Returns the node that sent it, if a node did.
     pub fn node(&self) -> Option<NodeNo>
         ensures { result ≡ sender self.now }
     {
@@ -66,7 +66,7 @@ impl Arrival {
         }
     }
 
-    /// A message of a node.
+    /// Classifies a message of a node.
     pub fn said(node: NodeNo, message: &NodeMessageRef<'_>) -> Arrival {
         match message {
             NodeMessageRef::Want(_) => Arrival::Want(node),

@@ -23,13 +23,13 @@ pub enum ServiceFault {
     Damaged,
     /// Fault 10: the store belongs to another node or another cluster.
     WrongStore,
-    /// Fault 11: the store failed earlier.
+    /// Fault 11: the store failed earlier, or no generation is left for a rebase.
     Failed,
     /// Fault 14: the node ran out of memory.
     Halted,
     /// Fault 24: the output could not be written.
     Write,
-    /// A node of another genesis has led this one. The line that reports it is written where it is found.
+    /// This node has followed a node of another genesis. Whoever finds that writes the line that reports it.
     OtherGenesis,
 }
 
@@ -37,7 +37,7 @@ impl ServiceFault {
     ghost use Rattle.lk_node_io.specs.Faults.{fault_number};
     ghost use Rattle.lk_transport.specs.Faults.{replica_fault};
 
-    /// The fault that reports why a replica did not start.
+    /// Converts the fault of a replica that did not start. It is never `Send`, which only a running replica reports.
     pub fn of_replica(fault: &ReplicaFault) -> ServiceFault
         requires { fault_number fault.now < 15 }
         ensures { result ≡ replica_fault fault.now }
@@ -53,7 +53,7 @@ impl ServiceFault {
         }
     }
 
-    /// The line that reports it.
+    /// Returns the line that reports it, with its newline; empty for `OtherGenesis`, which is reported already.
     pub fn text(self) -> &'static str {
         match self {
             ServiceFault::CannotOpen => "cannot open\n",
@@ -68,7 +68,7 @@ impl ServiceFault {
         }
     }
 
-    /// Writes the line to standard error, and returns status 1.
+    /// Writes the line to standard error, given as `err`, and returns the exit status 1. A failed write is ignored.
     pub fn write_to<E: Write>(self, err: &mut E) -> u8
         ensures { result ≡ 1 }
     {

@@ -1,4 +1,4 @@
-//! A sender is identified by the address from which it wrote.
+//! Records the address of whoever sent a datagram, and classifies the datagram for the log.
 
 ghost use Rattle.std.specs.Prelude.{◌≡◌};
 ghost use Rattle.lk_wire.specs.Shown.{shown_node};
@@ -10,7 +10,7 @@ use crate::arrival::Arrival;
 use lk_wire::{ContentRef, Datagram, NodeMessageRef};
 use std::net::SocketAddr;
 
-// Whether accepting this message means following its sender.
+// Returns whether a node that accepts this message follows its sender: its ballot, its leader or its decisions.
 fn is_binding(message: &NodeMessageRef<'_>) -> bool
     ensures { result ≡ is_binding (shown_node message.now) }
 {

@@ -9,11 +9,13 @@ use std::net::{IpAddr, Ipv4Addr};
 /// The addresses at which nodes live: all at 127.0.0.1, or each as a list says.
 #[derive(Drop)]
 pub enum Hosts {
+    /// All nodes run on this machine.
     Local,
+    /// The address of each listed node. The first line of a node counts; a node without a line has no known host.
     Listed(Vec<(NodeNo, IpAddr)>),
 }
 
-// The address in the first line of a node.
+// Returns the address in the first line of a node, if it has one.
 fn address_in(lines: &[(NodeNo, IpAddr)], node: NodeNo) -> Option<IpAddr>
     ensures { result ≡ host_in lines.now node }
 {
@@ -26,7 +28,7 @@ fn address_in(lines: &[(NodeNo, IpAddr)], node: NodeNo) -> Option<IpAddr>
 }
 
 impl Hosts {
-    /// The address of a node, if it is known.
+    /// Returns the address of a node, if it is known.
     pub fn address(&self, node: NodeNo) -> Option<IpAddr>
         ensures { result ≡ host_of self.now node }
     {

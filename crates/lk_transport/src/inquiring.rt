@@ -1,4 +1,4 @@
-//! How a node finds out which genesis each node that writes to it was started with.
+//! Asks each node that writes to this one which genesis it was started with, and records the reports.
 
 ghost use Rattle.std.specs.Prelude.{◌≡◌, Some, is_some};
 ghost use Rattle.lk_probe.specs.Neighbours.{Readmits, bound_in, is_stranger};
@@ -19,8 +19,8 @@ use lk_types::NodeNo;
 use std::net::SocketAddr;
 
 impl Addresses {
-    // The address at which a question is due at this count of ticks, if there is one: it counts as asked from now on.
-    // Where the nodes have a key nothing is asked, since a seal names the genesis.
+    // Returns an address at which a question is due, if there is one, and records it as asked. `now` is the count of
+    // ticks. If the nodes have a key it returns `None`: their frames already prove the genesis.
     fn next_to_probe(&mut self, now: u64) -> Option<SocketAddr>
         ensures asked { IsAskedAt now result self.old self.new }
         ensures network { IsSameNetwork self.old self.new }
@@ -31,8 +31,8 @@ impl Addresses {
         self.neighbours.next_to_probe(now)
     }
 
-    // A node of this genesis asks from that address. If another genesis was known there, it is as if it was never
-    // asked.
+    // Records that a node of this genesis asked from an address: if another genesis was recorded there, the address
+    // counts as never asked.
     fn readmit(&mut self, place: SocketAddr)
         ensures readmits { Readmits place self.old.neighbours self.new.neighbours }
         ensures others { self.new ≡ record self.old { neighbours = self.new.neighbours } }
@@ -40,7 +40,8 @@ impl Addresses {
         self.neighbours.readmit(place);
     }
 
-    // Learns from a report of the node at an address that was asked.
+    // Records the genesis that a report names for the node at its address, and returns the updated entry; `None`, and
+    // nothing changes, if that address was not asked or has answered before.
     fn learn(&mut self, reported: &Reported) -> Option<Neighbour>
         ensures learns { LearnsOf reported.now result self.old self.new }
         ensures network { IsSameNetwork self.old self.new }
@@ -51,7 +52,7 @@ impl Addresses {
 }
 
 impl<S: DatagramSocket + Drop> SocketPost<S> {
-    // The question of this node.
+    // Returns the probe by which this node asks another for its genesis.
     fn question(&self) -> Probe
         ensures { result ≡ question_by self.now.addresses.seals self.now.node }
     {
@@ -63,15 +64,15 @@ impl<S: DatagramSocket + Drop> SocketPost<S> {
         question(self.addresses.seals().cluster, asker)
     }
 
-    /// What a report that came from there says, if it answers the question of this node.
+    /// Parses a report that came from an address; `None` if it does not answer the question of this node.
     pub fn read_report(&self, from: SocketAddr, datagram: &[u8]) -> Option<Reported>
         ensures { IsReportedOf (question_by self.now.addresses.seals self.now.node) (from, datagram.now) result }
     {
         Reported::by(&self.question(), from, datagram)
     }
 
-    /// Learns from a report of the node at an address that was asked. `None`, and nothing is changed, if it was not
-    /// asked or has answered before.
+    /// Records the genesis that a report names for the node at its address, and returns the updated entry; `None`, and
+    /// nothing changes, if that address was not asked or has answered before.
     pub fn learn(&mut self, reported: &Reported) -> Option<Neighbour>
         ensures learns { LearnsOf reported.now result self.old.addresses self.new.addresses }
         ensures network { IsSameNetwork self.old.addresses self.new.addresses }
@@ -80,8 +81,8 @@ impl<S: DatagramSocket + Drop> SocketPost<S> {
         self.addresses.learn(reported)
     }
 
-    /// Where a node of this genesis asks by a probe, what comes from its address is heard again: if another genesis was
-    /// known there, it is as if it was never asked.
+    /// Accepts datagrams from the address of a probe again, if a node of this genesis sent it: if another genesis was
+    /// recorded there, the address counts as never asked. Any other probe changes nothing.
     pub fn readmit(&mut self, asked: &ReceivedProbe)
         ensures readmits { ReadmitsKept (Some asked.now) self.old.addresses self.new.addresses }
         ensures network { IsSameNetwork self.old.addresses self.new.addresses }
@@ -109,7 +110,8 @@ impl<S: DatagramSocket + Drop> SocketPost<S> {
         self.socket.send_to(place, &datagram)
     }
 
-    /// Asks which genesis the node at an address was started with, where that is due at this count of ticks.
+    /// Sends this node's question to one address at which it is due, if there is one. `now` is the count of ticks. A
+    /// question whose send fails counts as asked.
     pub fn probe_next(&mut self, now: u64) -> Result<(), SendFault>
         ensures asks { AsksOne S.is_telling now self.old.node self.old.addresses self.new.addresses
             (tray_of self.old) (tray_of self.new) }
@@ -129,14 +131,14 @@ impl<S: DatagramSocket + Drop> SocketPost<S> {
         }
     }
 
-    /// The node of another genesis at that address, if there is one.
+    /// Returns the node of another genesis at that address, if one reported from there.
     pub fn stranger(&self, place: SocketAddr) -> Option<NodeNo>
         ensures { is_some result ≡ is_stranger self.now.addresses.neighbours place }
     {
         self.addresses.neighbours.stranger(place)
     }
 
-    /// The first node of another genesis that this node has followed, if there is one.
+    /// Returns the first node of another genesis that this node has followed, if there is one.
     pub fn followed_stranger(&self) -> Option<Origin>
         ensures { result ≡ bound_in self.now.addresses.neighbours }
     {

@@ -1,5 +1,5 @@
-//! How datagrams come and go: the socket, the buffer into which it receives, where nodes and clients live, the frames
-//! that seal what they say, and the post that sends the letters of a replica.
+//! Sends and receives a node's datagrams over UDP: the socket and its receive buffer, the addresses of nodes and
+//! clients, the post that frames and sends the letters of a replica, and the probes by which nodes compare geneses.
 #![tactic(auto)]
 
 pub mod addresses;

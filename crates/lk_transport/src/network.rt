@@ -12,7 +12,7 @@ pub struct Network {
 }
 
 impl Network {
-    /// All nodes live at 127.0.0.1 and nobody has a key, so no seal names the genesis.
+    /// Creates the network of nodes that all run on 127.0.0.1 without keys. The digest of the genesis is zeros.
     pub fn local(cluster: u64, node: NodeNo) -> Network {
         Network {
             hosts: Hosts::Local,

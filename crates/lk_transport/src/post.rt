@@ -1,4 +1,4 @@
-//! The post of a node that has a socket.
+//! The post of a node: sends a replica's letters over a socket, in frames if there are keys.
 
 ghost use Rattle.std.specs.Prelude.{◌≡◌, ◌≢◌, ◌↔◌, ◌++◌, ◌∷◌, ℕ, [], Some, None, true, false, is_ok, OnOk, OnErr, IfOk};
 ghost use Rattle.std.specs.Prelude.{IsErr, IfSome, IsNone};
@@ -36,7 +36,7 @@ const WANT: u8 = 7;
 ///
 /// A letter for a client goes to the address of its last request. A letter for a node goes to its port at its host, or,
 /// if that is not known, to the address from which the node last wrote. A letter with no known address is dropped. A
-/// letter for this node stays here, unless it is out of memory.
+/// letter for this node is queued here; only if memory runs out it goes through the socket.
 #[derive(Drop)]
 pub struct SocketPost<S: DatagramSocket + Drop> {
     alloc: Global,
@@ -45,9 +45,9 @@ pub struct SocketPost<S: DatagramSocket + Drop> {
     pub(crate) addresses: Addresses,
     // the last frame sent, if there are keys
     frame: Vec<u8>,
-    // letters of the node to itself
+    // the queue of letters of the node to itself
     own: VecDeque<Letter>,
-    // failed sends in this group
+    // letters of this group that could not be sent
     failures: u64,
     // the last node that was sent a Want in this group
     wanted: Option<NodeNo>,
@@ -55,14 +55,14 @@ pub struct SocketPost<S: DatagramSocket + Drop> {
     unsent: Option<NodeNo>,
 }
 
-/// The fate of a group's letters, for the log.
+/// Summarises the sends of a group, for the log.
 #[derive(Clone, Copy)]
 pub struct SendSummary {
-    /// How many sends failed.
+    /// How many letters could not be sent: a send failed, or memory ran out for a frame.
     pub lost: u64,
-    /// The last node that was sent a Want.
+    /// The last node that was sent a Want, if one was.
     pub wanted: Option<NodeNo>,
-    /// The last node to which a send failed.
+    /// The last node to which a letter could not be sent, if there is one.
     pub unsent: Option<NodeNo>,
 }
 
@@ -91,7 +91,7 @@ impl<S: DatagramSocket + Drop> Model for SocketPost<S> {
     } };
 }
 
-// The destination of a letter.
+// Returns the address to which a letter goes, if one is known. Port 0 means that the node's port is unknown.
 fn route(addresses: &Addresses, to: &To) -> Option<SocketAddr>
     ensures { IsRoute addresses.now to.now result }
 {
@@ -105,7 +105,8 @@ fn route(addresses: &Addresses, to: &To) -> Option<SocketAddr>
     }
 }
 
-// The bytes to send for a datagram. A frame overwrites the frame buffer.
+// Returns the bytes to send for a datagram: its frame, which overwrites the frame buffer, or the datagram itself if
+// there is no key for the recipient.
 fn framed<'a>(
     seals: &Seals,
     to: &To,
@@ -121,7 +122,7 @@ fn framed<'a>(
     }
 }
 
-// The same of a report, for whoever asks.
+// Returns the bytes to send for a report: framed for the asker, or the report itself if its probe named none.
 fn framed_for<'a>(
     seals: &Seals,
     asker: &Option<To>,
@@ -138,7 +139,7 @@ fn framed_for<'a>(
 }
 
 impl<S: DatagramSocket + Drop> SocketPost<S> {
-    /// The post of a node to which nobody has written yet.
+    /// Creates the post of a node to which nobody has written yet.
     pub fn new(alloc: Global, node: NodeNo, network: Network, socket: S) -> SocketPost<S>
         ensures node { result.node ≡ node }
         ensures clients { (c : ℕ) → IsClient c → client_at result.addresses c ≡ None }
@@ -178,7 +179,7 @@ impl<S: DatagramSocket + Drop> SocketPost<S> {
         self.addresses.record_sender(cluster, datagram, from)
     }
 
-    /// Removes the first letter of the node to itself.
+    /// Removes and returns the first queued letter of the node to itself.
     pub fn next_own(&mut self) -> Option<Letter>
         ensures some { IfSome result (λ l. self.old.own ≡ l ∷ self.new.own) }
         ensures none { IsNone result → self.old.own ≡ [] }
@@ -188,14 +189,14 @@ impl<S: DatagramSocket + Drop> SocketPost<S> {
         self.own.pop_front()
     }
 
-    /// From now on a receive waits at most this long, or up to 10 ms longer, for the next datagram.
+    /// Sets how long a receive waits at most for the next datagram; it may wait up to 10 ms longer.
     pub fn set_timeout(&mut self, time: Duration)
         ensures { self.new ≡ self.old }
     {
         self.socket.set_timeout(time);
     }
 
-    /// Receives the next datagram of the socket into the buffer, if one arrives.
+    /// Receives the next datagram of the socket into the buffer, if one arrives within the timeout.
     pub fn receive(&mut self, buffer: &mut ReceiveBuffer)
         ensures comes { S.is_telling → self.old.coming ≡ listed buffer.new.last ++ self.new.coming }
         ensures none { S.is_telling → buffer.new.last ≡ None → self.old.coming ≡ [] }
@@ -206,7 +207,7 @@ impl<S: DatagramSocket + Drop> SocketPost<S> {
         buffer.receive(&mut self.socket);
     }
 
-    /// Receives the next datagram that is already waiting.
+    /// Receives the next datagram into the buffer if one is already waiting, and does not wait for one.
     pub fn receive_waiting(&mut self, buffer: &mut ReceiveBuffer)
         ensures comes { S.is_telling → self.old.coming ≡ listed buffer.new.last ++ self.new.coming }
         ensures none { S.is_telling → buffer.new.last ≡ None → self.old.coming ≡ [] }
@@ -217,14 +218,16 @@ impl<S: DatagramSocket + Drop> SocketPost<S> {
         buffer.receive_waiting(&mut self.socket);
     }
 
-    /// What is taken of a frame.
+    /// Opens a frame: returns its datagram if a node sealed it for this one, or it is a client's request, sealed if
+    /// clients have keys; otherwise no bytes. If the nodes have no key it returns the frame unchanged.
     pub fn open<'a>(&self, frame: &'a [u8]) -> &'a [u8]
         ensures { result.now ≡ heard self.now.addresses.seals frame.now }
     {
         self.addresses.seals().heard(frame)
     }
 
-    /// The probe to answer that came from there by this frame, of which the datagram was taken.
+    /// Parses the probe in a datagram, which was opened from a frame that arrived from an address; `None` if it is not
+    /// to be answered (see `ReceivedProbe::by`).
     pub fn read_probe(
         &self,
         from: SocketAddr,
@@ -261,7 +264,7 @@ impl<S: DatagramSocket + Drop> SocketPost<S> {
         self.socket.cause()
     }
 
-    /// Begins a group.
+    /// Begins a group: resets what `send_summary` returns.
     pub fn begin_group(&mut self)
         ensures { self.new ≡ record self.old { failures = 0 } }
     {
@@ -270,7 +273,7 @@ impl<S: DatagramSocket + Drop> SocketPost<S> {
         self.unsent = None;
     }
 
-    /// The fate of the letters in this group.
+    /// Summarises the sends since the group began.
     pub fn send_summary(&self) -> SendSummary
         ensures { result.lost ≡ self.now.failures }
     {
@@ -281,7 +284,7 @@ impl<S: DatagramSocket + Drop> SocketPost<S> {
         }
     }
 
-    // Notes for the log that a letter was sent or kept.
+    // Records the recipient of a letter that was sent or queued, if it is a Want to a node, for the log.
     fn note_sent(&mut self, to: &To, bytes: &[u8])
         ensures { self.new ≡ self.old }
     {
@@ -291,7 +294,7 @@ impl<S: DatagramSocket + Drop> SocketPost<S> {
         }
     }
 
-    // Counts a letter that could not be sent.
+    // Counts a letter that could not be sent, and records its node for the log.
     fn count_lost(&mut self, to: &To)
         ensures { self.new ≡ record self.old { failures = one_more self.old.failures } }
     {
@@ -311,7 +314,7 @@ impl<S: DatagramSocket + Drop> SocketPost<S> {
         }
     }
 
-    // Keeps one more letter of the node to itself.
+    // Queues a letter of the node to itself. Out of memory it changes nothing.
     fn keep_own(&mut self, to: To, bytes: &[u8]) -> Result<(), NoMemory>
         ensures ok { OnOk result
             (self.new ≡ record self.old { own = self.old.own ++ record { to = to; bytes = bytes.now } ∷ [] }) }
@@ -323,7 +326,8 @@ impl<S: DatagramSocket + Drop> SocketPost<S> {
         Ok(())
     }
 
-    // Sends a letter through the system, even one to this node.
+    // Frames a letter and sends it over the socket, even one to this node. A letter with no known address is dropped,
+    // which is no failure; a failed send, or no memory for the frame, is counted.
     fn transmit(&mut self, to: To, bytes: &[u8]) -> Result<(), SendFault>
         ensures becomes { Becomes S.is_telling self.old.node self.old.addresses (tray_of self.old)
             (record { to = to; bytes = bytes.now }) (is_ok result) (tray_of self.new) }
@@ -352,7 +356,8 @@ impl<S: DatagramSocket + Drop> SocketPost<S> {
         }
     }
 
-    /// Sends a report to where its probe came from, by the seal for whoever asks.
+    /// Sends a report to the address from which its probe came, framed for the asker if the probe names one. A failure
+    /// is not counted in the group.
     pub fn reply(&mut self, asked: &ReceivedProbe, report: &[u8]) -> Result<(), SendFault>
         ensures replies { Replies S.is_telling self.old.addresses.seals asked.now report.now
             (tray_of self.old) (tray_of self.new) }
@@ -388,6 +393,7 @@ impl<S: DatagramSocket + Drop> Post for SocketPost<S> {
 
     ghost Carries = { CarriesLetter S.is_telling };
 
+    // Out of memory for its queue, a letter to this node goes through the socket.
     fn send(&mut self, to: To, bytes: &[u8]) -> Result<(), SendFault> {
         if self.is_own(&to) && self.keep_own(to, bytes).is_ok() {
             return Ok(());

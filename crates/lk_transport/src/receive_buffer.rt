@@ -11,8 +11,8 @@ use lk_types::limits::MAX_DATAGRAM;
 use std::marker::Model;
 use std::net::SocketAddr;
 
-/// A place for the datagram that came last, for a probe that is to be answered, and for a report. It is made once, for
-/// all that come.
+/// Holds the latest datagram, the first probe that waits for an answer, and the first report that waits to be read.
+/// One buffer serves all receives of a socket.
 #[derive(Drop)]
 pub struct ReceiveBuffer {
     // one byte longer than the longest frame, so a truncated datagram fails to parse
@@ -47,8 +47,8 @@ impl ReceiveBuffer {
         }
     }
 
-    /// Receives the next datagram of a socket: exactly its bytes, or nothing if none arrived within 100 ms or the
-    /// receive failed.
+    /// Receives the next datagram of a socket: exactly its bytes, or nothing if none arrived within the socket's
+    /// timeout or the receive failed.
     pub fn receive<S: DatagramSocket>(&mut self, socket: &mut S)
         ensures comes { S.is_telling → S.coming socket.old ≡ listed self.new.last ++ S.coming socket.new }
         ensures next { S.is_telling → next_of S.coming socket.old ≡ self.new.last }
@@ -60,7 +60,7 @@ impl ReceiveBuffer {
         self.last = socket.receive(&mut self.buffer);
     }
 
-    /// The same for a datagram that is already waiting; nothing if none is.
+    /// Receives a datagram that is already waiting, without waiting for one; nothing if there is none.
     pub fn receive_waiting<S: DatagramSocket>(&mut self, socket: &mut S)
         ensures comes { S.is_telling → S.coming socket.old ≡ listed self.new.last ++ S.coming socket.new }
         ensures next { S.is_telling → next_of S.coming socket.old ≡ self.new.last }
@@ -72,7 +72,7 @@ impl ReceiveBuffer {
         self.last = socket.receive_waiting(&mut self.buffer);
     }
 
-    /// The latest datagram, and its source.
+    /// Returns the bytes and the source of the latest datagram, or `None` if the last receive got nothing.
     pub fn latest(&self) -> Option<(&[u8], SocketAddr)>
         ensures some { IfSome result (λ r. self.now.last ≡ Some (r.1, r.0.now)) }
         ensures none { IsNone result → self.now.last ≡ None }
@@ -83,7 +83,7 @@ impl ReceiveBuffer {
         Some((&self.buffer[..length], from))
     }
 
-    /// Keeps a probe that is to be answered, if there is one and none is kept yet.
+    /// Keeps a probe, if given one, to answer later. If one is kept already, the new one is dropped.
     pub fn keep_probe(&mut self, asked: Option<ReceivedProbe>)
         ensures { self.new ≡ record self.old { asked = first_asked self.old.asked asked } }
     {
@@ -92,7 +92,7 @@ impl ReceiveBuffer {
         }
     }
 
-    /// Keeps what a report says, if there is one and none is kept yet.
+    /// Keeps a report, if given one, to read later. If one is kept already, the new one is dropped.
     pub fn keep_report(&mut self, reported: Option<Reported>)
         ensures { self.new ≡ record self.old { reported = first_reported self.old.reported reported } }
     {
@@ -101,7 +101,7 @@ impl ReceiveBuffer {
         }
     }
 
-    /// Takes out the report that is kept.
+    /// Removes and returns the kept report.
     pub fn take_reported(&mut self) -> Option<Reported>
         ensures value { result ≡ self.old.reported }
         ensures rest { self.new ≡ record self.old { reported = None } }
@@ -109,7 +109,7 @@ impl ReceiveBuffer {
         self.reported.take()
     }
 
-    /// Takes out the probe that is kept.
+    /// Removes and returns the kept probe.
     pub fn take_probe(&mut self) -> Option<ReceivedProbe>
         ensures value { result ≡ self.old.asked }
         ensures rest { self.new ≡ record self.old { asked = None } }

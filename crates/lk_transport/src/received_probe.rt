@@ -1,4 +1,4 @@
-//! Probes that come to a server: they stand beside the protocol, and no replica is given one.
+//! Probes that arrive at a server. They are not part of the protocol: the server answers them, and no replica gets one.
 
 ghost use Rattle.std.specs.Prelude.{◌≡◌, ◌≢◌, ◌↔◌, [], length, IsTrue, IsSome};
 ghost use Rattle.lk_seal.specs.Seals.{key_list, heard};
@@ -11,21 +11,22 @@ use lk_probe::Probe;
 use lk_seal::{DIGEST, Seals};
 use std::net::SocketAddr;
 
-/// A probe that a node is to answer, and from where it came.
+/// A probe that a node is to answer, and its source.
 #[derive(Clone, Copy)]
 pub struct ReceivedProbe {
     pub from: SocketAddr,
     pub probe: Probe,
 }
 
-/// Whether a datagram begins as a probe or a report does.
+/// Returns whether a datagram begins with the letters LP, as probes and reports do: no replica gets it.
 pub fn is_beside(datagram: &[u8]) -> bool
     ensures { result ≡ is_beside datagram.now }
 {
     matches!(datagram, [b'L', b'P', ..])
 }
 
-// Whether a probe that names a node came sealed, where the nodes have a key.
+// Returns whether a probe may name the node that it names: if the nodes have a key, such a probe must have been sealed.
+// A frame is longer than its datagram, so equal lengths mean that there was no seal.
 fn is_sealed_as_named(seals: &Seals, frame: &[u8], datagram: &[u8], probe: &Probe) -> bool
     ensures { IsTrue result ↔ (IsSome probe.now.origin → key_list seals.now.nodes ≢ []
         → length frame.now ≢ length datagram.now) }
@@ -34,7 +35,8 @@ fn is_sealed_as_named(seals: &Seals, frame: &[u8], datagram: &[u8], probe: &Prob
 }
 
 impl ReceivedProbe {
-    /// The probe to answer that came from there by this frame, of which the datagram was taken.
+    /// Parses the probe in a datagram, which was opened from a frame that arrived from an address. `None` if it is no
+    /// probe, is of another cluster, or names a node without a seal although the nodes have a key.
     pub fn by(
         seals: &Seals,
         from: SocketAddr,
@@ -51,7 +53,7 @@ impl ReceivedProbe {
         Some(ReceivedProbe { from, probe })
     }
 
-    /// Whether a node of that genesis asks.
+    /// Returns whether the probe names a node of that genesis.
     pub fn is_of(&self, genesis: &[u8; DIGEST]) -> bool
         ensures { result ≡ is_of genesis.now self.now.probe.origin }
     {
@@ -61,7 +63,7 @@ impl ReceivedProbe {
         }
     }
 
-    /// The client or the node that asks, if the probe names one.
+    /// Returns the client or the node that the probe names, if any; of a node the port is unknown (0).
     pub fn asker(&self) -> Option<To>
         ensures { result ≡ asker self.now.probe }
     {

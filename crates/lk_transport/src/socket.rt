@@ -1,4 +1,4 @@
-//! Datagrams between addresses.
+//! A socket that sends and receives datagrams, and its implementation over UDP.
 
 ghost use Rattle.std.specs.Prelude.{◌≡◌, ◌≤◌, ◌++◌, ◌∷◌, [], List, ℕ, length, take, IfSome, IsNone, OnOk, OnErr};
 ghost use Rattle.std.specs.Net.Socket.{socket_port};
@@ -11,13 +11,13 @@ use std::io;
 use std::net::{Ipv4Addr, Net, SocketAddr, UdpSocket};
 use std::time::Duration;
 
-// How long a receive waits at most until a timeout is set, in milliseconds.
+// The timeout of a receive before one is set, in milliseconds.
 const WAIT: u64 = 100;
 
-// A receive may wait this many milliseconds longer than its timeout, since each change costs a call of the system.
+// A receive may wait this many milliseconds longer than its timeout: each change costs a system call.
 const SLACK: u64 = 10;
 
-/// The address of a port on 127.0.0.1.
+/// Returns the address of a port on 127.0.0.1.
 pub fn local(port: u16) -> SocketAddr
     ensures { socket_port result ≡ port }
 {
@@ -46,14 +46,14 @@ pub trait DatagramSocket {
         ensures still { is_telling → coming self.new ≡ coming self.old }
         ensures cause { is_telling → HasCause (failures self.old) (failures self.new) result };
 
-    /// From now on a receive waits so long at most, or up to 10 ms longer; until this is called it is 100 ms.
+    /// Sets how long a receive waits at most; it may wait up to 10 ms longer. Before the first call it is 100 ms.
     fn set_timeout(&mut self, time: Duration)
         ensures unchanged { sent self.new ≡ sent self.old }
         ensures spares { failures self.new ≡ failures self.old }
         ensures still { coming self.new ≡ coming self.old };
 
-    /// Puts the next datagram into the buffer, and returns its length and its source. What does not fit is lost.
-    /// `None` where none came in time, or the receive failed.
+    /// Puts the next datagram into the buffer, and returns its length and its source. Bytes that do not fit are lost.
+    /// `None` if none arrived within the timeout, or the receive failed.
     fn receive(&mut self, buffer: &mut [u8]) -> Option<(usize, SocketAddr)>
         // The buffer has room for the longest frame and one byte more.
         requires room { 8229 ≤ length buffer.old }
@@ -64,7 +64,7 @@ pub trait DatagramSocket {
         ensures unchanged { sent self.new ≡ sent self.old }
         ensures spares { failures self.new ≡ failures self.old };
 
-    /// The same without waiting: `None` if none has arrived.
+    /// Does the same as `receive` without waiting: `None` if no datagram has arrived yet.
     fn receive_waiting(&mut self, buffer: &mut [u8]) -> Option<(usize, SocketAddr)>
         requires room { 8229 ≤ length buffer.old }
         ensures within { IfSome result (λ r. r.0 ≤ length buffer.new) }
@@ -81,15 +81,15 @@ pub trait DatagramSocket {
     fn port(&self) -> Option<u16>;
 }
 
-/// A UDP socket of the system. No contract can say what it sends and receives.
+/// A UDP socket of the operating system. Its contract reveals nothing of what it sends and receives.
 #[derive(Drop)]
 pub struct LocalSocket {
     socket: UdpSocket,
-    // whether its receives wait
+    // whether it is in blocking mode
     waits: bool,
-    // whether they never do
+    // whether it stays in non-blocking mode
     never_waits: bool,
-    // how long they are to wait, and how long the system has them wait
+    // the timeout that was asked for, and the one that the system has
     wait: Duration,
     timeout: Duration,
     // why the last failed send failed
@@ -97,12 +97,12 @@ pub struct LocalSocket {
 }
 
 impl LocalSocket {
-    /// Opens the socket of a port, or of any free port for 0. Returns the system's error.
+    /// Opens a socket on 127.0.0.1 at a port, or at any free port for 0. Returns the system's error.
     pub fn open<R: Net>(rt: &R, port: u16) -> io::Result<LocalSocket> {
         LocalSocket::open_at(rt, local(port))
     }
 
-    /// Opens the socket of an address. Returns the system's error.
+    /// Opens a socket at an address. Returns the system's error.
     pub fn open_at<R: Net>(rt: &R, place: SocketAddr) -> io::Result<LocalSocket> {
         let socket = UdpSocket::bind(rt, place)?;
         let wait = Duration::from_millis(WAIT);
@@ -117,12 +117,12 @@ impl LocalSocket {
         })
     }
 
-    /// The same, with the error `CannotOpen`.
+    /// Opens a socket on 127.0.0.1 as `open` does. Every failure is `CannotOpen`.
     pub fn bind<R: Net>(rt: &R, port: u16) -> Result<LocalSocket, ServiceFault> {
         LocalSocket::open(rt, port).map_err(|_| ServiceFault::CannotOpen)
     }
 
-    /// The same, with receives that do not wait.
+    /// Opens a socket as `bind` does, whose receives never wait, whatever timeout is set.
     pub fn without_waiting<R: Net>(rt: &R, port: u16) -> Result<LocalSocket, ServiceFault> {
         let mut socket = LocalSocket::bind(rt, port)?;
         socket.never_waits = true;
@@ -132,7 +132,8 @@ impl LocalSocket {
         Ok(socket)
     }
 
-    // Makes its receives wait or not, by a system call only if that changes. Returns whether it succeeded.
+    // Switches between blocking and non-blocking mode, by a system call only if that changes. Returns whether it
+    // succeeded.
     fn set_waiting(&mut self, waits: bool) -> bool {
         if self.waits == waits {
             return true;
@@ -144,7 +145,7 @@ impl LocalSocket {
         true
     }
 
-    // Whether the system has receives wait as long as they are to, or little longer.
+    // Returns whether the system's timeout is the one asked for, or less than 10 ms longer.
     fn is_in_time(&self) -> bool {
         match self.timeout.checked_sub(self.wait) {
             Some(more) => more < Duration::from_millis(SLACK),
@@ -152,14 +153,14 @@ impl LocalSocket {
         }
     }
 
-    // Has receives wait as long as they are to.
+    // Sets the system's timeout, unless it is near enough already. If the call fails, the old one remains.
     fn apply_timeout(&mut self) {
         if !self.is_in_time() && self.socket.set_read_timeout(Some(self.wait)).is_ok() {
             self.timeout = self.wait;
         }
     }
 
-    // Receives what waits there, or what comes in time.
+    // Receives a datagram that is waiting or arrives within the timeout.
     fn receive_in_time(&mut self, buffer: &mut [u8]) -> Option<(usize, SocketAddr)>
         ensures within { IfSome result (λ r. r.0 ≤ length buffer.new) }
     {
@@ -194,7 +195,8 @@ impl DatagramSocket for LocalSocket {
         self.wait = time;
     }
 
-    // A socket that was busy is tried first: as long as it stays so, no call switches it.
+    // A socket in non-blocking mode is first read as it is: while datagrams keep arriving, no system call switches its
+    // mode.
     fn receive(&mut self, buffer: &mut [u8]) -> Option<(usize, SocketAddr)> {
         if self.wait.is_zero() {
             return self.receive_waiting(buffer);

@@ -1,4 +1,4 @@
--- The ranges of an answer's parts, and its text.
+-- The ranges of an answer's parts.
 use Rattle.lk_types.specs.Ranges.{IsClient, IsCount, IsTotal, IsSharerCount}
 use Rattle.lk_types.specs.declared.answer.Answer.{Answer}
 use Rattle.lk_types.specs.declared.answer.Answer.TheVariants.{Granted, Busy, Released, NotHeld, Free, Held, Valid}
@@ -6,6 +6,7 @@ use Rattle.lk_types.specs.declared.answer.Answer.TheVariants.{Stale, NoRoom, Bad
 use Rattle.lk_types.specs.declared.answer.Answer.TheVariants.{Joined, Used, Full, Left, NotMember, Last, Raised}
 use Rattle.lk_types.specs.declared.answer.Answer.TheVariants.{AlreadyRaised}
 
+-- each number in the answer is in its range
 abbrev pub IsAnswer : Answer → Type 0
 IsAnswer (Granted fence) = IsCount fence
 IsAnswer (Busy holder fence) = IsClient holder × IsCount fence

@@ -1,4 +1,4 @@
--- What a contract sees of a ballot.
+-- A ballot as contracts see it.
 use Rattle.std.specs.Prelude.{ℕ}
 
 -- a round and the node that leads it, both 0 for the ballot below all others

@@ -1,4 +1,4 @@
--- The order of ballots, and which there are.
+-- The order of ballots, and which ballots are valid.
 use Rattle.std.specs.Prelude.{◌≡◌, ◌⊎◌, ◌<◌, Bool, nat_lt, ◌&&◌, ◌||◌, ◌==◌}
 use Rattle.lk_types.specs.BallotValue.{BallotValue}
 use Rattle.lk_types.specs.Ranges.{IsCount, IsNode}
@@ -19,7 +19,7 @@ is_below a b = nat_lt a.round b.round || (a.round == b.round && nat_lt a.node b.
 abbrev pub zero_ballot : BallotValue
 zero_ballot = record { round = 0; node = 0 }
 
--- a ballot that a node can lead
+-- a ballot that a node can lead: round and node are in their ranges
 abbrev pub IsReal : BallotValue → Type 0
 IsReal b = IsCount b.round × IsNode b.node
 

@@ -1,4 +1,4 @@
--- When a genesis is invalid, and the number of the fault.
+-- The first fault of an invalid genesis, and the number of each fault.
 use Rattle.std.specs.Prelude.{ℕ, nat_lt, ◌||◌, not, List, length, Option, Some, None, if◌then◌else◌}
 use Rattle.lk_types.specs.Limits.{max_members, max_alpha}
 use Rattle.lk_types.specs.Rosters.{members_rise}

@@ -1,4 +1,4 @@
--- The body of a request to the machine.
+-- The length of a payload, the body of a request to the machine.
 use Rattle.std.specs.Prelude.{ℕ, ◌≤◌, List, length}
 use Rattle.lk_types.specs.Limits.{max_payload}
 

@@ -1,4 +1,4 @@
--- The ranges of the numbers.
+-- The ranges of numbers: of nodes, clients, ports, positions, fences and alpha.
 use Rattle.std.specs.Prelude.{ℕ, ◌≤◌}
 use Rattle.lk_types.specs.Limits.{max_count, max_node, max_client, max_port, max_alpha, max_sharers}
 
@@ -18,7 +18,7 @@ IsPort n = (1 ≤ n) × (n ≤ max_port)
 abbrev pub IsCount : ℕ → Type 0
 IsCount n = (1 ≤ n) × (n ≤ max_count)
 
--- a count of positions, or the last fence of a name that may be unknown: 0 to 2^48
+-- a count of positions, or a position or fence with 0 for none: 0 to 2^48
 abbrev pub IsTotal : ℕ → Type 0
 IsTotal n = n ≤ max_count
 

@@ -1,4 +1,4 @@
--- Which lists of members are sets.
+-- Which lists of members are valid sets.
 use Rattle.std.specs.Prelude.{ℕ, ◌≤◌, Bool, true, nat_lt, ◌&&◌, List, [], ◌∷◌, length, IsTrue}
 use Rattle.lk_types.specs.Limits.{max_members}
 use Rattle.lk_types.specs.Ranges.{IsNode, IsPort}

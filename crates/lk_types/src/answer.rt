@@ -9,27 +9,27 @@ use std::fmt;
 /// The answer to a request that takes effect.
 #[derive(Clone, Copy, Debug)]
 pub enum Answer {
-    /// The client holds the name, at this fence.
+    /// The client now holds the name alone, at this fence.
     Granted(Fence),
-    /// That client holds the name, at that fence.
+    /// Refused: that client holds the name, at that fence. Of several holders it is the one with the lowest number.
     Busy(ClientNo, Fence),
-    /// The name is free again.
+    /// The client has given up the name, which is free unless others still share it.
     Released,
     /// The client does not hold the name at this fence.
     NotHeld,
     /// Nobody holds the name; this was its last fence, 0 if it was never granted.
     Free(LastFence),
-    /// That client holds the name, at that fence.
+    /// That client alone holds the name, at that fence.
     Held(ClientNo, Fence),
-    /// The name is held at this fence.
+    /// Somebody holds the name at this fence.
     Valid,
-    /// The name is not held at this fence.
+    /// Nobody holds the name at this fence.
     Stale,
     /// The table has no room for another name.
     NoRoom,
-    /// The table does not know this body.
+    /// The bytes are not a body that this version of the table knows.
     Bad,
-    /// The name's fences are used up.
+    /// The last fence of the name was 2^48, so the name can never be granted again.
     Spent,
     /// The client shares the name, at this fence.
     Shared(Fence),
@@ -37,26 +37,26 @@ pub enum Answer {
     HeldShared(SharerCount, Fence),
     /// The name is free again, whoever held it.
     Broken,
-    /// The node becomes a member.
+    /// The node becomes a member, alpha positions later.
     Joined,
-    /// The node's number is not above every number that was ever a member's.
+    /// Not joined: the node's number is not above every number that was ever a member's.
     Used,
-    /// There are seven members already.
+    /// Not joined: there are seven members already.
     Full,
-    /// The node is no longer a member.
+    /// The node stops being a member, alpha positions later.
     Left,
-    /// The node is no member.
+    /// Not removed: the node is not a member.
     NotMember,
-    /// The node is the only member.
+    /// Not removed: the node is the only member.
     Last,
-    /// The machine is raised from now on.
+    /// The machine has its second version from now on.
     Raised,
-    /// The machine was raised before.
+    /// The machine had its second version already.
     AlreadyRaised,
 }
 
 impl Answer {
-    /// Each part is in its range. The function does nothing.
+    /// Brings into a proof that each part is in its range. Does nothing at run time.
     pub fn facts(self)
         ensures { IsAnswer self }
     {}

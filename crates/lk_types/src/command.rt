@@ -10,7 +10,7 @@ use crate::request_number::RequestNumber;
 use arrayvec::ArrayVec;
 use std::marker::Model;
 
-/// The body of a request to the machine: 1 to 64 bytes, which only the machine reads.
+/// The body of a request to the state machine: 1 to 64 bytes, which only that machine parses.
 #[derive(Clone, Debug, PartialEq, Eq, Drop)]
 pub struct Payload {
     bytes: ArrayVec<u8, MAX_PAYLOAD>,
@@ -62,17 +62,17 @@ impl Payload {
 /// What a request asks for.
 #[derive(Debug, PartialEq, Eq, Drop)]
 pub enum Op {
-    /// An operation of the machine.
+    /// An operation on the state machine (the lock table), as bytes.
     Table(Payload),
-    /// A node becomes a member, reached at a port.
+    /// Makes a node a member, which is reached at this UDP port.
     Join(NodeNo, Port),
-    /// A node is no longer a member.
+    /// Removes a node from the members.
     Leave(NodeNo),
-    /// The machine is raised: from then on it has the operations of its second version.
+    /// Raises the machine: from then on it has the operations of its second version.
     Raise,
 }
 
-/// A client's request. Its number makes it take effect once.
+/// A client's request. It takes effect only if its number is above all earlier ones of its client, so at most once.
 #[derive(Debug, PartialEq, Eq, Drop)]
 pub struct Request {
     pub client: ClientNo,
@@ -80,10 +80,10 @@ pub struct Request {
     pub op: Op,
 }
 
-/// An entry of the list of commands.
+/// An entry of the replicated list of commands.
 #[derive(Debug, PartialEq, Eq, Drop)]
 pub enum Command {
-    /// Nothing: it fills a gap.
+    /// Does nothing; fills a gap in the list.
     Noop,
     Request(Request),
 }
@@ -101,7 +101,7 @@ impl Op {
         }
     }
 
-    /// Each part is in its range. The function does nothing.
+    /// Brings into a proof that each part is in its range. Does nothing at run time.
     pub fn facts(&self)
         ensures { IsOp self.now }
     {
@@ -133,7 +133,7 @@ impl Request {
         }
     }
 
-    /// Each part is in its range. The function does nothing.
+    /// Brings into a proof that each part is in its range. Does nothing at run time.
     pub fn facts(&self)
         ensures { IsRequest self.now }
     {
@@ -154,7 +154,7 @@ impl Command {
         }
     }
 
-    /// Each part is in its range. The function does nothing.
+    /// Brings into a proof that each part is in its range. Does nothing at run time.
     pub fn facts(&self)
         ensures { IsCommand self.now }
     {

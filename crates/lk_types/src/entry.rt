@@ -3,13 +3,13 @@ use crate::command::Command;
 use crate::position::Position;
 use crate::vote::Vote;
 
-/// What a node saves for a restart.
+/// A record that a node appends to its log, and replays when it restarts.
 #[derive(Drop)]
 pub enum Entry {
-    /// It promised, or began, this ballot.
+    /// The node promised this ballot, or began it as leader: it votes in no lower one.
     Promise(RealBallot),
-    /// It voted.
+    /// The node accepted this command at this position in this ballot.
     Vote(Vote),
-    /// It learned the command of a position.
+    /// The node learned that this command is chosen at this position.
     Decided(Position, Command),
 }

@@ -4,7 +4,7 @@ ghost use Rattle.lk_types.specs.Ranges.{IsTotal};
 use crate::limits::MAX_COUNT;
 use std::marker::Model;
 
-/// How many positions are executed, from 0 to 2^48.
+/// How many positions are executed, or a position with 0 for none: from 0 to 2^48.
 #[derive(Clone, Copy, Debug, PartialEq, Eq)]
 pub struct Executed {
     value: u64,

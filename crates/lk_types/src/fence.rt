@@ -4,7 +4,7 @@ ghost use Rattle.lk_types.specs.Ranges.{IsCount};
 use crate::limits::MAX_COUNT;
 use std::marker::Model;
 
-/// A fence: the count of the name's grants up to this holder's, from 1 to 2^48.
+/// A fencing token: the number of a name's grant, one higher each time the free name is granted, from 1 to 2^48.
 #[derive(Clone, Copy, Debug, PartialEq, Eq)]
 pub struct Fence {
     value: u64,

@@ -20,7 +20,7 @@ pub enum GenesisFault {
 }
 
 impl GenesisFault {
-    /// The number of this fault.
+    /// Returns the number of this fault, 1 to 4.
     pub fn number(self) -> u8
         ensures { result ≡ fault_number self }
     {
@@ -40,7 +40,7 @@ pub struct Genesis {
 impl Genesis {
     ghost use Rattle.lk_types.specs.Geneses.{IsGenesis};
 
-    /// The genesis, or why it is invalid.
+    /// Returns the genesis of these parts, or the first fault that applies.
     pub fn of(cluster: u64, alpha: u8, members: &[Member]) -> Result<Genesis, GenesisFault>
         ensures ok { IfOk result (λ g. (g.cluster ≡ cluster) × (g.alpha ≡ alpha) × (g.members ≡ members.now)) }
         ensures fault { MatchResult result (λ _. genesis_fault alpha members.now ≡ None)
@@ -78,7 +78,7 @@ impl Genesis {
         }
     }
 
-    /// Each part is in its range, and the members rise by node. The function does nothing.
+    /// Brings into a proof that each part is in its range, and the members rise by node. Does nothing at run time.
     pub fn facts(&self)
         ensures { IsGenesis self.now }
     {

@@ -8,7 +8,7 @@ pub const MAX_NODE: u32 = 1 << 31;
 pub const MAX_CLIENT: u16 = 256;
 /// The last UDP port.
 pub const MAX_PORT: u16 = 65_535;
-/// How many positions ahead of the executed ones the members are known.
+/// The greatest alpha: how many positions ahead of the executed ones the members are known.
 pub const MAX_ALPHA: u8 = 16;
 /// Members of a position, of which any four are a majority.
 pub const MAX_MEMBERS: usize = 7;
@@ -16,7 +16,7 @@ pub const MAX_MEMBERS: usize = 7;
 pub const MAX_PAYLOAD: usize = 64;
 /// Names in a table.
 pub const MAX_NAMES: usize = 512;
-/// Clients that share a name: their numbers are in an array of fixed size.
+/// Clients that share a name at once: their numbers are in an array of fixed size.
 pub const MAX_SHARERS: u8 = 8;
 /// Bytes of a name: with its length, a fence and the op it fits a payload.
 pub const MAX_NAME: usize = 32;
@@ -32,5 +32,5 @@ pub const MAX_DATAGRAM: usize = 8192;
 pub const MAX_MACHINE: usize = 36_000;
 /// Bytes of a Base including its length field, and so of the snapshot in it.
 pub const MAX_BASE: usize = 48 * 1024;
-/// The greatest length that an incomplete entry may state: a greater one is damage.
+/// The greatest length that a torn entry at the end of a file may state; a greater one is damage.
 pub const MAX_TORN: usize = 64 * 1024;

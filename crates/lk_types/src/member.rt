@@ -16,13 +16,13 @@ pub struct Member {
 }
 
 impl Member {
-    /// Each part is in its range. The function does nothing.
+    /// Brings into a proof that each part is in its range. Does nothing at run time.
     pub fn facts(self)
         ensures { IsMember self }
     {}
 }
 
-/// 1 to 7 members, rising by node.
+/// A set of 1 to 7 members, listed by rising node number.
 #[derive(Clone, Debug, PartialEq, Eq, Drop)]
 pub struct Members {
     list: ArrayVec<Member, MAX_MEMBERS>,
@@ -42,7 +42,7 @@ impl Model for Members {
     ghost inverse = { λ xs. record { list = record { items = xs } } };
 }
 
-// Whether the nodes rise strictly.
+// Returns whether each node number is above the one before.
 fn are_rising(members: &[Member]) -> bool
     ensures { result ≡ members_rise 0 members.now }
 {
@@ -78,7 +78,7 @@ impl Members {
         self.list.as_slice()
     }
 
-    /// Each member is in its ranges, and they rise by node. The function does nothing.
+    /// Brings into a proof that each member is in its range, and that they rise by node. Does nothing at run time.
     pub fn facts(&self)
         ensures members { AreMembers self.now }
         ensures ranges { AllByRecursion IsMember self.now }

@@ -8,8 +8,8 @@ use crate::viewing::message::MessageRef;
 use crate::viewing::view;
 use std::marker::Model;
 
-/// The bytes of a datagram, and what `view` returns of them: so they are viewed once, where they arrive. A contract
-/// sees the bytes.
+/// The bytes of a datagram with the result of `view`, so that they are parsed only once, on arrival. A contract sees
+/// the bytes.
 #[derive(Drop)]
 pub struct Datagram<'a> {
     bytes: &'a [u8],
@@ -28,7 +28,7 @@ impl<'a> Model for Datagram<'a> {
 }
 
 impl<'a> Datagram<'a> {
-    /// A datagram of these bytes, which may be any.
+    /// Parses the bytes, which need not spell a message, and keeps them with the result.
     pub fn of(bytes: &'a [u8]) -> Datagram<'a>
         ensures { result ≡ bytes.now }
     {
@@ -46,9 +46,9 @@ impl<'a> Datagram<'a> {
     /// The message that the bytes spell, in place, as `view` returns it. The bytes are bad exactly if they spell no
     /// message.
     pub fn message(&self) -> Result<&MessageRef<'a>, Bad>
-        // What is viewed is spelled there.
+        // A returned message is spelled by the bytes.
         ensures found { IfOk result (λ m. Spells (shown m.now) self.now) }
-        // What is spelled there is viewed.
+        // If the bytes spell a message, it is returned.
         ensures only { (m : Message) → Spells m self.now → IsOkAnd result (λ r. shown r.now ≡ m) }
         // Each slice is at its place in the bytes.
         ensures places { IfOk result (λ m. LieAtTheirPlaces (shown m.now).content self.now) }

@@ -1,4 +1,5 @@
-//! Viewing bytes as a message: nothing is copied, and no memory is taken. To read a message is to copy a view of it.
+//! Parsing a datagram: `view` does it in place, without copying or allocating, and `read` copies such a view. Each
+//! `read_` function returns a part of the message and the bytes after it, or `None` if the bytes do not begin with one.
 
 ghost use Rattle.std.specs.Prelude.{◌≡◌, ◌⊎◌, List, ℕ, Ok, Err, IfOk, IsOkAnd};
 ghost use Rattle.lk_messages.specs.declared.message.Message.{Message};
@@ -176,7 +177,7 @@ fn read_lead(bytes: &[u8]) -> Option<(NodeMessageRef<'_>, &[u8])>
     None
 }
 
-// A node's message, by its kind.
+// Reads the fields of a node's message of this kind. `None` also for a kind that no node sends.
 #[tactic(auto, unfolding(lk_messages::specs::Reading::node_of, lk_messages::specs::Reading::small_of))]
 fn node_of(kind: u8, bytes: &[u8]) -> Option<(NodeMessageRef<'_>, &[u8])>
     ensures { Finds (λ x. (shown_node x.0, x.1.now)) result (node_of kind bytes.now) }
@@ -198,7 +199,7 @@ fn node_of(kind: u8, bytes: &[u8]) -> Option<(NodeMessageRef<'_>, &[u8])>
     }
 }
 
-// The kind, the cluster and the sender.
+// Reads the header, and returns the kind, the cluster, the sender and the bytes after it.
 #[tactic(auto, unfolding(lk_messages::specs::Reading::read_header))]
 fn read_header(bytes: &[u8]) -> Option<(u8, u64, u32, &[u8])>
     ensures { Finds (λ x. ((x.0, (x.1, x.2)), x.3.now)) result (read_header bytes.now) }
@@ -214,7 +215,7 @@ fn read_header(bytes: &[u8]) -> Option<(u8, u64, u32, &[u8])>
     }
 }
 
-// A client's request, which no node sends.
+// Reads a client's request, whose sender must be 0.
 #[tactic(auto, unfolding(lk_messages::specs::Reading::read_asked))]
 fn read_asked(sender: u32, bytes: &[u8]) -> Option<(ContentRef<'_>, &[u8])>
     ensures { Finds (λ x. (shown_content x.0, x.1.now)) result (read_asked sender bytes.now) }
@@ -227,7 +228,7 @@ fn read_asked(sender: u32, bytes: &[u8]) -> Option<(ContentRef<'_>, &[u8])>
     None
 }
 
-// What follows the header.
+// Reads what follows the header: a request if the kind is 9, otherwise a message of the node `sender`.
 #[tactic(auto, unfolding(lk_messages::specs::Reading::content_of))]
 fn content_of(kind: u8, sender: u32, bytes: &[u8]) -> Option<(ContentRef<'_>, &[u8])>
     ensures { Finds (λ x. (shown_content x.0, x.1.now)) result (content_of kind sender bytes.now) }
@@ -242,7 +243,7 @@ fn content_of(kind: u8, sender: u32, bytes: &[u8]) -> Option<(ContentRef<'_>, &[
     Some((ContentRef::Node(node, message), rest))
 }
 
-// All of the bytes.
+// Reads a message that takes up all of the bytes.
 #[tactic(auto, unfolding(lk_messages::specs::Reading::read_message))]
 fn all_of(bytes: &[u8]) -> Option<MessageRef<'_>>
     ensures { Finds shown result (all_of bytes.now) }
@@ -257,12 +258,12 @@ fn all_of(bytes: &[u8]) -> Option<MessageRef<'_>>
     Some(MessageRef { cluster, content })
 }
 
-/// The message that the bytes spell, in place: its votes, its commands, its request and its piece of a snapshot are
-/// slices of the bytes. The bytes are bad exactly if they spell no message.
+/// Parses the bytes in place: the votes, commands, request or piece of a snapshot in the message are slices of the
+/// bytes. Fails exactly if the bytes spell no message.
 pub fn view(bytes: &[u8]) -> Result<MessageRef<'_>, Bad>
-    // What is viewed is spelled there.
+    // A returned message is spelled by the bytes.
     ensures found { IfOk result (λ m. Spells (shown m) bytes.now) }
-    // What is spelled there is viewed.
+    // If the bytes spell a message, it is returned.
     ensures only { (m : Message) → Spells m bytes.now → IsOkAnd result (λ r. shown r ≡ m) }
     // Each slice is at its place in the bytes.
     ensures places { IfOk result (λ m. LieAtTheirPlaces (shown m).content bytes.now) }
@@ -273,11 +274,11 @@ pub fn view(bytes: &[u8]) -> Result<MessageRef<'_>, Bad>
     Ok(message)
 }
 
-/// The message that the bytes spell.
+/// Parses the bytes into a message that owns its parts.
 pub fn read(alloc: Global, bytes: &[u8]) -> Result<Message, ReadFault>
-    // What is read is spelled there.
+    // A returned message is spelled by the bytes.
     ensures found { IfOk result (λ m. Spells m bytes.now) }
-    // What is spelled there is read, unless it is out of memory.
+    // If the bytes spell a message, it is returned, unless memory runs out.
     ensures only { (m : Message) → Spells m bytes.now → (result ≡ Ok m) ⊎ (result ≡ Err ReadFault.NoMemory) }
     // The bytes are bad exactly if they spell no message.
     ensures bad { result ≡ Err ReadFault.Bad → (m : Message) → Spells m bytes.now → ⊥ }

@@ -1,3 +1,5 @@
+// Writing a message as a datagram. Each `put_` function appends one part of it; the clauses `room` bound the reserved
+// bytes that it uses.
 ghost use Rattle.std.specs.Prelude.{◌≡◌, ◌<◌, ◌+◌, ◌*◌, ◌++◌, length, OnOk, OnErr};
 ghost use Rattle.lk_fields.specs.Rooms.{UsesRoom, mark_room, command_room, vote_room};
 ghost use Rattle.lk_wire.specs.Rooms.{header_room, node_fields_room, fields_room};
@@ -90,7 +92,7 @@ fn put_part(out: &mut BytesMut, value: &Part) -> Result<(), AllocError>
     out.put_slice(bytes)
 }
 
-// The tag of a message's kind.
+// Returns the kind byte of a node's message. Kind 9 is a client's request.
 fn kind_of(message: &NodeMessage) -> u8
     ensures { result ≡ node_kind message.now }
 {
@@ -150,6 +152,7 @@ fn put_node_fields(out: &mut BytesMut, message: &NodeMessage) -> Result<(), Allo
     }
 }
 
+// Appends the header: the letters LK, version 1, the kind, the cluster, and the sender, which is 0 for a client.
 fn put_header(out: &mut BytesMut, kind: u8, cluster: u64, sender: u32) -> Result<(), AllocError>
     ensures ok { OnOk result (out.new.items ≡ out.old.items ++ header kind cluster sender) }
     ensures room { UsesRoom result out.old.spare out.new.spare header_room }
@@ -179,7 +182,7 @@ fn put_message(out: &mut BytesMut, message: &Message) -> Result<(), AllocError>
 // The length of a header: two letters and the version, the kind, the cluster and the sender.
 const HEADER_ROOM: usize = 3 + 1 + 8 + 4;
 
-// The most bytes that the fields of a message take.
+// Returns how many bytes to reserve for the fields of a message: an upper bound.
 fn room_of(content: &Content) -> usize
     ensures { result ≡ fields_room content.now }
 {
@@ -202,7 +205,7 @@ fn room_of(content: &Content) -> usize
     }
 }
 
-/// Appends the canonical spelling of the message. It reserves its room once, before it begins; out of memory it
+/// Appends the message's spelling, its only valid encoding. It reserves memory once, before it begins; out of memory it
 /// appends nothing.
 pub fn write(message: &Message, out: &mut BytesMut) -> Result<(), NoMemory>
     ensures ok { OnOk result (out.new.items ≡ out.old.items ++ spelling message.now) }

@@ -1,4 +1,4 @@
--- How a call of a node ends it.
+-- How a call of a node ends it: which calls fail, by which fault, and what that leaves.
 use Rattle.std.specs.Prelude.{◌≡◌, ℕ, ◌⊎◌, false, true, List, Option, Some, None, Err}
 use Rattle.lk_simulated_disk.specs.Memory.{Memory}
 use Rattle.lk_entries.specs.Values.{HeaderValue}

@@ -1,4 +1,4 @@
--- What a world leaves of its nodes.
+-- The nodes as they are when their world ends.
 use Rattle.std.specs.Prelude.{Bool, true, false}
 use Rattle.lk_replica.specs.Behaviours.{Behaviour}
 use Rattle.lk_world_nodes.specs.Seats.{device_in}

@@ -1,4 +1,4 @@
--- What a call of a node leaves.
+-- The result of a node's call: what it noted and sent, and whether it goes on or was ended.
 use Rattle.std.specs.Prelude.{◌≡◌, ℕ, List, [], Option, Some, None, Ok}
 use Rattle.lk_simulated_disk.specs.Memory.{Memory}
 use Rattle.lk_disk.specs.Meters.{Passes, stopping}
@@ -30,7 +30,7 @@ pub record HasFallen {R : Type 0} (Ends : ℕ → Memory → Type 0) (s : Seat R
   pub no_notes : mine ≡ []
   pub no_batch : batch ≡ []
 
--- the fault has this number, and left this device
+-- the fault has this number, and the device is this one
 abbrev pub IsThis : ℕ → Memory → ℕ → Memory → Type 0
 IsThis number left n d = (n ≡ number) × (d ≡ left)
 

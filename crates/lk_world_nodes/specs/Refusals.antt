@@ -1,4 +1,4 @@
--- The numbers of the reasons for which an event is rejected, and why one is for the state of its node.
+-- The numbers of the reasons for which an event is rejected, and the reasons that lie in whether its node is up.
 use Rattle.std.specs.Prelude.{ℕ, List}
 use Rattle.lk_world_nodes.specs.Seats.{IsUp, IsDown, HasNo}
 use Rattle.lk_world_nodes.specs.declared.refused.Refused.{Refused}
@@ -15,13 +15,13 @@ refusal_number Forged = 20
 refusal_number WorldFull = 21
 refusal_number WorldMemory = 22
 
--- a node must be up
+-- the node must be up: why it is not
 abbrev pub NoneUp : {R : Type 0} → List (Seat R) → ℕ → Refused → Type 0
 NoneUp seats n NoSuchNode = HasNo seats n
 NoneUp seats n NotUp = IsDown seats n
 NoneUp seats n _ = ⊥
 
--- or down, where it is to restart
+-- the node must be down: why it is not
 abbrev pub NoRestart : {R : Type 0} → List (Seat R) → ℕ → Refused → Type 0
 NoRestart seats n NoSuchNode = HasNo seats n
 NoRestart seats n AlreadyUp = IsUp seats n

@@ -1,4 +1,4 @@
--- What of a call's datagrams is sent, up to an armed stop at one of them.
+-- Which datagrams of a call are sent, up to an armed stop at one of them.
 use Rattle.std.specs.Prelude.{◌≡◌, ℕ, zero, suc, ◌-◌, ◌&&◌, nat_lt, nat_le, length, take, List, [], ◌∷◌, Option, Some}
 use Rattle.std.specs.Prelude.{None, if◌then◌else◌}
 use Rattle.lk_disk.specs.declared.trap.Trap.{Trap}
@@ -19,6 +19,7 @@ counting b Off sends r = r
 counting b (Fail count) sends r = r
 counting b (Arm count bytes) sends r = b.with_trap (Arm (count - sends) bytes) r
 
+-- the replica after this many sends, if its armed trap stops it at none of them
 abbrev pub after_sends : {R : Type 0} → Behaviour R → ℕ → R → R
 after_sends b sends r = counting b (b.memory r).meter.trap sends r
 
@@ -31,13 +32,13 @@ SentUpTo b (Some bytes) r q all sent =
 
 -- ---- of the steps of a group
 
--- how many of this many are left after these
+-- this number less the length of the list, or 0
 abbrev pub left_over : {X : Type 0} → ℕ → List X → ℕ
 left_over k [] = k
 left_over zero (x ∷ xs) = zero
 left_over (suc k) (x ∷ xs) = left_over k xs
 
--- with this many datagrams sent, and no more
+-- these steps, with the first `k` of all their datagrams
 abbrev pub cut_short : ℕ → List Said → List Said
 cut_short k [] = []
 cut_short k (x ∷ xs) = (x.0, take k x.1) ∷ cut_short (left_over k x.1) xs

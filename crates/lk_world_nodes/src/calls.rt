@@ -19,7 +19,8 @@ use lk_replica::{MemoryReplica, Taken};
 use lk_types::{Genesis, NoMemory};
 use std::alloc::Global;
 
-/// The node, which is up, takes an input. If its replica ends, it goes down.
+/// Gives an input to the node, which is up, and returns what it noted and sent. If its replica fails, the node goes
+/// down, and the outcome says why; on `NoMemory` it has stopped, and kept none of its unsynced bytes.
 pub fn step<R: MemoryReplica>(
     alloc: Global,
     seat: &mut Seat<R>,
@@ -64,7 +65,7 @@ pub fn step<R: MemoryReplica>(
     }
 }
 
-/// The node, which is up, writes a snapshot of everything executed. If that fails, it goes down.
+/// Makes the node, which is up, write a snapshot of everything executed. If that fails, it goes down as in `step`.
 pub fn compact_node<R: MemoryReplica>(
     alloc: Global,
     seat: &mut Seat<R>,
@@ -101,7 +102,7 @@ pub fn compact_node<R: MemoryReplica>(
     }
 }
 
-/// The node restarts from its disks. If that fails, it stays down.
+/// Restarts the node from its disks, and returns what it noted. If that fails, it stays down as in `step`.
 pub fn revive<R: MemoryReplica>(
     alloc: Global,
     seat: &mut Seat<R>,

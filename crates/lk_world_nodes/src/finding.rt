@@ -1,4 +1,4 @@
-// Finding a node among those of a world.
+// Finds a node among those of a world.
 ghost use Rattle.std.specs.Prelude.{◌≡◌, None, IfOk, IfErr, IfSome};
 ghost use Rattle.lk_world_nodes.specs.Refusals.{NoneUp, NoRestart};
 ghost use Rattle.lk_world_nodes.specs.Seats.{IsSeatOf, IsUpAt, IsDownAt, HasNo};
@@ -7,7 +7,7 @@ use crate::refused::Refused;
 use crate::seat::{Life, Seat};
 use lk_types::NodeNo;
 
-/// The place of the node of this number.
+/// Returns the place of the node of this number in `seats`, or `None` if it was never started.
 pub fn find<R: Drop>(seats: &[Seat<R>], number: NodeNo) -> Option<usize>
     ensures some { IfSome result (λ i. IsSeatOf seats.now i number) }
     ensures none { result ≡ None → HasNo seats.now number }
@@ -20,7 +20,7 @@ pub fn find<R: Drop>(seats: &[Seat<R>], number: NodeNo) -> Option<usize>
     None
 }
 
-/// The place of the node of this number, which is up.
+/// Returns the place of the node of this number, which must be up: else `NoSuchNode` or `NotUp`.
 pub fn find_up<R: Drop>(seats: &[Seat<R>], number: NodeNo) -> Result<usize, Refused>
     ensures ok { IfOk result (λ i. IsUpAt seats.now i number) }
     ensures err { IfErr result (λ e. NoneUp seats.now number e) }
@@ -34,7 +34,7 @@ pub fn find_up<R: Drop>(seats: &[Seat<R>], number: NodeNo) -> Result<usize, Refu
     }
 }
 
-/// The place of the node of this number, which is down.
+/// Returns the place of the node of this number, which must be down: else `NoSuchNode` or `AlreadyUp`.
 pub fn find_down<R: Drop>(seats: &[Seat<R>], number: NodeNo) -> Result<usize, Refused>
     ensures ok { IfOk result (λ i. IsDownAt seats.now i number) }
     ensures err { IfErr result (λ e. NoRestart seats.now number e) }

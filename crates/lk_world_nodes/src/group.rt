@@ -1,4 +1,4 @@
-// A node takes several inputs together: it syncs once for all of them.
+// Gives several inputs to a node as one group: it syncs once for all of them.
 ghost use Rattle.std.specs.Prelude.{◌≡◌, ◌⊎◌, [], map, IfOk, OnErr};
 ghost use Rattle.std.specs.List.{AllByRecursion};
 ghost use Rattle.lk_simulated_disk.specs.Memory.{disk_of};
@@ -23,17 +23,17 @@ use lk_replica::{Datagram, MemoryReplica, Step, TakenAll};
 use lk_types::NoMemory;
 use std::alloc::Global;
 
-/// The result of a node's group: its steps, what they sent, and how it ended the node, if it did.
+/// The result of a node's group: its steps, what they sent in order, and how it ended the node, if it did.
 #[derive(Drop)]
 pub struct GroupOutcome {
     pub steps: Vec<Step>,
     pub sent: Vec<Datagram>,
     pub ended: Option<End>,
-    // it has reached an armed stop, for this many bytes, which is still to be carried out
+    // if the node has reached an armed stop, its number of bytes; the caller carries it out with `carry_out_stop`
     pub stop: Option<usize>,
 }
 
-// A node that has fallen has taken no step.
+// Returns the result of a group in which a fault ended the node: it has no steps.
 fn fallen(alloc: Global, outcome: Outcome) -> GroupOutcome
     ensures steps { result.steps.items ≡ [] }
     ensures sent { result.sent ≡ outcome.sent }
@@ -48,7 +48,8 @@ fn fallen(alloc: Global, outcome: Outcome) -> GroupOutcome
     }
 }
 
-/// The node, which is up, takes the inputs together. If its replica ends, it goes down.
+/// Gives the inputs to the node, which is up, as one group. If its replica fails, the node goes down, and nothing of
+/// the group was sent.
 pub fn step_all<R: MemoryReplica>(
     alloc: Global,
     seat: &mut Seat<R>,

@@ -1,4 +1,4 @@
-// What a world leaves of its nodes.
+// The nodes as they are when their world ends.
 ghost use Rattle.std.specs.Prelude.{◌≡◌, ◌≤◌, map, true, false, IfOk};
 ghost use Rattle.lk_world_nodes.specs.Left.{left_of, is_up};
 
@@ -8,7 +8,7 @@ use lk_simulated_disk::MemoryDisk;
 use lk_types::{NoMemory, NodeNo};
 use std::alloc::Global;
 
-/// A node as a world leaves it.
+/// A node at the end of its world, with its disks as they are, synced or not.
 #[derive(Drop)]
 pub struct LeftNode {
     pub number: NodeNo,
@@ -16,7 +16,7 @@ pub struct LeftNode {
     pub device: MemoryDisk,
 }
 
-// A node as its world leaves it.
+// Takes the disks out of a node, up or down.
 fn left<R: MemoryReplica>(seat: Seat<R>) -> LeftNode
     ensures { result ≡ left_of R.behaves seat }
 {
@@ -35,7 +35,7 @@ fn left<R: MemoryReplica>(seat: Seat<R>) -> LeftNode
     }
 }
 
-/// The nodes as their world leaves them.
+/// Returns the nodes with their disks, in order. Fails only when out of memory.
 pub fn all_left<R: MemoryReplica>(
     alloc: Global,
     seats: Vec<Seat<R>>,

@@ -1,4 +1,5 @@
-//! A node of a world, up or down, with its disks in memory: what each call of it notes and sends, and how one ends it.
+//! The nodes of a simulated world, up or down, with disks in memory: what each call of one notes and sends, and how it
+//! may end the node.
 #![tactic(auto)]
 
 mod calls;

@@ -1,4 +1,4 @@
-// Answers and passes are noted as they are sent.
+// Makes the notes of the answers and passes among datagrams.
 ghost use Rattle.std.specs.Prelude.{◌≡◌, ◌++◌, [], ◌∷◌, List, OnOk};
 ghost use Rattle.lk_node_io.specs.declared.note.Note.{Note as NoteValue};
 ghost use Rattle.lk_world_nodes.specs.Told.{told_by, listed, Tells};
@@ -9,7 +9,7 @@ use lk_types::NoMemory;
 use lk_wire::{Content, Message, NodeMessage, read};
 use std::alloc::Global;
 
-// The note of an answer or a pass.
+// Returns the note of an Answer or a Passed; any other message has none.
 fn note_of(message: &Message) -> Option<Note>
     ensures { told_by message.now.content ≡ listed result }
 {
@@ -30,6 +30,7 @@ fn add_note(alloc: Global, notes: &mut Vec<Note>, datagram: &Datagram) -> Result
         × Tells (datagram.now ∷ []) more) }
 {
     let Ok(message) = read(alloc, &datagram.bytes) else {
+        // A node sends only datagrams that parse, so it was memory that the read lacked.
         return Err(NoMemory);
     };
     if let Some(note) = note_of(&message) {
@@ -38,7 +39,7 @@ fn add_note(alloc: Global, notes: &mut Vec<Note>, datagram: &Datagram) -> Result
     Ok(())
 }
 
-/// Appends the notes of the datagrams, in order.
+/// Appends the notes of the answers and passes among the datagrams, in order.
 pub fn add_notes(alloc: Global, notes: &mut Vec<Note>, batch: &[Datagram]) -> Result<(), NoMemory>
     ensures { OnOk result ((more : List NoteValue) × (notes.new.items ≡ notes.old.items ++ more)
         × Tells batch.now more) }

@@ -1,4 +1,4 @@
-// What a call of a node leaves.
+// The result of a node's call, and how a fault or an armed stop ends the node.
 ghost use Rattle.std.specs.Prelude.{◌≡◌, true, false, IfOk, OnErr};
 ghost use Rattle.lk_simulated_disk.specs.Memory.{disk_of};
 ghost use Rattle.lk_agreement.specs.Nodes.{View};
@@ -28,11 +28,11 @@ pub struct Outcome {
     pub notes: Vec<Note>,
     pub sent: Vec<Datagram>,
     pub ended: Option<End>,
-    // it has reached an armed stop, for this many bytes, which is still to be carried out
+    // if the node has reached an armed stop, its number of bytes; the caller carries it out with `carry_out_stop`
     pub stop: Option<usize>,
 }
 
-/// The node goes down if it has reached an armed stop for this many bytes.
+/// Stops the node if `at` is the number of bytes of an armed stop; each disk keeps up to so many unsynced bytes.
 pub fn carry_out_stop<R: MemoryReplica>(alloc: Global, seat: &mut Seat<R>, at: Option<usize>)
     ensures number { seat.new.number ≡ seat.old.number }
     ensures fits { (h : History) (w : View) → SeatFits R.Shows (disks_by R.behaves) R.meaning h w seat.old
@@ -44,7 +44,7 @@ pub fn carry_out_stop<R: MemoryReplica>(alloc: Global, seat: &mut Seat<R>, at: O
     }
 }
 
-// Whether the fault is "out of memory": in memory a letter is lost for no other reason.
+// Whether the node ran out of memory. A failed send counts: on a post in memory a send fails for no other reason.
 fn is_wanting(fault: &ReplicaFault, device: &MemoryDisk) -> bool
     ensures no_want { result ≡ false → IsNoWant (fault_number fault.now) device.now }
     ensures want { result ≡ true → IsWant (fault_number fault.now) device.now }
@@ -56,9 +56,9 @@ fn is_wanting(fault: &ReplicaFault, device: &MemoryDisk) -> bool
         )
 }
 
-/// A fault leaves the node down, with the disks as they are; running out of memory stops it. Either way the trap is
-/// gone, and the device forgets that it was starved. If the fault is that of an armed stop, that is returned, and
-/// still to be carried out.
+/// Takes the node down after a fault, with the disks as they are, or stops it and returns `NoMemory` if it ran out of
+/// memory. Either way the trap is gone, and the device forgets that it was starved. If the fault is that of an armed
+/// stop, the result says so, and the caller carries it out.
 pub fn take_down<R: MemoryReplica>(
     alloc: Global,
     seat: &mut Seat<R>,
@@ -91,7 +91,7 @@ pub fn take_down<R: MemoryReplica>(
     })
 }
 
-// How a node ended: with an armed stop if it has reached one, or else with this fault.
+// Returns how a node ended: by the armed stop that it has reached, or else with this fault.
 fn ended_by(stop: Option<usize>, node: NodeNo, number: u8) -> End
     ensures { result ≡ end_by stop node number }
 {
@@ -101,7 +101,7 @@ fn ended_by(stop: Option<usize>, node: NodeNo, number: u8) -> End
     }
 }
 
-/// How a node ended that has reached an armed stop at a send, if it has.
+/// Returns how a node ended at a send: by the armed stop that it has reached there, if it has.
 pub fn ended_at(stop: Option<usize>, node: NodeNo) -> Option<End>
     ensures { result ≡ end_at stop node }
 {
@@ -111,8 +111,8 @@ pub fn ended_at(stop: Option<usize>, node: NodeNo) -> Option<End>
     }
 }
 
-/// Counts the sends of a call against an armed trap. If the node stops at one of them, that one and the later ones are
-/// not sent, and it returns for how many bytes.
+/// Counts the sends of a call against an armed trap. If the node stops at one of them, drops that datagram and the
+/// later ones from `sent`, and returns the number of bytes of the stop.
 pub fn count_sends<R: MemoryReplica>(replica: &mut R, sent: &mut Vec<Datagram>) -> Option<usize>
     ensures sends { SentUpTo R.behaves result replica.old replica.new sent.old.items sent.new.items }
 {

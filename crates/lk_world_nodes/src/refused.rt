@@ -23,7 +23,8 @@ pub enum Refused {
     /// 16 nodes were started, or there are more than 99,000 datagrams.
     #[error("the world is full")]
     WorldFull = 21,
-    /// Out of memory. A node that was stepping or restarting may have stopped, and kept none of its unsynced bytes.
+    /// Out of memory. A node that was stepping, compacting or restarting may have stopped, and kept none of its
+    /// unsynced bytes.
     #[error("no memory")]
     WorldMemory = 22,
 }

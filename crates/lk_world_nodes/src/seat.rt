@@ -18,21 +18,21 @@ use lk_types::NodeNo;
 use std::alloc::Global;
 use std::mem;
 
-/// A node is up, or down with its disks.
+/// Whether a node is up, as a replica, or down, with only its disks left.
 #[derive(Drop)]
 pub enum Life<R: Drop> {
     Up(R),
     Down(MemoryDisk),
 }
 
-/// A node that was started once.
+/// A node of a world from its first start on: its number, and whether it is up.
 #[derive(Drop)]
 pub struct Seat<R: Drop> {
     pub number: NodeNo,
     pub life: Life<R>,
 }
 
-// Moves the node out of the seat, which is left with empty disks.
+// Takes the replica or the device out of the seat, and leaves it down with empty disks.
 fn vacate<R: Drop>(alloc: Global, seat: &mut Seat<R>) -> Life<R>
     ensures life { result ≡ seat.old.life }
     ensures number { seat.new.number ≡ seat.old.number }
@@ -40,7 +40,7 @@ fn vacate<R: Drop>(alloc: Global, seat: &mut Seat<R>) -> Life<R>
     mem::replace(&mut seat.life, Life::Down(MemoryDisk::new(alloc)))
 }
 
-/// Moves the device of the node out, which is left with empty disks.
+/// Takes the device out of the node, up or down, and leaves it down with empty disks.
 pub fn take_device<R: MemoryReplica>(alloc: Global, seat: &mut Seat<R>) -> MemoryDisk
     ensures number { seat.new.number ≡ seat.old.number }
     ensures is { result ≡ device_in R.behaves seat.old.life }
@@ -55,7 +55,7 @@ pub fn take_device<R: MemoryReplica>(alloc: Global, seat: &mut Seat<R>) -> Memor
     }
 }
 
-/// The node goes down, and its disks keep up to `x` and `y` of their unsynced bytes.
+/// Stops the node; its disks A and B keep up to `x` and `y` of their unsynced bytes. A pending trap is gone.
 pub fn stop<R: MemoryReplica>(alloc: Global, seat: &mut Seat<R>, x: usize, y: usize)
     ensures number { seat.new.number ≡ seat.old.number }
     ensures fits { (h : History) (w : View) → SeatFits R.Shows (disks_by R.behaves) R.meaning h w seat.old
@@ -68,7 +68,7 @@ pub fn stop<R: MemoryReplica>(alloc: Global, seat: &mut Seat<R>, x: usize, y: us
     seat.life = Life::Down(device);
 }
 
-/// Sets the trap of the node's device.
+/// Sets the trap of the node's device, up or down, in place of a pending one.
 pub fn set_trap<R: MemoryReplica>(seat: &mut Seat<R>, trap: Trap)
     ensures number { seat.new.number ≡ seat.old.number }
     ensures fits { (h : History) (w : View) → SeatFits R.Shows (disks_by R.behaves) R.meaning h w seat.old
@@ -81,7 +81,7 @@ pub fn set_trap<R: MemoryReplica>(seat: &mut Seat<R>, trap: Trap)
     }
 }
 
-/// How many bytes the node's disks have, synced or not.
+/// Returns how many bytes the disks A and B have, synced or not.
 pub fn lengths<R: MemoryReplica>(seat: &Seat<R>) -> (usize, usize)
     ensures a { result.0 ≡ length (contents (disks_of (disks_by R.behaves) seat.now.life A)) }
     ensures b { result.1 ≡ length (contents (disks_of (disks_by R.behaves) seat.now.life B)) }

@@ -29,7 +29,7 @@ impl<'a> Model for RequestRef<'a> {
 }
 
 impl<'a> RequestRef<'a> {
-    // The request at the front of some bytes, and what stands after it.
+    // Reads the request at the start of the bytes in place, and returns it with the bytes after it.
     pub(crate) fn of(bytes: &'a [u8]) -> Option<(RequestRef<'a>, &'a [u8])>
         ensures { Finds (λ x. (x.0, x.1.now)) result (read_request bytes.now) }
     {
@@ -38,7 +38,7 @@ impl<'a> RequestRef<'a> {
         Some((RequestRef { bytes }, rest))
     }
 
-    /// The request.
+    /// Returns the request, parsed from its bytes.
     pub fn request(&self) -> Request
         ensures value { result ≡ self.now }
         ensures in_range { IsRequest self.now }
@@ -68,7 +68,7 @@ impl<'a> Model for CommandRef<'a> {
 }
 
 impl<'a> CommandRef<'a> {
-    // The command at the front of some bytes, and what stands after it.
+    // Reads the command at the start of the bytes in place, and returns it with the bytes after it.
     pub(crate) fn of(bytes: &'a [u8]) -> Option<(CommandRef<'a>, &'a [u8])>
         ensures { Finds (λ x. (x.0, x.1.now)) result (read_command bytes.now) }
     {
@@ -77,7 +77,7 @@ impl<'a> CommandRef<'a> {
         Some((CommandRef { bytes }, rest))
     }
 
-    /// The command.
+    /// Returns the command, parsed from its bytes.
     pub fn command(&self) -> Command
         ensures value { result ≡ self.now }
         ensures in_range { IsCommand self.now }
@@ -89,7 +89,7 @@ impl<'a> CommandRef<'a> {
     }
 }
 
-/// What an Accept proposes or an Accepted tells, in a datagram. A contract sees the vote.
+/// The vote that an Accept proposes or an Accepted reports, read in place. A contract sees the vote.
 #[derive(Drop)]
 pub struct VoteRef<'a> {
     position: Position,
@@ -106,7 +106,7 @@ impl<'a> Model for VoteRef<'a> {
 }
 
 impl<'a> VoteRef<'a> {
-    // A ballot, a position and a command, and what stands after them.
+    // Reads a ballot, a position and a command, and returns them as a vote with the bytes after them.
     #[tactic(auto, unfolding(lk_messages::specs::Reading::read_proposal))]
     pub(crate) fn of(bytes: &'a [u8]) -> Option<(VoteRef<'a>, &'a [u8])>
         ensures { Finds (λ x. (x.0, x.1.now)) result (read_proposal bytes.now) }
@@ -125,7 +125,7 @@ impl<'a> VoteRef<'a> {
         None
     }
 
-    /// The vote.
+    /// Returns the vote, with its command parsed from its bytes.
     pub fn vote(&self) -> Vote
         ensures value { result ≡ self.now }
         ensures in_range { IsVote self.now }

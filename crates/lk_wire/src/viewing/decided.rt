@@ -33,7 +33,7 @@ impl<'a> Model for Commands<'a> {
     ghost invariant = { λ c. AreCommands c.count c.bytes.now };
 }
 
-// What follows this many commands.
+// Returns the bytes after this many commands; `None` if there are fewer.
 fn end_of(count: u8, bytes: &[u8]) -> Option<&[u8]>
     ensures { Finds (λ x. x.now) result (past (many read_command count) bytes.now) }
 {
@@ -44,7 +44,7 @@ fn end_of(count: u8, bytes: &[u8]) -> Option<&[u8]>
     Some(rest)
 }
 
-// If the bytes are this many commands, there are that many, in their ranges. The function does nothing.
+// Proves that bytes that spell `count` commands yield a list of that length, with each in its range. Has no effect.
 fn facts_of(count: u8, bytes: &[u8])
     ensures count { AreCommands count bytes.now → length (commands_in count bytes.now) ≡ count }
     ensures in_range { AreCommands count bytes.now → AllByRecursion IsCommand (commands_in count bytes.now) }
@@ -53,7 +53,7 @@ fn facts_of(count: u8, bytes: &[u8])
 }
 
 impl<'a> Commands<'a> {
-    // This many commands, and what follows them.
+    // Reads this many commands in place, and returns them with the bytes after them.
     fn of(count: u8, bytes: &'a [u8]) -> Option<(Commands<'a>, &'a [u8])>
         ensures { Finds (λ x. (x.0, x.1.now)) result (many read_command count bytes.now) }
     {
@@ -62,7 +62,7 @@ impl<'a> Commands<'a> {
         Some((Commands { count, bytes }, rest))
     }
 
-    /// The same commands.
+    /// Returns another reference to the same commands.
     pub fn copy(&self) -> Commands<'a>
         ensures { result ≡ self.now }
     {
@@ -80,7 +80,7 @@ impl<'a> Commands<'a> {
         self.count as usize
     }
 
-    /// The commands after the first, if there is one, which is skipped.
+    /// Returns the commands after the first, which it does not read; `None` if there are none.
     pub fn skip(&self) -> Option<Commands<'a>>
         ensures some { IfSome result (λ others. (c : Command) × (self.now ≡ c ∷ others)) }
         ensures none { result ≡ None → self.now ≡ [] }
@@ -95,7 +95,7 @@ impl<'a> Commands<'a> {
         })
     }
 
-    /// The first of them, which is read, and the others.
+    /// Reads the first command, and returns it with the others; `None` if there are none.
     pub fn read(&self) -> Option<(Command, Commands<'a>)>
         ensures some { IfSome result (λ x. self.now ≡ x.0 ∷ x.1) }
         ensures none { result ≡ None → self.now ≡ [] }
@@ -113,7 +113,7 @@ impl<'a> Commands<'a> {
         Some((command, others))
     }
 
-    /// All of them, in order, as a list that owns them.
+    /// Copies all of them, in order, into a list.
     pub fn to_vec(&self, alloc: Global) -> Result<Vec<Command>, NoMemory>
         ensures { IfOk result (λ cs. cs.items ≡ self.now) }
     {
@@ -150,7 +150,7 @@ impl<'a> Model for DecidedRef<'a> {
 }
 
 impl<'a> DecidedRef<'a> {
-    // The Decided at the front of some bytes, and what stands after it.
+    // Reads the Decided at the start of the bytes in place, and returns it with the bytes after it.
     #[tactic(auto, unfolding(lk_messages::specs::Reading::read_decided, lk_messages::specs::Reading::read_commands))]
     pub(crate) fn of(bytes: &'a [u8]) -> Option<(DecidedRef<'a>, &'a [u8])>
         ensures { Finds (λ x. (x.0, x.1.now)) result (read_decided bytes.now) }
@@ -179,7 +179,8 @@ impl<'a> DecidedRef<'a> {
         &self.commands
     }
 
-    /// Each part is in its range, and no command is past the last position. The function does nothing.
+    /// Proves that each part is in its range and no command past the last position, for the caller's contract. Has no
+    /// effect.
     pub fn facts(&self)
         ensures { IsDecided self.now }
     {
@@ -187,7 +188,7 @@ impl<'a> DecidedRef<'a> {
         facts_of(self.commands.count, self.commands.bytes);
     }
 
-    /// The same Decided, owning its commands.
+    /// Copies the Decided, with its commands, into memory of its own.
     pub fn copy(&self, alloc: Global) -> Result<Decided, NoMemory>
         ensures { IfOk result (λ d. d ≡ self.now) }
     {

@@ -9,7 +9,7 @@ use lk_messages::{
 use lk_types::{Executed, NoMemory, NodeNo, Position, RealBallot};
 use std::alloc::Global;
 
-/// What a node sends, in a datagram: `NodeMessage`, with its votes, its commands and its bytes where they stand.
+/// A `NodeMessage` read in place: its votes, commands and bytes are slices of the datagram.
 #[derive(Drop)]
 pub enum NodeMessageRef<'a> {
     Prepare(RealBallot, Position),
@@ -26,16 +26,16 @@ pub enum NodeMessageRef<'a> {
     Lead(RealBallot, Executed),
 }
 
-/// What a datagram says, and who says it.
+/// The content of a datagram, read in place, and its sender.
 #[derive(Drop)]
 pub enum ContentRef<'a> {
-    /// A client asks. No node is its sender.
+    /// A client's request, which names no node as its sender.
     Request(RequestRef<'a>),
-    /// That node says so.
+    /// A message of that node.
     Node(NodeNo, NodeMessageRef<'a>),
 }
 
-/// A datagram of a cluster, in its bytes.
+/// A whole datagram, read in place: the number of its cluster, and its content.
 #[derive(Drop)]
 pub struct MessageRef<'a> {
     pub cluster: u64,
@@ -43,7 +43,7 @@ pub struct MessageRef<'a> {
 }
 
 impl<'a> NodeMessageRef<'a> {
-    /// The same, which owns what it holds.
+    /// Copies it, with its slices, into memory of its own.
     pub fn copy(&self, alloc: Global) -> Result<NodeMessage, NoMemory>
         ensures { IfOk result (λ m. m ≡ shown_node self.now) }
     {
@@ -65,7 +65,7 @@ impl<'a> NodeMessageRef<'a> {
 }
 
 impl<'a> ContentRef<'a> {
-    /// The same, which owns what it holds.
+    /// Copies it, with its slices, into memory of its own.
     pub fn copy(&self, alloc: Global) -> Result<Content, NoMemory>
         ensures { IfOk result (λ c. c ≡ shown_content self.now) }
     {
@@ -77,7 +77,7 @@ impl<'a> ContentRef<'a> {
 }
 
 impl<'a> MessageRef<'a> {
-    /// The message, which owns what it holds.
+    /// Copies it, with its slices, into memory of its own.
     pub fn copy(&self, alloc: Global) -> Result<Message, NoMemory>
         ensures { IfOk result (λ m. m ≡ shown self.now) }
     {
