@@ -16,7 +16,7 @@ use Rattle.lk_agreement.proofs.Histories.{below_self, filtered_may_promise}
 use Rattle.lk_acceptor.specs.AcceptorValue.{AcceptorValue}
 use Rattle.lk_acceptor.specs.Answers.{Refuses, AnswersPrepare, AnswersAccept}
 use Rattle.lk_acceptor.specs.States.{IsOrdered, greater, with_vote, acceptor_with, with_written}
-use Rattle.lk_entries.specs.VoteLists.{votes_with}
+use Rattle.lk_store_format.specs.VoteLists.{votes_with}
 use Rattle.lk_acceptor.specs.VoteLists.{votes_from}
 use Rattle.lk_acceptor.specs.declared.response.Response.{Response}
 use Rattle.lk_acceptor.proofs.Keeping.{still_kept, takes_vote}

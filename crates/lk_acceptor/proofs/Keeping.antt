@@ -14,8 +14,8 @@ use Rattle.lk_agreement.proofs.Histories.{at_most_trans, below_at_most, below_se
 use Rattle.lk_agreement.proofs.Histories.{filter_from, filtered_takes_snapshot, only}
 use Rattle.lk_acceptor.specs.Answers.{Agrees}
 use Rattle.lk_acceptor.specs.States.{IsOrdered, with_vote, without_votes_to}
-use Rattle.lk_entries.specs.VoteLists.{votes_with}
-use Rattle.lk_entries.proofs.VoteParts.{rising_parts}
+use Rattle.lk_store_format.specs.VoteLists.{votes_with}
+use Rattle.lk_store_format.proofs.VoteParts.{rising_parts}
 use Rattle.lk_acceptor.proofs.Rising.{first, rising_all, rising_with, above_rises}
 
 -- ---- the votes with one more

@@ -9,8 +9,8 @@ use Rattle.lk_types.specs.declared.vote.Vote.{Vote}
 use Rattle.lk_types.specs.Votes.{are_votes_above}
 use Rattle.lk_messages.specs.Values.{are_votes_from}
 use Rattle.lk_agreement.proofs.Histories.{cons_cases, contains_more, filter_from, filter_passes_at}
-use Rattle.lk_entries.specs.VoteLists.{votes_with}
-use Rattle.lk_entries.proofs.VoteParts.{rising_parts}
+use Rattle.lk_store_format.specs.VoteLists.{votes_with}
+use Rattle.lk_store_format.proofs.VoteParts.{rising_parts}
 use Rattle.lk_acceptor.specs.VoteLists.{votes_from, votes_above}
 
 pub first : (x : Vote) (xs : List Vote) → Contains (x ∷ xs) x

@@ -2,7 +2,7 @@
 use Rattle.std.specs.Prelude.{ℕ, nat_lt, Contains, Option, Some, None, IsTrue, if◌then◌else◌}
 use Rattle.std.specs.List.{AllByRecursion}
 use Rattle.lk_types.specs.BallotValue.{BallotValue}
-use Rattle.lk_types.specs.Ballots.{IsAtMost, IsMark, is_below}
+use Rattle.lk_types.specs.Ballots.{IsAtMost, IsBallot, is_below}
 use Rattle.lk_types.specs.Ranges.{IsAlpha, IsTotal}
 use Rattle.lk_types.specs.Votes.{IsVote, are_votes_above}
 use Rattle.lk_types.specs.declared.entry.Entry.{Entry}
@@ -11,7 +11,7 @@ use Rattle.lk_types.specs.declared.vote.Vote.{Vote}
 use Rattle.lk_agreement.specs.Acceptors.{AcceptorState}
 use Rattle.lk_agreement.specs.Changes.{with_promise}
 use Rattle.lk_acceptor.specs.AcceptorValue.{AcceptorValue}
-use Rattle.lk_entries.specs.VoteLists.{votes_with}
+use Rattle.lk_store_format.specs.VoteLists.{votes_with}
 use Rattle.lk_acceptor.specs.VoteLists.{votes_above}
 
 -- the votes are above the snapshot, strictly rising by position, and none is in a ballot above the promised one
@@ -22,7 +22,7 @@ pub record IsOrdered (s : AcceptorState) : Type 0 where
 -- and each part is in its range
 pub record IsAcceptor (a : AcceptorValue) : Type 0 where
   pub alpha : IsAlpha a.alpha
-  pub promised : IsMark a.state.promised
+  pub promised : IsBallot a.state.promised
   pub snapshot_position : IsTotal a.state.snapshot_position
   pub votes : AllByRecursion IsVote a.state.votes
   pub kept : IsOrdered a.state

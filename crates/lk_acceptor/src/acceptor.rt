@@ -12,8 +12,8 @@ ghost use Rattle.lk_acceptor.specs.States.{IsOrdered, IsAcceptor, with_vote, wit
 
 use crate::response::Response;
 use crate::votes::{agree, forget_to, holds, lie_below, votes_from};
-use lk_entries::keep_vote;
 use lk_messages::{Nack, NodeMessage, Promise};
+use lk_store_format::keep_vote;
 use lk_types::{Ballot, Entry, Executed, NoMemory, Position, RealBallot, Vote};
 use std::alloc::Global;
 use std::marker::Model;

@@ -3,10 +3,10 @@ ghost use Rattle.std.specs.Prelude.{◌≡◌, ◌↔◌, nat_lt, Contains, IsTr
 ghost use Rattle.std.specs.List.{list_all};
 ghost use Rattle.lk_types.specs.declared.vote.Vote.{Vote as VoteValue};
 ghost use Rattle.lk_acceptor.specs.Answers.{Agrees};
-ghost use Rattle.lk_entries.specs.VoteLists.{AreRising};
+ghost use Rattle.lk_store_format.specs.VoteLists.{AreRising};
 ghost use Rattle.lk_acceptor.specs.VoteLists.{IsVoteAt, votes_from, votes_above, HasVoteFrom};
 
-use lk_entries::votes_below;
+use lk_store_format::votes_below;
 use lk_types::{Executed, NoMemory, Position, Vote};
 use std::alloc::Global;
 

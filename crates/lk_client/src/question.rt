@@ -2,7 +2,7 @@
 
 ghost use Rattle.std.specs.Prelude.{◌≡◌, ◌≤◌, ◌⊎◌, ◌↔◌, true, Some, IfOk, IfErr, OnErr, IfSome, IsSomeAnd};
 ghost use Rattle.lk_messages.specs.Grammar.{Spells};
-ghost use Rattle.lk_transport.specs.Hearing.{next_of};
+ghost use Rattle.lk_transport.specs.ReceiveBuffers.{next_of};
 ghost use Rattle.lk_client.specs.Questions.{asking, IsAsked, Hears, SendsOnce, Receives, Tries, Exchanges, IsTold};
 ghost use Rattle.lk_client.specs.Rules.{SendsOnly, Asks, Comes};
 ghost use Rattle.lk_client.specs.declared.reply.Reply.{Reply as ReplyValue};

@@ -17,7 +17,8 @@ use Rattle.lk_agreement.proofs.Histories.{cons_cases, contains_more, filter_from
 use Rattle.lk_node_io.specs.declared.note.Note.{Note}
 use Rattle.lk_node_io.specs.declared.note.Note.TheVariants as note
 use Rattle.lk_client.specs.declared.question.Question.{Question}
-use Rattle.lk_promise.specs.Promise.{is_reply, AreReplies, nothing_more, an_answer, a_pass, no_reply, is_told, AreTold}
+use Rattle.lk_guarantees.specs.Promise.{is_reply, AreReplies, nothing_more, an_answer, a_pass, no_reply, is_told}
+use Rattle.lk_guarantees.specs.Promise.{AreTold}
 use Rattle.lk_cluster.specs.Asking.{Tells, MayReach, HasAnswer}
 
 abbrev noted_as : ℕ → Answered → Note

@@ -18,7 +18,7 @@ use Rattle.lk_node_io.specs.declared.note.Note.{Note}
 use Rattle.lk_node_io.specs.declared.note.Note.TheVariants as note
 use Rattle.lk_client.specs.Questions.{IsAsked}
 use Rattle.lk_client.specs.declared.question.Question.{Question}
-use Rattle.lk_promise.specs.ExactlyOnce.{Asks, WasAnswered, AsksAfter, FollowsRule}
+use Rattle.lk_guarantees.specs.ExactlyOnce.{Asks, WasAnswered, AsksAfter, FollowsRule}
 use Rattle.lk_cluster.specs.Asking.{Carries, MayAsk, OnlyRunAsks, Run, AreRuns, notes_of}
 
 -- ---- the request that a datagram carries

@@ -7,11 +7,11 @@ use Rattle.lk_locks.specs.Meaning.{table_meaning}
 use Rattle.lk_locks.specs.Packed.{IsTableText}
 use Rattle.lk_node.specs.Histories.{Genesis}
 use Rattle.lk_node.specs.Leavings.{header_of, DisksFit}
-use Rattle.lk_service.specs.Revivals.{IsNotTakenUp}
+use Rattle.lk_node_process.specs.Revivals.{IsRestartRefused}
 use Rattle.lk_sim.specs.Traces.{happened}
 use Rattle.lk_world_nodes.specs.declared.seat.Life.TheVariants.{Down}
 use Rattle.lk_sim.proofs.Networks.{holds_down}
-use Rattle.lk_promise.specs.ComingBack.{IsExcused}
+use Rattle.lk_guarantees.specs.ComingBack.{IsExcused}
 use Rattle.lk_cluster.specs.Clusters.{Cluster, Network, ServerStands, IsReachable, server_disks}
 use Rattle.lk_cluster.specs.Continuing.{node_of, HasNode}
 use Rattle.lk_cluster.proofs.Keeping.{Unforged, reachable_sound}
@@ -30,7 +30,7 @@ pub comes_back : (May : Network) (Metered tells : Type 0) → Unforged May → (
     → (genesis : Genesis) (cluster : Cluster) → IsReachable May Metered tells genesis cluster
     → (place n : ℕ) (device : Memory) → HasNode cluster place n (Down device)
     → (disks : Side → Disk) → ((s : Side) → disk_of device s ≡ disks s) → (number : ℕ) (left : Side → Disk)
-    → IsNotTakenUp table_meaning IsTableText Honest disks (header_of cluster.genesis n) number left
+    → IsRestartRefused table_meaning IsTableText Honest disks (header_of cluster.genesis n) number left
     → IsExcused disks number
 comes_back May Metered tells unforged Honest honest genesis cluster all place n device at disks
     same number left refused =

@@ -3,7 +3,7 @@ use Rattle.std.proofs.Common.{◌≡◌, ℕ, zero, suc, true, false, Option, So
 use Rattle.std.proofs.Common.{ap, sym, ◌∙◌, subst, inl, inr, append_assoc, append-nil, arith}
 use Rattle.std.proofs.lemmas.List.{map-append}
 use Rattle.std.specs.declared.net.socket_addr.SocketAddr.{SocketAddr}
-use Rattle.lk_disk.specs.Disk.{Disk, kept_by}
+use Rattle.lk_disk.specs.Disk.{Disk, after_stop}
 use Rattle.lk_simulated_disk.specs.Memory.{Memory, disk_of}
 use Rattle.lk_disk.specs.declared.device.Side.{Side}
 use Rattle.lk_locks.specs.Meaning.{table_meaning}
@@ -12,12 +12,13 @@ use Rattle.lk_node_io.specs.declared.note.Note.{Note}
 use Rattle.lk_node.specs.Histories.{Genesis, Datagram}
 use Rattle.lk_replica.specs.ReplicaValue.{ReplicaValue}
 use Rattle.lk_server.specs.ProbeHandling.{HandlesProbes}
-use Rattle.lk_served_replica.specs.Showing.{IsShown}
+use Rattle.lk_replica_interface.specs.Showing.{IsShown}
 use Rattle.lk_server.specs.Servers.{ServerValue, Turn, LastTurn, IsIdle}
 use Rattle.lk_probe.specs.declared.reported.Reported.{Reported}
 use Rattle.lk_transport.specs.declared.received_probe.ReceivedProbe.{ReceivedProbe}
 use Rattle.lk_transport.specs.Chains.{Chain}
-use Rattle.lk_service.specs.Turns.{TakesTurn as ServerTurn, TakesTurnWith, GoesOn, TellsFailure, letters_in}
+use Rattle.lk_node_process.specs.Turns.{TakesTurn as ServerTurn, TakesTurnWith, HasFollowedNoStranger, TellsFailure}
+use Rattle.lk_node_process.specs.Turns.{letters_in}
 use Rattle.lk_sim.specs.Networks.{Rests, RestsBy, Stops, nothing}
 use Rattle.lk_world_nodes.specs.Seats.{At}
 use Rattle.lk_world_nodes.specs.declared.seat.Life.{Life}
@@ -124,7 +125,7 @@ module _ (May : Network) (Metered tells : Type 0) where
   -- a stop of a node that is up
   pub stop_continues : (genesis : Genesis) (old : Cluster) → IsReachable May Metered tells genesis old
       → (place n : ℕ) (server : ServerValue ReplicaValue) → HasNode old place n (Up server)
-      → (left : Memory) → ((s : Side) → (k : ℕ) × (disk_of left s ≡ kept_by k (server_disks server s)))
+      → (left : Memory) → ((s : Side) → (k : ℕ) × (disk_of left s ≡ after_stop k (server_disks server s)))
       → Continues May Metered tells genesis old place n (Down left) []
   stop_continues genesis old all place n server at left kept =
       let new = continued old place n (Down left) [] [] in
@@ -135,7 +136,7 @@ module _ (May : Network) (Metered tells : Type 0) where
         left = left;
         down = refl;
         was_up = λ q up s. subst
-            (λ (p : ServerValue ReplicaValue). (k : ℕ) × (disk_of left s ≡ kept_by k (server_disks p s)))
+            (λ (p : ServerValue ReplicaValue). (k : ℕ) × (disk_of left s ≡ after_stop k (server_disks p s)))
             (same_up server q up) (kept s);
         was_down = λ d is. absurd (cc is);
         adds = record { genesis = refl; sent = refl; trace = refl };
@@ -418,7 +419,7 @@ module _ (May : Network) (Metered tells : Type 0) where
           let said = letters_in S tells turns.0.turn in
           let mid = turns.0.mid in
           let rest = letters_of S tells next states last turns.1 in
-          let t = turn_and_acts None None GoesOn genesis old all place n first next at turns.0 may.0 in
+          let t = turn_and_acts None None HasFollowedNoStranger genesis old all place n first next at turns.0 may.0 in
           let turned = continued old place n (Up mid) said t.0 in
           let there : HasNode turned place n (Up mid) = at_set_here old.seats place (node_of n (Up mid)) at.0 in
           twice genesis old place n (Up mid) (Up last) said rest t.0

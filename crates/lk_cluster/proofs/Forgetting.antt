@@ -1,7 +1,7 @@
 -- Two empty disks cover nothing that has to be remembered.
 use Rattle.std.proofs.Common.{◌≡◌, ℕ, inl, inr, List, [], ◌∷◌, refl, ap, sym, ◌∙◌, subst, arith}
 use Rattle.lk_types.specs.BallotValue.{BallotValue}
-use Rattle.lk_types.specs.Ballots.{IsReal, IsAtMost, zero_ballot}
+use Rattle.lk_types.specs.Ballots.{IsRealBallot, IsAtMost, zero_ballot}
 use Rattle.lk_types.specs.declared.genesis.Genesis.{Genesis}
 use Rattle.lk_disk.specs.Disk.{Disk}
 use Rattle.lk_disk.specs.declared.device.Side.{Side}
@@ -9,10 +9,10 @@ use Rattle.lk_disk.specs.declared.device.Side.TheVariants.{A, B}
 use Rattle.lk_messages.specs.Grammar.{IsNodeMessage}
 use Rattle.lk_messages.specs.declared.message.NodeMessage.{NodeMessage}
 use Rattle.lk_messages.specs.declared.message.NodeMessage.TheVariants as message
-use Rattle.lk_entries.specs.Standings.{StandsFor}
-use Rattle.lk_entries.specs.Values.{HeaderValue, StandingValue}
-use Rattle.lk_entries.specs.declared.stored.Stored.{Stored}
-use Rattle.lk_entries.specs.declared.stored.Stored.TheVariants.{Base}
+use Rattle.lk_store_format.specs.Standings.{StandsFor}
+use Rattle.lk_store_format.specs.Values.{HeaderValue, StandingValue}
+use Rattle.lk_store_format.specs.declared.stored.Stored.{Stored}
+use Rattle.lk_store_format.specs.declared.stored.Stored.TheVariants.{Base}
 use Rattle.lk_log.specs.Stores.{first_base}
 use Rattle.lk_log.proofs.StoreLaws.{empty_image, first_stands, not_both, one_standing}
 use Rattle.lk_agreement.specs.Datagrams.{HasSent}
@@ -20,7 +20,7 @@ use Rattle.lk_replica.specs.ReplicaValue.{ReplicaValue}
 use Rattle.lk_server.specs.Servers.{ServerValue}
 use Rattle.lk_world_nodes.specs.declared.seat.Life.{Life}
 use Rattle.lk_world_nodes.specs.declared.seat.Life.TheVariants.{Up, Down}
-use Rattle.lk_promise.specs.Promise.{KeepsPromise, MayRemain, MayRemainOf, Remembers, IsCovered, Says}
+use Rattle.lk_guarantees.specs.Promise.{KeepsPromise, MayRemain, MayRemainOf, Remembers, IsCovered, Says}
 use Rattle.lk_cluster.specs.Clusters.{Node, Cluster, life_of, seat_of, scene_of}
 use Rattle.lk_cluster.specs.Forgetting.{HasEmptyDisks, MustBeRemembered}
 use Rattle.lk_cluster.proofs.Keeping.{in_map}
@@ -60,7 +60,7 @@ no_promise genesis n memory r = elim r.live [
 
 -- ---- so what was sent is not covered
 
-not_below_all : (b promised : BallotValue) → IsReal b → promised ≡ zero_ballot → IsAtMost b promised → ⊥
+not_below_all : (b promised : BallotValue) → IsRealBallot b → promised ≡ zero_ballot → IsAtMost b promised → ⊥
 not_below_all b promised real e (inl (inl round)) = omega (arith, round, ap (λ (x : BallotValue). x.round) e)
 not_below_all b promised real e (inl (inr node)) = omega (arith, node.1, ap (λ (x : BallotValue). x.node) e)
 not_below_all b promised real e (inr same) = omega (arith, real.0.0, ap (λ (x : BallotValue). x.round) (same ∙ e))

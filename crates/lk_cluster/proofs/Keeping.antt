@@ -18,15 +18,16 @@ use Rattle.lk_replica.specs.Posts.{CarriesAll}
 use Rattle.lk_replica.specs.ReplicaValue.{ReplicaValue, device_of}
 use Rattle.lk_transport.specs.Addresses.{AddressBook}
 use Rattle.lk_transport.specs.Posts.{Tray, Becomes}
-use Rattle.lk_pace.specs.Paces.{ticks_after, MayFollow}
+use Rattle.lk_timing.specs.Paces.{ticks_after, MayFollow}
 use Rattle.lk_server.specs.ProbeHandling.{HandlesProbes}
-use Rattle.lk_served_replica.specs.Showing.{IsShown}
+use Rattle.lk_replica_interface.specs.Showing.{IsShown}
 use Rattle.lk_probe.specs.declared.reported.Reported.{Reported}
 use Rattle.lk_transport.specs.declared.received_probe.ReceivedProbe.{ReceivedProbe}
-use Rattle.lk_server.specs.Servers.{ServerValue, HandsOn, Given, IsIdle, one_more, inputs, all_inputs, datagrams_in}
-use Rattle.lk_server.specs.Servers.{IsFront, tray_at}
-use Rattle.lk_pace.specs.declared.pace.Pace.{Pace}
-use Rattle.lk_pace.specs.declared.pace.Pace.TheVariants.{Datagrams, Clock}
+use Rattle.lk_server.specs.Servers.{ServerValue, DeliversLetters, Given, IsIdle, one_more, inputs, all_inputs}
+use Rattle.lk_server.specs.Servers.{datagrams_in}
+use Rattle.lk_server.specs.Servers.{IsPrefix, tray_at}
+use Rattle.lk_timing.specs.declared.pace.Pace.{Pace}
+use Rattle.lk_timing.specs.declared.pace.Pace.TheVariants.{Datagrams, Clock}
 use Rattle.lk_sim.specs.Events.{Turns, Adds}
 use Rattle.lk_sim.specs.Networks.{MayCome, Steps, Appears, Rests, Stops, nothing}
 use Rattle.lk_world_nodes.specs.Rooms.{AreShort}
@@ -111,7 +112,7 @@ own_set seats place next sent now old among mine k s at q up = elim (at_set seat
 after_turn : (tells : Type 0) (Says : ReplicaValue → List (Option (List ℕ)) → List LetterValue → ReplicaValue → Type 0)
     (given : List (Option (List ℕ))) (count : ℕ) (sent : List Datagram) (n : ℕ)
     (server after : ServerValue ReplicaValue)
-    → IsKept sent n server → (h : HandsOn Says tells given (drop count server.own) server after)
+    → IsKept sent n server → (h : DeliversLetters Says tells given (drop count server.own) server after)
     → after.replica.failed ≡ false → IsKept (sent ++ batch_of n h.letters) n after
 after_turn tells Says given count sent n server after kept h alive = record {
   alive = alive;
@@ -190,7 +191,7 @@ module _ (genesis : Genesis) (sent : List Datagram) where
       turn_may pace received (datagrams_in (take count own) came) given is
       (datagrams_may (take count own) came (λ l c. mine l (in_front count own l c)) may)
 
-  pub ended_may : (given whole : List (Option (List ℕ))) → IsFront given whole → AllMay genesis sent whole
+  pub ended_may : (given whole : List (Option (List ℕ))) → IsPrefix given whole → AllMay genesis sent whole
       → AllMay genesis sent given
   ended_may given whole front may =
       front_may given front.0 (subst (λ (g : List (Option (List ℕ))). AllMay genesis sent g) front.1 may)

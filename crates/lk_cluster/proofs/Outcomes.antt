@@ -2,7 +2,7 @@
 use Rattle.std.proofs.Common.{◌≡◌, ◌⊎◌, ℕ, Option, List, inl, inr, subst}
 use Rattle.lk_disk.specs.Disk.{Disk}
 use Rattle.lk_disk.specs.declared.device.Side.{Side}
-use Rattle.lk_entries.specs.Values.{HeaderValue}
+use Rattle.lk_store_format.specs.Values.{HeaderValue}
 use Rattle.lk_locks.specs.Meaning.{table_meaning}
 use Rattle.lk_locks.specs.Packed.{IsTableText}
 use Rattle.lk_node_io.specs.Letters.{LetterValue}
@@ -11,10 +11,10 @@ use Rattle.lk_node.specs.Leavings.{header_of}
 use Rattle.lk_replica.specs.ReplicaValue.{ReplicaValue}
 use Rattle.lk_seal.specs.declared.seals.Seals.{Seals}
 use Rattle.lk_transport.specs.declared.fault.ServiceFault.{ServiceFault}
-use Rattle.lk_service.specs.Revivals.{IsBegun as IsTakenUp, IsRefusedWith}
-use Rattle.lk_service.specs.Turns.{Serves, EndsEarly, LeavesEarly}
+use Rattle.lk_node_process.specs.Revivals.{IsServerStarted, IsRefusedWith}
+use Rattle.lk_node_process.specs.Turns.{Serves, EndsEarly, EndsEarlyByStranger}
 use Rattle.lk_cluster.specs.Clusters.{Cluster, ForgesNothing, Says, IsReachable}
-use Rattle.lk_cluster.specs.Running.{IsDownOn, ServesIn, EndsIn, LeavesIn, RestsIn}
+use Rattle.lk_cluster.specs.Running.{IsDownOn, ServesIn, EndsIn, EndsInByStranger, RestsIn}
 use Rattle.lk_cluster.proofs.Keeping.{forges_nothing}
 use Rattle.lk_cluster.proofs.Serving.{service_continues, broken_service_continues, left_service_continues}
 use Rattle.lk_cluster.proofs.Serving.{refused_continues}
@@ -26,10 +26,11 @@ module _ (Metered tells Honest : Type 0) (honest : Honest)
     (genesis : Genesis) (old : Cluster) (all : IsReachable ForgesNothing Metered tells genesis old) (place n : ℕ)
     (disks : Side → Disk) (seals : Seals) (at : IsDownOn old place n disks) (header : HeaderValue)
     (whose : header ≡ header_of old.genesis n) where
-  pub serves_in : (count : ℕ) → Serves (IsTakenUp table_meaning Honest disks header) header seals S tells count
+  pub serves_in : (count : ℕ) → Serves (IsServerStarted table_meaning Honest disks header) header seals S tells count
       → ServesIn Metered tells Honest S genesis old place n disks seals count
   serves_in count here =
-      let served = subst (λ (h : HeaderValue). Serves (IsTakenUp table_meaning Honest disks h) h seals S tells count)
+      let served = subst (λ (h : HeaderValue). Serves
+      (IsServerStarted table_meaning Honest disks h) h seals S tells count)
       whose here in
       record {
         served = served;
@@ -37,10 +38,11 @@ module _ (Metered tells Honest : Type 0) (honest : Honest)
             all place n count at.device at.down disks at.same seals served;
       }
 
-  ends_in : (most : ℕ) → EndsEarly (IsTakenUp table_meaning Honest disks header) header seals S tells most
+  ends_in : (most : ℕ) → EndsEarly (IsServerStarted table_meaning Honest disks header) header seals S tells most
       → EndsIn Metered tells Honest S genesis old place n disks seals most
   ends_in most here =
-      let served = subst (λ (h : HeaderValue). EndsEarly (IsTakenUp table_meaning Honest disks h) h seals S tells most)
+      let served = subst (λ (h : HeaderValue). EndsEarly
+      (IsServerStarted table_meaning Honest disks h) h seals S tells most)
       whose here in
       record {
         served = served;
@@ -48,11 +50,12 @@ module _ (Metered tells Honest : Type 0) (honest : Honest)
             all place n most at.device at.down disks at.same seals served;
       }
 
-  leaves_in : (most : ℕ) → LeavesEarly (IsTakenUp table_meaning Honest disks header) header seals S tells most
-      → LeavesIn Metered tells Honest S genesis old place n disks seals most
+  leaves_in : (most : ℕ) → EndsEarlyByStranger
+      (IsServerStarted table_meaning Honest disks header) header seals S tells most
+      → EndsInByStranger Metered tells Honest S genesis old place n disks seals most
   leaves_in most here =
-      let served = subst (λ (h : HeaderValue). LeavesEarly
-      (IsTakenUp table_meaning Honest disks h) h seals S tells most) whose here in
+      let served = subst (λ (h : HeaderValue). EndsEarlyByStranger
+      (IsServerStarted table_meaning Honest disks h) h seals S tells most) whose here in
       record {
         served = served;
         continues = left_service_continues ForgesNothing Metered tells forges_nothing Honest S so honest genesis old
@@ -73,11 +76,11 @@ module _ (Metered tells Honest : Type 0) (honest : Honest)
 
   pub breaks_in : (most : ℕ)
       → ((told : ServiceFault) × IsRefusedWith table_meaning IsTableText Honest disks header told)
-      ⊎ EndsEarly (IsTakenUp table_meaning Honest disks header) header seals S tells most
-      ⊎ LeavesEarly (IsTakenUp table_meaning Honest disks header) header seals S tells most
+      ⊎ EndsEarly (IsServerStarted table_meaning Honest disks header) header seals S tells most
+      ⊎ EndsEarlyByStranger (IsServerStarted table_meaning Honest disks header) header seals S tells most
       → RestsIn Metered tells Honest S genesis old place n disks seals
       ⊎ EndsIn Metered tells Honest S genesis old place n disks seals most
-      ⊎ LeavesIn Metered tells Honest S genesis old place n disks seals most
+      ⊎ EndsInByStranger Metered tells Honest S genesis old place n disks seals most
   breaks_in most (inl refused) = inl (rests_in refused.0 refused.1)
   breaks_in most (inr (inl ended)) = inr (inl (ends_in most ended))
   breaks_in most (inr (inr left)) = inr (inr (leaves_in most left))

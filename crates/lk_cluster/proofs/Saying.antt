@@ -5,13 +5,13 @@ use Rattle.std.specs.declared.net.socket_addr.SocketAddr.{SocketAddr}
 use Rattle.lk_node_io.specs.Letters.{LetterValue}
 use Rattle.lk_transport.specs.Addresses.{Filter, filter_of}
 use Rattle.lk_transport.specs.Posts.{all_filtered}
-use Rattle.lk_server.specs.Servers.{ServerValue, HandsOn, HasReceived, Turn, LastTurn, TakesTurn}
+use Rattle.lk_server.specs.Servers.{ServerValue, DeliversLetters, HasReceived, Turn, LastTurn, TakesTurn}
 
 module _ {R : Type 0} (S T : R → List (Option (List ℕ)) → List LetterValue → R → Type 0)
     (so : (old : R) (given : List (Option (List ℕ))) (letters : List LetterValue) (new : R) → S old given letters new
     → T old given letters new) where
   abbrev pub hands_so : (tells : Type 0) (given : List (Option (List ℕ))) (own : List LetterValue)
-      (old new : ServerValue R) → HandsOn S tells given own old new → HandsOn T tells given own old new
+      (old new : ServerValue R) → DeliversLetters S tells given own old new → DeliversLetters T tells given own old new
   hands_so tells given own old new h =
       record {
         letters = h.letters;

@@ -19,7 +19,7 @@ use Rattle.lk_transport.specs.Posts.{all_filtered, is_filtered_out}
 use Rattle.lk_server.specs.Premises.{IsToldByANode}
 use Rattle.lk_server.specs.Servers.{ServerValue}
 use Rattle.lk_transport.specs.Chains.{Chain}
-use Rattle.lk_service.specs.Turns.{TakesTurn as ServerTurn, letters_in}
+use Rattle.lk_node_process.specs.Turns.{TakesTurn as ServerTurn, letters_in}
 use Rattle.lk_sim.specs.Networks.{MayCome, nothing}
 use Rattle.lk_cluster.specs.Clusters.{Cluster, Network, ForgesNothing, TakesTurn, EndsByTurn, Happens, HappenAll}
 use Rattle.lk_cluster.specs.Clusters.{IsReachable}

@@ -1,6 +1,6 @@
 -- A node that serves continues its cluster.
 use Rattle.std.proofs.Common.{◌≡◌, ℕ, true, Option, None, List, [], ◌++◌, ap, sym, ◌∙◌, subst, subst₂, append-nil}
-use Rattle.lk_disk.specs.Disk.{Disk, kept_by}
+use Rattle.lk_disk.specs.Disk.{Disk, after_stop}
 use Rattle.lk_simulated_disk.specs.Memory.{Memory, disk_of}
 use Rattle.lk_disk.specs.declared.device.Side.{Side}
 use Rattle.lk_locks.specs.Meaning.{table_meaning}
@@ -15,8 +15,9 @@ use Rattle.lk_seal.specs.declared.seals.Seals.{Seals}
 use Rattle.lk_server.specs.Servers.{ServerValue, LastTurn}
 use Rattle.lk_transport.specs.declared.fault.ServiceFault.{ServiceFault}
 use Rattle.lk_transport.specs.Chains.{Chain}
-use Rattle.lk_service.specs.Revivals.{IsBegun as IsTakenUp, IsRefusedWith, StaysDown}
-use Rattle.lk_service.specs.Turns.{TakesTurn, LeavesOff, Serves, EndsEarly, LeavesEarly, letters_in}
+use Rattle.lk_node_process.specs.Revivals.{IsServerStarted, IsRefusedWith, StaysDown}
+use Rattle.lk_node_process.specs.Turns.{TakesTurn, HasFollowedStranger, Serves, EndsEarly, EndsEarlyByStranger}
+use Rattle.lk_node_process.specs.Turns.{letters_in}
 use Rattle.lk_sim.specs.Networks.{RestsBy}
 use Rattle.lk_world_nodes.specs.declared.seat.Life.TheVariants.{Up, Down}
 use Rattle.lk_sim.proofs.Networks.{at_set_here}
@@ -30,7 +31,7 @@ use Rattle.lk_cluster.proofs.Saying.{last_so}
 
 -- a server that was taken up is one of the cluster
 begun_in : (Honest : Type 0) (genesis : Genesis) (n : ℕ) (old : Side → Disk) (s : ServerValue ReplicaValue) → Honest
-    → IsTakenUp table_meaning Honest old (header_of genesis n) s → IsBegun genesis n old s
+    → IsServerStarted table_meaning Honest old (header_of genesis n) s → IsBegun genesis n old s
 begun_in Honest genesis n old s honest begun =
     let up = begun.comes_up honest in
     record {
@@ -73,7 +74,7 @@ module _ (May : Network) (Metered tells : Type 0) (unforged : Unforged May) (Hon
     (so : (old : ReplicaValue) (given : List (Option (List ℕ))) (letters : List LetterValue) (new : ReplicaValue)
     → S old given letters new → Says Metered old given letters new) where
   abbrev IsOf : Cluster → ℕ → (Side → Disk) → ServerValue ReplicaValue → Type 0
-  IsOf cluster n old = IsTakenUp table_meaning Honest old (header_of cluster.genesis n)
+  IsOf cluster n old = IsServerStarted table_meaning Honest old (header_of cluster.genesis n)
 
   -- it is taken up, and takes turns
   turns_after_start : Honest → (genesis : Genesis) (cluster : Cluster) → IsReachable May Metered tells genesis cluster
@@ -144,13 +145,14 @@ module _ (May : Network) (Metered tells : Type 0) (unforged : Unforged May) (Hon
       → IsReachable May Metered tells genesis cluster → (place n most : ℕ) (device : Memory)
       → HasNode cluster place n (Down device)
       → (old : Side → Disk) → ((s : Side) → disk_of device s ≡ old s)
-      → (seals : Seals) (served : LeavesEarly (IsOf cluster n old) (header_of cluster.genesis n) seals S tells most)
+      → (seals : Seals) (served : EndsEarlyByStranger (IsOf cluster n old)
+      (header_of cluster.genesis n) seals S tells most)
       → (let turns = letters_of S tells served.begun served.leaves.turns.states served.leaves.last
       served.leaves.turns.chain in
       MayAllCome S tells May cluster.genesis n cluster.sent served.begun served.leaves.turns.states served.leaves.last
       served.leaves.turns.chain
       → May cluster.genesis (cluster.sent ++ batch_of n turns) served.leaves.last served.leaves.leave.came
-      → (left : Memory) → ((s : Side) → (k : ℕ) × (disk_of left s ≡ kept_by k (server_disks served.ended s)))
+      → (left : Memory) → ((s : Side) → (k : ℕ) × (disk_of left s ≡ after_stop k (server_disks served.ended s)))
       → Continues May Metered tells genesis cluster place n (Down left)
       (turns ++ letters_in S tells served.leaves.leave.turn))
   left_service_continues honest genesis cluster all place n most device at old same seals
@@ -163,7 +165,8 @@ module _ (May : Network) (Metered tells : Type 0) (unforged : Unforged May) (Hon
       let may_last : May c.cluster.genesis c.cluster.sent b.last b.leave.came =
       subst₂ (λ (g : Genesis) (l : List Datagram). May g l b.last b.leave.came) (sym c.began) (sym c.sent) last_may in
       let here = has_node May Metered tells unforged genesis cluster place n (Down device) (Up b.last) said at c in
-      let d = one_turn_continues May Metered tells unforged S so None None LeavesOff genesis c.cluster c.reachable
+      let d = one_turn_continues May Metered tells unforged S so None None HasFollowedStranger genesis c.cluster
+      c.reachable
       place n b.last served.ended here b.leave may_last in
       let e = joined_continues May Metered tells unforged genesis cluster place n (Up b.last)
       (Up served.ended) said last_said c d in

@@ -11,7 +11,7 @@ use Rattle.lk_node.specs.Calls.{heard_by}
 use Rattle.lk_node.specs.Histories.{Genesis, Datagram}
 use Rattle.lk_replica.specs.Groups.{StepSaid, GoesThrough}
 use Rattle.lk_replica.specs.ReplicaValue.{ReplicaValue}
-use Rattle.lk_served_replica.specs.Sayings.{SaysByGroup, IsSilenced, SaysOf}
+use Rattle.lk_replica_interface.specs.Sayings.{SaysByGroup, IsSilenced, SaysOf}
 use Rattle.lk_server.specs.Servers.{ServerValue}
 use Rattle.lk_sim.specs.Networks.{MayCome, TellsOf}
 use Rattle.lk_world_nodes.specs.Seats.{At}

@@ -13,7 +13,7 @@ use Rattle.lk_client.specs.Questions.{IsAsked, IsReply}
 use Rattle.lk_client.specs.Rules.{SendsOnly}
 use Rattle.lk_client.specs.declared.question.Question.{Question}
 use Rattle.lk_client.specs.declared.reply.Reply.TheVariants as reply
-use Rattle.lk_promise.specs.ExactlyOnce.{Asks, WasAnswered}
+use Rattle.lk_guarantees.specs.ExactlyOnce.{Asks, WasAnswered}
 
 -- ---- what a run sends
 

@@ -19,9 +19,9 @@ use Rattle.lk_node.specs.Holdings.{Holding}
 use Rattle.lk_node.specs.Keeping.{Stands}
 use Rattle.lk_replica.specs.Groups.{StepSaid}
 use Rattle.lk_replica.specs.ReplicaValue.{ReplicaValue}
-use Rattle.lk_served_replica.specs.Sayings.{SaysByGroup, IsSilenced, SaysOf}
+use Rattle.lk_replica_interface.specs.Sayings.{SaysByGroup, IsSilenced, SaysOf}
 use Rattle.lk_server.specs.ProbeHandling.{HandlesProbes}
-use Rattle.lk_served_replica.specs.Showing.{IsShown}
+use Rattle.lk_replica_interface.specs.Showing.{IsShown}
 use Rattle.lk_server.specs.Servers.{ServerValue, Turn, LastTurn, IsIdle}
 use Rattle.lk_probe.specs.declared.reported.Reported.{Reported}
 use Rattle.lk_transport.specs.declared.received_probe.ReceivedProbe.{ReceivedProbe}

@@ -5,7 +5,7 @@ use Rattle.lk_node.specs.Histories.{Datagram}
 use Rattle.lk_replica.specs.ReplicaValue.{ReplicaValue}
 use Rattle.lk_server.specs.Servers.{ServerValue}
 use Rattle.lk_transport.specs.Chains.{Chain}
-use Rattle.lk_service.specs.Turns.{TakesTurn as ServerTurn, letters_in}
+use Rattle.lk_node_process.specs.Turns.{TakesTurn as ServerTurn, letters_in}
 use Rattle.lk_world_nodes.specs.Seats.{At}
 use Rattle.lk_world_nodes.specs.declared.seat.Life.{Life}
 use Rattle.lk_node_io.specs.Letters.{LetterValue, batch_of}

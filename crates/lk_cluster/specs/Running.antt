@@ -1,7 +1,7 @@
 -- How a node that the program runs ends, as a part of its cluster.
 use Rattle.std.specs.Prelude.{◌≡◌, ℕ, Option, List, [], ◌++◌}
 use Rattle.lk_types.specs.declared.genesis.Genesis.{Genesis}
-use Rattle.lk_disk.specs.Disk.{Disk, kept_by}
+use Rattle.lk_disk.specs.Disk.{Disk, after_stop}
 use Rattle.lk_simulated_disk.specs.Memory.{Memory, disk_of}
 use Rattle.lk_disk.specs.declared.device.Side.{Side}
 use Rattle.lk_locks.specs.Meaning.{table_meaning}
@@ -11,8 +11,8 @@ use Rattle.lk_node.specs.Leavings.{header_of}
 use Rattle.lk_replica.specs.ReplicaValue.{ReplicaValue}
 use Rattle.lk_seal.specs.declared.seals.Seals.{Seals}
 use Rattle.lk_transport.specs.declared.fault.ServiceFault.{ServiceFault}
-use Rattle.lk_service.specs.Revivals.{IsBegun as IsTakenUp, IsRefusedWith}
-use Rattle.lk_service.specs.Turns.{Serves, EndsEarly, LeavesEarly, letters_in}
+use Rattle.lk_node_process.specs.Revivals.{IsServerStarted, IsRefusedWith}
+use Rattle.lk_node_process.specs.Turns.{Serves, EndsEarly, EndsEarlyByStranger, letters_in}
 use Rattle.lk_world_nodes.specs.declared.seat.Life.TheVariants.{Up, Down}
 use Rattle.lk_cluster.specs.Clusters.{Cluster, ForgesNothing, server_disks}
 use Rattle.lk_cluster.specs.Continuing.{HasNode, Continues, MayAllCome, letters_of}
@@ -31,7 +31,7 @@ module _ (Metered tells Honest : Type 0)
   -- it has taken this many turns, and they continue the cluster to one in which it is up, if nothing that arrived in
   -- them is forged
   pub record ServesIn (count : ℕ) : Type 0 where
-    pub served : Serves (IsTakenUp table_meaning Honest disks (header_of old.genesis n))
+    pub served : Serves (IsServerStarted table_meaning Honest disks (header_of old.genesis n))
         (header_of old.genesis n) seals Says tells count
     pub continues : MayAllCome Says tells ForgesNothing old.genesis n old.sent served.begun served.turns.states
         served.ended served.turns.chain
@@ -41,7 +41,7 @@ module _ (Metered tells Honest : Type 0)
   -- it has taken fewer turns, and then one that ended it, and they continue the cluster to one in which it is down with
   -- what that turn has left
   pub record EndsIn (most : ℕ) : Type 0 where
-    pub served : EndsEarly (IsTakenUp table_meaning Honest disks (header_of old.genesis n))
+    pub served : EndsEarly (IsServerStarted table_meaning Honest disks (header_of old.genesis n))
         (header_of old.genesis n) seals Says tells most
     pub continues : (let said =
         letters_of Says tells served.begun served.breaks.turns.states served.breaks.last served.breaks.turns.chain in
@@ -54,15 +54,15 @@ module _ (Metered tells Honest : Type 0)
 
   -- it has taken fewer turns, and then one after which it ended, since it had followed a node of another genesis; they
   -- continue the cluster to one in which it is down with what its device has, as after a stop
-  pub record LeavesIn (most : ℕ) : Type 0 where
-    pub served : LeavesEarly (IsTakenUp table_meaning Honest disks (header_of old.genesis n))
+  pub record EndsInByStranger (most : ℕ) : Type 0 where
+    pub served : EndsEarlyByStranger (IsServerStarted table_meaning Honest disks (header_of old.genesis n))
         (header_of old.genesis n) seals Says tells most
     pub continues : (let said =
         letters_of Says tells served.begun served.leaves.turns.states served.leaves.last served.leaves.turns.chain in
         MayAllCome Says tells ForgesNothing old.genesis n old.sent served.begun served.leaves.turns.states
         served.leaves.last served.leaves.turns.chain
         → ForgesNothing old.genesis (old.sent ++ batch_of n said) served.leaves.last served.leaves.leave.came
-        → (left : Memory) → ((s : Side) → (k : ℕ) × (disk_of left s ≡ kept_by k (server_disks served.ended s)))
+        → (left : Memory) → ((s : Side) → (k : ℕ) × (disk_of left s ≡ after_stop k (server_disks served.ended s)))
         → Continues ForgesNothing Metered tells genesis old place n (Down left)
         (said ++ letters_in Says tells served.leaves.leave.turn))
 

@@ -12,7 +12,7 @@ use Rattle.lk_transport.specs.Addresses.{filter_of}
 use Rattle.lk_transport.specs.Posts.{all_filtered}
 use Rattle.lk_server.specs.Servers.{ServerValue}
 use Rattle.lk_transport.specs.Chains.{Chain}
-use Rattle.lk_service.specs.Turns.{TakesTurn as ServerTurn, letters_in}
+use Rattle.lk_node_process.specs.Turns.{TakesTurn as ServerTurn, letters_in}
 
 -- a node of the cluster has sent a datagram of these bytes
 abbrev pub WasGiven : List Datagram → List ℕ → Type 0

@@ -5,7 +5,7 @@ use Rattle.lk_types.specs.declared.genesis.Genesis.{Genesis}
 use Rattle.lk_disk.specs.Disk.{Disk}
 use Rattle.lk_disk.specs.declared.device.Side.{Side}
 use Rattle.lk_simulated_disk.specs.Memory.{Memory, disk_of}
-use Rattle.lk_entries.specs.Values.{HeaderValue}
+use Rattle.lk_store_format.specs.Values.{HeaderValue}
 use Rattle.lk_locks.specs.Meaning.{table_meaning}
 use Rattle.lk_node_io.specs.Letters.{LetterValue, batch_of}
 use Rattle.lk_node.specs.Histories.{Datagram}
@@ -13,8 +13,8 @@ use Rattle.lk_node.specs.Leavings.{header_of}
 use Rattle.lk_replica.specs.ReplicaValue.{ReplicaValue}
 use Rattle.lk_seal.specs.declared.seals.Seals.{Seals}
 use Rattle.lk_server.specs.Servers.{ServerValue}
-use Rattle.lk_service.specs.Revivals.{IsBegun as IsTakenUp}
-use Rattle.lk_service.specs.Turns.{Serves, EndsEarly}
+use Rattle.lk_node_process.specs.Revivals.{IsServerStarted}
+use Rattle.lk_node_process.specs.Turns.{Serves, EndsEarly}
 use Rattle.lk_world_nodes.specs.declared.seat.Life.TheVariants.{Up, Down}
 use Rattle.lk_cluster.specs.Clusters.{Cluster, Network, IsReachable}
 use Rattle.lk_cluster.specs.Continuing.{HasNode, MayAllCome, letters_of}
@@ -42,7 +42,7 @@ module _ (May : Network) (Metered tells : Type 0) where
 
 -- the node of that number was taken up from these disks
 abbrev pub StartsFrom : Type 0 → Cluster → ℕ → (Side → Disk) → ServerValue ReplicaValue → Type 0
-StartsFrom Honest cluster n disks = IsTakenUp table_meaning Honest disks (header_of cluster.genesis n)
+StartsFrom Honest cluster n disks = IsServerStarted table_meaning Honest disks (header_of cluster.genesis n)
 
 -- it did, and has taken this many turns; or fewer than this, and then one that ended its replica
 module _ (Says : ReplicaValue → List (Option (List ℕ)) → List LetterValue → ReplicaValue → Type 0)

@@ -7,8 +7,8 @@ ghost use Rattle.lk_replica.specs.ReplicaValue.{ReplicaValue};
 ghost use Rattle.lk_sim.specs.Scenes.{Scene};
 ghost use Rattle.lk_client.specs.Rules.{SendsOnly};
 ghost use Rattle.lk_client.specs.declared.question.Question.{Question};
-ghost use Rattle.lk_promise.specs.ExactlyOnce.{FollowsRule};
-ghost use Rattle.lk_promise.specs.Promise.{KeepsPromise};
+ghost use Rattle.lk_guarantees.specs.ExactlyOnce.{FollowsRule};
+ghost use Rattle.lk_guarantees.specs.Promise.{KeepsPromise};
 ghost use Rattle.lk_cluster.specs.Asking.{AreRuns, HasAnswer, MayAsk, MayReach, OnlyRunAsks, Run, Tells, notes_of};
 
 /// A client that follows the rule and runs `locks ask` once more still follows it, whatever the run sends and however

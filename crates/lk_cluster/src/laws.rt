@@ -19,15 +19,15 @@ ghost use Rattle.lk_transport.specs.Posts.{all_filtered};
 ghost use Rattle.lk_server.specs.Servers.{ServerValue, Turn, LastTurn, IsIdle};
 ghost use Rattle.lk_transport.specs.declared.fault.ServiceFault.{ServiceFault};
 ghost use Rattle.lk_transport.specs.Chains.{Repeats};
-ghost use Rattle.lk_service.specs.Revivals.{IsNotTakenUp, IsRefusedWith};
-ghost use Rattle.lk_service.specs.Turns.{TakesTurn};
+ghost use Rattle.lk_node_process.specs.Revivals.{IsRestartRefused, IsRefusedWith};
+ghost use Rattle.lk_node_process.specs.Turns.{TakesTurn};
 ghost use Rattle.lk_sim.specs.Networks.{MayCome};
 ghost use Rattle.lk_world_nodes.specs.declared.seat.Life.TheVariants.{Up, Down};
-ghost use Rattle.lk_promise.specs.ComingBack.{IsExcused};
-ghost use Rattle.lk_promise.specs.Converging.{Converges};
-ghost use Rattle.lk_promise.specs.ExactlyOnce.{AreServedOnce};
-ghost use Rattle.lk_promise.specs.Linear.{IsLinearizable};
-ghost use Rattle.lk_promise.specs.Promise.{KeepsPromise};
+ghost use Rattle.lk_guarantees.specs.ComingBack.{IsExcused};
+ghost use Rattle.lk_guarantees.specs.Converging.{Converges};
+ghost use Rattle.lk_guarantees.specs.ExactlyOnce.{AreServedOnce};
+ghost use Rattle.lk_guarantees.specs.Linear.{IsLinearizable};
+ghost use Rattle.lk_guarantees.specs.Promise.{KeepsPromise};
 ghost use Rattle.lk_cluster.specs.Clusters.{Node, Cluster, IsReachable, ForgesNothing, IsBegun, Says, scene_of};
 ghost use Rattle.lk_cluster.specs.Clusters.{server_disks};
 ghost use Rattle.lk_cluster.specs.Continuing.{Continues, MayAllCome, letters_of};
@@ -38,12 +38,12 @@ ghost use Rattle.lk_cluster.specs.Services.{letters_to_end, sent_before_end, May
 ghost use Rattle.lk_cluster.specs.Services.{OnlyNodesSealInService, OnlyNodesSealBeforeEnd};
 
 use lk_disk::LogDisk;
-use lk_locks::LockTable;
-use lk_promise::laws::{
+use lk_guarantees::laws::{
     nodes_converge, operations_take_effect_exactly_once, worlds_are_linearizable,
 };
+use lk_locks::LockTable;
 use lk_replica::Replica;
-use lk_served_replica::ServedReplica;
+use lk_replica_interface::ServedReplica;
 use lk_server::laws::is_told_by_a_node;
 use lk_transport::socket::DatagramSocket;
 
@@ -251,7 +251,7 @@ pub fn a_sealed_service_that_breaks_off_continues_a_cluster<D: LogDisk + Drop, S
 pub fn a_restart_comes_back<D: LogDisk, S: DatagramSocket>()
     ensures { D.is_honest → ForEachDown ForgesNothing D.is_metered S.is_telling
         (λ genesis cluster place n disks. (number : ℕ) (left : Side → Disk)
-        → IsNotTakenUp table_meaning IsTableText D.is_honest disks (header_of cluster.genesis n) number left
+        → IsRestartRefused table_meaning IsTableText D.is_honest disks (header_of cluster.genesis n) number left
         → IsExcused disks number) }
 {}
 

@@ -2,18 +2,18 @@
 ghost use Rattle.std.specs.Prelude.{◌≡◌, ◌≤◌, ◌⊎◌, ◌^◌, ℕ};
 ghost use Rattle.lk_types.specs.declared.genesis.Genesis.{Genesis as GenesisValue};
 ghost use Rattle.lk_node.specs.Leavings.{header_of};
-ghost use Rattle.lk_service.specs.Turns.{AreSealsOf};
+ghost use Rattle.lk_node_process.specs.Turns.{AreSealsOf};
 ghost use Rattle.lk_cluster.specs.Clusters.{Cluster, IsReachable, ForgesNothing};
-ghost use Rattle.lk_cluster.specs.Running.{IsDownOn, ServesIn, EndsIn, LeavesIn, RestsIn};
+ghost use Rattle.lk_cluster.specs.Running.{IsDownOn, ServesIn, EndsIn, EndsInByStranger, RestsIn};
 
 use lk_disk::LogDisk;
 use lk_events::line::Observer;
-use lk_folder::causes::FailureCause;
 use lk_locks::LockTable;
+use lk_node_files::causes::FailureCause;
+use lk_node_process::resources::{NodePlan, Resources};
+use lk_node_process::running::run_node;
 use lk_replica::Replica;
-use lk_served_replica::ServedReplica;
-use lk_service::resources::{NodePlan, Resources};
-use lk_service::running::run_node;
+use lk_replica_interface::ServedReplica;
 use lk_transport::socket::DatagramSocket;
 use log::Log;
 use std::alloc::Global;
@@ -53,7 +53,7 @@ pub fn run<
         place n (D.disk resources.device) resources.network.seals
         ⊎ EndsIn D.is_metered S.is_telling D.is_honest ⟦<Replica<LockTable, D> as ServedReplica>⟧.Says genesis cluster
         place n (D.disk resources.device) resources.network.seals (2 ^ 48)
-        ⊎ LeavesIn D.is_metered S.is_telling D.is_honest ⟦<Replica<LockTable, D> as ServedReplica>⟧.Says genesis
+        ⊎ EndsInByStranger D.is_metered S.is_telling D.is_honest ⟦<Replica<LockTable, D> as ServedReplica>⟧.Says genesis
         cluster place n (D.disk resources.device) resources.network.seals (2 ^ 48) }
     ensures status { result ≤ 1 }
 {

@@ -11,15 +11,15 @@ ghost use Rattle.lk_transport.specs.Kept.{KeepsOf};
 ghost use Rattle.lk_server.specs.Servers.{HasReceived, TakesTurn, LastTurn};
 
 use lk_disk::LogDisk;
-use lk_entries::Header;
 use lk_locks::LockTable;
-use lk_pace::metronome::Metronome;
+use lk_node_process::resources::Resources;
+use lk_node_process::running::revive;
 use lk_recovery::ReviveFault;
 use lk_replica::Replica;
 use lk_server::group_fault::GroupFault;
 use lk_server::server::{Server, node_turn};
-use lk_service::resources::Resources;
-use lk_service::running::revive;
+use lk_store_format::Header;
+use lk_timing::tick_timer::TickTimer;
 use lk_transport::receive_buffer::ReceiveBuffer;
 use lk_transport::socket::DatagramSocket;
 use log::Log;
@@ -31,7 +31,7 @@ use std::time::Clock;
 pub fn serve_turn<D: LogDisk + Drop, S: DatagramSocket + Drop, C: Clock, L: Log>(
     server: &mut Server<Replica<LockTable, D>, S>,
     buffer: &mut ReceiveBuffer,
-    metronome: &mut Metronome<C>,
+    tick_timer: &mut TickTimer<C>,
     log: &L,
 ) -> Result<(), GroupFault>
     ensures turn { D.is_honest
@@ -44,7 +44,7 @@ pub fn serve_turn<D: LogDisk + Drop, S: DatagramSocket + Drop, C: Clock, L: Log>
         (all_filtered (filter_of server.old.addresses) frames) server.old server.new) }
     ensures failed { server.new.failed ≡ server.new.replica.failed }
 {
-    let taken = node_turn(server, buffer, metronome, log);
+    let taken = node_turn(server, buffer, tick_timer, log);
     // The contract of this call shows that the server's `failed` is its replica's.
     let _ = server.replica();
     taken

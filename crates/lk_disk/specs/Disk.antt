@@ -27,16 +27,16 @@ abbrev pub appended : Disk → List ℕ → Disk
 appended d piece = record { synced = d.synced; unsynced = d.unsynced ++ piece }
 
 -- all bytes are synced
-abbrev pub flushed : Disk → Disk
-flushed d = record { synced = contents d; unsynced = [] }
+abbrev pub fully_synced : Disk → Disk
+fully_synced d = record { synced = contents d; unsynced = [] }
 
 -- the first n bytes, all of them synced
 abbrev pub cut_to : ℕ → Disk → Disk
 cut_to n d = record { synced = take n (contents d); unsynced = [] }
 
 -- after a stop that keeps up to n unsynced bytes, and is over: what is left is synced
-abbrev pub kept_by : ℕ → Disk → Disk
-kept_by n d = record { synced = d.synced ++ take n d.unsynced; unsynced = [] }
+abbrev pub after_stop : ℕ → Disk → Disk
+after_stop n d = record { synced = d.synced ++ take n d.unsynced; unsynced = [] }
 
 -- a failed append has appended a prefix of the piece
 abbrev pub AppendsSome : List ℕ → Disk → Disk → Type 0

@@ -37,30 +37,30 @@ HasLength None d = ⊤
 HasLength (Some n) d = n ≡ length (contents d)
 
 -- what a contract sees of a file that is used until a call of it fails
-pub record UsedFile : Type 0 where
+pub record FailStopFile : Type 0 where
   pub file : File
   pub failures : ℕ
   pub failed : Bool
 
 -- a call was rejected, untried, since the file had failed before
-abbrev pub IsUntried : UsedFile → UsedFile → Type 0
+abbrev pub IsUntried : FailStopFile → FailStopFile → Type 0
 IsUntried old new = (old.failed ≡ true) × (new ≡ old)
 
 -- a call of the file failed
-abbrev pub HasFailed : UsedFile → UsedFile → Type 0
+abbrev pub HasFailed : FailStopFile → FailStopFile → Type 0
 HasFailed old new = (old.failed ≡ false) × (new.failures ≡ one_more old.failures)
 
 -- all calls of the file succeeded, and it goes on
-abbrev pub HasPassed : UsedFile → UsedFile → Type 0
+abbrev pub HasPassed : FailStopFile → FailStopFile → Type 0
 HasPassed old new = (old.failed ≡ false) × (new.failed ≡ false) × (new.failures ≡ old.failures)
 
 -- a call succeeded with all calls of the file; or it failed, since the file had failed before, or a call of it did now
-abbrev pub IsCaused : {T E : Type 0} → UsedFile → UsedFile → Result T E → Type 0
+abbrev pub IsCaused : {T E : Type 0} → FailStopFile → FailStopFile → Result T E → Type 0
 IsCaused old new (Ok _) = HasPassed old new
 IsCaused old new (Err _) = IsUntried old new ⊎ HasFailed old new
 
 -- the same of a cut to len bytes, which fails too if an honest file has fewer
-abbrev pub IsCutCaused : {T E : Type 0} → Type 0 → ℕ → UsedFile → UsedFile → Result T E → Type 0
+abbrev pub IsCutCaused : {T E : Type 0} → Type 0 → ℕ → FailStopFile → FailStopFile → Result T E → Type 0
 IsCutCaused is_honest len old new (Ok _) = HasPassed old new
 IsCutCaused is_honest len old new (Err _) =
     IsUntried old new ⊎ HasFailed old new
@@ -68,11 +68,11 @@ IsCutCaused is_honest len old new (Err _) =
 
 -- what a contract sees of a device of two such files
 pub record FilePair : Type 0 where
-  pub a : UsedFile
-  pub b : UsedFile
+  pub a : FailStopFile
+  pub b : FailStopFile
   pub failures : ℕ
 
-abbrev pub used_at : FilePair → Side → UsedFile
+abbrev pub used_at : FilePair → Side → FailStopFile
 used_at p A = p.a
 used_at p B = p.b
 

@@ -93,8 +93,8 @@ abbrev pub trapped : Trap → Meter → Meter
 trapped t m = record m { trap = t; sprung = false; starved = false }
 
 -- the trap and the fuse are gone
-abbrev pub eased : Meter → Meter
-eased m = record m { trap = Off; fuse = None }
+abbrev pub disarmed : Meter → Meter
+disarmed m = record m { trap = Off; fuse = None }
 
 -- how many unsynced bytes the armed stop is to keep, if it was reached: each later changing call fails
 abbrev pub stopping : Meter → Option ℕ

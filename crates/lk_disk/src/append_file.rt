@@ -1,6 +1,6 @@
 // The trait of a file that grows at its end: what each call of it, and a stop, leave of its bytes.
 ghost use Rattle.std.specs.Prelude.{◌≡◌, ◌≤◌, ◌+◌, ℕ, length, slice_range, OnOk, OnErr, IfOk};
-ghost use Rattle.lk_disk.specs.Disk.{Disk, contents, appended, flushed, cut_to, AppendsSome, CutShort, HasCause};
+ghost use Rattle.lk_disk.specs.Disk.{Disk, contents, appended, fully_synced, cut_to, AppendsSome, CutShort, HasCause};
 ghost use Rattle.lk_disk.specs.Files.{File, whole, shortened, left_of, IsWhole};
 
 use thiserror::Error;
@@ -61,7 +61,7 @@ pub trait AppendFile {
     /// Makes its content outlast a stop, and completes a shorten. A failed call does not change what a stop may leave.
     fn sync(&mut self) -> Result<(), FileFault>
         ensures ok { is_honest → IsWhole (file self.old)
-            → OnOk result (file self.new ≡ whole (flushed (left_of (file self.old)))) }
+            → OnOk result (file self.new ≡ whole (fully_synced (left_of (file self.old)))) }
         ensures short { is_honest → (n : ℕ) (d : Disk) → file self.old ≡ shortened n d
             → OnOk result (file self.new ≡ whole (cut_to n d)) }
         ensures err { is_honest → OnErr result (left_of (file self.new) ≡ left_of (file self.old)) }

@@ -1,7 +1,7 @@
 // A write buffer over a file: appended bytes wait in memory, and are handed over to the file below together.
 ghost use Rattle.std.specs.Prelude.{◌≡◌, ◌≤◌, ◌+◌, ◌++◌, ℕ, [], length, true, false, slice_range, IsTrue, IsFalse};
 ghost use Rattle.std.specs.Prelude.{IfOk, OnOk, OnErr};
-ghost use Rattle.lk_disk.specs.Disk.{Disk, contents, appended, flushed, cut_to, one_more, AppendsSome, CutShort};
+ghost use Rattle.lk_disk.specs.Disk.{Disk, contents, appended, fully_synced, cut_to, one_more, AppendsSome, CutShort};
 ghost use Rattle.lk_disk.specs.Files.{whole, shortened, left_of, IsWhole};
 ghost use Rattle.lk_disk.specs.Buffers.{known_of, LeavesNoMore};
 
@@ -190,7 +190,7 @@ impl<F: AppendFile + Drop> BufferedFile<F> {
     // Hands over what waits, and syncs the file below.
     fn sync_below(&mut self) -> Result<(), FileFault>
         ensures ok { F.is_honest → IsWhole (known_of self.old)
-            → OnOk result (known_of self.new ≡ whole (flushed (left_of (known_of self.old)))) }
+            → OnOk result (known_of self.new ≡ whole (fully_synced (left_of (known_of self.old)))) }
         ensures short { F.is_honest → (n : ℕ) (d : Disk) → known_of self.old ≡ shortened n d
             → OnOk result (known_of self.new ≡ whole (cut_to n d)) }
         ensures err { F.is_honest → OnErr result (left_of (known_of self.new) ≡ left_of (known_of self.old)) }

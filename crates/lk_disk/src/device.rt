@@ -1,6 +1,7 @@
 // A device of two disks, each seen as its synced bytes and the unsynced bytes after them.
 ghost use Rattle.std.specs.Prelude.{◌≡◌, ◌≤◌, ◌<◌, ◌+◌, ℕ, length, slice_range, IsOk, OnOk, OnErr, IfOk};
-ghost use Rattle.lk_disk.specs.Disk.{Disk, other, contents, appended, flushed, cut_to, AppendsSome, CutShort, HasCause};
+ghost use Rattle.lk_disk.specs.Disk.{Disk, other, contents, appended, fully_synced, cut_to, AppendsSome, CutShort};
+ghost use Rattle.lk_disk.specs.Disk.{HasCause};
 ghost use Rattle.lk_disk.specs.Meters.{Calls, Reads};
 ghost use Rattle.lk_disk.specs.declared.device.Side.{Side};
 ghost use Rattle.lk_disk.specs.declared.meter.Meter.{Meter};
@@ -87,7 +88,7 @@ pub trait LogDisk {
 
     /// Syncs all bytes. A failed call changes nothing.
     fn sync(&mut self, side: Side) -> Result<(), DeviceFault>
-        ensures ok { is_honest → OnOk result (disk self.new side ≡ flushed (disk self.old side)) }
+        ensures ok { is_honest → OnOk result (disk self.new side ≡ fully_synced (disk self.old side)) }
         ensures err { is_honest → OnErr result (disk self.new side ≡ disk self.old side) }
         ensures beside { is_honest → disk self.new (other side) ≡ disk self.old (other side) }
         ensures metered { is_metered → Calls (meter self.old) (meter self.new) result }

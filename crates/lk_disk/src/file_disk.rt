@@ -1,6 +1,6 @@
 // A device of two files.
 ghost use Rattle.std.specs.Prelude.{◌≡◌, ◌≤◌, ◌<◌, ◌+◌, length, slice_range, IsFalse, OnOk, OnErr, IfOk};
-ghost use Rattle.lk_disk.specs.Disk.{contents, appended, flushed, cut_to, other, one_more, AppendsSome, CutShort};
+ghost use Rattle.lk_disk.specs.Disk.{contents, appended, fully_synced, cut_to, other, one_more, AppendsSome, CutShort};
 ghost use Rattle.lk_disk.specs.Disk.{HasCause};
 ghost use Rattle.lk_disk.specs.Meters.{fresh};
 ghost use Rattle.lk_disk.specs.Files.{FilePair, IsWhole, IsCaused, IsCutCaused, used_at, disk_at};
@@ -8,7 +8,7 @@ ghost use Rattle.lk_disk.specs.declared.device.Side.{Side};
 
 use crate::append_file::{AppendFile, FileFault};
 use crate::device::{DeviceFault, LogDisk, Side};
-use crate::used_file::UsedFile;
+use crate::fail_stop_file::FailStopFile;
 use std::marker::Model;
 
 /// Two files as a device. It is honest if the files are.
@@ -17,8 +17,8 @@ use std::marker::Model;
 /// that side fails too.
 #[derive(Drop)]
 pub struct FileDisk<F: AppendFile + Drop> {
-    a: UsedFile<F>,
-    b: UsedFile<F>,
+    a: FailStopFile<F>,
+    b: FailStopFile<F>,
     failures: u64,
 }
 
@@ -44,8 +44,8 @@ impl<F: AppendFile + Drop> FileDisk<F> {
         ensures failures { result.failures ≡ 0 }
     {
         FileDisk {
-            a: UsedFile::of(a),
-            b: UsedFile::of(b),
+            a: FailStopFile::of(a),
+            b: FailStopFile::of(b),
             failures: 0,
         }
     }
@@ -161,18 +161,18 @@ impl<F: AppendFile + Drop> LogDisk for FileDisk<F> {
         ensures file { IsCaused (used_at self.old side) (used_at self.new side) result }
         ensures apart { used_at self.new (other side) ≡ used_at self.old (other side) }
     {
-        let flushed = match side {
+        let fully_synced = match side {
             Side::A => self.a.flush(),
             Side::B => self.b.flush(),
         };
-        match flushed {
+        match fully_synced {
             Ok(()) => Ok(()),
             Err(FileFault) => Err(self.fail()),
         }
     }
 
     fn sync(&mut self, side: Side) -> Result<(), DeviceFault>
-        ensures ok { F.is_honest → OnOk result (disk_at self.new side ≡ flushed (disk_at self.old side)) }
+        ensures ok { F.is_honest → OnOk result (disk_at self.new side ≡ fully_synced (disk_at self.old side)) }
         ensures err { F.is_honest → OnErr result (disk_at self.new side ≡ disk_at self.old side) }
         ensures cause { HasCause self.old.failures self.new.failures result }
         // It fails only if the file's call did, or had failed before.

@@ -5,11 +5,11 @@
 mod append_file;
 mod buffered_file;
 mod device;
+mod fail_stop_file;
 mod file_disk;
 mod meter;
 mod system_file;
 mod trap;
-mod used_file;
 
 pub use append_file::{AppendFile, FileFault};
 pub use buffered_file::BufferedFile;

@@ -166,7 +166,7 @@ impl<F: OpenFile + Read + Write + Seek + Drop> FileDisk<BufferedFile<SystemFile<
 
     /// Opens the files `a` and `b` of a folder to read only, and creates none. On such a device each append and cut
     /// fails.
-    pub fn look_at<R: Files<File = F>>(
+    pub fn open_read_only<R: Files<File = F>>(
         rt: &R,
         alloc: Global,
         folder: &str,

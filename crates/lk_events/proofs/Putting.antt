@@ -5,11 +5,12 @@ use Rattle.std.proofs.lemmas.List.{drop_all}
 use Rattle.lk_types.specs.declared.member.Member.{Member}
 use Rattle.lk_events.specs.News.{Topic}
 use Rattle.lk_events.specs.Watches.{PutsNews, nothing, news}
-use Rattle.lk_events.specs.declared.slot.Slot.{Slot}
+use Rattle.lk_events.specs.declared.rate_limit.RateLimit.{RateLimit}
 use Rattle.lk_events.specs.declared.story.Story.{Story}
 use Rattle.lk_events.specs.declared.observation.Observation.{Observation}
 
-pub puts_both : {now : ℕ} {story : Story} {seen : Observation} {first second : List Topic} {old mid new : List Slot}
+pub puts_both : {now : ℕ} {story : Story} {seen : Observation} {first second : List Topic} {old mid new : List
+    RateLimit}
     → PutsNews now story seen first old mid → PutsNews now story seen second mid new
     → PutsNews now story seen (first ++ second) old new
 puts_both nothing after = after

@@ -1,6 +1,6 @@
 pub mod Kinds
 pub mod News
-pub mod Quiets
-pub mod Slots
+pub mod Timers
+pub mod RateLimits
 pub mod Observations
 pub mod Watches

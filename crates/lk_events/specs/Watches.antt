@@ -2,37 +2,38 @@
 use Rattle.std.specs.Prelude.{◌≡◌, ℕ, List, [], ◌∷◌, Option, Some, None, IsSomeAnd, slice_get, slice_set}
 use Rattle.lk_events.specs.Kinds.{kind_of}
 use Rattle.lk_events.specs.News.{Topic, topics, Gives, forgetting, told_with}
-use Rattle.lk_events.specs.Quiets.{TurnsQuiet, TurnsLag}
-use Rattle.lk_events.specs.Slots.{having_put, having_told, IsLineOf}
+use Rattle.lk_events.specs.Timers.{TurnsQuiet, TurnsLag}
+use Rattle.lk_events.specs.RateLimits.{having_put, having_told, IsLineOf}
 use Rattle.lk_events.specs.declared.event.Event.{Event}
-use Rattle.lk_events.specs.declared.slot.Line.{Line}
-use Rattle.lk_events.specs.declared.slot.Slot.{Slot}
+use Rattle.lk_events.specs.declared.rate_limit.Line.{Line}
+use Rattle.lk_events.specs.declared.rate_limit.RateLimit.{RateLimit}
 use Rattle.lk_events.specs.declared.story.Story.{Story}
 use Rattle.lk_events.specs.declared.observation.Observation.{Observation}
 use Rattle.lk_events.specs.declared.watch.Watch.{Watch}
 use Rattle.lk_events.specs.Observations.{has_leader}
 
 -- the event waits in the slot of its kind, and all other slots are as they were
-pub record Puts (now : ℕ) (event : Event) (old new : List Slot) : Type 0 where
-  pub slot : Slot
+pub record Puts (now : ℕ) (event : Event) (old new : List RateLimit) : Type 0 where
+  pub slot : RateLimit
   pub is : slice_get old (kind_of event) ≡ Some slot
   pub becomes : new ≡ slice_set old (kind_of event) (having_put now event slot)
 
 -- the same if there is an event, and no change if there is none
-abbrev pub PutsSome : ℕ → Option Event → List Slot → List Slot → Type 0
+abbrev pub PutsSome : ℕ → Option Event → List RateLimit → List RateLimit → Type 0
 PutsSome now None old new = new ≡ old
 PutsSome now (Some event) old new = Puts now event old new
 
 -- the news of each of these topics, in order, is put into the slots
-pub data PutsNews (now : ℕ) (story : Story) (seen : Observation) : List Topic → List Slot → List Slot → Type 0 where
-  nothing : {slots : List Slot} → PutsNews now story seen [] slots slots
-  news : {topic : Topic} {rest : List Topic} (event : Option Event) {old mid new : List Slot}
+pub data PutsNews (now : ℕ) (story : Story) (seen : Observation) : List Topic → List RateLimit → List RateLimit
+    → Type 0 where
+  nothing : {slots : List RateLimit} → PutsNews now story seen [] slots slots
+  news : {topic : Topic} {rest : List Topic} (event : Option Event) {old mid new : List RateLimit}
       → Gives topic story seen event → PutsSome now event old mid
       → PutsNews now story seen rest mid new → PutsNews now story seen (topic ∷ rest) old new
 
 -- the line is that of this kind's slot, in which nothing waits then, and all other slots are unchanged
-pub record TakesOut (kind now : ℕ) (line : Line) (old new : List Slot) : Type 0 where
-  pub slot : Slot
+pub record TakesOut (kind now : ℕ) (line : Line) (old new : List RateLimit) : Type 0 where
+  pub slot : RateLimit
   pub is : slice_get old kind ≡ Some slot
   pub told : IsLineOf slot now line
   pub becomes : new ≡ slice_set old kind (having_told now)
@@ -43,7 +44,7 @@ pub record TurnsTimes (now : ℕ) (seen : Observation) (old new : Watch) : Type 
   pub quiet : TurnsQuiet old.quiet now (has_leader seen) leaderless new.quiet
   pub behind : Option Event
   pub lag : TurnsLag old.lag now seen.wanted seen.executed behind new.lag
-  pub mid : List Slot
+  pub mid : List RateLimit
   pub first : PutsSome now leaderless old.slots.all mid
   pub second : PutsSome now behind mid new.slots.all
   pub story : new.story ≡ forgetting leaderless old.story

@@ -5,8 +5,8 @@
 pub mod event;
 pub mod line;
 pub mod observation;
-pub mod quiet;
-pub mod slot;
-pub mod slots;
+pub mod rate_limit;
+pub mod rate_limits;
 pub mod story;
+pub mod timers;
 pub mod watch;

@@ -6,7 +6,7 @@ ghost use Rattle.lk_events.specs.Watches.{WatchesOn};
 
 use crate::event::{Event, KINDS};
 use crate::observation::Observation;
-use crate::slot::Line;
+use crate::rate_limit::Line;
 use crate::watch::Watch;
 use jiff::Timestamp;
 use lk_types::NodeNo;

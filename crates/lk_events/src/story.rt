@@ -9,7 +9,7 @@ ghost use Rattle.lk_events.specs.Watches.{PutsNews};
 
 use crate::event::Event;
 use crate::observation::Observation;
-use crate::slots::Slots;
+use crate::rate_limits::RateLimits;
 use lk_types::{Executed, Member, Members, NodeNo, RealBallot};
 
 /// What was last reported of a node.
@@ -152,7 +152,7 @@ impl Story {
     }
 
     // Puts the news of the leader into the slots.
-    fn put_leads(&self, now: u64, seen: &Observation, slots: &mut Slots)
+    fn put_leads(&self, now: u64, seen: &Observation, slots: &mut RateLimits)
         ensures { PutsNews now self.now seen.now lead_topics slots.old.all slots.new.all }
     {
         slots.put_some(now, self.ended(seen));
@@ -161,7 +161,7 @@ impl Story {
     }
 
     // Puts `Joined` for each of these members that has joined.
-    fn put_joined(&self, now: u64, seen: &Observation, members: &[Member], slots: &mut Slots)
+    fn put_joined(&self, now: u64, seen: &Observation, members: &[Member], slots: &mut RateLimits)
         ensures { PutsNews now self.now seen.now (joins members.now) slots.old.all slots.new.all }
     {
         'members: for member in members {
@@ -170,7 +170,7 @@ impl Story {
     }
 
     // Puts `Left` for each of these members that has left.
-    fn put_left(&self, now: u64, seen: &Observation, members: &[Member], slots: &mut Slots)
+    fn put_left(&self, now: u64, seen: &Observation, members: &[Member], slots: &mut RateLimits)
         ensures { PutsNews now self.now seen.now (leaves members.now) slots.old.all slots.new.all }
     {
         'members: for member in members {
@@ -179,7 +179,7 @@ impl Story {
     }
 
     // Puts the news of the members: several nodes may join or leave in one turn.
-    fn put_members(&self, now: u64, seen: &Observation, slots: &mut Slots)
+    fn put_members(&self, now: u64, seen: &Observation, slots: &mut RateLimits)
         ensures { PutsNews now self.now seen.now (member_topics self.now seen.now) slots.old.all slots.new.all }
     {
         self.put_joined(now, seen, seen.members.as_slice(), slots);
@@ -187,7 +187,7 @@ impl Story {
     }
 
     // Puts the news of snapshots, of failed sends, and of datagrams of another genesis or cluster.
-    fn put_work(&self, now: u64, seen: &Observation, slots: &mut Slots)
+    fn put_work(&self, now: u64, seen: &Observation, slots: &mut RateLimits)
         ensures { PutsNews now self.now seen.now work_topics slots.old.all slots.new.all }
     {
         slots.put_some(now, self.wrote(seen));
@@ -198,7 +198,7 @@ impl Story {
     }
 
     // Puts all news into the slots.
-    fn put_all(&self, now: u64, seen: &Observation, slots: &mut Slots)
+    fn put_all(&self, now: u64, seen: &Observation, slots: &mut RateLimits)
         ensures { PutsNews now self.now seen.now (topics self.now seen.now) slots.old.all slots.new.all }
     {
         self.put_leads(now, seen, slots);
@@ -233,7 +233,7 @@ impl Story {
     }
 
     /// Puts what is news after a turn into the slots, and remembers it as reported.
-    pub fn observe(&mut self, now: u64, seen: Observation, slots: &mut Slots)
+    pub fn observe(&mut self, now: u64, seen: Observation, slots: &mut RateLimits)
         ensures news { PutsNews now self.old seen (topics self.old seen) slots.old.all slots.new.all }
         ensures told { self.new ≡ told_with seen self.old }
     {

@@ -3,25 +3,25 @@
 ghost use Rattle.std.specs.Prelude.{◌≡◌, replicate, slice_get, Some, None, IfSome};
 ghost use Rattle.lk_events.specs.Kinds.{kinds};
 ghost use Rattle.lk_events.specs.News.{story_of};
-ghost use Rattle.lk_events.specs.Quiets.{no_lag};
-ghost use Rattle.lk_events.specs.Slots.{empty, Waits};
-ghost use Rattle.lk_events.specs.declared.slot.Slot.{Slot as SlotValue};
+ghost use Rattle.lk_events.specs.Timers.{no_lag};
+ghost use Rattle.lk_events.specs.RateLimits.{empty, Waits};
+ghost use Rattle.lk_events.specs.declared.rate_limit.RateLimit.{RateLimit as RateLimitValue};
 ghost use Rattle.lk_events.specs.Watches.{Puts, TakesOut, TurnsTimes, Turns};
 
 use crate::event::Event;
 use crate::observation::Observation;
-use crate::quiet::{Lag, Quiet};
-use crate::slot::Line;
-use crate::slots::Slots;
+use crate::rate_limit::Line;
+use crate::rate_limits::RateLimits;
 use crate::story::Story;
+use crate::timers::{BehindTimer, LeaderlessTimer};
 
 /// What was reported of a node, and what waits to be logged. Times are milliseconds since 1970.
 #[derive(Drop)]
 pub struct Watch {
     pub story: Story,
-    pub quiet: Quiet,
-    pub lag: Lag,
-    pub slots: Slots,
+    pub quiet: LeaderlessTimer,
+    pub lag: BehindTimer,
+    pub slots: RateLimits,
 }
 
 impl Watch {
@@ -34,9 +34,9 @@ impl Watch {
     {
         Watch {
             story: Story::of(seen),
-            quiet: Quiet::NONE,
-            lag: Lag::NONE,
-            slots: Slots::new(),
+            quiet: LeaderlessTimer::NONE,
+            lag: BehindTimer::NONE,
+            slots: RateLimits::new(),
         }
     }
 
@@ -72,7 +72,7 @@ impl Watch {
         ensures line { IfSome result (λ line. TakesOut kind now line self.old.slots.all self.new.slots.all) }
         ensures others { self.new ≡ record self.old { slots = self.new.slots } }
         ensures none { result ≡ None → self.new ≡ self.old }
-        ensures waits { result ≡ None → (slot : SlotValue)
+        ensures waits { result ≡ None → (slot : RateLimitValue)
             → slice_get self.old.slots.all kind ≡ Some slot → Waits slot now }
     {
         self.slots.take(kind, now)

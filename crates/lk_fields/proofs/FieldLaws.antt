@@ -6,7 +6,7 @@ use Rattle.std.proofs.lemmas.Bool.Decides.{nat_tests}
 use Rattle.lk_types.specs.Ranges.{IsNode, IsClient, IsPort, IsCount, IsTotal, IsSharerCount}
 use Rattle.lk_types.specs.Payloads.{IsPayload}
 use Rattle.lk_types.specs.BallotValue.{BallotValue}
-use Rattle.lk_types.specs.Ballots.{IsReal, IsMark, zero_ballot}
+use Rattle.lk_types.specs.Ballots.{IsRealBallot, IsBallot, zero_ballot}
 use Rattle.lk_types.specs.Commands.{IsOp, IsRequest, IsCommand}
 use Rattle.lk_types.specs.Rosters.{IsMember, AreMembers, members_rise}
 use Rattle.lk_types.specs.Votes.{IsVote}
@@ -28,7 +28,7 @@ use Rattle.lk_fields.specs.Fields.{request, command_tag, command_fields, command
 use Rattle.lk_fields.specs.Fields.{answer}
 use Rattle.lk_fields.specs.Parser.{read_byte, sized, tested, counted, kind, bare, no_kind}
 use Rattle.lk_fields.specs.FieldReading.{is_from_1_to, read_two, read_four, read_eight, read_node, read_client}
-use Rattle.lk_fields.specs.FieldReading.{read_port, read_count, read_total, read_ballot, is_mark, read_mark}
+use Rattle.lk_fields.specs.FieldReading.{read_port, read_count, read_total, read_ballot, is_mark, read_any_ballot}
 use Rattle.lk_fields.specs.FieldReading.{read_member, read_members, read_payload, read_version, op_of, read_op}
 use Rattle.lk_fields.specs.FieldReading.{read_request, command_of, read_command, read_vote, read_pair, bare_answer}
 use Rattle.lk_fields.specs.FieldReading.{read_held, read_sharer_count, read_sharing, answer_of, read_answer}
@@ -94,7 +94,7 @@ total_reads = limited_reads 281474976710656 (2 ^ 64) (omega arith) read_eight ei
 abbrev ballot_of : ℕ × ℕ → BallotValue
 ballot_of b = record { round = b.0; node = b.1 }
 
-pub ballot_reads : Reads read_ballot ballot IsReal
+pub ballot_reads : Reads read_ballot ballot IsRealBallot
 unfolding read_ballot
 ballot_reads = made_reads ballot_of (λ (v : BallotValue). (v.round, v.node)) (λ x. refl)
     (λ y. refl) _ _ _ (both_reads read_count eight IsCount read_node four IsNode count_reads node_reads)
@@ -117,7 +117,7 @@ zeros round node e =
     let n : node ≡ 0 = grind (arith, nat_tests) in
     rw (r, n) refl
 
-marks : (b : BallotValue) → is_mark b ≡ true → IsMark b
+marks : (b : BallotValue) → is_mark b ≡ true → IsBallot b
 marks b e =
     elim (either (is_from_1_to 281474976710656 b.round && is_from_1_to 2147483648 b.node)
     (eqb b.round 0 && eqb b.node 0) e) [
@@ -125,14 +125,15 @@ marks b e =
       | inr zero ↦ inr (zeros b.round b.node zero)
     ]
 
-are_marks : (b : BallotValue) → IsMark b → (b.round < 2 ^ 64) × (b.node < 2 ^ 32) × (is_mark b ≡ true)
+are_marks : (b : BallotValue) → IsBallot b → (b.round < 2 ^ 64) × (b.node < 2 ^ 32) × (is_mark b ≡ true)
 are_marks b (inl real) = (omega (arith, real.0), omega (arith, real.1), rw (is_real b.round b.node real.0 real.1) refl)
 are_marks b (inr zero) = rw zero (lit< tt, lit< tt, refl)
 
-pub mark_reads : Reads read_mark ballot IsMark
-unfolding read_mark
+pub mark_reads : Reads read_any_ballot ballot IsBallot
+unfolding read_any_ballot
 mark_reads =
-    fitting read_mark ballot (λ (b : BallotValue). ((b.round < 2 ^ 64) × (b.node < 2 ^ 32)) × (is_mark b ≡ true)) IsMark
+    fitting read_any_ballot ballot (λ (b : BallotValue). ((b.round < 2 ^ 64) × (b.node < 2 ^ 32))
+    × (is_mark b ≡ true)) IsBallot
     (λ b f. marks b f.1) (λ b f. let m = are_marks b f in ((m.0, m.1), m.2))
     (tested_reads is_mark _ ballot _
     (made_reads ballot_of (λ (v : BallotValue). (v.round, v.node)) (λ x. refl) (λ y. refl) _ _ _
@@ -231,13 +232,14 @@ command_reads = tagged_reads command_tag command_fields IsCommand command_of com
 
 pub vote_reads : Reads read_vote vote IsVote
 unfolding read_vote
-vote_reads = fitting read_vote vote (λ (v : Vote). IsCount v.position × (IsReal v.ballot × IsCommand v.command)) IsVote
+vote_reads = fitting read_vote vote (λ (v : Vote). IsCount v.position × (IsRealBallot v.ballot
+    × IsCommand v.command)) IsVote
     (λ v f. (f.0, f.1.0, f.1.1)) (λ v f. (f.0, (f.1, f.2)))
     (made_reads (λ (v : ℕ × (BallotValue × Command)). let x : Vote =
     record { position = v.0; ballot = v.1.0; command = v.1.1 } in x)
     (λ (v : Vote). (v.position, (v.ballot, v.command))) (λ x. refl) (λ y. refl) _ _ _
     (both_reads read_count eight IsCount _ _ _ count_reads
-    (both_reads read_ballot ballot IsReal read_command command IsCommand ballot_reads command_reads)))
+    (both_reads read_ballot ballot IsRealBallot read_command command IsCommand ballot_reads command_reads)))
 
 pub pair_reads : Reads read_pair pair (λ (p : ℕ × Command). IsCount p.0 × IsCommand p.1)
 unfolding read_pair

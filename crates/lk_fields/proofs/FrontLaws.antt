@@ -3,7 +3,7 @@ use Rattle.std.proofs.Common.{ℕ, ◌^◌, ◌<◌, List, Option}
 use Rattle.std.specs.List.{AllByRecursion}
 use Rattle.lk_types.specs.Ranges.{IsNode, IsClient, IsPort, IsCount, IsTotal}
 use Rattle.lk_types.specs.BallotValue.{BallotValue}
-use Rattle.lk_types.specs.Ballots.{IsReal, IsMark}
+use Rattle.lk_types.specs.Ballots.{IsRealBallot, IsBallot}
 use Rattle.lk_types.specs.Rosters.{IsMember, AreMembers}
 use Rattle.lk_types.specs.Commands.{IsOp, IsRequest, IsCommand}
 use Rattle.lk_types.specs.Votes.{IsVote}
@@ -18,7 +18,7 @@ use Rattle.lk_fields.specs.Fields.{one, two, four, eight, ballot, member, member
 use Rattle.lk_fields.specs.Fronts.{ReadsFront}
 use Rattle.lk_fields.specs.Parser.{Finds, read_byte}
 use Rattle.lk_fields.specs.FieldReading.{read_two, read_four, read_eight, read_node, read_client, read_port, read_count}
-use Rattle.lk_fields.specs.FieldReading.{read_total, read_ballot, read_mark, read_member, read_members, read_op}
+use Rattle.lk_fields.specs.FieldReading.{read_total, read_ballot, read_any_ballot, read_member, read_members, read_op}
 use Rattle.lk_fields.specs.FieldReading.{read_request, read_command, read_vote, read_answer}
 use Rattle.lk_fields.proofs.Codec.{IsBytes, byte_reads, front_is}
 use Rattle.lk_fields.proofs.NumberLaws.{two_reads, four_reads, eight_reads}
@@ -64,12 +64,12 @@ module _ {Y : Type 0} where
   total_front = front_is read_total eight IsTotal total_reads
 
   pub ballot_front : (view : Y → BallotValue × List ℕ) (bytes : List ℕ) (result : Option Y) → IsBytes bytes
-      → Finds view result (read_ballot bytes) → ReadsFront view ballot IsReal bytes result
-  ballot_front = front_is read_ballot ballot IsReal ballot_reads
+      → Finds view result (read_ballot bytes) → ReadsFront view ballot IsRealBallot bytes result
+  ballot_front = front_is read_ballot ballot IsRealBallot ballot_reads
 
   pub mark_front : (view : Y → BallotValue × List ℕ) (bytes : List ℕ) (result : Option Y) → IsBytes bytes
-      → Finds view result (read_mark bytes) → ReadsFront view ballot IsMark bytes result
-  mark_front = front_is read_mark ballot IsMark mark_reads
+      → Finds view result (read_any_ballot bytes) → ReadsFront view ballot IsBallot bytes result
+  mark_front = front_is read_any_ballot ballot IsBallot mark_reads
 
   pub member_front : (view : Y → Member × List ℕ) (bytes : List ℕ) (result : Option Y) → IsBytes bytes
       → Finds view result (read_member bytes) → ReadsFront view member IsMember bytes result

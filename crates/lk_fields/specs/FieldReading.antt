@@ -53,8 +53,8 @@ read_ballot = made (λ b. record { round = b.0; node = b.1 }) (both read_count r
 abbrev pub is_mark : BallotValue → Bool
 is_mark b = is_from_1_to max_count b.round && is_from_1_to max_node b.node || b.round == 0 && b.node == 0
 
-unfoldable pub read_mark : List ℕ → Option (BallotValue × List ℕ)
-read_mark = tested is_mark (made (λ b. record { round = b.0; node = b.1 }) (both read_eight read_four))
+unfoldable pub read_any_ballot : List ℕ → Option (BallotValue × List ℕ)
+read_any_ballot = tested is_mark (made (λ b. record { round = b.0; node = b.1 }) (both read_eight read_four))
 
 unfoldable pub read_member : List ℕ → Option (Member × List ℕ)
 read_member = made (λ m. record { node = m.0; port = m.1 }) (both read_node read_port)

@@ -8,13 +8,13 @@ pub mod room;
 mod skip;
 
 pub use put::{
-    put_answer, put_ballot, put_client, put_command, put_executed, put_fence, put_mark, put_member,
-    put_members, put_node, put_number, put_position, put_request, put_u8, put_u16, put_u32,
-    put_u64, put_vote,
+    put_answer, put_any_ballot, put_ballot, put_client, put_command, put_executed, put_fence,
+    put_member, put_members, put_node, put_number, put_position, put_request, put_u8, put_u16,
+    put_u32, put_u64, put_vote,
 };
 pub use read::{
-    read_answer, read_ballot, read_client, read_command, read_executed, read_fence, read_mark,
-    read_member, read_members, read_node, read_number, read_op, read_position, read_request,
-    read_u8, read_u16, read_u32, read_u64, read_vote,
+    read_answer, read_any_ballot, read_ballot, read_client, read_command, read_executed,
+    read_fence, read_member, read_members, read_node, read_number, read_op, read_position,
+    read_request, read_u8, read_u16, read_u32, read_u64, read_vote,
 };
 pub use skip::{front_of, skip_command, skip_request, skip_vote};

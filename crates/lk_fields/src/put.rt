@@ -111,7 +111,7 @@ pub fn put_executed(out: &mut BytesMut, executed: Executed) -> Result<(), AllocE
 }
 
 /// Appends a ballot: its round and its node, twelve zero bytes for `Ballot::ZERO`.
-pub fn put_mark(out: &mut BytesMut, value: Ballot) -> Result<(), AllocError>
+pub fn put_any_ballot(out: &mut BytesMut, value: Ballot) -> Result<(), AllocError>
     ensures ok { OnOk result (out.new.items ≡ out.old.items ++ ballot value) }
     ensures err { OnErr result (out.new.items ≡ out.old.items) }
     ensures room { UsesRoom result out.old.spare out.new.spare mark_room }
@@ -127,7 +127,7 @@ pub fn put_ballot(out: &mut BytesMut, value: RealBallot) -> Result<(), AllocErro
     ensures err { OnErr result (out.new.items ≡ out.old.items) }
     ensures room { UsesRoom result out.old.spare out.new.spare mark_room }
 {
-    put_mark(out, value.get())
+    put_any_ballot(out, value.get())
 }
 
 /// Appends a node and its port.

@@ -5,7 +5,7 @@ ghost use Rattle.std.specs.Prelude.{◌≡◌, ◌<◌, ◌≤◌, ◌^◌, leng
 ghost use Rattle.std.specs.List.{AllByRecursion};
 ghost use Rattle.lk_types.specs.Limits.{max_members};
 ghost use Rattle.lk_types.specs.Ranges.{IsNode, IsClient, IsPort, IsCount, IsTotal};
-ghost use Rattle.lk_types.specs.Ballots.{IsReal, IsMark};
+ghost use Rattle.lk_types.specs.Ballots.{IsRealBallot, IsBallot};
 ghost use Rattle.lk_types.specs.Rosters.{IsMember, AreMembers};
 ghost use Rattle.lk_types.specs.Commands.{IsOp, IsRequest, IsCommand};
 ghost use Rattle.lk_types.specs.Votes.{IsVote};
@@ -15,7 +15,7 @@ ghost use Rattle.lk_fields.specs.Fields.{answer};
 ghost use Rattle.lk_fields.specs.Fronts.{ReadsFront};
 ghost use Rattle.lk_fields.specs.Parser.{Finds, read_byte, many};
 ghost use Rattle.lk_fields.specs.FieldReading.{read_two, read_four, read_eight, read_node, read_client, read_port};
-ghost use Rattle.lk_fields.specs.FieldReading.{read_count, read_total, read_sharer_count, read_ballot, read_mark};
+ghost use Rattle.lk_fields.specs.FieldReading.{read_count, read_total, read_sharer_count, read_ballot, read_any_ballot};
 ghost use Rattle.lk_fields.specs.FieldReading.{read_member, read_members, read_payload, read_op, read_request};
 ghost use Rattle.lk_fields.specs.FieldReading.{read_command, read_vote, bare_answer, read_held, read_sharing};
 ghost use Rattle.lk_fields.specs.FieldReading.{read_answer};
@@ -134,7 +134,7 @@ pub fn read_executed(bytes: &[u8]) -> Option<(Executed, &[u8])>
 /// Reads a ballot that a node can lead, so not `Ballot::ZERO`: its round and its node.
 #[tactic(auto, using(crate::proofs::FrontLaws::ballot_front), unfolding(crate::specs::FieldReading::read_ballot, crate::specs::FieldReading::read_count))]
 pub fn read_ballot(bytes: &[u8]) -> Option<(RealBallot, &[u8])>
-    ensures front { ReadsFront (λ x. (x.0, x.1.now)) ballot IsReal bytes.now result }
+    ensures front { ReadsFront (λ x. (x.0, x.1.now)) ballot IsRealBallot bytes.now result }
     ensures parsed { Finds (λ x. (x.0, x.1.now)) result (read_ballot bytes.now) }
 {
     let (round, rest) = read_u64(bytes)?;
@@ -146,10 +146,10 @@ pub fn read_ballot(bytes: &[u8]) -> Option<(RealBallot, &[u8])>
 }
 
 /// Reads a ballot that may be `Ballot::ZERO`: its round and its node, both 0 for `Ballot::ZERO`.
-#[tactic(auto, using(crate::proofs::FrontLaws::mark_front), unfolding(crate::specs::FieldReading::read_mark))]
-pub fn read_mark(bytes: &[u8]) -> Option<(Ballot, &[u8])>
-    ensures front { ReadsFront (λ x. (x.0, x.1.now)) ballot IsMark bytes.now result }
-    ensures parsed { Finds (λ x. (x.0, x.1.now)) result (read_mark bytes.now) }
+#[tactic(auto, using(crate::proofs::FrontLaws::mark_front), unfolding(crate::specs::FieldReading::read_any_ballot))]
+pub fn read_any_ballot(bytes: &[u8]) -> Option<(Ballot, &[u8])>
+    ensures front { ReadsFront (λ x. (x.0, x.1.now)) ballot IsBallot bytes.now result }
+    ensures parsed { Finds (λ x. (x.0, x.1.now)) result (read_any_ballot bytes.now) }
 {
     let (round, rest) = read_u64(bytes)?;
     let (node, rest) = read_u32(rest)?;

@@ -3,7 +3,7 @@ use Rattle.std.proofs.Common.{◌≡◌, ◌∙◌, ℕ, ◌++◌, Bool, List, l
 use Rattle.std.specs.Prelude.{IfSome, is_some, codes}
 use Rattle.std.specs.Io.KnownBytes.{Appends, Keeps}
 use Rattle.lk_types.specs.BallotValue.{BallotValue}
-use Rattle.lk_entries.specs.Values.{StandingValue}
+use Rattle.lk_store_format.specs.Values.{StandingValue}
 use Rattle.lk_log.specs.Images.{Image, IsEmpty}
 use Rattle.lk_log.specs.Stores.{Shows}
 use Rattle.lk_log.specs.declared.reopening.LiveFile.{LiveFile}

@@ -2,7 +2,7 @@
 use Rattle.std.specs.Prelude.{◌≡◌, ℕ, Bool, true, false, List, [], ◌∷◌, ◌++◌, length, codes, Option, Some, None}
 use Rattle.std.specs.Fmt.{decimal}
 use Rattle.lk_types.specs.BallotValue.{BallotValue}
-use Rattle.lk_entries.specs.Values.{StandingValue}
+use Rattle.lk_store_format.specs.Values.{StandingValue}
 use Rattle.lk_log.specs.Images.{Image, IsEmpty}
 use Rattle.lk_log.specs.Stores.{Shows}
 use Rattle.lk_log.specs.declared.reopening.LiveFile.{LiveFile}

@@ -3,7 +3,7 @@ use Rattle.std.specs.Prelude.{◌≡◌, ◌⊎◌, ◌+◌, ◌++◌, ℕ, List
 use Rattle.std.specs.List.{AllByRecursion}
 use Rattle.std.specs.FinMap as map
 use Rattle.lk_types.specs.Commands.{IsCommand}
-use Rattle.lk_entries.specs.Values.{StandingValue}
+use Rattle.lk_store_format.specs.Values.{StandingValue}
 use Rattle.lk_log.specs.Images.{Image, IsEmpty, IsDamaged}
 use Rattle.lk_log.specs.Stores.{Shows}
 use Rattle.lk_members.specs.Effects.{Command}

@@ -7,9 +7,9 @@ ghost use Rattle.lk_log.specs.Images.{seen, IsDamaged};
 ghost use Rattle.lk_inspect.specs.Dumps.{number_line, promised_line, live_text, found_text, Dumps};
 
 use lk_disk::LogDisk;
-use lk_folder::folder::look_at_device;
-use lk_folder::refusals::write_refusal;
 use lk_log::{LiveFile, look};
+use lk_node_files::folder::look_at_device;
+use lk_node_files::refusals::write_refusal;
 use lk_transport::fault::ServiceFault;
 use lk_types::Ballot;
 use std::alloc::Global;

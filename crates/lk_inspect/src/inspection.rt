@@ -13,9 +13,9 @@ ghost use Rattle.lk_locks.specs.Packed.{IsTableText};
 ghost use Rattle.lk_inspect.specs.Inspections.{CannotStand, Tells};
 
 use crate::state::state_of;
-use lk_entries::Standing;
 use lk_locks::{Name, Slot};
 use lk_members::Window;
+use lk_store_format::Standing;
 use lk_transport::fault::ServiceFault;
 use lk_types::Executed;
 use std::alloc::Global;

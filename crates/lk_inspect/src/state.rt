@@ -12,9 +12,9 @@ ghost use Rattle.lk_locks.specs.Meaning.{table_meaning};
 ghost use Rattle.lk_locks.specs.Packed.{IsTableText};
 ghost use Rattle.lk_inspect.specs.Inspections.{CannotStand};
 
-use lk_entries::Standing;
 use lk_locks::LockTable;
 use lk_state::{Ran, Whole};
+use lk_store_format::Standing;
 use lk_transport::fault::ServiceFault;
 use lk_types::{Answer, Command, NoMemory, Position};
 use std::alloc::Global;

@@ -24,7 +24,7 @@ use Rattle.lk_leader.specs.Values.{ReportedVote, IsNotAbove, told_by, told_at, s
 use Rattle.lk_leader.specs.Values.{highest, first_new, fills}
 use Rattle.lk_leader.specs.Proposing.{promisers, IsNext, AreMembersAt, Proposes, proposed}
 use Rattle.lk_leader.specs.Acceptances.{members_among, heard, heard_at, IsVoteFor, GainsMajority}
-use Rattle.lk_leader.specs.LedTerms.{LeadsTerm}
+use Rattle.lk_leader.specs.LedTerms.{AgreesWithTerm}
 use Rattle.lk_leader.proofs.Elements.{cons_cases, contains_more, filter_has, filter_from, filter_passes_at, map_has}
 use Rattle.lk_leader.proofs.Elements.{map_from, any_from, find_from, find_none}
 
@@ -135,7 +135,7 @@ set_named genesis done roster i set sums at reaches =
 
 pub proposes_allowed : (genesis : Genesis) (done : List Command) (t : Term) (k : TermValue)
     (waiting : List RequestValue) (roster : RosterValue) (i : ℕ) (v : Command)
-    → RosterSumsUp genesis done roster → LeadsTerm roster.executed (length roster.sets) t k
+    → RosterSumsUp genesis done roster → AgreesWithTerm roster.executed (length roster.sets) t k
     → Proposes k waiting roster i v → MayPropose genesis done t i v
 unfolding roster_after
 proposes_allowed genesis done t k waiting roster i v sums stands p =
@@ -162,7 +162,7 @@ proposes_allowed genesis done t k waiting roster i v sums stands p =
 -- a proposed command was reported, or waits, or is none
 pub proposes_asked : (executed alpha : ℕ) (t : Term) (k : TermValue) (waiting : List RequestValue)
     (roster : RosterValue) (set : List Member) (i : ℕ) (v : Command)
-    → LeadsTerm executed alpha t k → IsLeadersValue k waiting roster set i v
+    → AgreesWithTerm executed alpha t k → IsLeadersValue k waiting roster set i v
     → ((x : Vote) × IsReported t.reports x × (x.command ≡ v))
     ⊎ (((q : RequestValue) × Contains waiting q × (v ≡ Request q)) ⊎ (v ≡ Noop))
 proposes_asked executed alpha t k waiting roster set i v stands (highest h best) =
@@ -212,7 +212,8 @@ accepted_by set node p = members_among set (heard set node p).accepted
 pub majority_rests : (genesis : Genesis) (done : List Command) (t : Term) (k : TermValue) (roster : RosterValue)
     (b : BallotValue) (node i : ℕ) (v : Command) (set : List Member) (p : ProposalValue)
     → RosterSumsUp genesis done roster → i ≤ roster.executed + length roster.sets
-    → LeadsTerm roster.executed (length roster.sets) t k → IsVoteFor k roster b i v set p → GainsMajority set node p
+    → AgreesWithTerm roster.executed (length roster.sets) t k → IsVoteFor k roster b i v set p
+    → GainsMajority set node p
     → (i ≤ length done + genesis.alpha) × IsMajority (accepted_by set node p) (members genesis done i)
     × ((n : ℕ) → Contains (accepted_by set node p) n
     → Contains (with_acceptance t (record { node = node; position = i; command = v })).accepted
@@ -238,7 +239,7 @@ majority_rests genesis done t k roster b node i v set p sums reaches stands vote
 
 -- ---- the term goes on being stood for
 
-pub begun_leads : (executed alpha : ℕ) (b : BallotValue) → LeadsTerm executed alpha (new_term b) (begun b)
+pub begun_leads : (executed alpha : ℕ) (b : BallotValue) → AgreesWithTerm executed alpha (new_term b) (begun b)
 begun_leads executed alpha b = record {
   ballot = refl;
   reports = λ r h. h;
@@ -249,7 +250,7 @@ begun_leads executed alpha b = record {
 }
 
 pub later_leads : (executed later alpha : ℕ) (t : Term) (k : TermValue) → executed ≤ later
-    → LeadsTerm executed alpha t k → LeadsTerm later alpha t k
+    → AgreesWithTerm executed alpha t k → AgreesWithTerm later alpha t k
 later_leads executed later alpha t k le h = record {
   ballot = h.ballot;
   reports = h.reports;
@@ -259,8 +260,8 @@ later_leads executed later alpha t k le h = record {
   accepted = h.accepted;
 }
 
-pub heard_leads : (executed alpha : ℕ) (t : Term) (k : TermValue) (r : Report) → LeadsTerm executed alpha t k
-    → LeadsTerm executed alpha (with_report t r) (terms.with_report r k)
+pub heard_leads : (executed alpha : ℕ) (t : Term) (k : TermValue) (r : Report) → AgreesWithTerm executed alpha t k
+    → AgreesWithTerm executed alpha (with_report t r) (terms.with_report r k)
 heard_leads executed alpha t k r h = record {
   ballot = h.ballot;
   reports = λ q c. elim (Contains-push_cases k.reports r q c) [
@@ -274,8 +275,8 @@ heard_leads executed alpha t k r h = record {
 }
 
 pub proposed_leads : (t : Term) (k : TermValue) (roster : RosterValue) (i : ℕ) (v : Command)
-    → IsNext roster k.proposals i → LeadsTerm roster.executed (length roster.sets) t k
-    → LeadsTerm roster.executed (length roster.sets) (with_proposal t (i, v)) (proposed roster i v k)
+    → IsNext roster k.proposals i → AgreesWithTerm roster.executed (length roster.sets) t k
+    → AgreesWithTerm roster.executed (length roster.sets) (with_proposal t (i, v)) (proposed roster i v k)
 proposed_leads t k roster i v next h =
     let e : ℕ = roster.executed in
     let a : ℕ = length roster.sets in
@@ -370,8 +371,8 @@ heard_has set node i (r ∷ ps) p h =
 
 pub majority_leads : (executed alpha : ℕ) (t : Term) (k : TermValue) (roster : RosterValue) (b : BallotValue)
     (node i : ℕ) (v : Command) (set : List Member) (p : ProposalValue)
-    → IsVoteFor k roster b i v set p → LeadsTerm executed alpha t k
-    → LeadsTerm executed alpha (with_acceptance t (record { node = node; position = i; command = v }))
+    → IsVoteFor k roster b i v set p → AgreesWithTerm executed alpha t k
+    → AgreesWithTerm executed alpha (with_acceptance t (record { node = node; position = i; command = v }))
     (with_proposals (heard_at set node i k.proposals) k)
 majority_leads executed alpha t k roster b node i v set p vote h =
     let own = vote_of k roster b i v set p vote in

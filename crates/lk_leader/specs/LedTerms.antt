@@ -6,7 +6,7 @@ use Rattle.lk_leader.specs.Terms.{Command, Report, ProposalValue, TermValue}
 -- a leader that keeps this much leads the term, with this many executed positions and a window of this size. The
 -- term lists everything that was ever proposed and heard; what is kept is among these, with each proposal that is not
 -- executed
-pub record LeadsTerm (executed alpha : ℕ) (t : Term) (k : TermValue) : Type 0 where
+pub record AgreesWithTerm (executed alpha : ℕ) (t : Term) (k : TermValue) : Type 0 where
   pub ballot : t.ballot ≡ k.ballot
   pub reports : (r : Report) → Contains k.reports r → Contains t.reports r
   pub proposals : (p : ProposalValue) → Contains k.proposals p → Contains t.proposals (p.position, p.command)

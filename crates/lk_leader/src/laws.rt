@@ -16,18 +16,18 @@ ghost use Rattle.lk_leader.specs.Values.{IsLeadersValue};
 ghost use Rattle.lk_leader.specs.Proposing.{IsNext, Proposes, proposed};
 ghost use Rattle.lk_leader.specs.Acceptances.{members_among, heard, heard_at, IsVoteFor, GainsMajority};
 ghost use Rattle.lk_leader.specs.Waits.{asked, left_by, AreOneEach};
-ghost use Rattle.lk_leader.specs.LedTerms.{LeadsTerm};
+ghost use Rattle.lk_leader.specs.LedTerms.{AgreesWithTerm};
 
 /// The protocol permits what a leader proposes, if its roster is that of the executed list. A proposed command was
 /// reported, or waits, or is a no-op: nothing is ever proposed that was not asked.
 pub fn what_is_proposed_is_allowed()
     ensures allowed { (genesis : Genesis) (done : List Command) (t : Term) (k : TermValue)
         (waiting : List RequestValue) (roster : RosterValue) (i : ℕ) (v : Command)
-        → RosterSumsUp genesis done roster → LeadsTerm roster.executed (length roster.sets) t k
+        → RosterSumsUp genesis done roster → AgreesWithTerm roster.executed (length roster.sets) t k
         → Proposes k waiting roster i v → MayPropose genesis done t i v }
     ensures asked { (executed alpha : ℕ) (t : Term) (k : TermValue) (waiting : List RequestValue)
         (roster : RosterValue) (set : List Member) (i : ℕ) (v : Command)
-        → LeadsTerm executed alpha t k → IsLeadersValue k waiting roster set i v
+        → AgreesWithTerm executed alpha t k → IsLeadersValue k waiting roster set i v
         → ((x : Vote) × IsReported t.reports x × (x.command ≡ v))
         ⊎ (((q : RequestValue) × Contains waiting q × (v ≡ Request q)) ⊎ (v ≡ Noop)) }
 {}
@@ -38,7 +38,8 @@ pub fn what_gains_a_majority_was_accepted()
     ensures { (genesis : Genesis) (done : List Command) (t : Term) (k : TermValue) (roster : RosterValue)
         (b : BallotValue) (node i : ℕ) (v : Command) (set : List Member) (p : ProposalValue)
         → RosterSumsUp genesis done roster → i ≤ roster.executed + length roster.sets
-        → LeadsTerm roster.executed (length roster.sets) t k → IsVoteFor k roster b i v set p → GainsMajority set node p
+        → AgreesWithTerm roster.executed (length roster.sets) t k → IsVoteFor k roster b i v set p
+        → GainsMajority set node p
         → (i ≤ length done + genesis.alpha)
         × IsMajority (members_among set (heard set node p).accepted) (members genesis done i)
         × ((n : ℕ) → Contains (members_among set (heard set node p).accepted) n
@@ -49,18 +50,18 @@ pub fn what_gains_a_majority_was_accepted()
 /// A leader's state continues to agree with its term in the history, whatever it hears, proposes or decides, and as
 /// more is executed.
 pub fn a_leader_keeps_its_term()
-    ensures begins { (executed alpha : ℕ) (b : BallotValue) → LeadsTerm executed alpha (new_term b) (begun b) }
+    ensures begins { (executed alpha : ℕ) (b : BallotValue) → AgreesWithTerm executed alpha (new_term b) (begun b) }
     ensures later { (executed later alpha : ℕ) (t : Term) (k : TermValue) → executed ≤ later
-        → LeadsTerm executed alpha t k → LeadsTerm later alpha t k }
-    ensures hears { (executed alpha : ℕ) (t : Term) (k : TermValue) (r : Report) → LeadsTerm executed alpha t k
-        → LeadsTerm executed alpha (with_report t r) (terms.with_report r k) }
+        → AgreesWithTerm executed alpha t k → AgreesWithTerm later alpha t k }
+    ensures hears { (executed alpha : ℕ) (t : Term) (k : TermValue) (r : Report) → AgreesWithTerm executed alpha t k
+        → AgreesWithTerm executed alpha (with_report t r) (terms.with_report r k) }
     ensures proposes { (t : Term) (k : TermValue) (roster : RosterValue) (i : ℕ) (v : Command)
-        → IsNext roster k.proposals i → LeadsTerm roster.executed (length roster.sets) t k
-        → LeadsTerm roster.executed (length roster.sets) (with_proposal t (i, v)) (proposed roster i v k) }
+        → IsNext roster k.proposals i → AgreesWithTerm roster.executed (length roster.sets) t k
+        → AgreesWithTerm roster.executed (length roster.sets) (with_proposal t (i, v)) (proposed roster i v k) }
     ensures gains { (executed alpha : ℕ) (t : Term) (k : TermValue) (roster : RosterValue) (b : BallotValue)
         (node i : ℕ) (v : Command) (set : List Member) (p : ProposalValue)
-        → IsVoteFor k roster b i v set p → LeadsTerm executed alpha t k
-        → LeadsTerm executed alpha (with_acceptance t (record { node = node; position = i; command = v }))
+        → IsVoteFor k roster b i v set p → AgreesWithTerm executed alpha t k
+        → AgreesWithTerm executed alpha (with_acceptance t (record { node = node; position = i; command = v }))
         (with_proposals (heard_at set node i k.proposals) k) }
 {}
 

@@ -22,7 +22,7 @@ use Rattle.lk_state.proofs.Wholes.{ran-whole_after}
 use Rattle.lk_learner.specs.Learners.{Command, Pair, WholeValue, LearnerValue, executed, begun, keeping, IsNext}
 use Rattle.lk_learner.specs.Learners.{advanced, IsServed, decided_from, with_snapshot}
 use Rattle.lk_learner.specs.Installing.{pairs_above, installed}
-use Rattle.lk_learner.specs.Following.{Follows}
+use Rattle.lk_learner.specs.Following.{AgreesWithList}
 use Rattle.lk_learner.proofs.PairLaws.{with_has, with_others, with_only, without_from}
 
 -- ---- lists
@@ -94,7 +94,7 @@ module _ (m : Meaning) (genesis : Genesis) where
   -- ---- it goes on following
 
   pub begun_follows : (done : List Command) (w : WholeValue) → SumsUp m genesis done w
-      → Follows m genesis done [] (begun w)
+      → AgreesWithList m genesis done [] (begun w)
   begun_follows done w sums =
       let e = executed_is done w sums in
       record {
@@ -107,8 +107,9 @@ module _ (m : Meaning) (genesis : Genesis) where
       }
 
   -- with a snapshot of its state in the place of what it has executed
-  pub here_follows : (done : List Command) (pairs : List Pair) (l : LearnerValue) → Follows m genesis done pairs l
-      → Follows m genesis done pairs (with_snapshot l)
+  pub here_follows : (done : List Command) (pairs : List Pair) (l : LearnerValue)
+      → AgreesWithList m genesis done pairs l
+      → AgreesWithList m genesis done pairs (with_snapshot l)
   here_follows done pairs l f =
       let e = executed_is done l.whole f.sums in
       record {
@@ -121,7 +122,7 @@ module _ (m : Meaning) (genesis : Genesis) where
       }
 
   pub keeping_follows : (done : List Command) (pairs : List Pair) (l : LearnerValue) (p : Pair)
-      → Follows m genesis done pairs l → Follows m genesis done (pairs ++ p ∷ []) (keeping p l)
+      → AgreesWithList m genesis done pairs l → AgreesWithList m genesis done (pairs ++ p ∷ []) (keeping p l)
   keeping_follows done pairs l p f = record {
     sums = f.sums;
     within = f.within;
@@ -138,8 +139,8 @@ module _ (m : Meaning) (genesis : Genesis) where
   }
 
   pub advanced_follows : (done : List Command) (pairs : List Pair) (l : LearnerValue) (v : Command)
-      → Follows m genesis done pairs l
-      → Follows m genesis (done ++ v ∷ []) (advanced m v l).pairs (advanced m v l)
+      → AgreesWithList m genesis done pairs l
+      → AgreesWithList m genesis (done ++ v ∷ []) (advanced m v l).pairs (advanced m v l)
   advanced_follows done pairs l v f = record {
     sums = ap (ran m v) f.sums ∙ ran-whole_after m genesis done v;
     within = omega (arith, f.within, length-append done (v ∷ []));
@@ -153,8 +154,8 @@ module _ (m : Meaning) (genesis : Genesis) where
 
   -- with the state of another list installed it follows that list
   pub installed_follows : (done L : List Command) (pairs : List Pair) (l : LearnerValue) (w : WholeValue)
-      → Follows m genesis done pairs l → SumsUp m genesis L w
-      → Follows m genesis L (pairs_above w.roster.executed pairs) (installed w l)
+      → AgreesWithList m genesis done pairs l → SumsUp m genesis L w
+      → AgreesWithList m genesis L (pairs_above w.roster.executed pairs) (installed w l)
   installed_follows done L pairs l w f sums =
       let e = executed_is L w sums in
       record {
@@ -170,21 +171,21 @@ module _ (m : Meaning) (genesis : Genesis) where
 
   -- the pair of the next position stands after the list, with no gap
   pub next_known : (done : List Command) (pairs : List Pair) (l : LearnerValue) (v : Command)
-      → Follows m genesis done pairs l → IsNext l v → Contains pairs (suc (length done), v)
+      → AgreesWithList m genesis done pairs l → IsNext l v → Contains pairs (suc (length done), v)
   next_known done pairs l v f h =
       let e = executed_is done l.whole f.sums in
       let next : executed l + 1 ≡ suc (length done) = omega (arith, e) in
       subst (λ (i : ℕ). Contains pairs (i, v)) next (f.known (executed l + 1, v) h)
 
   pub next_chosen : (sent : List Datagram) (w : View) (l : LearnerValue) (v : Command) → Sound genesis sent
-      → Stems genesis sent w → Follows m genesis w.done w.pairs l → IsNext l v
+      → Stems genesis sent w → AgreesWithList m genesis w.done w.pairs l → IsNext l v
       → Chosen genesis sent (w.done ++ v ∷ [])
   next_chosen sent w l v sound stems f h =
       chosen_push genesis sent sound w.done v stems.done
       (stems.pairs (suc (length w.done)) v (next_known w.done w.pairs l v f h))
 
   pub next_stands : (done : List Command) (pairs : List Pair) (l : LearnerValue) (v : Command)
-      → Follows m genesis done pairs l → command_at (done ++ v ∷ []) (executed l + 1) ≡ Some v
+      → AgreesWithList m genesis done pairs l → command_at (done ++ v ∷ []) (executed l + 1) ≡ Some v
   next_stands done pairs l v f =
       let e = executed_is done l.whole f.sums in
       let next : executed l + 1 ≡ suc (length done) = omega (arith, e) in
@@ -193,7 +194,7 @@ module _ (m : Meaning) (genesis : Genesis) where
   -- ---- what is run is a change that is allowed
 
   pub running_changes : (sent : List Datagram) (n : ℕ) (w : View) (l : LearnerValue) (v : Command)
-      → Follows m genesis w.done w.pairs l → IsNext l v
+      → AgreesWithList m genesis w.done w.pairs l → IsNext l v
       → Changes genesis sent n w (with_done w (w.done ++ v ∷ []) (advanced m v l).pairs)
   running_changes sent n w l v f h =
       executes v (advanced m v l).pairs (next_known w.done w.pairs l v f h)
@@ -202,7 +203,7 @@ module _ (m : Meaning) (genesis : Genesis) where
   -- ---- what it serves
 
   pub served_stands : (done : List Command) (pairs : List Pair) (l : LearnerValue) (i : ℕ) (v : Command)
-      → Follows m genesis done pairs l → l.snapshot_position < i
+      → AgreesWithList m genesis done pairs l → l.snapshot_position < i
       → slice_get l.served (i - (l.snapshot_position + 1)) ≡ Some v → command_at done i ≡ Some v
   served_stands done pairs l i v f above h =
       let s : ℕ = l.snapshot_position in
@@ -212,7 +213,7 @@ module _ (m : Meaning) (genesis : Genesis) where
       ∙ ap (λ (xs : List Command). slice_get xs j) (sym f.served) ∙ h
 
   pub served_chosen : (sent : List Datagram) (done : List Command) (pairs : List Pair) (l : LearnerValue) (first : ℕ)
-      → Chosen genesis sent done → Follows m genesis done pairs l → IsServed l first
+      → Chosen genesis sent done → AgreesWithList m genesis done pairs l → IsServed l first
       → AreChosenFrom genesis sent first (decided_from first l).commands
   served_chosen sent done pairs l first chosen f is k v h =
       let s : ℕ = l.snapshot_position in

@@ -9,7 +9,7 @@ use Rattle.lk_learner.specs.Learners.{Command, Pair, LearnerValue}
 
 -- the learner has followed the list so far and knows these pairs: its state sums the list up, its snapshot's text is
 -- that of the list up to the snapshot, what it serves is the list after it, and it keeps the same pairs, in any order
-pub record Follows (m : Meaning) (genesis : Genesis) (done : List Command) (pairs : List Pair)
+pub record AgreesWithList (m : Meaning) (genesis : Genesis) (done : List Command) (pairs : List Pair)
     (l : LearnerValue) : Type 0 where
   pub sums : SumsUp m genesis done l.whole
   pub within : l.snapshot_position ≤ length done

@@ -13,7 +13,7 @@ ghost use Rattle.lk_state.specs.States.{SumsUp};
 ghost use Rattle.lk_learner.specs.Pairs.{AreKept, without};
 ghost use Rattle.lk_learner.specs.Learners.{Command, Pair, WholeValue, LearnerValue, executed, begun, keeping, IsNext};
 ghost use Rattle.lk_learner.specs.Learners.{advanced, IsServed, decided_from};
-ghost use Rattle.lk_learner.specs.Following.{Follows};
+ghost use Rattle.lk_learner.specs.Following.{AgreesWithList};
 ghost use Rattle.lk_learner.specs.Learners.{GatheredValue};
 ghost use Rattle.lk_learner.specs.Gathering.{heard};
 ghost use Rattle.lk_learner.specs.Installing.{pairs_above, installed};
@@ -35,17 +35,18 @@ pub fn kept_pairs_are_near_and_few()
 /// command. After it installs the state of another list it agrees with that one.
 pub fn a_learner_follows_its_list()
     ensures begins { (m : Meaning) (genesis : Genesis) (done : List Command) (w : WholeValue) → SumsUp m genesis done w
-        → Follows m genesis done [] (begun w) }
+        → AgreesWithList m genesis done [] (begun w) }
     ensures keeps { (m : Meaning) (genesis : Genesis) (done : List Command) (pairs : List Pair)
         (l : LearnerValue) (p : Pair)
-        → Follows m genesis done pairs l → Follows m genesis done (pairs ++ p ∷ []) (keeping p l) }
+        → AgreesWithList m genesis done pairs l → AgreesWithList m genesis done (pairs ++ p ∷ []) (keeping p l) }
     ensures runs { (m : Meaning) (genesis : Genesis) (done : List Command) (pairs : List Pair)
         (l : LearnerValue) (v : Command)
-        → Follows m genesis done pairs l → Follows m genesis (done ++ v ∷ []) (advanced m v l).pairs (advanced m v l) }
+        → AgreesWithList m genesis done pairs l
+        → AgreesWithList m genesis (done ++ v ∷ []) (advanced m v l).pairs (advanced m v l) }
     ensures installs { (m : Meaning) (genesis : Genesis) (done L : List Command) (pairs : List Pair)
         (l : LearnerValue) (w : WholeValue)
-        → Follows m genesis done pairs l → SumsUp m genesis L w
-        → Follows m genesis L (pairs_above w.roster.executed pairs) (installed w l) }
+        → AgreesWithList m genesis done pairs l → SumsUp m genesis L w
+        → AgreesWithList m genesis L (pairs_above w.roster.executed pairs) (installed w l) }
 {}
 
 /// The command that a learner executes next is chosen at the position after its list, so the list with it is chosen: a
@@ -53,10 +54,10 @@ pub fn a_learner_follows_its_list()
 pub fn what_is_run_is_chosen()
     ensures chosen { (m : Meaning) (genesis : Genesis) (sent : List Datagram) (w : View) (l : LearnerValue)
         (v : Command) → Sound genesis sent → Stems genesis sent w
-        → Follows m genesis w.done w.pairs l → IsNext l v → Chosen genesis sent (w.done ++ v ∷ []) }
+        → AgreesWithList m genesis w.done w.pairs l → IsNext l v → Chosen genesis sent (w.done ++ v ∷ []) }
     ensures there { (m : Meaning) (genesis : Genesis) (done : List Command) (pairs : List Pair)
         (l : LearnerValue) (v : Command)
-        → Follows m genesis done pairs l → command_at (done ++ v ∷ []) (executed l + 1) ≡ Some v }
+        → AgreesWithList m genesis done pairs l → command_at (done ++ v ∷ []) (executed l + 1) ≡ Some v }
 {}
 
 /// The protocol permits a node to keep a chosen pair, and to execute the next command.
@@ -65,17 +66,17 @@ pub fn a_learner_changes_as_it_may()
         → ChosenAt genesis sent i v
         → Changes genesis sent n w (with_done w w.done (w.pairs ++ (i, v) ∷ [])) }
     ensures executes { (m : Meaning) (genesis : Genesis) (sent : List Datagram) (n : ℕ) (w : View) (l : LearnerValue)
-        (v : Command) → Follows m genesis w.done w.pairs l → IsNext l v
+        (v : Command) → AgreesWithList m genesis w.done w.pairs l → IsNext l v
         → Changes genesis sent n w (with_done w (w.done ++ v ∷ []) (advanced m v l).pairs) }
 {}
 
 /// A node may send the commands that its learner serves, and they are those of the executed list.
 pub fn what_is_served_is_chosen()
     ensures may { (m : Meaning) (genesis : Genesis) (sent : List Datagram) (w : View) (l : LearnerValue) (first : ℕ)
-        → Stems genesis sent w → Follows m genesis w.done w.pairs l
+        → Stems genesis sent w → AgreesWithList m genesis w.done w.pairs l
         → IsServed l first → MaySend genesis sent w (Decided (decided_from first l)) }
     ensures there { (m : Meaning) (genesis : Genesis) (done : List Command) (pairs : List Pair) (l : LearnerValue)
-        (i : ℕ) (v : Command) → Follows m genesis done pairs l
+        (i : ℕ) (v : Command) → AgreesWithList m genesis done pairs l
         → l.snapshot_position < i → slice_get l.served (i - (l.snapshot_position + 1)) ≡ Some v
         → command_at done i ≡ Some v }
 {}

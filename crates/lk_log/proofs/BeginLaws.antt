@@ -7,21 +7,21 @@ use Rattle.std.proofs.lemmas.Bool.{cases_lt}
 use Rattle.std.proofs.lemmas.List.{append-nil, take_all}
 use Rattle.lk_types.specs.declared.member.Member.{Member}
 use Rattle.lk_fields.specs.Fields.{two, four, eight, member}
-use Rattle.lk_disk.specs.Disk.{Disk, other, contents, appended, cut_to, flushed, CutShort, MayLeave}
+use Rattle.lk_disk.specs.Disk.{Disk, other, contents, appended, cut_to, fully_synced, CutShort, MayLeave}
 use Rattle.lk_disk.specs.declared.device.Side.{Side}
 use Rattle.lk_disk.specs.declared.device.Side.TheVariants.{A, B}
-use Rattle.lk_entries.specs.Headers.{IsHeader}
-use Rattle.lk_entries.specs.Entries.{base, spelling, IsStored}
-use Rattle.lk_entries.specs.Formats.{is_mixed}
-use Rattle.lk_entries.specs.Files.{NoneBegins, is_torn, IsFile}
-use Rattle.lk_entries.specs.Values.{HeaderValue}
-use Rattle.lk_entries.specs.declared.stored.Stored.{Stored}
-use Rattle.lk_entries.specs.declared.stored.Stored.TheVariants.{Base}
-use Rattle.lk_entries.proofs.Spelling.{front_begins_none}
-use Rattle.lk_entries.proofs.Mixed.{sound_rest}
-use Rattle.lk_entries.proofs.Torn.{entry_front_torn}
-use Rattle.lk_entries.proofs.Whole.{file_spelled, front_past}
-use Rattle.lk_entries.proofs.StandingLaws.{base_stands}
+use Rattle.lk_store_format.specs.Headers.{IsHeader}
+use Rattle.lk_store_format.specs.Entries.{base, spelling, IsStored}
+use Rattle.lk_store_format.specs.Formats.{is_mixed}
+use Rattle.lk_store_format.specs.Files.{NoneBegins, is_torn, IsFile}
+use Rattle.lk_store_format.specs.Values.{HeaderValue}
+use Rattle.lk_store_format.specs.declared.stored.Stored.{Stored}
+use Rattle.lk_store_format.specs.declared.stored.Stored.TheVariants.{Base}
+use Rattle.lk_store_format.proofs.Spelling.{front_begins_none}
+use Rattle.lk_store_format.proofs.Mixed.{sound_rest}
+use Rattle.lk_store_format.proofs.Torn.{entry_front_torn}
+use Rattle.lk_store_format.proofs.Whole.{file_spelled, front_past}
+use Rattle.lk_store_format.proofs.StandingLaws.{base_stands}
 use Rattle.lk_log.specs.Images.{Image, MayLeaveBoth, IsLive, IsEmpty, Narrows, seen, SameMeaning}
 use Rattle.lk_log.specs.StoreValue.{pick}
 use Rattle.lk_log.specs.Stores.{first_base, IsWrittenOver, NarrowsOrBegins, OpensOn}
@@ -60,8 +60,9 @@ over_whole old new bytes is c left =
     )
 
 pub over_done : (old mid end new : Disk) (bytes : List ℕ) → mid ≡ cut_to 0 old → end ≡ appended mid bytes
-    → new ≡ flushed end → new ≡ record { synced = bytes; unsynced = [] }
-over_done old mid end new bytes cut add sync = sync ∙ ap flushed add ∙ ap (λ (d : Disk). flushed (appended d bytes)) cut
+    → new ≡ fully_synced end → new ≡ record { synced = bytes; unsynced = [] }
+over_done old mid end new bytes cut add sync =
+    sync ∙ ap fully_synced add ∙ ap (λ (d : Disk). fully_synced (appended d bytes)) cut
 
 -- ---- the images
 

@@ -7,12 +7,12 @@ use Rattle.lk_disk.specs.Disk.{Disk, other, contents}
 use Rattle.lk_disk.specs.declared.device.Side.{Side}
 use Rattle.lk_disk.specs.declared.device.Side.TheVariants.{A, B}
 use Rattle.lk_types.specs.declared.entry.Entry.{Entry}
-use Rattle.lk_entries.specs.Entries.{spelling_of_all, IsStored, plain}
-use Rattle.lk_entries.specs.Files.{IsFile}
-use Rattle.lk_entries.specs.Bases.{has_base, is_misplaced, generation}
-use Rattle.lk_entries.specs.declared.stored.Stored.{Stored}
-use Rattle.lk_entries.specs.declared.stored.Stored.TheVariants.{Base, Plain}
-use Rattle.lk_entries.proofs.Whole.{file_unique}
+use Rattle.lk_store_format.specs.Entries.{spelling_of_all, IsStored, plain}
+use Rattle.lk_store_format.specs.Files.{IsFile}
+use Rattle.lk_store_format.specs.Bases.{has_base, is_misplaced, generation}
+use Rattle.lk_store_format.specs.declared.stored.Stored.{Stored}
+use Rattle.lk_store_format.specs.declared.stored.Stored.TheVariants.{Base, Plain}
+use Rattle.lk_store_format.proofs.Whole.{file_unique}
 use Rattle.lk_log.specs.Images.{Image, verdict, Means, IsLive, seen}
 use Rattle.lk_log.specs.Stores.{FoundLive}
 use Rattle.lk_log.specs.StoreValue.{pick}

@@ -7,10 +7,10 @@ use Rattle.lk_disk.specs.Meters.{Passes, start, Breaks, Calls, is_failing, calle
 use Rattle.lk_disk.specs.declared.device.Side.{Side}
 use Rattle.lk_disk.specs.declared.meter.Meter.{Meter}
 use Rattle.lk_disk.proofs.Devices.{passes_on, call_passes, call_breaks}
-use Rattle.lk_entries.specs.Entries.{spelling, spelling_of_all, plain}
-use Rattle.lk_entries.proofs.Spelling.{spelled_long}
-use Rattle.lk_entries.specs.declared.stored.Stored.{Stored}
-use Rattle.lk_entries.specs.declared.stored.Stored.TheVariants.{Plain}
+use Rattle.lk_store_format.specs.Entries.{spelling, spelling_of_all, plain}
+use Rattle.lk_store_format.proofs.Spelling.{spelled_long}
+use Rattle.lk_store_format.specs.declared.stored.Stored.{Stored}
+use Rattle.lk_store_format.specs.declared.stored.Stored.TheVariants.{Plain}
 use Rattle.lk_log.specs.Causes.{ComesBy, IsRefusedBy, IsMetered, calls_for, put_calls}
 use Rattle.lk_log.specs.Images.{seen}
 use Rattle.lk_log.specs.Stores.{cut_calls, OpensBy, FoundLive}

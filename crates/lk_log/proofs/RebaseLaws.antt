@@ -5,7 +5,7 @@ use Rattle.std.specs.List.{AllByRecursion, flat_map}
 use Rattle.std.proofs.Math.Seq.{take-append-add}
 use Rattle.std.proofs.lemmas.List.Concat.{flat_map-cons}
 use Rattle.std.proofs.lemmas.List.{append-nil}
-use Rattle.lk_types.specs.Ballots.{IsMark}
+use Rattle.lk_types.specs.Ballots.{IsBallot}
 use Rattle.lk_types.specs.Ranges.{IsCount, IsTotal}
 use Rattle.lk_types.specs.Votes.{IsVote}
 use Rattle.lk_types.specs.declared.command.Command.{Command}
@@ -14,17 +14,17 @@ use Rattle.lk_fields.specs.Fields.{two, four, eight, member, vote, pair}
 use Rattle.lk_disk.specs.Disk.{Disk, other, contents, CutShort, MayLeave}
 use Rattle.lk_disk.specs.declared.device.Side.{Side}
 use Rattle.lk_disk.specs.declared.device.Side.TheVariants.{A, B}
-use Rattle.lk_entries.specs.Headers.{IsHeader}
-use Rattle.lk_entries.specs.Entries.{base, spelling, IsPair, IsStored}
-use Rattle.lk_entries.specs.Files.{IsFile}
-use Rattle.lk_entries.specs.Bases.{is_misplaced, generation}
-use Rattle.lk_entries.specs.Values.{BaseValue}
-use Rattle.lk_entries.specs.declared.stored.Stored.{Stored}
-use Rattle.lk_entries.specs.declared.stored.Stored.TheVariants.{Base}
-use Rattle.lk_entries.proofs.EntryLaws.{len_command}
-use Rattle.lk_entries.proofs.Mixed.{mixed-two}
-use Rattle.lk_entries.proofs.Spelling.{spelled-append, all-left, all-right}
-use Rattle.lk_entries.proofs.Whole.{front, file_behind, front_file, file_spelled}
+use Rattle.lk_store_format.specs.Headers.{IsHeader}
+use Rattle.lk_store_format.specs.Entries.{base, spelling, IsPair, IsStored}
+use Rattle.lk_store_format.specs.Files.{IsFile}
+use Rattle.lk_store_format.specs.Bases.{is_misplaced, generation}
+use Rattle.lk_store_format.specs.Values.{BaseValue}
+use Rattle.lk_store_format.specs.declared.stored.Stored.{Stored}
+use Rattle.lk_store_format.specs.declared.stored.Stored.TheVariants.{Base}
+use Rattle.lk_store_format.proofs.EntryLaws.{len_command}
+use Rattle.lk_store_format.proofs.Mixed.{mixed-two}
+use Rattle.lk_store_format.proofs.Spelling.{spelled-append, all-left, all-right}
+use Rattle.lk_store_format.proofs.Whole.{front, file_behind, front_file, file_spelled}
 use Rattle.lk_log.specs.Images.{Image, IsLive}
 use Rattle.lk_log.specs.StoreValue.{pick}
 use Rattle.lk_log.specs.Stores.{IsOlder, HoldsOn, MayBegin, KeepsOrIs, IsWrittenOver}
@@ -59,7 +59,7 @@ pairs_long (p ∷ ps) fit =
       pairs_long ps fit.1,
     )
 
-pub base_fits : (b : BaseValue) → b.format ≡ 2 → IsCount b.generation → IsHeader b.header → IsMark b.standing.promised
+pub base_fits : (b : BaseValue) → b.format ≡ 2 → IsCount b.generation → IsHeader b.header → IsBallot b.standing.promised
     → IsTotal b.standing.position → AllByRecursion IsVote b.standing.votes → AllByRecursion IsPair b.standing.pairs
     → MayBegin b.standing → IsStored (Base b)
 unfolding base two four eight

@@ -3,10 +3,10 @@ use Rattle.std.proofs.Common.{◌≡◌, ◌↔◌, IsTrue, inl, inr, ℕ, Bool,
 use Rattle.std.proofs.Common.{sym, ap, subst, ◌∙◌}
 use Rattle.lk_disk.specs.Disk.{Disk, other, contents}
 use Rattle.lk_disk.specs.declared.device.Side.{Side}
-use Rattle.lk_entries.specs.Files.{IsFile}
-use Rattle.lk_entries.specs.Bases.{generation}
-use Rattle.lk_entries.specs.Values.{HeaderValue, StandingValue}
-use Rattle.lk_entries.specs.declared.stored.Stored.{Stored}
+use Rattle.lk_store_format.specs.Files.{IsFile}
+use Rattle.lk_store_format.specs.Bases.{generation}
+use Rattle.lk_store_format.specs.Values.{HeaderValue, StandingValue}
+use Rattle.lk_store_format.specs.declared.stored.Stored.{Stored}
 use Rattle.lk_log.specs.Images.{IsLive, IsEmpty, seen}
 use Rattle.lk_log.specs.Stores.{FoundLive, IsOlder, OpensOn, Found}
 use Rattle.lk_log.specs.declared.verdict.Verdict.TheVariants.{Empty, Live}

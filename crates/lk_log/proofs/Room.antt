@@ -7,15 +7,15 @@ use Rattle.std.proofs.lemmas.List.{length-take}
 use Rattle.lk_types.specs.declared.entry.Entry.{Entry}
 use Rattle.lk_types.specs.declared.entry.Entry.TheVariants.{Promise, Vote, Decided}
 use Rattle.lk_fields.specs.Fields.{four, eight}
-use Rattle.lk_disk.specs.Disk.{Disk, other, contents, appended, flushed, cut_to, AppendsSome, CutShort}
+use Rattle.lk_disk.specs.Disk.{Disk, other, contents, appended, fully_synced, cut_to, AppendsSome, CutShort}
 use Rattle.lk_disk.specs.declared.device.Side.{Side}
 use Rattle.lk_disk.specs.declared.device.Side.TheVariants.{A, B}
 use Rattle.lk_disk.proofs.Devices.{contents_may_be_left}
-use Rattle.lk_entries.specs.Entries.{spelling, spelling_of_all, IsEntry, IsStored, plain}
-use Rattle.lk_entries.specs.Values.{BaseValue}
-use Rattle.lk_entries.specs.declared.stored.Stored.{Stored}
-use Rattle.lk_entries.specs.declared.stored.Stored.TheVariants.{Base, Plain}
-use Rattle.lk_entries.proofs.EntryLaws.{len_ballot, len_command, body_short}
+use Rattle.lk_store_format.specs.Entries.{spelling, spelling_of_all, IsEntry, IsStored, plain}
+use Rattle.lk_store_format.specs.Values.{BaseValue}
+use Rattle.lk_store_format.specs.declared.stored.Stored.{Stored}
+use Rattle.lk_store_format.specs.declared.stored.Stored.TheVariants.{Base, Plain}
+use Rattle.lk_store_format.proofs.EntryLaws.{len_ballot, len_command, body_short}
 use Rattle.lk_log.specs.Stores.{IsWrittenOver}
 use Rattle.lk_log.specs.Rooms.{StaysWithin}
 use Rattle.lk_log.specs.StoreValue.{StoreValue, pick, disks}
@@ -65,7 +65,7 @@ all_room old new bytes es is fits e =
     some_room old new bytes es is fits (length bytes, e ∙ ap (appended old) (sym (take-length bytes)))
 
 -- a sync adds none
-pub synced_room : (old new : Disk) → new ≡ flushed old → length (contents new) ≡ length (contents old)
+pub synced_room : (old new : Disk) → new ≡ fully_synced old → length (contents new) ≡ length (contents old)
 synced_room old new e = ap (λ d. length (contents d)) e ∙ ap length (append-nil (contents old))
 
 -- ---- what an opening leaves

@@ -5,14 +5,14 @@ use Rattle.std.specs.List.{AllByRecursion}
 use Rattle.std.proofs.Math.Seq.{take-append-add}
 use Rattle.std.proofs.lemmas.Bool.{cases_lt}
 use Rattle.std.proofs.lemmas.List.{append-nil, take-take, take_all, take_at, length-take, nil_from_length}
-use Rattle.lk_disk.specs.Disk.{Disk, contents, cut_to, flushed, CutShort, MayLeave}
+use Rattle.lk_disk.specs.Disk.{Disk, contents, cut_to, fully_synced, CutShort, MayLeave}
 use Rattle.lk_disk.specs.declared.device.Side.{Side}
-use Rattle.lk_entries.specs.Entries.{spelling_of_all, IsStored}
-use Rattle.lk_entries.specs.Files.{AreWholeEntries, IsFile}
-use Rattle.lk_entries.specs.Formats.{is_mixed}
-use Rattle.lk_entries.specs.Bases.{is_misplaced, generation}
-use Rattle.lk_entries.specs.declared.stored.Stored.{Stored}
-use Rattle.lk_entries.proofs.Whole.{file_unique, file_spelled, file_sound, front_past}
+use Rattle.lk_store_format.specs.Entries.{spelling_of_all, IsStored}
+use Rattle.lk_store_format.specs.Files.{AreWholeEntries, IsFile}
+use Rattle.lk_store_format.specs.Formats.{is_mixed}
+use Rattle.lk_store_format.specs.Bases.{is_misplaced, generation}
+use Rattle.lk_store_format.specs.declared.stored.Stored.{Stored}
+use Rattle.lk_store_format.proofs.Whole.{file_unique, file_spelled, file_sound, front_past}
 use Rattle.lk_log.specs.Images.{Narrows}
 use Rattle.lk_log.specs.Stores.{IsOlder, HoldsOn, FileNarrows}
 use Rattle.lk_log.proofs.Steps.{take_nil, left_front}
@@ -71,7 +71,7 @@ cut_narrows old new n es f end is =
     one_image old new es f (λ c left. file_spelled es c f.whole.fit (file_sound (contents old) es f)
     (all_synced new (take n (contents old)) c is left ∙ cut_whole old n es f.whole end))
 
-pub flushed_narrows : (old new : Disk) → new ≡ flushed old → FileNarrows old new
+pub flushed_narrows : (old new : Disk) → new ≡ fully_synced old → FileNarrows old new
 flushed_narrows old new is c left = (
   contents old,
   whole_left old,
@@ -126,7 +126,7 @@ nothing_behind d es w short =
 
 -- cut and synced, beside an older file
 pub settled : (mid new o o' : Disk) (es : List Stored) → AllByRecursion IsStored es → is_misplaced es ≡ false
-    → is_mixed es ≡ false → contents mid ≡ spelling_of_all es → new ≡ flushed mid → o' ≡ o
+    → is_mixed es ≡ false → contents mid ≡ spelling_of_all es → new ≡ fully_synced mid → o' ≡ o
     → IsOlder o (generation es) → HoldsOn new o' es []
 settled mid new o o' es fit placed sound is sync same older =
     let all = sym (append-nil es) in

@@ -6,17 +6,17 @@ use Rattle.std.proofs.Math.Seq.{take-append-add}
 use Rattle.std.proofs.lemmas.Bool.{cases_lt}
 use Rattle.std.proofs.lemmas.List.{append-nil, take-take, take_all, take_min, take-append-le, length-take}
 use Rattle.lk_types.specs.declared.entry.Entry.{Entry}
-use Rattle.lk_disk.specs.Disk.{Disk, other, contents, appended, flushed, AppendsSome, MayLeave}
+use Rattle.lk_disk.specs.Disk.{Disk, other, contents, appended, fully_synced, AppendsSome, MayLeave}
 use Rattle.lk_disk.specs.declared.device.Side.{Side}
 use Rattle.lk_disk.specs.declared.device.Side.TheVariants.{A, B}
-use Rattle.lk_entries.specs.Entries.{spelling_of_all, IsStored, plain}
-use Rattle.lk_entries.specs.Files.{IsFile}
-use Rattle.lk_entries.specs.Formats.{format, is_mixed}
-use Rattle.lk_entries.specs.Bases.{is_misplaced, generation}
-use Rattle.lk_entries.specs.declared.stored.Stored.{Stored}
-use Rattle.lk_entries.proofs.Spelling.{spelled-append, all-append, all-left, all-right}
-use Rattle.lk_entries.proofs.Mixed.{mixed-two}
-use Rattle.lk_entries.proofs.Whole.{front, file_behind, front_file}
+use Rattle.lk_store_format.specs.Entries.{spelling_of_all, IsStored, plain}
+use Rattle.lk_store_format.specs.Files.{IsFile}
+use Rattle.lk_store_format.specs.Formats.{format, is_mixed}
+use Rattle.lk_store_format.specs.Bases.{is_misplaced, generation}
+use Rattle.lk_store_format.specs.declared.stored.Stored.{Stored}
+use Rattle.lk_store_format.proofs.Spelling.{spelled-append, all-append, all-left, all-right}
+use Rattle.lk_store_format.proofs.Mixed.{mixed-two}
+use Rattle.lk_store_format.proofs.Whole.{front, file_behind, front_file}
 use Rattle.lk_log.specs.Images.{Image, MayLeaveBoth, IsLive}
 use Rattle.lk_log.specs.StoreValue.{pick}
 use Rattle.lk_log.specs.Stores.{IsOlder, HoldsOn}
@@ -166,7 +166,7 @@ module _ (d o d' o' : Disk) (ks ls : List Stored) (given : List Entry) where
     older = older_same o o' (generation ks) same h.older;
   }
 
-pub holds_sync : (d o d' o' : Disk) (ks ls : List Stored) → HoldsOn d o ks ls → d' ≡ flushed d → o' ≡ o
+pub holds_sync : (d o d' o' : Disk) (ks ls : List Stored) → HoldsOn d o ks ls → d' ≡ fully_synced d → o' ≡ o
     → HoldsOn d' o' (ks ++ ls) []
 holds_sync d o d' o' ks ls h is same =
     let all = append-nil (ks ++ ls) in
@@ -191,7 +191,7 @@ grows_holds d o ks ls h =
     }
 
 -- all of it is synced
-pub grows_synced : (d o d' o' : Disk) (ks ls : List Stored) → HoldsOn d o ks ls → d' ≡ flushed d
+pub grows_synced : (d o d' o' : Disk) (ks ls : List Stored) → HoldsOn d o ks ls → d' ≡ fully_synced d
     → o' ≡ o → Grows d' o' ks ls
 grows_synced d o d' o' ks ls h is same = record {
   front = λ c left.

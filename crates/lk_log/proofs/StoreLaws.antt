@@ -8,18 +8,18 @@ use Rattle.lk_disk.specs.Disk.{Disk}
 use Rattle.lk_disk.specs.declared.device.Side.{Side}
 use Rattle.lk_disk.specs.declared.device.Side.TheVariants.{A, B}
 use Rattle.lk_types.specs.Votes.{are_votes_above}
-use Rattle.lk_entries.specs.Entries.{IsBase, IsStored, are_pairs_above, plain}
-use Rattle.lk_entries.specs.Files.{IsFile}
-use Rattle.lk_entries.specs.Formats.{is_mixed}
-use Rattle.lk_entries.specs.Bases.{has_base, is_misplaced, generation}
-use Rattle.lk_entries.specs.Standings.{HasHeader, StandsFor, with_plain, with_all, of_base}
-use Rattle.lk_entries.specs.Values.{HeaderValue, StandingValue, BaseValue}
-use Rattle.lk_entries.specs.declared.stored.Stored.{Stored}
-use Rattle.lk_entries.specs.declared.stored.Stored.TheVariants.{Base, Plain}
-use Rattle.lk_entries.proofs.Mixed.{mixed-take}
-use Rattle.lk_entries.proofs.OneStanding as one
-use Rattle.lk_entries.proofs.Spelling.{all-left, none_begins_nil}
-use Rattle.lk_entries.proofs.StandingLaws as standings
+use Rattle.lk_store_format.specs.Entries.{IsBase, IsStored, are_pairs_above, plain}
+use Rattle.lk_store_format.specs.Files.{IsFile}
+use Rattle.lk_store_format.specs.Formats.{is_mixed}
+use Rattle.lk_store_format.specs.Bases.{has_base, is_misplaced, generation}
+use Rattle.lk_store_format.specs.Standings.{HasHeader, StandsFor, with_plain, with_all, of_base}
+use Rattle.lk_store_format.specs.Values.{HeaderValue, StandingValue, BaseValue}
+use Rattle.lk_store_format.specs.declared.stored.Stored.{Stored}
+use Rattle.lk_store_format.specs.declared.stored.Stored.TheVariants.{Base, Plain}
+use Rattle.lk_store_format.proofs.Mixed.{mixed-take}
+use Rattle.lk_store_format.proofs.OneStanding as one
+use Rattle.lk_store_format.proofs.Spelling.{all-left, none_begins_nil}
+use Rattle.lk_store_format.proofs.StandingLaws as standings
 use Rattle.lk_log.specs.EveryImage.{AllMean, EveryFound, NarrowsOrBeganSome}
 use Rattle.lk_log.specs.Images.{Image, MayLeaveBoth, Means, IsLive, IsEmpty, IsDamaged, SameMeaning, seen}
 use Rattle.lk_log.specs.StoreValue.{StoreValue, pick, disks}

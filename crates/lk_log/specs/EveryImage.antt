@@ -2,9 +2,9 @@
 use Rattle.std.specs.Prelude.{ℕ, ◌⊎◌, List, [], ◌∷◌}
 use Rattle.lk_disk.specs.Disk.{Disk}
 use Rattle.lk_disk.specs.declared.device.Side.{Side}
-use Rattle.lk_entries.specs.Values.{HeaderValue}
-use Rattle.lk_entries.specs.declared.stored.Stored.{Stored}
-use Rattle.lk_entries.specs.declared.stored.Stored.TheVariants.{Base}
+use Rattle.lk_store_format.specs.Values.{HeaderValue}
+use Rattle.lk_store_format.specs.declared.stored.Stored.{Stored}
+use Rattle.lk_store_format.specs.declared.stored.Stored.TheVariants.{Base}
 use Rattle.lk_log.specs.Images.{Image, MayLeaveBoth, Means, IsLive, IsEmpty, SameMeaning}
 use Rattle.lk_log.specs.Stores.{first_base, Found}
 use Rattle.lk_log.specs.declared.verdict.Verdict.{Verdict}

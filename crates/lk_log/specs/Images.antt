@@ -3,9 +3,9 @@ use Rattle.std.specs.Prelude.{◌≡◌, ℕ, Bool, nat_lt, ◌||◌, List, if�
 use Rattle.lk_disk.specs.Disk.{Disk, contents, MayLeave}
 use Rattle.lk_disk.specs.declared.device.Side.{Side}
 use Rattle.lk_disk.specs.declared.device.Side.TheVariants.{A, B}
-use Rattle.lk_entries.specs.Files.{IsFile}
-use Rattle.lk_entries.specs.declared.stored.Stored.{Stored}
-use Rattle.lk_entries.specs.Bases.{is_misplaced, generation}
+use Rattle.lk_store_format.specs.Files.{IsFile}
+use Rattle.lk_store_format.specs.declared.stored.Stored.{Stored}
+use Rattle.lk_store_format.specs.Bases.{is_misplaced, generation}
 use Rattle.lk_log.specs.declared.verdict.Verdict.{Verdict}
 use Rattle.lk_log.specs.declared.verdict.Verdict.TheVariants.{Damaged, Empty, Live}
 

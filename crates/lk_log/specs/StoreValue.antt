@@ -4,7 +4,7 @@ use Rattle.lk_disk.specs.Disk.{Disk}
 use Rattle.lk_disk.specs.declared.meter.Meter.{Meter}
 use Rattle.lk_disk.specs.declared.device.Side.{Side}
 use Rattle.lk_disk.specs.declared.device.Side.TheVariants.{A, B}
-use Rattle.lk_entries.specs.Values.{HeaderValue}
+use Rattle.lk_store_format.specs.Values.{HeaderValue}
 
 -- the disk of the live file and the other one, how many of the device's calls have failed, what makes it fail, which
 -- side is live, the generation and the format of its Base, whose store it is, and whether the store rejects all calls

@@ -8,14 +8,14 @@ use Rattle.lk_types.specs.declared.entry.Entry.{Entry}
 use Rattle.lk_types.specs.Votes.{are_votes_above}
 use Rattle.lk_disk.specs.Disk.{Disk, other, contents, MayLeave}
 use Rattle.lk_disk.specs.declared.device.Side.{Side}
-use Rattle.lk_entries.specs.Entries.{spelling_of_all, IsStored, are_pairs_above}
-use Rattle.lk_entries.specs.Files.{IsFile}
-use Rattle.lk_entries.specs.Formats.{format, is_mixed}
-use Rattle.lk_entries.specs.Bases.{is_misplaced, generation}
-use Rattle.lk_entries.specs.Standings.{HasHeader, StandsFor}
-use Rattle.lk_entries.specs.Values.{HeaderValue, StandingValue, BaseValue}
-use Rattle.lk_entries.specs.declared.stored.Stored.{Stored}
-use Rattle.lk_entries.specs.declared.stored.Stored.TheVariants.{Base}
+use Rattle.lk_store_format.specs.Entries.{spelling_of_all, IsStored, are_pairs_above}
+use Rattle.lk_store_format.specs.Files.{IsFile}
+use Rattle.lk_store_format.specs.Formats.{format, is_mixed}
+use Rattle.lk_store_format.specs.Bases.{is_misplaced, generation}
+use Rattle.lk_store_format.specs.Standings.{HasHeader, StandsFor}
+use Rattle.lk_store_format.specs.Values.{HeaderValue, StandingValue, BaseValue}
+use Rattle.lk_store_format.specs.declared.stored.Stored.{Stored}
+use Rattle.lk_store_format.specs.declared.stored.Stored.TheVariants.{Base}
 use Rattle.lk_log.specs.Images.{Image, MayLeaveBoth, IsLive, IsEmpty, IsDamaged, SameMeaning, seen}
 use Rattle.lk_log.specs.StoreValue.{StoreValue, pick}
 use Rattle.lk_log.specs.declared.fault.StoreFault.{StoreFault}

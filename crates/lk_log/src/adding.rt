@@ -2,9 +2,9 @@
 ghost use Rattle.std.specs.Prelude.{◌≡◌, ◌≤◌, ◌+◌, ◌*◌, ◌++◌, List, [], length, take, true, false, OnOk, OnErr};
 ghost use Rattle.std.specs.Prelude.{IsErrOf};
 ghost use Rattle.lk_disk.specs.Disk.{other, contents, appended, AppendsSome, HasCause};
-ghost use Rattle.lk_entries.specs.Formats.{format};
-ghost use Rattle.lk_entries.specs.Entries.{plain};
-ghost use Rattle.lk_entries.specs.declared.stored.Stored.{Stored};
+ghost use Rattle.lk_store_format.specs.Formats.{format};
+ghost use Rattle.lk_store_format.specs.Entries.{plain};
+ghost use Rattle.lk_store_format.specs.declared.stored.Stored.{Stored};
 ghost use Rattle.lk_log.specs.Causes.{IsCaused, ComesBy, IsMetered, calls_for, put_calls};
 ghost use Rattle.lk_log.specs.Images.{Image, MayLeaveBoth, IsLive};
 ghost use Rattle.lk_log.specs.StoreValue.{pick};
@@ -12,7 +12,7 @@ ghost use Rattle.lk_log.specs.Stores.{HoldsOn, KeepsAtLeastOn};
 
 use crate::fault::StoreFault;
 use lk_disk::{DeviceFault, LogDisk, Side};
-use lk_entries::{entries_facts, spelled};
+use lk_store_format::{entries_facts, spelled};
 use lk_types::Entry;
 use std::alloc::Global;
 

@@ -4,11 +4,11 @@ ghost use Rattle.std.specs.Prelude.{◌≡◌, ◌++◌, ◌∷◌, [], List, �
 ghost use Rattle.lk_types.specs.declared.entry.Entry.{Entry};
 ghost use Rattle.lk_disk.specs.Disk.{Disk};
 ghost use Rattle.lk_disk.specs.declared.device.Side.{Side};
-ghost use Rattle.lk_entries.specs.Entries.{plain};
-ghost use Rattle.lk_entries.specs.Standings.{StandsFor, with_plain};
-ghost use Rattle.lk_entries.specs.Values.{HeaderValue, StandingValue};
-ghost use Rattle.lk_entries.specs.declared.stored.Stored.{Stored};
-ghost use Rattle.lk_entries.specs.declared.stored.Stored.TheVariants.{Plain};
+ghost use Rattle.lk_store_format.specs.Entries.{plain};
+ghost use Rattle.lk_store_format.specs.Standings.{StandsFor, with_plain};
+ghost use Rattle.lk_store_format.specs.Values.{HeaderValue, StandingValue};
+ghost use Rattle.lk_store_format.specs.declared.stored.Stored.{Stored};
+ghost use Rattle.lk_store_format.specs.declared.stored.Stored.TheVariants.{Plain};
 ghost use Rattle.lk_log.specs.EveryImage.{EveryFound, AllMean, NarrowsOrBeganSome};
 ghost use Rattle.lk_log.specs.Images.{Image, MayLeaveBoth, Means, IsLive, IsEmpty, seen};
 ghost use Rattle.lk_log.specs.StoreValue.{StoreValue, disks};

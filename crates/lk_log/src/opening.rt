@@ -1,10 +1,10 @@
 // The steps of opening a store that a stop may have left: find the live file, and cut off its torn end.
 ghost use Rattle.std.specs.Prelude.{◌≡◌, ◌+◌, List, [], ◌∷◌, false, length, IfOk, IfSome, OnOk, IsErrOf, Ok};
-ghost use Rattle.lk_disk.specs.Disk.{contents, other, flushed, HasCause};
-ghost use Rattle.lk_entries.specs.Entries.{spelling_of_all};
-ghost use Rattle.lk_entries.specs.Files.{IsFile};
-ghost use Rattle.lk_entries.specs.Bases.{is_misplaced, generation};
-ghost use Rattle.lk_entries.specs.declared.stored.Stored.{Stored};
+ghost use Rattle.lk_disk.specs.Disk.{contents, other, fully_synced, HasCause};
+ghost use Rattle.lk_store_format.specs.Entries.{spelling_of_all};
+ghost use Rattle.lk_store_format.specs.Files.{IsFile};
+ghost use Rattle.lk_store_format.specs.Bases.{is_misplaced, generation};
+ghost use Rattle.lk_store_format.specs.declared.stored.Stored.{Stored};
 ghost use Rattle.lk_log.specs.Causes.{ComesBy};
 ghost use Rattle.lk_log.specs.OpenCauses.{FailuresRise, IsMetered};
 ghost use Rattle.lk_log.specs.Rooms.{StaysWithin};

@@ -2,11 +2,11 @@
 ghost use Rattle.std.specs.Prelude.{◌≡◌, ◌<◌, ◌≤◌, List, [], ◌∷◌, length, OnOk};
 ghost use Rattle.lk_types.specs.Limits.{max_base};
 ghost use Rattle.lk_disk.specs.Disk.{contents, other, HasCause};
-ghost use Rattle.lk_entries.specs.Entries.{IsStored, spelling};
-ghost use Rattle.lk_entries.specs.Bases.{generation};
-ghost use Rattle.lk_entries.specs.Values.{BaseValue};
-ghost use Rattle.lk_entries.specs.declared.stored.Stored.{Stored};
-ghost use Rattle.lk_entries.specs.declared.stored.Stored.TheVariants.{Base as base_entry};
+ghost use Rattle.lk_store_format.specs.Entries.{IsStored, spelling};
+ghost use Rattle.lk_store_format.specs.Bases.{generation};
+ghost use Rattle.lk_store_format.specs.Values.{BaseValue};
+ghost use Rattle.lk_store_format.specs.declared.stored.Stored.{Stored};
+ghost use Rattle.lk_store_format.specs.declared.stored.Stored.TheVariants.{Base as base_entry};
 ghost use Rattle.lk_log.specs.Causes.{ComesBy, rebase_calls};
 ghost use Rattle.lk_log.specs.Rooms.{StaysWithin};
 ghost use Rattle.lk_log.specs.Stores.{HoldsOn, KeepsOrIs};

@@ -1,11 +1,11 @@
 // Replaying the entries of a file into their standing: the recovered state.
 ghost use Rattle.std.specs.Prelude.{◌≡◌, ◌≤◌, map, length, OnOk, OnErr, IfOk};
-ghost use Rattle.lk_entries.specs.Standings.{greater, greatest_of, ballot_of, pairs_below, with_pair, with_plain};
-ghost use Rattle.lk_entries.specs.Standings.{of_base, ArePairsRising, Rises, StandsFor};
+ghost use Rattle.lk_store_format.specs.Standings.{greater, greatest_of, ballot_of, pairs_below, with_pair, with_plain};
+ghost use Rattle.lk_store_format.specs.Standings.{of_base, ArePairsRising, Rises, StandsFor};
 ghost use Rattle.lk_log.specs.Stores.{MayStand};
 ghost use Rattle.lk_types.specs.declared.entry.Entry.TheVariants.{Vote as vote_entry, Decided as decided_entry};
 
-use lk_entries::{Base, Standing, Stored, keep_vote};
+use lk_store_format::{Base, Standing, Stored, keep_vote};
 use lk_types::{Ballot, Command, Entry, Executed, NoMemory, Position, Vote};
 use std::alloc::{AllocFailed, Global};
 
@@ -37,7 +37,7 @@ fn pairs_below(position: Position, pairs: &[(Position, Command)]) -> usize
 }
 
 // Inserts a decided command in the order of positions. If the position has one already, that one stays.
-#[tactic(auto, using(lk_entries::proofs::InOrder::pair_at_end, lk_entries::proofs::InOrder::pair_at_other, lk_entries::proofs::InOrder::pair_at_same))]
+#[tactic(auto, using(lk_store_format::proofs::InOrder::pair_at_end, lk_store_format::proofs::InOrder::pair_at_other, lk_store_format::proofs::InOrder::pair_at_same))]
 fn keep_pair(
     pairs: &mut Vec<(Position, Command)>,
     pair: (Position, Command),

@@ -1,18 +1,20 @@
 //! Reads the arguments of each subcommand into a plan of what it is to do.
 
 use clap::ArgMatches;
-use lk_arguments::command_line::operation_of;
 use lk_client::question::Question;
-use lk_entries::Header;
-use lk_options::argument_error::{ArgumentError, invalid_argument};
-use lk_options::asking::{question_of, turns_of};
-use lk_options::operation::invalid_operation;
-use lk_options::values::{address_in, client_in, genesis_in, node_in, number_in, port_in, word};
-use lk_pace::pace::Pace;
-use lk_schedules::fuzzing::MAX_EVENTS;
-use lk_schedules::plan::Plan;
-use lk_service::network::NetworkOptions;
-use lk_service::resources::NodePlan;
+use lk_command_line::argument_error::{ArgumentError, invalid_argument};
+use lk_command_line::asking::{question_of, turns_of};
+use lk_command_line::operation::invalid_operation;
+use lk_command_line::values::{
+    address_in, client_in, genesis_in, node_in, number_in, port_in, word,
+};
+use lk_node_process::network::NetworkOptions;
+use lk_node_process::resources::NodePlan;
+use lk_parsers::command_line::operation_of;
+use lk_random_schedules::fuzzing::MAX_EVENTS;
+use lk_random_schedules::plan::Plan;
+use lk_store_format::Header;
+use lk_timing::pace::Pace;
 use lk_types::{ClientNo, Op, Port};
 use std::alloc::{AllocError, Global};
 

@@ -14,27 +14,20 @@ pub enum Subcommand {
     Status,
 }
 
-// All subcommands, with the words that name them.
-const NAMED: [(&str, Subcommand); 9] = [
-    ("sim", Subcommand::Sim),
-    ("fuzz", Subcommand::Fuzz),
-    ("node", Subcommand::Node),
-    ("ask", Subcommand::Ask),
-    ("demo", Subcommand::Demo),
-    ("dump", Subcommand::Dump),
-    ("inspect", Subcommand::Inspect),
-    ("client-key", Subcommand::ClientKey),
-    ("status", Subcommand::Status),
-];
-
 impl Subcommand {
     /// Returns the subcommand of that name, if there is one.
     pub fn of(name: &str) -> Option<Subcommand> {
-        for (known, subcommand) in NAMED {
-            if known == name {
-                return Some(subcommand);
-            }
+        match name {
+            "sim" => Some(Subcommand::Sim),
+            "fuzz" => Some(Subcommand::Fuzz),
+            "node" => Some(Subcommand::Node),
+            "ask" => Some(Subcommand::Ask),
+            "demo" => Some(Subcommand::Demo),
+            "dump" => Some(Subcommand::Dump),
+            "inspect" => Some(Subcommand::Inspect),
+            "client-key" => Some(Subcommand::ClientKey),
+            "status" => Some(Subcommand::Status),
+            _ => None,
         }
-        None
     }
 }

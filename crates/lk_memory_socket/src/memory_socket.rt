@@ -126,7 +126,7 @@ impl DatagramSocket for MemorySocket {
     }
 
     // The same as `receive`, which never waits.
-    fn receive_waiting(&mut self, buffer: &mut [u8]) -> Option<(usize, SocketAddr)> {
+    fn try_receive(&mut self, buffer: &mut [u8]) -> Option<(usize, SocketAddr)> {
         self.receive(buffer)
     }
 

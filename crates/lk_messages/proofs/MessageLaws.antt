@@ -5,7 +5,7 @@ use Rattle.std.specs.List.{AllByRecursion}
 use Rattle.std.proofs.lemmas.Bool.Decides.{nat_tests}
 use Rattle.lk_types.specs.Ranges.{IsClient, IsCount, IsTotal}
 use Rattle.lk_types.specs.BallotValue.{BallotValue}
-use Rattle.lk_types.specs.Ballots.{IsReal, IsMark}
+use Rattle.lk_types.specs.Ballots.{IsRealBallot, IsBallot}
 use Rattle.lk_types.specs.Commands.{IsCommand}
 use Rattle.lk_types.specs.Rosters.{IsMember}
 use Rattle.lk_types.specs.Votes.{IsVote}
@@ -27,7 +27,7 @@ use Rattle.lk_messages.specs.Grammar.{votes, promise, proposal, nack, IsNack, co
 use Rattle.lk_messages.specs.Grammar.{IsAnswered, elsewhere, IsElsewhere, passed, node_kind, node_fields, IsNodeMessage}
 use Rattle.lk_fields.specs.Parser.{read_byte, both, made, kind}
 use Rattle.lk_fields.specs.FieldReading.{read_two, read_four, read_client, read_count, read_total, read_ballot}
-use Rattle.lk_fields.specs.FieldReading.{read_mark, read_member, read_command, read_vote, read_answer}
+use Rattle.lk_fields.specs.FieldReading.{read_any_ballot, read_member, read_command, read_vote, read_answer}
 use Rattle.lk_messages.specs.Reading.{read_prepare, read_votes, read_promise, read_proposal, read_nack, read_commands}
 use Rattle.lk_messages.specs.Reading.{read_decided, read_want, is_within, read_part, read_answered, read_elsewhere}
 use Rattle.lk_messages.specs.Reading.{read_passed, read_lead, small_of, node_of}
@@ -46,7 +46,7 @@ votes_reads = counted_reads read_byte one (λ n. n < 256) byte_reads read_vote v
 pub promise_reads : Reads read_promise promise IsPromise
 unfolding read_promise
 promise_reads = fitting read_promise promise
-    (λ (p : PromiseValue). (IsReal p.ballot
+    (λ (p : PromiseValue). (IsRealBallot p.ballot
     × (IsCount p.first × ((length p.votes < 256) × AllByRecursion IsVote p.votes)))
     × (are_votes_from p.first p.votes ≡ true)) IsPromise
     (λ p f. (f.0.0, f.0.1.0, f.0.1.1.1, f.1))
@@ -55,29 +55,31 @@ promise_reads = fitting read_promise promise
     (made_reads (λ (v : BallotValue × (ℕ × List Vote)). let x : PromiseValue =
     record { ballot = v.0; first = v.1.0; votes = v.1.1 } in x) (λ (p : PromiseValue). (p.ballot, (p.first, p.votes)))
     (λ x. refl) (λ y. refl) _ _ _
-    (both_reads read_ballot ballot IsReal _ _ _ ballot_reads
+    (both_reads read_ballot ballot IsRealBallot _ _ _ ballot_reads
     (both_reads read_count eight IsCount read_votes votes _ count_reads votes_reads))))
 
 pub proposal_reads : Reads read_proposal proposal IsVote
 unfolding read_proposal
 proposal_reads = fitting read_proposal proposal
-    (λ (v : Vote). IsReal v.ballot × (IsCount v.position × IsCommand v.command)) IsVote (λ v f. (f.1.0, f.0, f.1.1))
+    (λ (v : Vote). IsRealBallot v.ballot × (IsCount v.position
+    × IsCommand v.command)) IsVote (λ v f. (f.1.0, f.0, f.1.1))
     (λ v f. (f.1, (f.0, f.2)))
     (made_reads (λ (v : BallotValue × (ℕ × Command)). let x : Vote =
     record { position = v.1.0; ballot = v.0; command = v.1.1 } in x)
     (λ (v : Vote). (v.ballot, (v.position, v.command))) (λ x. refl) (λ y. refl) _ _ _
-    (both_reads read_ballot ballot IsReal _ _ _ ballot_reads
+    (both_reads read_ballot ballot IsRealBallot _ _ _ ballot_reads
     (both_reads read_count eight IsCount read_command command IsCommand count_reads command_reads)))
 
 pub nack_reads : Reads read_nack nack IsNack
 unfolding read_nack
-nack_reads = fitting read_nack nack (λ (n : Nack). IsReal n.ballot × (IsMark n.promised × IsTotal n.executed)) IsNack
+nack_reads = fitting read_nack nack (λ (n : Nack). IsRealBallot n.ballot × (IsBallot n.promised
+    × IsTotal n.executed)) IsNack
     (λ n f. (f.0, f.1.0, f.1.1)) (λ n f. (f.0, (f.1, f.2)))
     (made_reads (λ (n : BallotValue × (BallotValue × ℕ)). let x : Nack =
     record { ballot = n.0; promised = n.1.0; executed = n.1.1 } in x)
     (λ (n : Nack). (n.ballot, (n.promised, n.executed))) (λ x. refl) (λ y. refl) _ _ _
-    (both_reads read_ballot ballot IsReal _ _ _ ballot_reads
-    (both_reads read_mark ballot IsMark read_total eight IsTotal mark_reads total_reads)))
+    (both_reads read_ballot ballot IsRealBallot _ _ _ ballot_reads
+    (both_reads read_any_ballot ballot IsBallot read_total eight IsTotal mark_reads total_reads)))
 
 commands_reads : Reads read_commands commands (λ cs. (length cs < 256) × AllByRecursion IsCommand cs)
 unfolding read_commands
@@ -178,11 +180,11 @@ passed_reads = fitting read_passed passed
 
 -- ---- by kind
 
-prepare_reads : Reads (both read_ballot read_count) (λ b. ballot b.0 ++ eight b.1) (λ b. IsReal b.0 × IsCount b.1)
-prepare_reads = both_reads read_ballot ballot IsReal read_count eight IsCount ballot_reads count_reads
+prepare_reads : Reads (both read_ballot read_count) (λ b. ballot b.0 ++ eight b.1) (λ b. IsRealBallot b.0 × IsCount b.1)
+prepare_reads = both_reads read_ballot ballot IsRealBallot read_count eight IsCount ballot_reads count_reads
 
-lead_reads : Reads (both read_ballot read_total) (λ b. ballot b.0 ++ eight b.1) (λ b. IsReal b.0 × IsTotal b.1)
-lead_reads = both_reads read_ballot ballot IsReal read_total eight IsTotal ballot_reads total_reads
+lead_reads : Reads (both read_ballot read_total) (λ b. ballot b.0 ++ eight b.1) (λ b. IsRealBallot b.0 × IsTotal b.1)
+lead_reads = both_reads read_ballot ballot IsRealBallot read_total eight IsTotal ballot_reads total_reads
 
 one_more : {Y : Type 0} (k : ℕ) (f : Y → NodeMessage) (p : List ℕ → Option (Y × List ℕ)) (t : Y → List ℕ)
     (G : Y → Type 0) → Reads p t G

@@ -3,7 +3,7 @@ use Rattle.std.specs.Prelude.{◌≡◌, ℕ, ◌<◌, ◌^◌, List, ◌∷◌,
 use Rattle.std.specs.List.{flat_map}
 use Rattle.lk_types.specs.Ranges.{IsNode, IsClient, IsCount, IsTotal}
 use Rattle.lk_types.specs.BallotValue.{BallotValue}
-use Rattle.lk_types.specs.Ballots.{IsReal, IsMark}
+use Rattle.lk_types.specs.Ballots.{IsRealBallot, IsBallot}
 use Rattle.lk_types.specs.Commands.{IsRequest}
 use Rattle.lk_types.specs.Votes.{IsVote}
 use Rattle.lk_types.specs.Answers.{IsAnswer}
@@ -118,7 +118,7 @@ spelling m = header (kind m.content) m.cluster (sender m.content) ++ fields m.co
 -- ---- validity
 
 abbrev pub IsNack : Nack → Type 0
-IsNack n = IsReal n.ballot × IsMark n.promised × IsTotal n.executed
+IsNack n = IsRealBallot n.ballot × IsBallot n.promised × IsTotal n.executed
 
 abbrev pub IsAnswered : Answered → Type 0
 IsAnswered a = IsClient a.client × IsCount a.number × IsAnswer a.answer
@@ -127,7 +127,7 @@ abbrev pub IsElsewhere : Elsewhere → Type 0
 IsElsewhere e = IsClient e.client × IsCount e.number × IsMember e.member
 
 abbrev pub IsNodeMessage : NodeMessage → Type 0
-IsNodeMessage (kinds.Prepare b first) = IsReal b × IsCount first
+IsNodeMessage (kinds.Prepare b first) = IsRealBallot b × IsCount first
 IsNodeMessage (kinds.Promise p) = IsPromise p
 IsNodeMessage (kinds.Accept v) = IsVote v
 IsNodeMessage (kinds.Accepted v) = IsVote v
@@ -138,7 +138,7 @@ IsNodeMessage (kinds.Part p) = IsPart p
 IsNodeMessage (kinds.Answer a) = IsAnswered a
 IsNodeMessage (kinds.Elsewhere e) = IsElsewhere e
 IsNodeMessage (kinds.Passed p) = IsPassed p
-IsNodeMessage (kinds.Lead b executed) = IsReal b × IsTotal executed
+IsNodeMessage (kinds.Lead b executed) = IsRealBallot b × IsTotal executed
 
 abbrev pub IsContent : Content → Type 0
 IsContent (content.Request r) = IsRequest r

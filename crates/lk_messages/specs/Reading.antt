@@ -16,7 +16,8 @@ use Rattle.lk_messages.specs.declared.message.Content.TheVariants as content
 use Rattle.lk_messages.specs.declared.message.Message.{Message}
 use Rattle.lk_fields.specs.Parser.{◌>>=◌, read_byte, both, made, tested, counted, sized, kind, no_kind, whole}
 use Rattle.lk_fields.specs.FieldReading.{is_from_1_to, read_two, read_four, read_eight, read_client, read_count}
-use Rattle.lk_fields.specs.FieldReading.{read_total, read_ballot, read_mark, read_member, read_request, read_command}
+use Rattle.lk_fields.specs.FieldReading.{read_total, read_ballot, read_any_ballot, read_member, read_request}
+use Rattle.lk_fields.specs.FieldReading.{read_command}
 use Rattle.lk_fields.specs.FieldReading.{read_vote, read_answer}
 
 -- ---- the fields of each kind
@@ -37,7 +38,7 @@ read_proposal = made (λ v. record { position = v.1.0; ballot = v.0; command = v
 
 unfoldable pub read_nack : List ℕ → Option (Nack × List ℕ)
 read_nack = made (λ n. record { ballot = n.0; promised = n.1.0; executed = n.1.1 })
-    (both read_ballot (both read_mark read_total))
+    (both read_ballot (both read_any_ballot read_total))
 
 unfoldable pub read_commands : List ℕ → Option (List Command × List ℕ)
 read_commands = counted read_byte read_command

@@ -4,7 +4,7 @@ use Rattle.std.specs.List.{AllByRecursion}
 use Rattle.lk_types.specs.Limits.{max_count, max_votes, max_commands, max_part, max_base}
 use Rattle.lk_types.specs.Ranges.{IsCount, IsClient}
 use Rattle.lk_types.specs.BallotValue.{BallotValue}
-use Rattle.lk_types.specs.Ballots.{IsReal}
+use Rattle.lk_types.specs.Ballots.{IsRealBallot}
 use Rattle.lk_types.specs.Commands.{IsCommand}
 use Rattle.lk_types.specs.Votes.{IsVote, are_votes_above}
 use Rattle.lk_types.specs.declared.command.Command.{Command}
@@ -22,7 +22,7 @@ are_votes_from first vs = nat_le (length vs) max_votes && are_votes_above (first
 
 abbrev pub IsPromise : PromiseValue → Type 0
 IsPromise p =
-    IsReal p.ballot × IsCount p.first × AllByRecursion IsVote p.votes × IsTrue (are_votes_from p.first p.votes)
+    IsRealBallot p.ballot × IsCount p.first × AllByRecursion IsVote p.votes × IsTrue (are_votes_from p.first p.votes)
 
 -- decided commands, for first and the positions after it
 pub record DecidedValue : Type 0 where

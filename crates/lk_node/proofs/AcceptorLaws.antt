@@ -37,7 +37,7 @@ use Rattle.lk_node.specs.Keeping.{TellsDecided, IsKnown}
 use Rattle.lk_node.specs.NodeValue.{NodeValue}
 use Rattle.lk_node.specs.Saying.{to_node}
 use Rattle.lk_node.specs.Served.{BearsOutMessage}
-use Rattle.lk_node.specs.Serving.{with_entries, GoesOn}
+use Rattle.lk_node.specs.Serving.{with_entries, ActsSafely}
 use Rattle.lk_node.specs.Yielding.{yielded}
 use Rattle.lk_node.proofs.Changing.{alike_goes_on, yielded_goes_on}
 use Rattle.lk_node.proofs.Serving.{then_goes_on, says}
@@ -66,7 +66,7 @@ pub moves_goes_on : (m : Meaning) (Heard : History → Type 0) (node : NodeValue
     → a.state ≡ with_written o node.acceptor.state
     → ((e : Entry) → o ≡ Some e → TellsDecided e → ⊥)
     → ((h : History) (n : ℕ) → IsLawful m h → Heard h → Moves h n node.acceptor.state a.state o)
-    → GoesOn m Heard node (with_acceptor node a) nothing (with_optional o nothing)
+    → ActsSafely m Heard node (with_acceptor node a) nothing (with_optional o nothing)
 moves_goes_on m Heard node a o written binding moves = record {
   binds = λ first b. record {
     header = b.header;
@@ -255,10 +255,10 @@ responded old new from Answer r a (Ok o) answer is fits becomes =
 responded old new from Answer r a (Err e) answer is fits becomes = tt
 
 replied_alike : (m : Meaning) (Heard : History → Type 0) (reply : NodeMessage) (node : NodeValue) (out : OutboxValue)
-    → GoesOn m Heard node (replied reply node) out out
+    → ActsSafely m Heard node (replied reply node) out out
 replied_alike m Heard reply node out = by_test (is_granted reply)
   where
-    by_test : (t : Bool) → GoesOn m Heard node
+    by_test : (t : Bool) → ActsSafely m Heard node
         (yielded node.acceptor.state.promised (cond t (record node { ticks = 0 }) node)) out out
     by_test true = then_goes_on m Heard node (record node { ticks = 0 })
         (yielded node.acceptor.state.promised (record node { ticks = 0 })) out out out
@@ -276,9 +276,10 @@ responds_goes_on : (m : Meaning) (Heard : History → Type 0) (old new : NodeVal
     → ((genesis : Genesis) (sent : List Datagram) (w : View) → w.acceptor ≡ k.acceptor.state
     → MaySend genesis sent w k.response.reply)
     → ((h : History) (L : List Command) → BearsOutMessage m h L k.response.reply)
-    → GoesOn m Heard old new nothing out
+    → ActsSafely m Heard old new nothing out
 responds_goes_on m Heard old new from Answer out k written binding moves covers may bears =
-    subst₂ (λ (node : NodeValue) (o : OutboxValue). GoesOn m Heard old node nothing o) (sym k.becomes) (sym k.comes_to)
+    subst₂ (λ (node : NodeValue) (o : OutboxValue). ActsSafely m Heard old node nothing o) (sym k.becomes)
+    (sym k.comes_to)
     (then_goes_on m Heard old (with_acceptor old k.acceptor)
     (replied k.response.reply (with_acceptor old k.acceptor)) nothing (with_optional k.response.entry nothing)
     (reply_to old from k.response)
@@ -296,7 +297,7 @@ responds_goes_on m Heard old new from Answer out k written binding moves covers 
 
 pub prepare_goes_on : (m : Meaning) (old new : NodeValue) (from e : ℕ) (b : BallotValue) (first : ℕ)
     (out : OutboxValue) → Responds old from (AnswersPrepare old.acceptor e b first) new out
-    → GoesOn m (λ h. Unit {0}) old new nothing out
+    → ActsSafely m (λ h. Unit {0}) old new nothing out
 prepare_goes_on m old new from e b first out k =
     responds_goes_on m (λ h. Unit {0}) old new from (AnswersPrepare old.acceptor e b first) out k
     (prepare_written old.acceptor e b first k.response k.acceptor k.answers)
@@ -308,7 +309,7 @@ prepare_goes_on m old new from e b first out k =
 
 pub accept_goes_on : (m : Meaning) (old new : NodeValue) (from e : ℕ) (x : Vote) (out : OutboxValue)
     → IsOrdered old.acceptor.state → Responds old from (AnswersAccept old.acceptor e x) new out
-    → GoesOn m (λ h. HasSent h.genesis h.sent from (kinds.Accept x)) old new nothing out
+    → ActsSafely m (λ h. HasSent h.genesis h.sent from (kinds.Accept x)) old new nothing out
 accept_goes_on m old new from e x out ordered k =
     responds_goes_on m (λ h. HasSent h.genesis h.sent from (kinds.Accept x)) old new from
     (AnswersAccept old.acceptor e x) out k

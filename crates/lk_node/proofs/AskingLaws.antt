@@ -21,7 +21,7 @@ use Rattle.lk_node_io.specs.declared.to.To.TheVariants as to
 use Rattle.lk_node.specs.Asking.{with_waiting, leader_in, PointsTo, TakesNew, TakesAs, HearsRequest}
 use Rattle.lk_node.specs.Histories.{History, Genesis, Command}
 use Rattle.lk_node.specs.NodeValue.{NodeValue}
-use Rattle.lk_node.specs.Serving.{GoesOn}
+use Rattle.lk_node.specs.Serving.{ActsSafely}
 use Rattle.lk_node.proofs.Changing.{change_goes_on}
 use Rattle.lk_node.proofs.LevelLaws.{idles, alone_goes_on}
 use Rattle.lk_node.proofs.Lists.{cons_cases, contains_more, only}
@@ -66,7 +66,7 @@ asked_only r (q ∷ qs) x c = by_client (eqb r.client q.client) (λ d. asked_onl
     ]
 
 waits_goes_on : (m : Meaning) (r : RequestValue) (node : NodeValue) (out : OutboxValue)
-    → GoesOn m (λ h. Contains h.asked r) node (with_waiting r node) out out
+    → ActsSafely m (λ h. Contains h.asked r) node (with_waiting r node) out out
 waits_goes_on m r node out =
     change_goes_on m (λ h. Contains h.asked r) node (with_waiting r node) out refl refl (λ h n loose s heard. record {
       holding = record { view = s.holding.view; waiting = asked r s.holding.waiting; gathered = s.holding.gathered };
@@ -91,32 +91,32 @@ waits_goes_on m r node out =
 -- ---- what comes of a request
 
 points_goes_on : (m : Meaning) (Heard : History → Type 0) (o : Option Member) (old new : NodeValue) (r : RequestValue)
-    (out : OutboxValue) → PointsTo o old r new out → GoesOn m Heard old new nothing out
+    (out : OutboxValue) → PointsTo o old r new out → ActsSafely m Heard old new nothing out
 points_goes_on m Heard None old new r out k =
-    subst (λ (node : NodeValue). GoesOn m Heard old node nothing out) (sym k.0) (idles m Heard old out k.1)
+    subst (λ (node : NodeValue). ActsSafely m Heard old node nothing out) (sym k.0) (idles m Heard old out k.1)
 points_goes_on m Heard (Some member) old new r out k =
-    subst (λ (node : NodeValue). GoesOn m Heard old node nothing out) (sym k.0)
+    subst (λ (node : NodeValue). ActsSafely m Heard old node nothing out) (sym k.0)
     (alone_goes_on m Heard old (to.Client r.client)
     (kinds.Elsewhere (record { client = r.client; number = r.number; member = member })) out k.1 tt
     (λ h n loose s. (tt, tt)))
 
 new_goes_on : (m : Meaning) (o : Option TermValue) (old new : NodeValue) (r : RequestValue) (out : OutboxValue)
-    → TakesNew o old r new out → GoesOn m (λ h. Contains h.asked r) old new nothing out
+    → TakesNew o old r new out → ActsSafely m (λ h. Contains h.asked r) old new nothing out
 new_goes_on m None old new r out k =
     points_goes_on m (λ h. Contains h.asked r) (leader_in old.known old.learner.whole.roster.sets) old new r out k
 new_goes_on m (Some t) old new r out k =
-    subst₂ (λ (node : NodeValue) (o : OutboxValue). GoesOn m (λ h. Contains h.asked r) old node nothing o) (sym k.0)
+    subst₂ (λ (node : NodeValue) (o : OutboxValue). ActsSafely m (λ h. Contains h.asked r) old node nothing o) (sym k.0)
     (sym k.1) (waits_goes_on m r old nothing)
 
 pub request_goes_on : (m : Meaning) (old new : NodeValue) (r : RequestValue) (out : OutboxValue)
-    → HearsRequest old r new out → GoesOn m (λ h. Contains h.asked r) old new nothing out
+    → HearsRequest old r new out → ActsSafely m (λ h. Contains h.asked r) old new nothing out
 request_goes_on m old new r out k = by_seen (seen_as (session_of r.client old.learner.whole.sessions) r.number) refl k
   where
     by_seen : (x : Seen) → seen_as (session_of r.client old.learner.whole.sessions) r.number ≡ x
-        → TakesAs x old r new out → GoesOn m (λ h. Contains h.asked r) old new nothing out
+        → TakesAs x old r new out → ActsSafely m (λ h. Contains h.asked r) old new nothing out
     by_seen seen.New is d = new_goes_on m old.leader.term old new r out d
     by_seen (seen.Same a) is d =
-        subst (λ (node : NodeValue). GoesOn m (λ h. Contains h.asked r) old node nothing out) (sym d.0)
+        subst (λ (node : NodeValue). ActsSafely m (λ h. Contains h.asked r) old node nothing out) (sym d.0)
         (alone_goes_on m (λ h. Contains h.asked r) old (to.Client r.client)
         (kinds.Answer (record { client = r.client; number = r.number; answer = a })) out d.1 tt
         (λ h n loose s. (
@@ -125,7 +125,7 @@ request_goes_on m old new r out k = by_seen (seen_as (session_of r.client old.le
               s.held.follows.sums r.number a is,
         )))
     by_seen (seen.Passed last) is d =
-        subst (λ (node : NodeValue). GoesOn m (λ h. Contains h.asked r) old node nothing out) (sym d.0)
+        subst (λ (node : NodeValue). ActsSafely m (λ h. Contains h.asked r) old node nothing out) (sym d.0)
         (alone_goes_on m (λ h. Contains h.asked r) old (to.Client r.client)
         (kinds.Passed (record { client = r.client; number = r.number; last = last })) out d.1 tt
         (λ h n loose s. (

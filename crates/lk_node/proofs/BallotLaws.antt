@@ -5,7 +5,7 @@ use Rattle.lk_types.specs.Ballots.{IsBelow, IsAtMost}
 use Rattle.lk_types.specs.declared.entry.Entry.TheVariants as entry
 use Rattle.lk_messages.specs.Grammar.{IsMessage}
 use Rattle.lk_messages.specs.declared.message.NodeMessage.TheVariants as kinds
-use Rattle.lk_entries.specs.Values.{HeaderValue}
+use Rattle.lk_store_format.specs.Values.{HeaderValue}
 use Rattle.lk_state.specs.Meanings.{Meaning}
 use Rattle.lk_agreement.specs.Acceptors.{AcceptorState}
 use Rattle.lk_agreement.specs.Changes.{begins, view_with, view_in, with_promise}
@@ -15,14 +15,14 @@ use Rattle.lk_acceptor.specs.States.{acceptor_with}
 use Rattle.lk_acceptor.proofs.Acceptors.{own_written}
 use Rattle.lk_leader.specs.Terms.{TermValue, begun}
 use Rattle.lk_leader.proofs.Leaderships.{begun_leads}
-use Rattle.lk_leader.specs.LedTerms.{LeadsTerm}
+use Rattle.lk_leader.specs.LedTerms.{AgreesWithTerm}
 use Rattle.lk_learner.specs.Learners.{executed}
 use Rattle.lk_node_io.specs.Outboxes.{OutboxValue, nothing, with_entry}
 use Rattle.lk_node_io.specs.Saying.{saying}
 use Rattle.lk_node.specs.Beginning.{beginning, Begins}
 use Rattle.lk_node.specs.Histories.{History}
 use Rattle.lk_node.specs.NodeValue.{NodeValue}
-use Rattle.lk_node.specs.Serving.{GoesOn}
+use Rattle.lk_node.specs.Serving.{ActsSafely}
 use Rattle.lk_node.specs.Telling.{telling}
 use Rattle.lk_node.specs.Waiting.{ticked}
 use Rattle.lk_node.proofs.Changing.{alike_goes_on}
@@ -41,7 +41,7 @@ no_pair p c = omega (arith, c.1)
 -- the ballot is promised and written, and a term of it begins
 pub begins_goes_on : (m : Meaning) (Heard : History → Type 0) (node : NodeValue) (b : BallotValue)
     → b.node ≡ node.header.node → IsBelow node.acceptor.state.promised b
-    → GoesOn m Heard node (beginning b node) nothing (with_entry (entry.Promise b) nothing)
+    → ActsSafely m Heard node (beginning b node) nothing (with_entry (entry.Promise b) nothing)
 begins_goes_on m Heard node b own below = record {
   binds = λ first k. record {
     header = k.header;
@@ -61,7 +61,7 @@ begins_goes_on m Heard node b own below = record {
     held = record {
       acceptor = ap (λ (a : AcceptorState). with_promise a b) s.held.acceptor;
       follows = s.held.follows;
-      leads = λ k at. (new_term b, refl, subst (LeadsTerm _ _ (new_term b)) (is_begun b k at) (begun_leads _ _ b));
+      leads = λ k at. (new_term b, refl, subst (AgreesWithTerm _ _ (new_term b)) (is_begun b k at) (begun_leads _ _ b));
       waiting = s.held.waiting;
       gathered = s.held.gathered;
     };
@@ -86,7 +86,7 @@ begins_goes_on m Heard node b own below = record {
 pub asks_goes_on : (m : Meaning) (Heard : History → Type 0) (node : NodeValue) (b : BallotValue) (first : ℕ)
     (nodes : List ℕ) → b.node ≡ node.header.node → IsBelow node.acceptor.state.promised b
     → IsMessage (saying (beginning b node).header (kinds.Prepare b first))
-    → GoesOn m Heard node (beginning b node) nothing
+    → ActsSafely m Heard node (beginning b node) nothing
     (telling (beginning b node) nodes (kinds.Prepare b first) (with_entry (entry.Promise b) nothing))
 asks_goes_on m Heard node b first nodes own below fits =
     then_goes_on m Heard node (beginning b node) (beginning b node) nothing (with_entry (entry.Promise b) nothing)
@@ -101,19 +101,19 @@ asks_goes_on m Heard node b first nodes own below fits =
 
 pub starts_goes_on : (m : Meaning) (Heard : History → Type 0) (old new : NodeValue) (b : BallotValue)
     (out : OutboxValue) → b.node ≡ old.header.node → IsBelow old.acceptor.state.promised b → Begins b old new out
-    → GoesOn m Heard old new nothing out
+    → ActsSafely m Heard old new nothing out
 starts_goes_on m Heard old new b out own below k =
-    subst (λ (node : NodeValue). GoesOn m Heard old node nothing out) (sym k.becomes)
+    subst (λ (node : NodeValue). ActsSafely m Heard old node nothing out) (sym k.becomes)
     (elim k.asks [
-      | inl asks ↦ subst (GoesOn m Heard old (beginning b old) nothing) (sym asks.1)
+      | inl asks ↦ subst (ActsSafely m Heard old (beginning b old) nothing) (sym asks.1)
           (asks_goes_on m Heard old b (executed old.learner + 1) k.nodes own below asks.0)
       | inr last ↦
-          subst (GoesOn m Heard old (beginning b old) nothing) (sym last.1) (begins_goes_on m Heard old b own below)
+          subst (ActsSafely m Heard old (beginning b old) nothing) (sym last.1) (begins_goes_on m Heard old b own below)
     ])
 
 -- a tick is counted in front
 pub ticked_goes_on : (m : Meaning) (Heard : History → Type 0) (old new : NodeValue) (out : OutboxValue)
-    → GoesOn m Heard (ticked old) new nothing out → GoesOn m Heard old new nothing out
+    → ActsSafely m Heard (ticked old) new nothing out → ActsSafely m Heard old new nothing out
 ticked_goes_on m Heard old new out f =
     then_goes_on m Heard old (ticked old) new nothing nothing out
     (alike_goes_on m Heard old (ticked old) nothing (record { header = refl; acceptor = refl; learner = refl }) refl) f

@@ -9,11 +9,11 @@ use Rattle.lk_messages.specs.declared.message.NodeMessage.{NodeMessage}
 use Rattle.lk_messages.specs.declared.message.NodeMessage.TheVariants as kinds
 use Rattle.lk_agreement.specs.Acceptors.{AcceptorState}
 use Rattle.lk_agreement.specs.Nodes.{Pair, Term, View, MayPromise, MaySend}
-use Rattle.lk_entries.specs.Values.{HeaderValue}
+use Rattle.lk_store_format.specs.Values.{HeaderValue}
 use Rattle.lk_state.specs.Meanings.{Meaning}
 use Rattle.lk_acceptor.specs.AcceptorValue.{AcceptorValue}
 use Rattle.lk_leader.specs.Terms.{LeaderValue, TermValue, idle}
-use Rattle.lk_learner.specs.Following.{Follows}
+use Rattle.lk_learner.specs.Following.{AgreesWithList}
 use Rattle.lk_learner.specs.Learners.{LearnerValue}
 use Rattle.lk_node_io.specs.Outboxes.{OutboxValue}
 use Rattle.lk_node.specs.Histories.{History, Genesis, Datagram}
@@ -21,7 +21,7 @@ use Rattle.lk_node.specs.Keeping.{IsKnown, IsHeld, LeadsOn}
 use Rattle.lk_node.specs.Calls.{MayGo}
 use Rattle.lk_node.specs.Holdings.{Holding, HoldingFits}
 use Rattle.lk_node.specs.NodeValue.{NodeValue}
-use Rattle.lk_node.specs.Serving.{Tells, Binds, Serves, GoesOn}
+use Rattle.lk_node.specs.Serving.{Tells, Binds, Serves, ActsSafely}
 use Rattle.lk_node.specs.Yielding.{without_term, is_term_below, yielded}
 
 -- all that safety rests on is as it was
@@ -43,7 +43,7 @@ binds_alike first old new out like b = record {
 
 -- the leader stays too
 pub alike_goes_on : (m : Meaning) (Heard : History → Type 0) (old new : NodeValue) (out : OutboxValue)
-    → IsAlike old new → new.leader ≡ old.leader → GoesOn m Heard old new out out
+    → IsAlike old new → new.leader ≡ old.leader → ActsSafely m Heard old new out out
 alike_goes_on m Heard old new out like leads = record {
   binds = λ first b. binds_alike first old new out like b;
   serves = λ h n loose s heard. record {
@@ -52,7 +52,7 @@ alike_goes_on m Heard old new out like leads = record {
     holding = s.holding;
     held = record {
       acceptor = s.held.acceptor ∙ ap (λ (a : AcceptorValue). a.state) (sym like.acceptor);
-      follows = subst (λ (l : LearnerValue). Follows m h.genesis s.holding.view.done s.holding.view.pairs l)
+      follows = subst (λ (l : LearnerValue). AgreesWithList m h.genesis s.holding.view.done s.holding.view.pairs l)
           (sym like.learner) s.held.follows;
       leads = subst₂ (λ (l : LearnerValue) (k : LeaderValue). LeadsOn l k s.holding.view) (sym like.learner)
           (sym leads) s.held.leads;
@@ -70,7 +70,7 @@ alike_goes_on m Heard old new out like leads = record {
 
 -- the term ends, and nothing waits
 pub leaves_goes_on : (m : Meaning) (Heard : History → Type 0) (old new : NodeValue) (out : OutboxValue)
-    → IsAlike old new → new.leader ≡ idle → GoesOn m Heard old new out out
+    → IsAlike old new → new.leader ≡ idle → ActsSafely m Heard old new out out
 leaves_goes_on m Heard old new out like leads = record {
   binds = λ first b. binds_alike first old new out like b;
   serves = λ h n loose s heard. record {
@@ -79,7 +79,7 @@ leaves_goes_on m Heard old new out like leads = record {
     holding = record { view = s.holding.view; waiting = []; gathered = s.holding.gathered };
     held = record {
       acceptor = s.held.acceptor ∙ ap (λ (a : AcceptorValue). a.state) (sym like.acceptor);
-      follows = subst (λ (l : LearnerValue). Follows m h.genesis s.holding.view.done s.holding.view.pairs l)
+      follows = subst (λ (l : LearnerValue). AgreesWithList m h.genesis s.holding.view.done s.holding.view.pairs l)
           (sym like.learner) s.held.follows;
       leads = λ k at. absurd (no_term k (sym (ap (λ (l : LeaderValue). l.term) leads) ∙ at));
       waiting = sym (ap (λ (k : LeaderValue). k.waiting) leads);
@@ -104,10 +104,10 @@ leaves_goes_on m Heard old new out like leads = record {
 
 -- a ballot was seen
 pub yielded_goes_on : (m : Meaning) (Heard : History → Type 0) (b : BallotValue) (node : NodeValue) (out : OutboxValue)
-    → GoesOn m Heard node (yielded b node) out out
+    → ActsSafely m Heard node (yielded b node) out out
 yielded_goes_on m Heard b node out = by_test (is_term_below b node.leader.term)
   where
-    by_test : (t : Bool) → GoesOn m Heard node (cond t (without_term node) node) out out
+    by_test : (t : Bool) → ActsSafely m Heard node (cond t (without_term node) node) out out
     by_test true = leaves_goes_on m Heard node (without_term node) out
         (record { header = refl; acceptor = refl; learner = refl }) refl
     by_test false = alike_goes_on m Heard node node out (record { header = refl; acceptor = refl; learner = refl }) refl
@@ -169,7 +169,7 @@ pub record IsFollowed (m : Meaning) (h : History) (n : ℕ) (old : View) (new : 
 pub change_goes_on : (m : Meaning) (Heard : History → Type 0) (old new : NodeValue) (out : OutboxValue)
     → new.header ≡ old.header → new.acceptor.state ≡ old.acceptor.state
     → ((h : History) (n : ℕ) (loose : List Entry) (s : Serves m h n loose old out) → Heard h
-    → IsFollowed m h n s.holding.view new) → GoesOn m Heard old new out out
+    → IsFollowed m h n s.holding.view new) → ActsSafely m Heard old new out out
 change_goes_on m Heard old new out header state f = record {
   binds = λ first b. record {
     header = header ∙ b.header;

@@ -20,14 +20,14 @@ use Rattle.lk_agreement.specs.Chosen.{Command, ChosenAt}
 use Rattle.lk_agreement.specs.Datagrams.{HasSent}
 use Rattle.lk_agreement.specs.Nodes.{Pair, Acceptance, Term, View, ViewFits}
 use Rattle.lk_agreement.proofs.Histories.{change_fits, accepted_is_chosen}
-use Rattle.lk_entries.specs.Values.{HeaderValue}
+use Rattle.lk_store_format.specs.Values.{HeaderValue}
 use Rattle.lk_state.specs.Meanings.{Meaning}
 use Rattle.lk_state.specs.Runs.{run_answer}
 use Rattle.lk_state.specs.States.{WholeValue, SumsUp, whole_after}
 use Rattle.lk_state.specs.declared.session.Session.{Session}
 use Rattle.lk_leader.specs.Acceptances.{heard_at, IsVoteFor, GainsMajority}
 use Rattle.lk_leader.specs.Proposing.{AreMembersAt}
-use Rattle.lk_leader.specs.LedTerms.{LeadsTerm}
+use Rattle.lk_leader.specs.LedTerms.{AgreesWithTerm}
 use Rattle.lk_leader.specs.Terms.{TermValue, LeaderValue, ProposalValue, with_term, with_proposals}
 use Rattle.lk_leader.proofs.Leaderships.{majority_rests, accepted_by, majority_leads}
 use Rattle.lk_learner.specs.Learners.{executed, advanced}
@@ -45,7 +45,7 @@ use Rattle.lk_node.specs.Keeping.{IsKnown}
 use Rattle.lk_node.specs.Learning.{with_learner, Learns}
 use Rattle.lk_node.specs.NodeValue.{NodeValue}
 use Rattle.lk_node.specs.Saying.{to_node}
-use Rattle.lk_node.specs.Serving.{Serves, GoesOn}
+use Rattle.lk_node.specs.Serving.{Serves, ActsSafely}
 use Rattle.lk_node.specs.Telling.{letter_to}
 use Rattle.lk_node.specs.Yielding.{without_term}
 use Rattle.lk_node.proofs.Changing.{change_goes_on}
@@ -156,7 +156,7 @@ some_kept : (a b : TermValue) → Some a ≡ Some b → a ≡ b
 some_kept a b e = cc e
 
 pub vote_goes_on : (m : Meaning) (from : ℕ) (x : Vote) (node : NodeValue) (out : OutboxValue)
-    (k : IsForProposal node x) → GoesOn m (Accepts from x) node (with_vote from x node k) out out
+    (k : IsForProposal node x) → ActsSafely m (Accepts from x) node (with_vote from x node k) out out
 vote_goes_on m from x node out k =
     change_goes_on m (Accepts from x) node (with_vote from x node k) out refl refl (λ h n loose s heard.
     let w : View = s.holding.view in
@@ -172,7 +172,7 @@ vote_goes_on m from x node out k =
         leads = λ j e. (
           more,
           refl,
-          subst (LeadsTerm r.executed (length r.sets) more)
+          subst (AgreesWithTerm r.executed (length r.sets) more)
               (some_kept (with_proposals (heard_at k.set from x.position k.term.proposals) k.term) j e)
               (majority_leads r.executed
               (length r.sets) t k.term r x.ballot from x.position x.command k.set k.proposal k.vote u.2),
@@ -256,7 +256,7 @@ decided_chosen m h n loose node out from x k counted s heard =
 
 notes_counted : (m : Meaning) (node : NodeValue) (out : OutboxValue) (whose i : ℕ) (set : List Member) (v : Command)
     → AreMembersAt node.learner.whole.roster i set
-    → GoesOn m (Chooses i v) node node out (with_note (note.Counted whose i set v) out)
+    → ActsSafely m (Chooses i v) node node out (with_note (note.Counted whose i set v) out)
 notes_counted m node out whose i set v at =
     notes m (Chooses i v) node out (note.Counted whose i set v) tt (λ h n loose s heard.
     let w : View = s.holding.view in
@@ -284,9 +284,9 @@ lettered out ls =
 
 decided_go_on : (m : Meaning) (i : ℕ) (v : Command) (was node : NodeValue) (out : OutboxValue) (nodes : List ℕ)
     → node.header ≡ was.header → IsMessage (saying was.header (decided_message (i, v)))
-    → GoesOn m (Chooses i v) node node out (with_letters (map (letter_to was (decided_message (i, v))) nodes) out)
+    → ActsSafely m (Chooses i v) node node out (with_letters (map (letter_to was (decided_message (i, v))) nodes) out)
 decided_go_on m i v was node out [] same fits =
-    subst (λ (ls : List LetterValue). GoesOn m (Chooses i v) node node out (lettered out ls))
+    subst (λ (ls : List LetterValue). ActsSafely m (Chooses i v) node node out (lettered out ls))
     (sym (append-nil out.letters)) (rests_here m (Chooses i v) node out)
 decided_go_on m i v was node out (k ∷ nodes) same fits =
     let one : LetterValue = letter_to was (decided_message (i, v)) k in
@@ -294,11 +294,11 @@ decided_go_on m i v was node out (k ∷ nodes) same fits =
     let bytes : spelling (saying node.header (decided_message (i, v)))
     ≡ spelling (saying was.header (decided_message (i, v))) =
     ap (λ (w : HeaderValue). spelling (saying w (decided_message (i, v)))) same in
-    subst (λ (ls : List LetterValue). GoesOn m (Chooses i v) node node out (lettered out ls))
+    subst (λ (ls : List LetterValue). ActsSafely m (Chooses i v) node node out (lettered out ls))
     (append_assoc out.letters (one ∷ []) (map (letter_to was (decided_message (i, v))) nodes))
     (then_goes_on m (Chooses i v) node node node out sent
     (with_letters (map (letter_to was (decided_message (i, v))) nodes) sent)
-    (subst (λ (bs : List ℕ). GoesOn m (Chooses i v) node node out
+    (subst (λ (bs : List ℕ). ActsSafely m (Chooses i v) node node out
     (with_letter (record { to = to_node was k; bytes = bs }) out)) bytes
     (says m (Chooses i v) node out (to_node was k) (decided_message (i, v))
     (subst (λ (w : HeaderValue). IsMessage (saying w (decided_message (i, v)))) (sym same) fits) tt (λ e. tt)
@@ -347,9 +347,9 @@ pub decides_goes_on : (m : Meaning) (set : List Member) (i : ℕ) (v : Command) 
     (before written ran : OutboxValue) (letters : List LetterValue) → AreMembersAt old.learner.whole.roster i set
     → AreDecidedLetters old (i, v) letters
     → Learns (i, v) old (with_note (note.Counted whose i set v) before) learned written → Runs m learned written new ran
-    → GoesOn m (Chooses i v) old learned (with_note (note.Counted whose i set v) before) written
-    → GoesOn m (λ h. Unit {0}) learned new written ran
-    → GoesOn m (Chooses i v) old new before (with_letters letters ran)
+    → ActsSafely m (Chooses i v) old learned (with_note (note.Counted whose i set v) before) written
+    → ActsSafely m (λ h. Unit {0}) learned new written ran
+    → ActsSafely m (Chooses i v) old new before (with_letters letters ran)
 decides_goes_on m set i v whose old learned new before written ran letters at news learns runs f g =
     let noted : OutboxValue = with_note (note.Counted whose i set v) before in
     let same : new.header ≡ old.header = runs_header m learned written new ran runs
@@ -359,16 +359,16 @@ decides_goes_on m set i v whose old learned new before written ran letters at ne
     (then_goes_on m (Chooses i v) old learned new noted written (with_letters letters ran) f
     (then_goes_on m (Chooses i v) learned new new written ran (with_letters letters ran)
     (unheard m (Chooses i v) learned new written ran g)
-    (subst (λ (ls : List LetterValue). GoesOn m (Chooses i v) new new ran (with_letters ls ran)) (sym news.comes_to)
+    (subst (λ (ls : List LetterValue). ActsSafely m (Chooses i v) new new ran (with_letters ls ran)) (sym news.comes_to)
     (decided_go_on m i v old new ran news.nodes same news.fits))))
 
 pub only_heard_goes_on : (m : Meaning) (from : ℕ) (x : Vote) (old new : NodeValue) (out : OutboxValue)
-    → IsOnlyHeard from x old new → GoesOn m (Accepts from x) old new out out
+    → IsOnlyHeard from x old new → ActsSafely m (Accepts from x) old new out out
 only_heard_goes_on m from x old new out (inl k) =
-    subst (λ (node : NodeValue). GoesOn m (Accepts from x) old node out out) (sym k.2)
+    subst (λ (node : NodeValue). ActsSafely m (Accepts from x) old node out out) (sym k.2)
     (vote_goes_on m from x old out k.0)
 only_heard_goes_on m from x old new out (inr k) =
-    subst (λ (node : NodeValue). GoesOn m (Accepts from x) old node out out) (sym k.1)
+    subst (λ (node : NodeValue). ActsSafely m (Accepts from x) old node out out) (sym k.1)
     (rests_here m (Accepts from x) old out)
 
 abbrev HearsMajority : ℕ → Vote → NodeValue → NodeValue → List Member → Type 0
@@ -383,11 +383,11 @@ are_members from x old mid set k =
 
 pub accepted_goes_on : (m : Meaning) (from : ℕ) (x : Vote) (old mid new : NodeValue) (set : List Member)
     (out after : OutboxValue) → HearsMajority from x old mid set
-    → GoesOn m (Chooses x.position x.command) mid new out after → GoesOn m (Accepts from x) old new out after
+    → ActsSafely m (Chooses x.position x.command) mid new out after → ActsSafely m (Accepts from x) old new out after
 accepted_goes_on m from x old mid new set out after k f =
     let Both : History → Type 0 = λ (h : History). Accepts from x h × Chooses x.position x.command h in
-    let heard_so : GoesOn m (Accepts from x) old mid out out =
-    subst (λ (node : NodeValue). GoesOn m (Accepts from x) old node out out) (sym k.3)
+    let heard_so : ActsSafely m (Accepts from x) old mid out out =
+    subst (λ (node : NodeValue). ActsSafely m (Accepts from x) old node out out) (sym k.3)
     (vote_goes_on m from x old out k.0) in
     heard_goes_on m (Accepts from x) Both old new out after
     (λ h n loose s heard. (heard, decided_chosen m h n loose old out from x k.0 k.1 s heard))

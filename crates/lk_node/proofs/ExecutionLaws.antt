@@ -23,10 +23,10 @@ use Rattle.lk_state.specs.declared.session.Session.{Session}
 use Rattle.lk_state.specs.declared.whole.Ran.{Ran}
 use Rattle.lk_state.specs.States.{WholeValue, reply}
 use Rattle.lk_state.proofs.Wholes.{last_is_replied, seen_last}
-use Rattle.lk_leader.specs.LedTerms.{LeadsTerm}
+use Rattle.lk_leader.specs.LedTerms.{AgreesWithTerm}
 use Rattle.lk_leader.specs.Waits.{left_by, number_up_to, waiting_of}
 use Rattle.lk_leader.proofs.Leaderships.{later_leads}
-use Rattle.lk_learner.specs.Following.{Follows}
+use Rattle.lk_learner.specs.Following.{AgreesWithList}
 use Rattle.lk_learner.specs.Learners.{LearnerValue, IsLearner, executed, IsNext, advanced, IsServed}
 use Rattle.lk_learner.specs.Pairs.{without}
 use Rattle.lk_learner.proofs.Learnerships.{ran_moves, advanced_follows, next_stands, running_changes, served_stands}
@@ -41,7 +41,7 @@ use Rattle.lk_node.specs.Histories.{History}
 use Rattle.lk_node.specs.Keeping.{IsKnown}
 use Rattle.lk_node.specs.Learning.{with_learner}
 use Rattle.lk_node.specs.NodeValue.{NodeValue}
-use Rattle.lk_node.specs.Serving.{GoesOn}
+use Rattle.lk_node.specs.Serving.{ActsSafely}
 use Rattle.lk_node.specs.Yielding.{without_term}
 use Rattle.lk_node.proofs.Changing.{change_goes_on, leaves_goes_on}
 use Rattle.lk_node.proofs.Serving.{rests_here, then_goes_on, says, notes}
@@ -118,7 +118,7 @@ module _ (m : Meaning) (genesis : Genesis) (sent : List Datagram) (w : View) (l 
   abbrev ran_view : View
   ran_view = with_done w (w.done ++ v ∷ []) (advanced m v l).pairs
 
-  knows_still : Sound genesis sent → Stems genesis sent w → Follows m genesis w.done w.pairs l → IsNext l v
+  knows_still : Sound genesis sent → Stems genesis sent w → AgreesWithList m genesis w.done w.pairs l → IsNext l v
       → (e : Entry) → IsKnown w e → IsKnown ran_view e
   knows_still sound stems f next (entry.Promise b) k = k
   knows_still sound stems f next (entry.Vote x) k = k
@@ -137,7 +137,7 @@ module _ (m : Meaning) (genesis : Genesis) (sent : List Datagram) (w : View) (l 
 
 advances_goes_on : (m : Meaning) (Heard : History → Type 0) (node : NodeValue) (out : OutboxValue) (v : Command)
     → IsLearner node.learner → IsNext node.learner v
-    → GoesOn m Heard node (with_learner node (advanced m v node.learner)) out out
+    → ActsSafely m Heard node (with_learner node (advanced m v node.learner)) out out
 advances_goes_on m Heard node out v is next =
     let l : LearnerValue = node.learner in
     let moves = ran_moves m v l.whole is.window.0 in
@@ -156,7 +156,7 @@ advances_goes_on m Heard node out v is next =
             let u = s.held.leads k at in (
               u.0,
               u.1,
-              subst₂ (λ (e a : ℕ). LeadsTerm e a u.0 k) (sym moves.0) (sym moves.1)
+              subst₂ (λ (e a : ℕ). AgreesWithTerm e a u.0 k) (sym moves.0) (sym moves.1)
                   (later_leads l.whole.roster.executed (l.whole.roster.executed + 1)
                   (length l.whole.roster.sets) u.0 k (omega arith) u.2),
             );
@@ -234,7 +234,7 @@ module _ (m : Meaning) (was : NodeValue) (l : LearnerValue) where
 notes_ran : (m : Meaning) (Heard : History → Type 0) (node : NodeValue) (out : OutboxValue) (v : Command) (whose i : ℕ)
     → node.learner.snapshot_position < i
     → slice_get node.learner.served (i - (node.learner.snapshot_position + 1)) ≡ Some v
-    → GoesOn m Heard node node out (with_note (note.Ran whose i v) out)
+    → ActsSafely m Heard node node out (with_note (note.Ran whose i v) out)
 notes_ran m Heard node out v whose i above at =
     notes m Heard node out (note.Ran whose i v) tt (λ h n loose s heard.
     let w : View = s.holding.view in
@@ -262,7 +262,7 @@ left_from client number (q ∷ qs) r c =
     ]
 
 settled_goes_on : (m : Meaning) (Heard : History → Type 0) (node : NodeValue) (out : OutboxValue) (s : Session)
-    → GoesOn m Heard node (settled s node) out out
+    → ActsSafely m Heard node (settled s node) out out
 settled_goes_on m Heard node out x =
     change_goes_on m Heard node (settled x node) out refl refl (λ h n loose s heard. record {
       holding = record {
@@ -289,7 +289,7 @@ settled_goes_on m Heard node out x =
 
 -- the client's last session is the list's reply to it
 pub session_is_reply : (m : Meaning) (genesis : Genesis) (done : List Command) (pairs : List Pair) (l : LearnerValue)
-    (client : ℕ) (s : Session) → Follows m genesis done pairs l
+    (client : ℕ) (s : Session) → AgreesWithList m genesis done pairs l
     → session_of client l.whole.sessions ≡ Some s → reply m genesis done client s.number ≡ Some s.answer
 session_is_reply m genesis done pairs l client s f at =
     last_is_replied m genesis done client s (sym (seen_last m genesis done l.whole client f.sums) ∙ at)
@@ -307,7 +307,7 @@ up_to number (Some q) k e =
 pub tells_client : (m : Meaning) (Heard : History → Type 0) (node : NodeValue) (out : OutboxValue) (s : Session)
     (number : ℕ) → number ≤ s.number
     → session_of s.client node.learner.whole.sessions ≡ Some s → IsMessage (saying node.header (session_reply s number))
-    → GoesOn m Heard node node out (with_told node.header s (Some number) out)
+    → ActsSafely m Heard node node out (with_told node.header s (Some number) out)
 tells_client m Heard node out s number le at fits = by_test (nat_lt number s.number) refl fits
   where
     message : Bool → NodeMessage
@@ -315,7 +315,7 @@ tells_client m Heard node out s number le at fits = by_test (nat_lt number s.num
         (kinds.Answer (record { client = s.client; number = number; answer = s.answer }))
 
     by_test : (below : Bool) → nat_lt number s.number ≡ below → IsMessage (saying node.header (message below))
-        → GoesOn m Heard node node out
+        → ActsSafely m Heard node node out
         (with_letter (record { to = to.Client s.client; bytes = spelling (saying node.header (message below)) }) out)
     by_test true e f = says m Heard node out (to.Client s.client) (message true) f tt (λ e. tt) (λ h n loose k heard.
         let w : View = k.holding.view in (
@@ -342,9 +342,10 @@ tells_client m Heard node out s number le at fits = by_test (nat_lt number s.num
 pub settles_goes_on : (m : Meaning) (Heard : History → Type 0) (s : Session) (old : NodeValue) (before : OutboxValue)
     (new : NodeValue) (after : OutboxValue)
     → session_of s.client old.learner.whole.sessions ≡ Some s → Settles s old before new after
-    → GoesOn m Heard old new before after
+    → ActsSafely m Heard old new before after
 settles_goes_on m Heard s old before new after at k =
-    subst₂ (λ (node : NodeValue) (o : OutboxValue). GoesOn m Heard old node before o) (sym k.becomes) (sym k.comes_to)
+    subst₂ (λ (node : NodeValue) (o : OutboxValue). ActsSafely m Heard old node before o) (sym k.becomes)
+    (sym k.comes_to)
     (then_goes_on m Heard old (settled s old) (settled s old) before before
     (with_told old.header s (waiting_number s old) before)
     (settled_goes_on m Heard old before s)
@@ -352,7 +353,7 @@ settles_goes_on m Heard s old before new after at k =
   where
     by_number : (o : Option ℕ) → ((number : ℕ) → o ≡ Some number → number ≤ s.number)
         → ((number : ℕ) → o ≡ Some number → IsMessage (saying old.header (session_reply s number)))
-        → GoesOn m Heard (settled s old) (settled s old) before (with_told old.header s o before)
+        → ActsSafely m Heard (settled s old) (settled s old) before (with_told old.header s o before)
     by_number None le fits = rests_here m Heard (settled s old) before
     by_number (Some number) le fits =
         tells_client m Heard (settled s old) before s number (le number refl) at (fits number refl)
@@ -390,9 +391,9 @@ session_left m w (Request r) s e =
 any_goes_on : (m : Meaning) (Heard : History → Type 0) (o : Option Session) (old : NodeValue) (before : OutboxValue)
     (new : NodeValue) (after : OutboxValue)
     → ((s : Session) → o ≡ Some s → session_of s.client old.learner.whole.sessions ≡ Some s)
-    → SettlesAny o old before new after → GoesOn m Heard old new before after
+    → SettlesAny o old before new after → ActsSafely m Heard old new before after
 any_goes_on m Heard None old before new after last k =
-    subst₂ (λ (node : NodeValue) (o : OutboxValue). GoesOn m Heard old node before o) (sym k.0) (sym k.1)
+    subst₂ (λ (node : NodeValue) (o : OutboxValue). ActsSafely m Heard old node before o) (sym k.0) (sym k.1)
     (rests_here m Heard old before)
 any_goes_on m Heard (Some s) old before new after last k =
     settles_goes_on m Heard s old before new after (last s refl) k
@@ -400,10 +401,10 @@ any_goes_on m Heard (Some s) old before new after last k =
 -- ---- the window
 
 pub named_goes_on : (m : Meaning) (Heard : History → Type 0) (node : NodeValue) (out : OutboxValue)
-    → GoesOn m Heard node (while_named node) out out
+    → ActsSafely m Heard node (while_named node) out out
 named_goes_on m Heard node out = by_test (is_outside node)
   where
-    by_test : (t : Bool) → GoesOn m Heard node (cond t (without_term node) node) out out
+    by_test : (t : Bool) → ActsSafely m Heard node (cond t (without_term node) node) out out
     by_test true = leaves_goes_on m Heard node (without_term node) out
         (record { header = refl; acceptor = refl; learner = refl }) refl
     by_test false = rests_here m Heard node out
@@ -412,14 +413,14 @@ named_goes_on m Heard node out = by_test (is_outside node)
 
 pub executes_goes_on : (m : Meaning) (Heard : History → Type 0) (old : NodeValue) (before : OutboxValue)
     (new : NodeValue) (after : OutboxValue) → IsLearner old.learner → Executes m old before new after
-    → GoesOn m Heard old new before after
+    → ActsSafely m Heard old new before after
 executes_goes_on m Heard old before new after is k =
     let l : LearnerValue = old.learner in
     let v : Command = k.command in
     let i : ℕ = executed l + 1 in
     let ran_node : NodeValue = with_learner old (advanced m v l) in
     let noted : OutboxValue = with_note (note.Ran old.header.node i v) before in
-    subst (λ (node : NodeValue). GoesOn m Heard old node before after) (sym k.becomes)
+    subst (λ (node : NodeValue). ActsSafely m Heard old node before after) (sym k.becomes)
     (then_goes_on m Heard old ran_node (while_named k.mid) before before after
     (advances_goes_on m Heard old before v is k.next)
     (then_goes_on m Heard ran_node ran_node (while_named k.mid) before noted after
@@ -431,10 +432,10 @@ executes_goes_on m Heard old before new after is k =
 
 pub one_goes_on : (m : Meaning) (Heard : History → Type 0) (went : Bool) (old : NodeValue) (before : OutboxValue)
     (new : NodeValue) (after : OutboxValue) → IsLearner old.learner
-    → ExecutesOne m went old before new after → GoesOn m Heard old new before after
+    → ExecutesOne m went old before new after → ActsSafely m Heard old new before after
 one_goes_on m Heard true old before new after is k = executes_goes_on m Heard old before new after is k
 one_goes_on m Heard false old before new after is k =
-    subst₂ (λ (node : NodeValue) (o : OutboxValue). GoesOn m Heard old node before o) (sym k.1) (sym k.2)
+    subst₂ (λ (node : NodeValue) (o : OutboxValue). ActsSafely m Heard old node before o) (sym k.1) (sym k.2)
     (rests_here m Heard old before)
 
 -- ---- one after another

@@ -12,7 +12,7 @@ use Rattle.lk_messages.specs.declared.message.NodeMessage.{NodeMessage}
 use Rattle.lk_messages.specs.declared.message.NodeMessage.TheVariants as kinds
 use Rattle.lk_state.specs.Meanings.{Meaning}
 use Rattle.lk_state.specs.declared.session.Session.{Session}
-use Rattle.lk_entries.specs.Values.{HeaderValue}
+use Rattle.lk_store_format.specs.Values.{HeaderValue}
 use Rattle.lk_learner.specs.Learners.{Command, Pair}
 use Rattle.lk_agreement.specs.Ballots.{BallotValue}
 use Rattle.lk_node_io.specs.Outboxes.{OutboxValue, nothing, with_rebase, with_entry, with_optional}

@@ -18,12 +18,12 @@ use Rattle.lk_agreement.specs.Snapshots.{IsSlice}
 use Rattle.lk_agreement.specs.Soundness.{Sound}
 use Rattle.lk_agreement.proofs.Histories.{command_within, entry_chosen, one_chosen, chosen_at_fits, chosen_fits}
 use Rattle.lk_agreement.proofs.Histories.{chosen_short, change_fits, filter_from, whole_slice}
-use Rattle.lk_entries.specs.Values.{HeaderValue}
+use Rattle.lk_store_format.specs.Values.{HeaderValue}
 use Rattle.lk_state.specs.Meanings.{Meaning, KeepsTexts}
 use Rattle.lk_state.specs.States.{WholeValue, SumsUp, whole_after}
 use Rattle.lk_state.proofs.Wholes.{one_packed, states_fit}
 use Rattle.lk_acceptor.specs.AcceptorValue.{AcceptorValue}
-use Rattle.lk_leader.specs.LedTerms.{LeadsTerm}
+use Rattle.lk_leader.specs.LedTerms.{AgreesWithTerm}
 use Rattle.lk_leader.proofs.Leaderships.{later_leads}
 use Rattle.lk_learner.specs.Installing.{with_gathered, hearing, MayInstall, pairs_above, installed, Installs}
 use Rattle.lk_learner.specs.Learners.{LearnerValue, GatheredValue, executed, alpha}
@@ -37,7 +37,7 @@ use Rattle.lk_node.specs.Learning.{with_learner}
 use Rattle.lk_node.specs.Leavings.{header_of}
 use Rattle.lk_node.specs.Nearness.{AreNear}
 use Rattle.lk_node.specs.NodeValue.{NodeValue}
-use Rattle.lk_node.specs.Serving.{GoesOn}
+use Rattle.lk_node.specs.Serving.{ActsSafely}
 use Rattle.lk_node.proofs.Changing.{IsFollowed, change_goes_on}
 use Rattle.lk_node.proofs.Serving.{rests_here, then_goes_on}
 
@@ -95,7 +95,7 @@ abbrev Told : ℕ → PartValue → History → Type 0
 Told from p h = HasSent h.genesis h.sent from (kinds.Part p)
 
 hearing_goes_on : (m : Meaning) (from : ℕ) (p : PartValue) (node : NodeValue) (out : OutboxValue)
-    → GoesOn m (Told from p) node (with_learner node (hearing p node.learner)) out out
+    → ActsSafely m (Told from p) node (with_learner node (hearing p node.learner)) out out
 hearing_goes_on m from p node out =
     let l : LearnerValue = node.learner in
     change_goes_on m (Told from p) node (with_learner node (hearing p l)) out refl refl (λ h n loose s heard.
@@ -104,7 +104,7 @@ hearing_goes_on m from p node out =
     (executed l) l.gathered (λ k is. s.fits.gathered k (s.held.gathered ∙ is))))
 
 throws_goes_on : (m : Meaning) (Heard : History → Type 0) (node : NodeValue) (out : OutboxValue)
-    → GoesOn m Heard node (with_learner node (with_gathered None node.learner)) out out
+    → ActsSafely m Heard node (with_learner node (with_gathered None node.learner)) out out
 throws_goes_on m Heard node out =
     change_goes_on m Heard node
     (with_learner node (with_gathered None node.learner)) out refl refl (λ h n loose s heard.
@@ -181,7 +181,7 @@ module _ (m : Meaning) (h : History) (n : ℕ) (node : NodeValue) (x : Holding) 
           let t = held.leads k at in (
             t.0,
             t.1,
-            subst (λ (a : ℕ). LeadsTerm w.roster.executed a t.0 k) (sym window)
+            subst (λ (a : ℕ). AgreesWithTerm w.roster.executed a t.0 k) (sym window)
                 (later_leads (executed node.learner) w.roster.executed (alpha node.learner) t.0 k
                 (omega (arith, farther, far)) t.2),
           );
@@ -228,7 +228,7 @@ module _ (m : Meaning) (IsText : List ℕ → Type 0) (keeps : KeepsTexts IsText
 
 installs_goes_on : (m : Meaning) (Heard : History → Type 0) (IsText : List ℕ → Type 0) → KeepsTexts IsText m
     → (w : WholeValue) (node : NodeValue) (out : OutboxValue) → BeganWell node → MayInstall IsText node.learner w
-    → GoesOn m Heard node (with_learner node (installed w node.learner)) out out
+    → ActsSafely m Heard node (with_learner node (installed w node.learner)) out out
 installs_goes_on m Heard IsText keeps w node out began may =
     let g : GatheredValue = may.gathered in
     change_goes_on m Heard node (with_learner node (installed w node.learner)) out refl refl (λ h n loose s heard.
@@ -242,16 +242,16 @@ installs_goes_on m Heard IsText keeps w node out began may =
 pub gathers_goes_on : (m : Meaning) (from : ℕ) (IsText : List ℕ → Type 0) → KeepsTexts IsText m
     → (went : Bool) (p : PartValue) (old new : NodeValue) (out : OutboxValue) → BeganWell old
     → Gathers IsText went p old new
-    → GoesOn m (Told from p) old new out out
+    → ActsSafely m (Told from p) old new out out
 gathers_goes_on m from IsText keeps went p old new out began k =
     let heard : NodeValue = with_learner old (hearing p old.learner) in
-    subst (λ (node : NodeValue). GoesOn m (Told from p) old node out out) (sym k.2)
+    subst (λ (node : NodeValue). ActsSafely m (Told from p) old node out out) (sym k.2)
     (then_goes_on m (Told from p) old heard (with_learner old k.0) out out out (hearing_goes_on m from p old out)
     (elim k.1 [
-      | inl went_on ↦ subst (λ (l : LearnerValue). GoesOn m (Told from p) heard (with_learner old l) out out)
+      | inl went_on ↦ subst (λ (l : LearnerValue). ActsSafely m (Told from p) heard (with_learner old l) out out)
           (sym went_on.1.2) (installs_goes_on m (Told from p) IsText keeps went_on.1.0 heard out began went_on.1.1)
-      | inr (inl thrown) ↦ subst (λ (l : LearnerValue). GoesOn m (Told from p) heard (with_learner old l) out out)
+      | inr (inl thrown) ↦ subst (λ (l : LearnerValue). ActsSafely m (Told from p) heard (with_learner old l) out out)
           (sym thrown.3) (throws_goes_on m (Told from p) heard out)
-      | inr (inr none) ↦ subst (λ (l : LearnerValue). GoesOn m (Told from p) heard (with_learner old l) out out)
+      | inr (inr none) ↦ subst (λ (l : LearnerValue). ActsSafely m (Told from p) heard (with_learner old l) out out)
           (sym none.2) (rests_here m (Told from p) heard out)
     ]))

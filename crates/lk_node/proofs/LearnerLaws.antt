@@ -33,7 +33,7 @@ use Rattle.lk_node.specs.DecidedPairs.{TakesPair, TakesFirst, TakesPairs, one_mo
 use Rattle.lk_node.specs.Keeping.{TellsDecided, IsKnown}
 use Rattle.lk_node.specs.Learning.{with_learner, Learns}
 use Rattle.lk_node.specs.NodeValue.{NodeValue}
-use Rattle.lk_node.specs.Serving.{with_entries, Serves, GoesOn}
+use Rattle.lk_node.specs.Serving.{with_entries, Serves, ActsSafely}
 use Rattle.lk_node.proofs.Changing.{change_goes_on}
 use Rattle.lk_node.proofs.Serving.{rests_here, then_goes_on, heard_goes_on}
 
@@ -58,7 +58,7 @@ pub writes_decided : (m : Meaning) (Heard : History → Type 0) (node : NodeValu
     (v : Command) → Contains node.learner.pairs (i, v)
     → ((h : History) (n : ℕ) (loose : List Entry) → Serves m h n loose node out → Heard h
     → ChosenAt h.genesis h.sent i v)
-    → GoesOn m Heard node node out (with_entry (entry.Decided i v) out)
+    → ActsSafely m Heard node node out (with_entry (entry.Decided i v) out)
 writes_decided m Heard node out i v kept chosen = record {
   binds = λ first b. record {
     header = b.header;
@@ -93,7 +93,7 @@ knows_more w p (entry.Decided i c) (inr done) = inr done
 keeps_goes_on : (m : Meaning) (Heard : History → Type 0) (node : NodeValue) (out : OutboxValue) (i : ℕ) (v : Command)
     → ((h : History) (n : ℕ) (loose : List Entry) → Serves m h n loose node out → Heard h
     → ChosenAt h.genesis h.sent i v)
-    → GoesOn m Heard node (with_learner node (keeping (i, v) node.learner)) out out
+    → ActsSafely m Heard node (with_learner node (keeping (i, v) node.learner)) out out
 keeps_goes_on m Heard node out i v chosen =
     change_goes_on m Heard node (with_learner node (keeping (i, v) node.learner)) out refl refl (λ h n loose s heard.
     let w : View = s.holding.view in
@@ -124,17 +124,17 @@ keeps_goes_on m Heard node out i v chosen =
 -- a pair that is chosen, wherever the learner keeps it, is written
 pub learns_goes_on : (m : Meaning) (i : ℕ) (v : Command) (old new : NodeValue) (before after : OutboxValue)
     → Learns (i, v) old before new after
-    → GoesOn m (λ h. ChosenAt h.genesis h.sent i v) old new before after
+    → ActsSafely m (λ h. ChosenAt h.genesis h.sent i v) old new before after
 learns_goes_on m i v old new before after (inl wanted) =
     let kept : NodeValue = with_learner old (keeping (i, v) old.learner) in
     let Heard : History → Type 0 = λ (h : History). ChosenAt h.genesis h.sent i v in
-    subst₂ (λ (node : NodeValue) (o : OutboxValue). GoesOn m Heard old node before o) (sym wanted.1) (sym wanted.2)
+    subst₂ (λ (node : NodeValue) (o : OutboxValue). ActsSafely m Heard old node before o) (sym wanted.1) (sym wanted.2)
     (then_goes_on m Heard old kept kept before before (with_entry (entry.Decided i v) before)
     (keeps_goes_on m Heard old before i v (λ h n loose s heard. heard))
     (writes_decided m Heard kept before i v (with_has (i, v) old.learner.pairs) (λ h n loose s heard. heard)))
 learns_goes_on m i v old new before after (inr other) =
     let Heard : History → Type 0 = λ (h : History). ChosenAt h.genesis h.sent i v in
-    subst₂ (λ (node : NodeValue) (o : OutboxValue). GoesOn m Heard old node before o) (sym other.1) (sym other.2)
+    subst₂ (λ (node : NodeValue) (o : OutboxValue). ActsSafely m Heard old node before o) (sym other.1) (sym other.2)
     (rests_here m Heard old before)
 
 -- ---- and executed
@@ -145,13 +145,13 @@ Chooses i v h = ChosenAt h.genesis h.sent i v
 
 -- it heard no more than what it needs
 pub unheard : (m : Meaning) (Heard : History → Type 0) (old new : NodeValue) (before after : OutboxValue)
-    → GoesOn m (λ h. Unit {0}) old new before after → GoesOn m Heard old new before after
+    → ActsSafely m (λ h. Unit {0}) old new before after → ActsSafely m Heard old new before after
 unheard m Heard old new before after f =
     heard_goes_on m Heard (λ h. Unit {0}) old new before after (λ h n loose s heard. tt) f
 
 pub pair_goes_on : (m : Meaning) (i : ℕ) (v : Command) (old mid new : NodeValue) (before between after : OutboxValue)
-    → GoesOn m (Chooses i v) old mid before between
-    → GoesOn m (λ h. Unit {0}) mid new between after → GoesOn m (Chooses i v) old new before after
+    → ActsSafely m (Chooses i v) old mid before between
+    → ActsSafely m (λ h. Unit {0}) mid new between after → ActsSafely m (Chooses i v) old new before after
 pair_goes_on m i v old mid new before between after f g =
     then_goes_on m (Chooses i v) old mid new before between after f (unheard m (Chooses i v) mid new between after g)
 
@@ -159,7 +159,7 @@ pair_goes_on m i v old mid new before between after f g =
 pub stepped_over : (m : Meaning) (position : ℕ) (commands : List Command) (left : Option (List Command))
     (old new : NodeValue) (before after : OutboxValue)
     → (IsWanted old.learner position → ⊥) → RunsAll m old before new after
-    → GoesOn m (λ h. Unit {0}) old new before after
+    → ActsSafely m (λ h. Unit {0}) old new before after
     → IfSome left (λ others. (v : Command) × (commands ≡ v ∷ others))
     → IfSome left (λ others. TakesFirst m position commands others old before new after)
 stepped_over m position commands None old new before after other runs goes_on skips = tt
@@ -178,8 +178,8 @@ Told from d h = HasSent h.genesis h.sent from (kinds.Decided d)
 
 pub told_goes_on : (m : Meaning) (from : ℕ) (d : DecidedValue) (k i : ℕ) (v : Command) (first old new : NodeValue)
     (begun before after : OutboxValue) → i ≡ d.first + k → slice_get d.commands k ≡ Some v
-    → GoesOn m (Told from d) first old begun before → GoesOn m (Chooses i v) old new before after
-    → GoesOn m (Told from d) first new begun after
+    → ActsSafely m (Told from d) first old begun before → ActsSafely m (Chooses i v) old new before after
+    → ActsSafely m (Told from d) first new begun after
 told_goes_on m from d k i v first old new begun before after is at f g =
     then_goes_on m (Told from d) first old new begun before after f
     (heard_goes_on m (Told from d) (Chooses i v) old new before after

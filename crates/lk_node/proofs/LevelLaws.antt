@@ -13,7 +13,7 @@ use Rattle.lk_messages.specs.declared.message.NodeMessage.TheVariants as kinds
 use Rattle.lk_agreement.specs.Acceptors.{Covers}
 use Rattle.lk_agreement.specs.Nodes.{Pair, View, MaySend}
 use Rattle.lk_state.specs.Meanings.{Meaning}
-use Rattle.lk_learner.specs.Following.{Follows}
+use Rattle.lk_learner.specs.Following.{AgreesWithList}
 use Rattle.lk_learner.specs.Learners.{LearnerValue, decided_from, wanted}
 use Rattle.lk_learner.specs.Parts.{start_of}
 use Rattle.lk_learner.proofs.Learnerships.{served_chosen, parts_slice}
@@ -28,7 +28,7 @@ use Rattle.lk_node.specs.NodeValue.{NodeValue}
 use Rattle.lk_node.specs.Replying.{SaysAlone}
 use Rattle.lk_node.specs.Saying.{to_node}
 use Rattle.lk_node.specs.Served.{BearsOutMessage}
-use Rattle.lk_node.specs.Serving.{Serves, GoesOn}
+use Rattle.lk_node.specs.Serving.{Serves, ActsSafely}
 use Rattle.lk_node.specs.Telling.{letter_to}
 use Rattle.lk_node.specs.Yielding.{with_round, seeing}
 use Rattle.lk_node.proofs.Changing.{alike_goes_on, yielded_goes_on}
@@ -38,17 +38,17 @@ use Rattle.lk_node.proofs.Serving.{rests_here, then_goes_on, says}
 
 -- nothing is done, and nothing comes of it
 pub idles : (m : Meaning) (Heard : History → Type 0) (node : NodeValue) (out : OutboxValue) → out ≡ nothing
-    → GoesOn m Heard node node nothing out
-idles m Heard node out is = subst (GoesOn m Heard node node nothing) (sym is) (rests_here m Heard node nothing)
+    → ActsSafely m Heard node node nothing out
+idles m Heard node out is = subst (ActsSafely m Heard node node nothing) (sym is) (rests_here m Heard node nothing)
 
 -- one message, which the executed list bears out
 pub alone_goes_on : (m : Meaning) (Heard : History → Type 0) (node : NodeValue) (to : To) (message : NodeMessage)
     (out : OutboxValue) → SaysAlone node to message out → Covers node.acceptor.state message
     → ((h : History) (n : ℕ) (loose : List Entry) (s : Serves m h n loose node nothing)
     → MaySend h.genesis h.sent s.holding.view message × BearsOutMessage m h s.holding.view.done message)
-    → GoesOn m Heard node node nothing out
+    → ActsSafely m Heard node node nothing out
 alone_goes_on m Heard node to message out k covers may =
-    subst (GoesOn m Heard node node nothing) (sym k.1)
+    subst (ActsSafely m Heard node node nothing) (sym k.1)
     (says m Heard node nothing to message k.0 covers (λ e. absurd (cc e)) (λ h n loose s heard. (
       (may h n loose s).0,
       record {
@@ -61,18 +61,18 @@ alone_goes_on m Heard node to message out k covers may =
 -- ---- what a ballot that is seen changes
 
 pub round_goes_on : (m : Meaning) (Heard : History → Type 0) (b : BallotValue) (node : NodeValue) (out : OutboxValue)
-    → GoesOn m Heard node (with_round b node) out out
+    → ActsSafely m Heard node (with_round b node) out out
 round_goes_on m Heard b node out =
     alike_goes_on m Heard node (with_round b node) out (record { header = refl; acceptor = refl; learner = refl }) refl
 
 seeing_goes_on : (m : Meaning) (Heard : History → Type 0) (b : BallotValue) (node : NodeValue) (out : OutboxValue)
-    → GoesOn m Heard node (seeing b node) out out
+    → ActsSafely m Heard node (seeing b node) out out
 seeing_goes_on m Heard b node out =
     then_goes_on m Heard node (with_round b node) (seeing b node) out out out (round_goes_on m Heard b node out)
     (yielded_goes_on m Heard b (with_round b node) out)
 
 following_goes_on : (m : Meaning) (Heard : History → Type 0) (b : BallotValue) (node : NodeValue) (out : OutboxValue)
-    → GoesOn m Heard node (following b node) out out
+    → ActsSafely m Heard node (following b node) out out
 following_goes_on m Heard b node out =
     alike_goes_on m Heard node (following b node) out (record { header = refl; acceptor = refl; learner = refl }) refl
 
@@ -80,7 +80,7 @@ following_goes_on m Heard b node out =
 
 -- what is sent of the snapshot is a slice of the executed list's beginning
 part_borne : (m : Meaning) (h : History) (done : List Command) (pairs : List Pair) (l : LearnerValue) (p : PartValue)
-    → Follows m h.genesis done pairs l
+    → AgreesWithList m h.genesis done pairs l
     → (p.position ≡ l.snapshot_position) × (p.total ≡ length l.snapshot)
     × (p.bytes ≡ take (length p.bytes) (drop p.offset l.snapshot)) → BearsOutMessage m h done (kinds.Part p)
 part_borne m h done pairs l p f is =
@@ -97,13 +97,13 @@ sends_parts : (m : Meaning) (Heard : History → Type 0) (node : NodeValue) (oth
     → ((p : PartValue) → Contains ps p
     → (p.position ≡ node.learner.snapshot_position) × (p.total ≡ length node.learner.snapshot)
     × (p.bytes ≡ take (length p.bytes) (drop p.offset node.learner.snapshot)))
-    → GoesOn m Heard node node out (sending_parts node other ps out)
+    → ActsSafely m Heard node node out (sending_parts node other ps out)
 sends_parts m Heard node other [] out fits slices =
-    subst (λ (ls : List LetterValue). GoesOn m Heard node node out (lettered out ls)) (sym (append-nil out.letters))
+    subst (λ (ls : List LetterValue). ActsSafely m Heard node node out (lettered out ls)) (sym (append-nil out.letters))
     (rests_here m Heard node out)
 sends_parts m Heard node other (p ∷ ps) out fits slices =
     let one : LetterValue = letter_to node (kinds.Part p) other in
-    subst (λ (ls : List LetterValue). GoesOn m Heard node node out (lettered out ls))
+    subst (λ (ls : List LetterValue). ActsSafely m Heard node node out (lettered out ls))
     (append_assoc out.letters (one ∷ []) (map (λ (q : PartValue). letter_to node (kinds.Part q) other) ps))
     (then_goes_on m Heard node node node out (with_letter one out) (sending_parts node other ps (with_letter one out))
     (says m Heard node out (to_node node other) (kinds.Part p) (fits p (0, omega arith, refl)) tt
@@ -120,16 +120,16 @@ sends_parts m Heard node other (p ∷ ps) out fits slices =
     (λ q c. slices q (contains_more p ps q c))))
 
 feeds_parts_goes_on : (m : Meaning) (Heard : History → Type 0) (node : NodeValue) (other offset : ℕ)
-    (out : OutboxValue) → FeedsParts node other offset out → GoesOn m Heard node node nothing out
+    (out : OutboxValue) → FeedsParts node other offset out → ActsSafely m Heard node node nothing out
 feeds_parts_goes_on m Heard node other offset out k =
     let l : LearnerValue = node.learner in
-    subst (GoesOn m Heard node node nothing) (sym k.comes_to)
+    subst (ActsSafely m Heard node node nothing) (sym k.comes_to)
     (sends_parts m Heard node other k.parts nothing k.fits
     (λ p c. parts_slice l.snapshot_position (start_of offset l.snapshot) c.0 l.snapshot k.parts p k.are
     (slice_get-get_or k.parts c.0 p c.1 ∙ ap Some c.2)))
 
 feeds_goes_on : (m : Meaning) (Heard : History → Type 0) (node : NodeValue) (other first offset : ℕ)
-    (out : OutboxValue) → Feeds node other first offset out → GoesOn m Heard node node nothing out
+    (out : OutboxValue) → Feeds node other first offset out → ActsSafely m Heard node node nothing out
 feeds_goes_on m Heard node other first offset out (inl served) =
     alone_goes_on m Heard node (to_node node other) (kinds.Decided (decided_from first node.learner)) out served.1 tt
     (λ h n loose s. (
@@ -142,14 +142,14 @@ feeds_goes_on m Heard node other first offset out (inr (inl parts)) =
 feeds_goes_on m Heard node other first offset out (inr (inr none)) = idles m Heard node out none.1
 
 asks_goes_on : (m : Meaning) (Heard : History → Type 0) (node : NodeValue) (other : ℕ) (out : OutboxValue)
-    → AsksOn node other out → GoesOn m Heard node node nothing out
+    → AsksOn node other out → ActsSafely m Heard node node nothing out
 asks_goes_on m Heard node other out (inl more) =
     alone_goes_on m Heard node (to_node node other) (kinds.Want (wanted node.learner)) out more.1 tt
     (λ h n loose s. (tt, tt))
 asks_goes_on m Heard node other out (inr none) = idles m Heard node out none.1
 
 levels_goes_on : (m : Meaning) (Heard : History → Type 0) (node : NodeValue) (other theirs : ℕ) (out : OutboxValue)
-    → Levels node other theirs out → GoesOn m Heard node node nothing out
+    → Levels node other theirs out → ActsSafely m Heard node node nothing out
 levels_goes_on m Heard node other theirs out (inl more) = asks_goes_on m Heard node other out more.1
 levels_goes_on m Heard node other theirs out (inr (inl fewer)) =
     feeds_goes_on m Heard node other (theirs + 1) 0 out fewer.1
@@ -158,36 +158,36 @@ levels_goes_on m Heard node other theirs out (inr (inr same)) = idles m Heard no
 -- ---- each message
 
 pub want_goes_on : (m : Meaning) (old : NodeValue) (from first offset : ℕ) (out : OutboxValue)
-    → Feeds old from first offset out → GoesOn m (λ h. Unit {0}) old old nothing out
+    → Feeds old from first offset out → ActsSafely m (λ h. Unit {0}) old old nothing out
 want_goes_on m old from first offset out k = feeds_goes_on m (λ h. Unit {0}) old from first offset out k
 
 pub nack_goes_on : (m : Meaning) (old new : NodeValue) (from : ℕ) (nack : Nack) (out : OutboxValue)
-    → HearsNack old from nack new out → GoesOn m (λ h. Unit {0}) old new nothing out
+    → HearsNack old from nack new out → ActsSafely m (λ h. Unit {0}) old new nothing out
 nack_goes_on m old new from nack out k =
     let Heard : History → Type 0 = λ h. Unit {0} in
     let once : NodeValue = seeing nack.ballot old in
-    subst (λ (node : NodeValue). GoesOn m Heard old node nothing out) (sym k.0)
+    subst (λ (node : NodeValue). ActsSafely m Heard old node nothing out) (sym k.0)
     (then_goes_on m Heard old old (seeing nack.promised once) nothing out out
     (levels_goes_on m Heard old from nack.executed out k.1)
     (then_goes_on m Heard old once (seeing nack.promised once) out out out (seeing_goes_on m Heard nack.ballot old out)
     (seeing_goes_on m Heard nack.promised once out)))
 
 pub lead_goes_on : (m : Meaning) (old new : NodeValue) (from : ℕ) (b : BallotValue) (theirs : ℕ) (out : OutboxValue)
-    → HearsLead old from b theirs new out → GoesOn m (λ h. Unit {0}) old new nothing out
+    → HearsLead old from b theirs new out → ActsSafely m (λ h. Unit {0}) old new nothing out
 lead_goes_on m old new from b theirs out (inl refused) =
     let Heard : History → Type 0 = λ h. Unit {0} in
-    subst (λ (node : NodeValue). GoesOn m Heard old node nothing out) (sym refused.1)
+    subst (λ (node : NodeValue). ActsSafely m Heard old node nothing out) (sym refused.1)
     (then_goes_on m Heard old old (seeing b old) nothing out out
     (alone_goes_on m Heard old (to_node old from) (kinds.Nack (refusal b old)) out refused.2 tt
     (λ h n loose s. (tt, tt))) (seeing_goes_on m Heard b old out))
 lead_goes_on m old new from b theirs out (inr followed) =
     let Heard : History → Type 0 = λ h. Unit {0} in
-    subst (λ (node : NodeValue). GoesOn m Heard old node nothing out) (sym followed.1)
+    subst (λ (node : NodeValue). ActsSafely m Heard old node nothing out) (sym followed.1)
     (then_goes_on m Heard old old (following b (seeing b old)) nothing out out (by_count followed.2)
     (then_goes_on m Heard old (seeing b old) (following b (seeing b old)) out out out
     (seeing_goes_on m Heard b old out) (following_goes_on m Heard b (seeing b old) out)))
   where
-    by_count : AsksWhereMore old from theirs out → GoesOn m (λ h. Unit {0}) old old nothing out
+    by_count : AsksWhereMore old from theirs out → ActsSafely m (λ h. Unit {0}) old old nothing out
     by_count (inl more) = asks_goes_on m (λ h. Unit {0}) old from out more.1
     by_count (inr same) = idles m (λ h. Unit {0}) old out same.1
 
@@ -195,9 +195,9 @@ lead_goes_on m old new from b theirs out (inr followed) =
 
 -- what goes on once its ballot's round is seen goes on with that
 pub seen_goes_on : (m : Meaning) (Heard : History → Type 0) (b : BallotValue) (old seen new : NodeValue)
-    (out : OutboxValue) → seen ≡ with_round b old → GoesOn m Heard seen new nothing out
-    → GoesOn m Heard old new nothing out
+    (out : OutboxValue) → seen ≡ with_round b old → ActsSafely m Heard seen new nothing out
+    → ActsSafely m Heard old new nothing out
 seen_goes_on m Heard b old seen new out is f =
     then_goes_on m Heard old seen new nothing nothing out
-    (subst (λ (node : NodeValue). GoesOn m Heard old node nothing nothing) (sym is)
+    (subst (λ (node : NodeValue). ActsSafely m Heard old node nothing nothing) (sym is)
     (round_goes_on m Heard b old nothing)) f

@@ -41,7 +41,7 @@ use Rattle.lk_node.specs.Leading.{ProposesNext}
 use Rattle.lk_node.specs.NodeValue.{NodeValue}
 use Rattle.lk_node.specs.Promised.{HasPromised}
 use Rattle.lk_node.specs.Served.{IsServed}
-use Rattle.lk_node.specs.Serving.{Serves, GoesOn}
+use Rattle.lk_node.specs.Serving.{Serves, ActsSafely}
 use Rattle.lk_node.specs.Telling.{telling}
 use Rattle.lk_node.proofs.Changing.{change_goes_on}
 use Rattle.lk_node.proofs.Lists.{only}
@@ -196,7 +196,7 @@ accept_may m h n loose node o s k q x at among is =
 
 pub proposal_goes_on : (m : Meaning) (old : NodeValue) (x : Vote) (p : ProposesVote old x) (out : OutboxValue)
     → HasPromised old.acceptor old.leader → IsMessage (saying old.header (kinds.Accept x))
-    → GoesOn m (λ h. Unit {0}) old (having_proposed old x p) out
+    → ActsSafely m (λ h. Unit {0}) old (having_proposed old x p) out
     (telling old (nodes_of p.proposes.set) (kinds.Accept x) out)
 proposal_goes_on m old x p out promised fits =
     let k : TermValue = p.term in
@@ -323,9 +323,9 @@ module _ (old mid : NodeValue) (x : Vote) (p : ProposesVote old x) (is : mid ≡
   pub next_goes_on : (m : Meaning) (before more : OutboxValue) → HasPromised old.acceptor old.leader
       → IsMessage (saying old.header (kinds.Accept x))
       → more ≡ telling old (nodes_of p.proposes.set) (kinds.Accept x) before
-      → GoesOn m (λ h. Unit {0}) old mid before more
+      → ActsSafely m (λ h. Unit {0}) old mid before more
   next_goes_on m before more promised fits told =
-      subst₂ (λ (k : NodeValue) (o : OutboxValue). GoesOn m (λ h. Unit {0}) old k before o) (sym is) (sym told)
+      subst₂ (λ (k : NodeValue) (o : OutboxValue). ActsSafely m (λ h. Unit {0}) old k before o) (sym is) (sym told)
       (proposal_goes_on m old x p before promised fits)
 
 -- ---- by whether there was anything

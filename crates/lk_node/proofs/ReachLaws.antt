@@ -7,9 +7,9 @@ use Rattle.lk_types.specs.declared.entry.Entry.{Entry}
 use Rattle.lk_types.specs.declared.entry.Entry.TheVariants.{Promise, Vote, Decided}
 use Rattle.lk_types.specs.declared.vote.Vote.{Vote as VoteValue}
 use Rattle.lk_types.specs.Ballots.{is_below}
-use Rattle.lk_entries.specs.VoteLists.{votes_with}
-use Rattle.lk_entries.specs.Standings.{with_pair, with_plain, with_all}
-use Rattle.lk_entries.specs.Values.{StandingValue}
+use Rattle.lk_store_format.specs.VoteLists.{votes_with}
+use Rattle.lk_store_format.specs.Standings.{with_pair, with_plain, with_all}
+use Rattle.lk_store_format.specs.Values.{StandingValue}
 use Rattle.lk_members.proofs.Memberships.{length_of_window}
 use Rattle.lk_members.specs.Windows.{roster_after}
 use Rattle.lk_state.specs.Meanings.{Meaning}

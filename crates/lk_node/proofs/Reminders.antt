@@ -19,7 +19,7 @@ use Rattle.lk_node.specs.Histories.{History}
 use Rattle.lk_node.specs.NodeValue.{NodeValue}
 use Rattle.lk_node.specs.Promised.{HasPromised}
 use Rattle.lk_node.specs.Reminding.{IsTermOf, TellsThese, AsksAgain, vote_for, OffersAgain, TellsLead}
-use Rattle.lk_node.specs.Serving.{GoesOn}
+use Rattle.lk_node.specs.Serving.{ActsSafely}
 use Rattle.lk_node.proofs.Lists.{contains_more}
 use Rattle.lk_node.proofs.ManyLetters.{says_all}
 use Rattle.lk_node.proofs.Proposals.{accept_may}
@@ -34,9 +34,9 @@ term_promised node b promised k =
 pub asks_go_on : (m : Meaning) (Heard : History → Type 0) (node : NodeValue) (b : BallotValue)
     (before out : OutboxValue) → HasPromised node.acceptor node.leader → IsTermOf b node.leader
     → AsksAgain node b before out
-    → GoesOn m Heard node node before out
+    → ActsSafely m Heard node node before out
 asks_go_on m Heard node b before out promised is (inl asks) =
-    subst (GoesOn m Heard node node before) (sym asks.2.1)
+    subst (ActsSafely m Heard node node before) (sym asks.2.1)
     (says_all m Heard node before asks.0 (kinds.Prepare b (executed node.learner + 1)) asks.2.0
     (term_promised node b promised is) (λ e. tt)
     (λ o h n loose s heard. (
@@ -45,12 +45,12 @@ asks_go_on m Heard node b before out promised is (inl asks) =
       record { under = s.holding.view.done; chosen = s.fits.view.stems.done; bears = tt },
     )))
 asks_go_on m Heard node b before out promised is (inr last) =
-    subst (GoesOn m Heard node node before) (sym last.1) (rests_here m Heard node before)
+    subst (ActsSafely m Heard node node before) (sym last.1) (rests_here m Heard node before)
 
 pub lead_goes_on : (m : Meaning) (Heard : History → Type 0) (node : NodeValue) (b : BallotValue)
-    (before out : OutboxValue) → TellsLead node b before out → GoesOn m Heard node node before out
+    (before out : OutboxValue) → TellsLead node b before out → ActsSafely m Heard node node before out
 lead_goes_on m Heard node b before out tells =
-    subst (GoesOn m Heard node node before) (sym tells.2.1)
+    subst (ActsSafely m Heard node node before) (sym tells.2.1)
     (says_all m Heard node before tells.0 (kinds.Lead b (executed node.learner)) tells.2.0 tt (λ e. tt)
     (λ o h n loose s heard. (tt, record { under = s.holding.view.done; chosen = s.fits.view.stems.done; bears = tt })))
 
@@ -77,19 +77,19 @@ found_at i p (q ∷ ps) e = by_test (λ k. found_at i p ps k) (eqb q.position i)
 pub offer_goes_on : (m : Meaning) (Heard : History → Type 0) (node : NodeValue) (b : BallotValue) (i : ℕ)
     (before out : OutboxValue) → HasPromised node.acceptor node.leader → IsTermOf b node.leader
     → OffersAgain node b i before out
-    → GoesOn m Heard node node before out
+    → ActsSafely m Heard node node before out
 offer_goes_on m Heard node b i before out promised is (inl offers) =
     let o = offers.1 in
     let at = found_at i offers.0 o.term.proposals o.proposal in
     let same : o.term.ballot ≡ b = ap (λ (k : TermValue). k.ballot) (some_value o.term is.0 (sym o.current ∙ is.1))
     ∙ is.2 in
-    subst (GoesOn m Heard node node before) (sym offers.2.1)
+    subst (ActsSafely m Heard node node before) (sym offers.2.1)
     (says_all m Heard node before (unheard o.set offers.0.accepted) (kinds.Accept (vote_for b i offers.0)) offers.2.0
     (term_promised node b promised is) (λ e. tt)
     (λ out h n loose s heard. accept_may m h n loose node out s o.term offers.0 (vote_for b i offers.0) o.current at.0
     (λ j. record { position = sym at.1 j; ballot = sym same j; command = offers.0.command })))
 offer_goes_on m Heard node b i before out promised is (inr none) =
-    subst (GoesOn m Heard node node before) (sym none.1) (rests_here m Heard node before)
+    subst (ActsSafely m Heard node node before) (sym none.1) (rests_here m Heard node before)
 
 -- what is told to those members of the position that were not heard is told again
 pub offered : (node : NodeValue) (b : BallotValue) (i : ℕ) (p : ProposalValue) (set : List Member)

@@ -7,7 +7,7 @@ use Rattle.lk_messages.specs.declared.message.Content.{Content}
 use Rattle.lk_messages.specs.declared.message.Content.TheVariants as content
 use Rattle.lk_messages.specs.declared.message.Message.{Message}
 use Rattle.lk_messages.specs.declared.message.NodeMessage.{NodeMessage}
-use Rattle.lk_entries.specs.Values.{HeaderValue}
+use Rattle.lk_store_format.specs.Values.{HeaderValue}
 use Rattle.lk_state.specs.Meanings.{Meaning}
 use Rattle.lk_agreement.specs.Acceptors.{Covers}
 use Rattle.lk_agreement.specs.Datagrams.{said_by}
@@ -22,18 +22,18 @@ use Rattle.lk_node.specs.Histories.{History, Genesis, IsHeard}
 use Rattle.lk_node.specs.Leavings.{header_of}
 use Rattle.lk_node.specs.NodeValue.{NodeValue}
 use Rattle.lk_node.specs.Served.{IsServed, IsOfNode, IsBorneOut}
-use Rattle.lk_node.specs.Serving.{IsLight, Tells, Serves, GoesOn}
+use Rattle.lk_node.specs.Serving.{IsLight, Tells, Serves, ActsSafely}
 use Rattle.lk_node.specs.Steps.{WasHeard}
 use Rattle.lk_node.proofs.Lists.{only}
 
 -- nothing is done
 pub rests_here : (m : Meaning) (Heard : History → Type 0) (node : NodeValue) (out : OutboxValue)
-    → GoesOn m Heard node node out out
+    → ActsSafely m Heard node node out out
 rests_here m Heard node out = record { binds = λ first b. b; serves = λ h n loose s heard. s }
 
 -- one part after another
 pub then_goes_on : (m : Meaning) (Heard : History → Type 0) (a b c : NodeValue) (x y z : OutboxValue)
-    → GoesOn m Heard a b x y → GoesOn m Heard b c y z → GoesOn m Heard a c x z
+    → ActsSafely m Heard a b x y → ActsSafely m Heard b c y z → ActsSafely m Heard a c x z
 then_goes_on m Heard a b c x y z f g = record {
   binds = λ first k. g.binds first (f.binds first k);
   serves = λ h n loose s heard. g.serves h n loose (f.serves h n loose s heard) heard;
@@ -42,7 +42,7 @@ then_goes_on m Heard a b c x y z f g = record {
 -- a part that heard less
 pub heard_goes_on : (m : Meaning) (Heard Had : History → Type 0) (old new : NodeValue) (before after : OutboxValue)
     → ((h : History) (n : ℕ) (loose : List Entry) → Serves m h n loose old before → Heard h → Had h)
-    → GoesOn m Had old new before after → GoesOn m Heard old new before after
+    → ActsSafely m Had old new before after → ActsSafely m Heard old new before after
 heard_goes_on m Heard Had old new before after has f =
     record { binds = f.binds; serves = λ h n loose s heard. f.serves h n loose s (has h n loose s heard) }
 
@@ -67,7 +67,7 @@ pub says : (m : Meaning) (Heard : History → Type 0) (node : NodeValue) (out : 
     → (out.rebase ≡ true → IsLight message)
     → ((h : History) (n : ℕ) (loose : List Entry) (s : Serves m h n loose node out) → Heard h
     → MaySend h.genesis h.sent s.holding.view message × IsServed m h message)
-    → GoesOn m Heard node node out (with_letter (letter node to message) out)
+    → ActsSafely m Heard node node out (with_letter (letter node to message) out)
 says m Heard node out to message fits covers light may = record {
   binds = λ first b. record {
     header = b.header;
@@ -125,7 +125,8 @@ heard_content h n whose msg bytes is spelled same heard = by_content msg.content
 -- what goes on by what a message says goes on by its bytes
 pub bytes_go_on : (m : Meaning) (old new : NodeValue) (out : OutboxValue) (msg : Message) (bytes : List ℕ)
     → Spells msg bytes → msg.cluster ≡ old.header.cluster
-    → GoesOn m (λ h. WasHeard h msg.content) old new nothing out → GoesOn m (λ h. IsHeard h bytes) old new nothing out
+    → ActsSafely m (λ h. WasHeard h msg.content) old new nothing out
+    → ActsSafely m (λ h. IsHeard h bytes) old new nothing out
 bytes_go_on m old new out msg bytes spelled same f =
     heard_goes_on m (λ h. IsHeard h bytes) (λ h. WasHeard h msg.content) old new nothing out
     (λ h n loose s heard. heard_content h n old.header msg bytes s.whose spelled same heard) f
@@ -135,7 +136,7 @@ bytes_go_on m old new out msg bytes spelled same f =
 -- a note that a chosen list bears out
 pub notes : (m : Meaning) (Heard : History → Type 0) (node : NodeValue) (out : OutboxValue) (x : Note) → IsOfNode x
     → ((h : History) (n : ℕ) (loose : List Entry) (s : Serves m h n loose node out) → Heard h → IsBorneOut m h x)
-    → GoesOn m Heard node node out (with_note x out)
+    → ActsSafely m Heard node node out (with_note x out)
 notes m Heard node out x own bears = record {
   binds = λ first b. record {
     header = b.header;

@@ -11,13 +11,13 @@ use Rattle.lk_node.specs.Executing.{while_named}
 use Rattle.lk_node.specs.Histories.{History}
 use Rattle.lk_node.specs.Installing.{SettlesFirst, none_settled, one_settled, SettlesAll}
 use Rattle.lk_node.specs.NodeValue.{NodeValue}
-use Rattle.lk_node.specs.Serving.{GoesOn}
+use Rattle.lk_node.specs.Serving.{ActsSafely}
 use Rattle.lk_node.proofs.ExecutionLaws.{settles_goes_on, named_goes_on}
 use Rattle.lk_node.proofs.Serving.{rests_here, then_goes_on}
 
 -- in front of all that is sent, the store may be rebased
 rebases_goes_on : (m : Meaning) (Heard : History → Type 0) (node : NodeValue)
-    → GoesOn m Heard node node nothing (with_rebase nothing)
+    → ActsSafely m Heard node node nothing (with_rebase nothing)
 rebases_goes_on m Heard node = record {
   binds = λ first b. record {
     header = b.header;
@@ -53,7 +53,7 @@ is_kept ss k s are at = kept_is_its_clients ss s are (k, slice_get_within ss k s
 
 sessions_go_on : (m : Meaning) (Heard : History → Type 0) (ss : List Session) (old : NodeValue) (before : OutboxValue)
     (k : ℕ) (new : NodeValue) (after : OutboxValue) → AreSessions ss → old.learner.whole.sessions ≡ ss
-    → SettlesFirst ss old before k new after → GoesOn m Heard old new before after
+    → SettlesFirst ss old before k new after → ActsSafely m Heard old new before after
 sessions_go_on m Heard ss old before k new after are same none_settled = rests_here m Heard old before
 sessions_go_on m Heard ss old before k new after are same
     (one_settled {k = j} {mid = mid} {between = between} s so_far at one) =
@@ -67,7 +67,7 @@ sessions_go_on m Heard ss old before k new after are same
 pub takes_up_goes_on : (m : Meaning) (Heard : History → Type 0) (old told new : NodeValue) (said after : OutboxValue)
     → AreSessions old.learner.whole.sessions
     → SettlesAll old.learner.whole.sessions old (with_rebase nothing) told said
-    → GoesOn m Heard (while_named told) new said after → GoesOn m Heard old new nothing after
+    → ActsSafely m Heard (while_named told) new said after → ActsSafely m Heard old new nothing after
 takes_up_goes_on m Heard old told new said after are settles runs =
     let ss : List Session = old.learner.whole.sessions in
     then_goes_on m Heard old old new nothing (with_rebase nothing) after (rebases_goes_on m Heard old)

@@ -20,7 +20,7 @@ use Rattle.lk_agreement.specs.Datagrams.{HasSent}
 use Rattle.lk_agreement.specs.Nodes.{Pair, Term, View}
 use Rattle.lk_agreement.proofs.Histories.{change_fits}
 use Rattle.lk_acceptor.specs.AcceptorValue.{AcceptorValue}
-use Rattle.lk_leader.specs.LedTerms.{LeadsTerm}
+use Rattle.lk_leader.specs.LedTerms.{AgreesWithTerm}
 use Rattle.lk_leader.specs.Terms.{Report, TermValue, LeaderValue, with_term, with_report, is_promiser, IsFirstOf}
 use Rattle.lk_leader.proofs.Leaderships.{heard_leads}
 use Rattle.lk_node_io.specs.Outboxes.{OutboxValue, nothing}
@@ -30,7 +30,7 @@ use Rattle.lk_node.specs.Keeping.{IsKnown, IsHeld}
 use Rattle.lk_node.specs.Leading.{with_leader, report_of, KeepsPromise, DropsPromise, HearsPromise}
 use Rattle.lk_node.specs.NodeValue.{NodeValue}
 use Rattle.lk_node.specs.Promised.{HasPromised}
-use Rattle.lk_node.specs.Serving.{GoesOn}
+use Rattle.lk_node.specs.Serving.{ActsSafely}
 use Rattle.lk_node.proofs.Changing.{IsFollowed, change_goes_on}
 use Rattle.lk_node.proofs.Serving.{rests_here}
 
@@ -51,7 +51,7 @@ some_value a b e = cc e
 pub term_followed : (m : Meaning) (h : History) (n : ℕ) (old : NodeValue) (x : Holding) (t u : Term) (k : TermValue)
     → IsHeld m old h.genesis x → HoldingFits m h n x → IsLawful m h → x.view.term ≡ Some t
     → Changes h.genesis h.sent n x.view (changes.view_in x.view (Some u))
-    → LeadsTerm old.learner.whole.roster.executed (length old.learner.whole.roster.sets) u k → u.ballot ≡ t.ballot
+    → AgreesWithTerm old.learner.whole.roster.executed (length old.learner.whole.roster.sets) u k → u.ballot ≡ t.ballot
     → ((p : Pair) → Contains t.proposals p → Contains u.proposals p)
     → ((i : ℕ) (v : Command) → Contains u.proposals (i, v) → WasAsked h v)
     → IsFollowed m h n x.view (with_leader old (with_term k old.leader))
@@ -63,7 +63,7 @@ term_followed m h n old x t u k held fits lawful is change stands ballot grows a
     leads = λ j at. (
       u,
       refl,
-      subst (LeadsTerm old.learner.whole.roster.executed (length old.learner.whole.roster.sets) u)
+      subst (AgreesWithTerm old.learner.whole.roster.executed (length old.learner.whole.roster.sets) u)
           (some_value k j at) stands,
     );
     waiting = held.waiting;
@@ -167,14 +167,14 @@ report_promised a l new roster from b r Same promised kept other k at = elim (fi
 
 pub promise_goes_on : (m : Meaning) (old new : NodeValue) (from : ℕ) (p : PromiseValue) (out : OutboxValue)
     → HearsPromise old from p new out
-    → GoesOn m (λ h. HasSent h.genesis h.sent from (kinds.Promise p)) old new nothing out
+    → ActsSafely m (λ h. HasSent h.genesis h.sent from (kinds.Promise p)) old new nothing out
 promise_goes_on m old new from p out (inr drops, none) =
-    subst₂ (λ (node : NodeValue) (o : OutboxValue). GoesOn m
+    subst₂ (λ (node : NodeValue) (o : OutboxValue). ActsSafely m
     (λ h. HasSent h.genesis h.sent from (kinds.Promise p)) old node nothing o) (sym drops.1) (sym none)
     (rests_here m (λ h. HasSent h.genesis h.sent from (kinds.Promise p)) old nothing)
 promise_goes_on m old new from p out (inl keeps, none) =
     let k : TermValue = keeps.0 in
-    subst₂ (λ (node : NodeValue) (o : OutboxValue). GoesOn m
+    subst₂ (λ (node : NodeValue) (o : OutboxValue). ActsSafely m
     (λ h. HasSent h.genesis h.sent from (kinds.Promise p)) old node nothing o) (sym keeps.2) (sym none)
     (change_goes_on m (λ h. HasSent h.genesis h.sent from (kinds.Promise p)) old
     (with_leader old (with_term (with_report (report_of from p) k) old.leader)) nothing refl refl

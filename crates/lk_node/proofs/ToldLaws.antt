@@ -15,8 +15,8 @@ use Rattle.lk_messages.specs.declared.message.Content.TheVariants as content
 use Rattle.lk_messages.specs.declared.message.Nack.{Nack}
 use Rattle.lk_messages.specs.declared.message.NodeMessage.{NodeMessage}
 use Rattle.lk_messages.specs.declared.message.NodeMessage.TheVariants as kinds
-use Rattle.lk_entries.specs.Standings.{with_plain, with_all}
-use Rattle.lk_entries.specs.Values.{StandingValue}
+use Rattle.lk_store_format.specs.Standings.{with_plain, with_all}
+use Rattle.lk_store_format.specs.Values.{StandingValue}
 use Rattle.lk_state.specs.Meanings.{Meaning}
 use Rattle.lk_state.specs.Runs.{run_answer, seen_as}
 use Rattle.lk_state.specs.Sessions.{session_of}
@@ -27,7 +27,7 @@ use Rattle.lk_state.specs.declared.whole.Seen.TheVariants as seen
 use Rattle.lk_acceptor.specs.AcceptorValue.{AcceptorValue}
 use Rattle.lk_acceptor.specs.Answers.{AnswersPrepare, AnswersAccept}
 use Rattle.lk_acceptor.specs.declared.response.Response.{Response}
-use Rattle.lk_entries.specs.Values.{HeaderValue}
+use Rattle.lk_store_format.specs.Values.{HeaderValue}
 use Rattle.lk_leader.specs.Terms.{TermValue}
 use Rattle.lk_learner.specs.Learners.{Command, Pair, LearnerValue, IsNext, IsWanted, executed, keeping, advanced}
 use Rattle.lk_learner.specs.Installing.{hearing, Installs}

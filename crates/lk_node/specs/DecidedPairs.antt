@@ -7,7 +7,7 @@ use Rattle.lk_node_io.specs.Outboxes.{OutboxValue}
 use Rattle.lk_node.specs.Executing.{RunsAll}
 use Rattle.lk_node.specs.Learning.{Learns}
 use Rattle.lk_node.specs.NodeValue.{NodeValue}
-use Rattle.lk_node.specs.Serving.{GoesOn}
+use Rattle.lk_node.specs.Serving.{ActsSafely}
 
 -- a pair is learned, and then everything that can be is executed
 pub record TakesPair (m : Meaning) (p : Pair) (old : NodeValue) (before : OutboxValue) (new : NodeValue)
@@ -24,7 +24,7 @@ pub record TakesFirst (m : Meaning) (position : ℕ) (commands others : List Com
   pub command : Command
   pub stands : commands ≡ command ∷ others
   pub takes : TakesPair m (position, command) old before new after
-  pub goes_on : GoesOn m (λ h. ChosenAt h.genesis h.sent position command) old new before after
+  pub goes_on : ActsSafely m (λ h. ChosenAt h.genesis h.sent position command) old new before after
 
 -- this many of the commands are taken in order, the first as that of this position
 pub data TakesPairs (m : Meaning) (first : ℕ) (commands : List Command) (old : NodeValue) (before : OutboxValue) : ℕ

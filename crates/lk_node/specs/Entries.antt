@@ -2,9 +2,9 @@
 use Rattle.std.specs.Prelude.{◌≡◌, ℕ, List, length}
 use Rattle.lk_types.specs.declared.entry.Entry.{Entry}
 use Rattle.lk_types.specs.declared.entry.Entry.TheVariants.{Promise, Vote, Decided}
-use Rattle.lk_entries.specs.Values.{StandingValue}
-use Rattle.lk_entries.specs.Standings.{HasHeader, StandsFor}
-use Rattle.lk_entries.specs.declared.stored.Stored.{Stored}
+use Rattle.lk_store_format.specs.Values.{StandingValue}
+use Rattle.lk_store_format.specs.Standings.{HasHeader, StandsFor}
+use Rattle.lk_store_format.specs.declared.stored.Stored.{Stored}
 use Rattle.lk_state.specs.Meanings.{Meaning}
 use Rattle.lk_agreement.specs.Datagrams.{Accept, WasSent}
 use Rattle.lk_agreement.specs.Chosen.{ChosenAt}

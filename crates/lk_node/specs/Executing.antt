@@ -3,7 +3,7 @@ use Rattle.std.specs.Prelude.{◌≡◌, ℕ, Bool, true, false, not, ◌&&◌, 
 use Rattle.lk_messages.specs.Grammar.{spelling, IsMessage}
 use Rattle.lk_members.specs.Effects.{Command}
 use Rattle.lk_members.specs.Ports.{is_named}
-use Rattle.lk_entries.specs.Values.{HeaderValue}
+use Rattle.lk_store_format.specs.Values.{HeaderValue}
 use Rattle.lk_state.specs.Meanings.{Meaning}
 use Rattle.lk_state.specs.Runs.{run_answer}
 use Rattle.lk_state.specs.declared.session.Session.{Session}

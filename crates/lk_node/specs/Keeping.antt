@@ -3,10 +3,10 @@ use Rattle.std.specs.Prelude.{◌≡◌, ◌⊎◌, ℕ, ◌≤◌, List, length
 use Rattle.std.specs.List.{AllByRecursion}
 use Rattle.lk_types.specs.declared.entry.Entry.{Entry}
 use Rattle.lk_types.specs.declared.entry.Entry.TheVariants.{Promise, Vote, Decided}
-use Rattle.lk_entries.specs.Standings.{HasHeader, StandsFor}
-use Rattle.lk_entries.specs.Entries.{plain}
-use Rattle.lk_entries.specs.Values.{HeaderValue, StandingValue}
-use Rattle.lk_entries.specs.declared.stored.Stored.{Stored}
+use Rattle.lk_store_format.specs.Standings.{HasHeader, StandsFor}
+use Rattle.lk_store_format.specs.Entries.{plain}
+use Rattle.lk_store_format.specs.Values.{HeaderValue, StandingValue}
+use Rattle.lk_store_format.specs.declared.stored.Stored.{Stored}
 use Rattle.lk_log.specs.StoreValue.{StoreValue}
 use Rattle.lk_log.specs.Stores.{Holds}
 use Rattle.lk_state.specs.Meanings.{Meaning}
@@ -14,9 +14,9 @@ use Rattle.lk_agreement.specs.Acceptors.{AcceptorState}
 use Rattle.lk_agreement.specs.Chosen.{command_at}
 use Rattle.lk_agreement.specs.Nodes.{Term, View}
 use Rattle.lk_leader.specs.Terms.{TermValue, LeaderValue}
-use Rattle.lk_learner.specs.Following.{Follows}
+use Rattle.lk_learner.specs.Following.{AgreesWithList}
 use Rattle.lk_learner.specs.Learners.{LearnerValue}
-use Rattle.lk_leader.specs.LedTerms.{LeadsTerm}
+use Rattle.lk_leader.specs.LedTerms.{AgreesWithTerm}
 use Rattle.lk_node.specs.Histories.{Genesis}
 use Rattle.lk_node.specs.Holdings.{Holding}
 use Rattle.lk_node.specs.Leavings.{header_of, acceptor_of}
@@ -50,13 +50,13 @@ pub record Keeps (whose : HeaderValue) (store : StoreValue) (acceptor : Acceptor
 -- the leader's term, if any, stands for the view's
 abbrev pub LeadsOn : LearnerValue → LeaderValue → View → Type 0
 LeadsOn l leader w = (k : TermValue) → leader.term ≡ Some k
-    → (t : Term) × (w.term ≡ Some t) × LeadsTerm l.whole.roster.executed (length l.whole.roster.sets) t k
+    → (t : Term) × (w.term ≡ Some t) × AgreesWithTerm l.whole.roster.executed (length l.whole.roster.sets) t k
 
 -- what a node holds: what its acceptor does, the commands that its state sums up, those that are decided and wait for
 -- an earlier one, a term for which its leader stands, the requests that wait, and the snapshot being gathered
 pub record IsHeld (m : Meaning) (node : NodeValue) (genesis : Genesis) (x : Holding) : Type 0 where
   pub acceptor : x.view.acceptor ≡ node.acceptor.state
-  pub follows : Follows m genesis x.view.done x.view.pairs node.learner
+  pub follows : AgreesWithList m genesis x.view.done x.view.pairs node.learner
   pub leads : LeadsOn node.learner node.leader x.view
   pub waiting : x.waiting ≡ node.leader.waiting
   pub gathered : x.gathered ≡ node.learner.gathered

@@ -3,9 +3,9 @@ use Rattle.std.specs.Prelude.{◌≡◌, ℕ, List, [], length, None}
 use Rattle.lk_state.specs.Meanings.{Meaning}
 use Rattle.lk_disk.specs.Disk.{Disk}
 use Rattle.lk_disk.specs.declared.device.Side.{Side}
-use Rattle.lk_entries.specs.Values.{HeaderValue, StandingValue}
-use Rattle.lk_entries.specs.Standings.{HasHeader, StandsFor}
-use Rattle.lk_entries.specs.declared.stored.Stored.{Stored}
+use Rattle.lk_store_format.specs.Values.{HeaderValue, StandingValue}
+use Rattle.lk_store_format.specs.Standings.{HasHeader, StandsFor}
+use Rattle.lk_store_format.specs.declared.stored.Stored.{Stored}
 use Rattle.lk_log.specs.Images.{Image, MayLeaveBoth}
 use Rattle.lk_log.specs.Stores.{Found}
 use Rattle.lk_agreement.specs.Datagrams.{NodeMessage}

@@ -1,6 +1,6 @@
 -- What a contract sees of a node.
 use Rattle.std.specs.Prelude.{ℕ, Bool, Option}
-use Rattle.lk_entries.specs.Values.{HeaderValue}
+use Rattle.lk_store_format.specs.Values.{HeaderValue}
 use Rattle.lk_acceptor.specs.AcceptorValue.{AcceptorValue}
 use Rattle.lk_leader.specs.Terms.{LeaderValue}
 use Rattle.lk_learner.specs.Learners.{LearnerValue}

@@ -1,5 +1,5 @@
 -- What a node writes as the Base of another file.
-use Rattle.lk_entries.specs.Values.{StandingValue}
+use Rattle.lk_store_format.specs.Values.{StandingValue}
 use Rattle.lk_state.specs.Packed.{packed}
 use Rattle.lk_acceptor.specs.States.{without_votes_to, with_state}
 use Rattle.lk_acceptor.specs.VoteLists.{votes_above}

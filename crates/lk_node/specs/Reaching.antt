@@ -4,8 +4,8 @@ use Rattle.lk_types.specs.declared.command.Command.{Command}
 use Rattle.lk_types.specs.declared.entry.Entry.{Entry}
 use Rattle.lk_types.specs.declared.entry.Entry.TheVariants.{Promise, Vote, Decided}
 use Rattle.lk_types.specs.declared.vote.Vote.{Vote as VoteValue}
-use Rattle.lk_entries.specs.Standings.{with_plain, with_all}
-use Rattle.lk_entries.specs.Values.{StandingValue}
+use Rattle.lk_store_format.specs.Standings.{with_plain, with_all}
+use Rattle.lk_store_format.specs.Values.{StandingValue}
 use Rattle.lk_learner.specs.Learners.{executed, alpha}
 use Rattle.lk_learner.specs.Pairs.{AreKept}
 use Rattle.lk_node.specs.Nearness.{AreNear}

@@ -5,7 +5,7 @@ use Rattle.lk_types.specs.declared.entry.Entry.{Entry}
 use Rattle.lk_messages.specs.Grammar.{spelling, IsMessage}
 use Rattle.lk_messages.specs.declared.message.NodeMessage.{NodeMessage}
 use Rattle.lk_messages.specs.declared.message.NodeMessage.TheVariants as kinds
-use Rattle.lk_entries.specs.Values.{HeaderValue}
+use Rattle.lk_store_format.specs.Values.{HeaderValue}
 use Rattle.lk_state.specs.Meanings.{Meaning}
 use Rattle.lk_agreement.specs.Acceptors.{AcceptorState, Covers}
 use Rattle.lk_acceptor.specs.States.{acceptor_with}
@@ -68,7 +68,7 @@ pub record Serves (m : Meaning) (h : History) (n : ℕ) (loose : List Entry) (no
   pub noted : (x : Note) → Contains out.notes x → IsOfNode x × IsBorneOut m h x
 
 -- A part of a step continues what the parts before it did, in each history in which it heard this.
-pub record GoesOn (m : Meaning) (Heard : History → Type 0) (old new : NodeValue)
+pub record ActsSafely (m : Meaning) (Heard : History → Type 0) (old new : NodeValue)
     (before after : OutboxValue) : Type 0 where
   pub binds : (first : NodeValue) → Binds first old before → Binds first new after
   pub serves : (h : History) (n : ℕ) (loose : List Entry) → Serves m h n loose old before → Heard h

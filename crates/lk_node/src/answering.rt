@@ -7,7 +7,7 @@ ghost use Rattle.lk_agreement.specs.Datagrams.{HasSent};
 ghost use Rattle.lk_node_io.specs.Outboxes.{nothing};
 ghost use Rattle.lk_node_io.specs.Saying.{saying};
 ghost use Rattle.lk_node.specs.Answering.{replied, reply_to, Responds};
-ghost use Rattle.lk_node.specs.Serving.{GoesOn};
+ghost use Rattle.lk_node.specs.Serving.{ActsSafely};
 ghost use Rattle.lk_node.specs.Yielding.{yielded, with_round};
 
 use crate::node::Node;
@@ -76,7 +76,7 @@ impl<M: Machine> Node<M> {
         ensures exact { IfOk result
             (λ o. Responds self.old from
             (AnswersPrepare self.old.acceptor self.old.learner.whole.roster.executed ballot first) self.new o) }
-        ensures goes_on { IfOk result (λ o. GoesOn M.meaning (λ h. Unit {0}) self.old self.new nothing o) }
+        ensures goes_on { IfOk result (λ o. ActsSafely M.meaning (λ h. Unit {0}) self.old self.new nothing o) }
     {
         let out = self.answer_prepare(from, ballot, first)?;
         Ok(out)
@@ -88,7 +88,7 @@ impl<M: Machine> Node<M> {
             (λ o. Responds (with_round vote.ballot self.old) from
             (AnswersAccept self.old.acceptor self.old.learner.whole.roster.executed vote) self.new o) }
         ensures goes_on { IfOk result
-            (λ o. GoesOn M.meaning (λ h. HasSent h.genesis h.sent from (kinds.Accept vote))
+            (λ o. ActsSafely M.meaning (λ h. HasSent h.genesis h.sent from (kinds.Accept vote))
             self.old self.new nothing o) }
     {
         self.acceptor.facts();

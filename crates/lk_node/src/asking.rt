@@ -2,7 +2,7 @@
 ghost use Rattle.std.specs.Prelude.{◌≡◌, Contains, IfOk};
 ghost use Rattle.lk_node_io.specs.Outboxes.{nothing};
 ghost use Rattle.lk_node.specs.Asking.{leader_in, PointsTo, TakesNew, HearsRequest};
-ghost use Rattle.lk_node.specs.Serving.{GoesOn};
+ghost use Rattle.lk_node.specs.Serving.{ActsSafely};
 
 use crate::node::Node;
 use lk_node_io::{Outbox, To, kept_reply};
@@ -68,7 +68,7 @@ impl<M: Machine> Node<M> {
     pub(crate) fn handle_request(&mut self, request: &Request) -> Result<Outbox, NoMemory>
         ensures exact { IfOk result (λ o. HearsRequest self.old request.now self.new o) }
         ensures goes_on { IfOk result
-            (λ o. GoesOn M.meaning (λ h. Contains h.asked request.now) self.old self.new nothing o) }
+            (λ o. ActsSafely M.meaning (λ h. Contains h.asked request.now) self.old self.new nothing o) }
     {
         let out = self.take_request(request)?;
         Ok(out)

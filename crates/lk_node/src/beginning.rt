@@ -3,7 +3,7 @@ ghost use Rattle.std.specs.Prelude.{◌≡◌, IfOk};
 ghost use Rattle.lk_types.specs.Ballots.{IsBelow};
 ghost use Rattle.lk_node_io.specs.Outboxes.{nothing};
 ghost use Rattle.lk_node.specs.Beginning.{Begins};
-ghost use Rattle.lk_node.specs.Serving.{GoesOn};
+ghost use Rattle.lk_node.specs.Serving.{ActsSafely};
 
 use crate::node::Node;
 use lk_node_io::Outbox;
@@ -18,7 +18,7 @@ impl<M: Machine> Node<M> {
         requires below { IsBelow self.old.acceptor.state.promised ballot }
         requires own { ballot.node ≡ self.old.header.node }
         ensures exact { IfOk result (λ o. Begins ballot self.old self.new o) }
-        ensures goes_on { IfOk result (λ o. GoesOn M.meaning (λ h. Unit {0}) self.old self.new nothing o) }
+        ensures goes_on { IfOk result (λ o. ActsSafely M.meaning (λ h. Unit {0}) self.old self.new nothing o) }
     {
         let nodes = self.window_nodes()?;
         let mut out = Outbox::new(self.alloc);

@@ -9,7 +9,7 @@ ghost use Rattle.lk_node.specs.CatchingUp.{sending_parts, FeedsParts, Feeds, Hea
 ghost use Rattle.lk_node.specs.CatchingUp.{following, AsksWhereMore, refusal, HearsLead};
 ghost use Rattle.lk_node.specs.Replying.{SaysAlone};
 ghost use Rattle.lk_node.specs.Saying.{to_node};
-ghost use Rattle.lk_node.specs.Serving.{GoesOn};
+ghost use Rattle.lk_node.specs.Serving.{ActsSafely};
 
 use crate::node::Node;
 use lk_node_io::Outbox;
@@ -44,7 +44,7 @@ impl<M: Machine> Node<M> {
 
     // Sends the other node up to 16 executed commands from the position on; or, if the snapshot has replaced the
     // position, the snapshot from the offset on; or nothing, if the position is not executed.
-    fn feed(&self, other: NodeNo, first: Position, offset: u32) -> Result<Outbox, NoMemory>
+    fn send_missing(&self, other: NodeNo, first: Position, offset: u32) -> Result<Outbox, NoMemory>
         ensures { IfOk result (λ o. Feeds self.now other first offset o) }
     {
         let Some(decided) = self.learner.serve(first)? else {
@@ -67,7 +67,7 @@ impl<M: Machine> Node<M> {
 
     // Compares progress with the other node, which has executed `theirs` positions: asks it with a Want if these are
     // more, and sends it what it lacks if they are fewer.
-    fn level(&self, other: NodeNo, theirs: Executed) -> Result<Outbox, NoMemory>
+    fn compare_progress(&self, other: NodeNo, theirs: Executed) -> Result<Outbox, NoMemory>
         ensures { IfOk result (λ o. Levels self.now other theirs o) }
     {
         let executed = self.learner.whole().executed().get();
@@ -75,7 +75,7 @@ impl<M: Machine> Node<M> {
             return self.send_want(other);
         }
         match Position::of(theirs.get() + 1) {
-            Some(first) if theirs.get() < executed => self.feed(other, first, 0),
+            Some(first) if theirs.get() < executed => self.send_missing(other, first, 0),
             _ => Ok(Outbox::new(self.alloc)),
         }
     }
@@ -83,9 +83,9 @@ impl<M: Machine> Node<M> {
     // Handles a Want: sends its sender commands or parts of the snapshot.
     pub(crate) fn handle_want(&mut self, from: NodeNo, want: &Want) -> Result<Outbox, NoMemory>
         ensures exact { IfOk result (λ o. HearsWant self.old from want.now self.new o) }
-        ensures goes_on { IfOk result (λ o. GoesOn M.meaning (λ h. Unit {0}) self.old self.new nothing o) }
+        ensures goes_on { IfOk result (λ o. ActsSafely M.meaning (λ h. Unit {0}) self.old self.new nothing o) }
     {
-        let out = self.feed(from, want.first(), want.offset())?;
+        let out = self.send_missing(from, want.first(), want.offset())?;
         Ok(out)
     }
 
@@ -93,9 +93,9 @@ impl<M: Machine> Node<M> {
     // ends a term of a ballot below either.
     pub(crate) fn handle_nack(&mut self, from: NodeNo, nack: &Nack) -> Result<Outbox, NoMemory>
         ensures exact { IfOk result (λ o. HearsNack self.old from nack.now self.new o) }
-        ensures goes_on { IfOk result (λ o. GoesOn M.meaning (λ h. Unit {0}) self.old self.new nothing o) }
+        ensures goes_on { IfOk result (λ o. ActsSafely M.meaning (λ h. Unit {0}) self.old self.new nothing o) }
     {
-        let out = self.level(from, nack.executed)?;
+        let out = self.compare_progress(from, nack.executed)?;
         self.see(nack.ballot.get());
         self.see(nack.promised);
         Ok(out)
@@ -164,7 +164,7 @@ impl<M: Machine> Node<M> {
         executed: Executed,
     ) -> Result<Outbox, NoMemory>
         ensures exact { IfOk result (λ o. HearsLead self.old from ballot executed self.new o) }
-        ensures goes_on { IfOk result (λ o. GoesOn M.meaning (λ h. Unit {0}) self.old self.new nothing o) }
+        ensures goes_on { IfOk result (λ o. ActsSafely M.meaning (λ h. Unit {0}) self.old self.new nothing o) }
     {
         let out = self.answer_lead(from, ballot, executed)?;
         Ok(out)

@@ -6,7 +6,7 @@ ghost use Rattle.lk_agreement.specs.Datagrams.{HasSent};
 ghost use Rattle.lk_leader.specs.Proposing.{AreMembersAt};
 ghost use Rattle.lk_node_io.specs.Outboxes.{nothing};
 ghost use Rattle.lk_node.specs.Deciding.{HearsVote, AreDecidedLetters, Decides, HearsAccepted};
-ghost use Rattle.lk_node.specs.Serving.{GoesOn};
+ghost use Rattle.lk_node.specs.Serving.{ActsSafely};
 
 use crate::node::Node;
 use lk_node_io::{Letter, Note, Outbox, decided_message, letters_to};
@@ -58,7 +58,7 @@ impl<M: Machine> Node<M> {
         ensures exact { OnOk result
             (Decides M.meaning members (position, command.now) self.old out.old self.new out.new) }
         ensures goes_on { AreMembersAt self.old.learner.whole.roster position members
-            → OnOk result (GoesOn M.meaning
+            → OnOk result (ActsSafely M.meaning
             (λ h. ChosenAt h.genesis h.sent position command.now) self.old self.new out.old out.new) }
     {
         out.note(Note::Counted(self.header.node(), position, members, command.copy()))?;
@@ -74,7 +74,7 @@ impl<M: Machine> Node<M> {
     pub(crate) fn handle_accepted(&mut self, from: NodeNo, vote: &Vote) -> Result<Outbox, NoMemory>
         ensures exact { IfOk result (λ o. HearsAccepted M.meaning from vote.now self.old self.new o) }
         ensures goes_on { IfOk result
-            (λ o. GoesOn M.meaning (λ h. HasSent h.genesis h.sent from (kinds.Accepted vote.now))
+            (λ o. ActsSafely M.meaning (λ h. HasSent h.genesis h.sent from (kinds.Accepted vote.now))
             self.old self.new nothing o) }
     {
         let mut out = Outbox::new(self.alloc);

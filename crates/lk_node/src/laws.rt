@@ -1,8 +1,8 @@
 //! Laws of a node's steps, about the definitions alone: each is the contract of a function without a body.
 ghost use Rattle.std.specs.Prelude.{◌≡◌, ℕ, ◌≤◌, false, List, take};
 ghost use Rattle.lk_types.specs.declared.entry.Entry.{Entry};
-ghost use Rattle.lk_entries.specs.Standings.{with_all};
-ghost use Rattle.lk_entries.specs.Values.{StandingValue};
+ghost use Rattle.lk_store_format.specs.Standings.{with_all};
+ghost use Rattle.lk_store_format.specs.Values.{StandingValue};
 ghost use Rattle.lk_learner.specs.Learners.{alpha};
 ghost use Rattle.lk_node_io.specs.Outboxes.{OutboxValue};
 ghost use Rattle.lk_node_io.specs.declared.input.Input.{Input};

@@ -11,7 +11,7 @@ ghost use Rattle.lk_node_io.specs.Saying.{saying};
 ghost use Rattle.lk_node.specs.Leading.{KeepsPromise, DropsPromise, HearsPromise, ProposesVote, having_proposed};
 ghost use Rattle.lk_node.specs.Leading.{NothingOpen, ProposesNext, ProposesOpen};
 ghost use Rattle.lk_node.specs.Promised.{HasPromised};
-ghost use Rattle.lk_node.specs.Serving.{GoesOn};
+ghost use Rattle.lk_node.specs.Serving.{ActsSafely};
 ghost use Rattle.lk_node.specs.Telling.{telling};
 
 use crate::node::Node;
@@ -43,7 +43,7 @@ impl<M: Machine> Node<M> {
     ) -> Result<Outbox, NoMemory>
         ensures exact { IfOk result (λ o. HearsPromise self.old from promise.now self.new o) }
         ensures goes_on { IfOk result
-            (λ o. GoesOn M.meaning (λ h. HasSent h.genesis h.sent from (kinds.Promise promise.now))
+            (λ o. ActsSafely M.meaning (λ h. HasSent h.genesis h.sent from (kinds.Promise promise.now))
             self.old self.new nothing o) }
     {
         self.keep_promise(from, promise)?;
@@ -97,7 +97,7 @@ impl<M: Machine> Node<M> {
     // Records the next proposal, and sends it to the members of its position. Returns whether there was one.
     fn propose_next(&mut self, out: &mut Outbox) -> Result<bool, NoMemory>
         ensures exact { IfOk result (λ more. ProposesNext more self.old self.new out.old out.new) }
-        ensures goes_on { OnOk result (GoesOn M.meaning (λ h. Unit {0}) self.old self.new out.old out.new) }
+        ensures goes_on { OnOk result (ActsSafely M.meaning (λ h. Unit {0}) self.old self.new out.old out.new) }
     {
         self.facts();
         let Some(vote) = self.next_vote() else {
@@ -111,7 +111,7 @@ impl<M: Machine> Node<M> {
     pub(crate) fn propose(&mut self, out: &mut Outbox) -> Result<(), NoMemory>
         ensures exact { OnOk result (ProposesOpen self.old self.new out.old out.new) }
         ensures done { OnOk result (NothingOpen self.new) }
-        ensures goes_on { OnOk result (GoesOn M.meaning (λ h. Unit {0}) self.old self.new out.old out.new) }
+        ensures goes_on { OnOk result (ActsSafely M.meaning (λ h. Unit {0}) self.old self.new out.old out.new) }
     {
         'votes: while self.propose_next(out)? {}
         Ok(())

@@ -6,7 +6,7 @@ ghost use Rattle.lk_agreement.specs.Datagrams.{HasSent};
 ghost use Rattle.lk_node_io.specs.Outboxes.{nothing};
 ghost use Rattle.lk_node.specs.DecidedPairs.{TakesPair, TakesFirst, TakesPairs};
 ghost use Rattle.lk_node.specs.Learning.{Learns};
-ghost use Rattle.lk_node.specs.Serving.{GoesOn};
+ghost use Rattle.lk_node.specs.Serving.{ActsSafely};
 
 use crate::node::Node;
 use lk_learner::position_behind;
@@ -25,7 +25,8 @@ impl<M: Machine> Node<M> {
     ) -> Result<(), NoMemory>
         ensures exact { OnOk result (Learns (position, command.now) self.old out.old self.new out.new) }
         ensures goes_on { OnOk result
-            (GoesOn M.meaning (λ h. ChosenAt h.genesis h.sent position command.now) self.old self.new out.old out.new) }
+            (ActsSafely M.meaning (λ h. ChosenAt h.genesis h.sent position command.now) self.old self.new out.old
+            out.new) }
     {
         if self.learner.decided(position, command) {
             out.write(Entry::Decided(position, command.copy()))?;
@@ -42,7 +43,8 @@ impl<M: Machine> Node<M> {
     ) -> Result<(), NoMemory>
         ensures exact { OnOk result (TakesPair M.meaning (position, command.now) self.old out.old self.new out.new) }
         ensures goes_on { OnOk result
-            (GoesOn M.meaning (λ h. ChosenAt h.genesis h.sent position command.now) self.old self.new out.old out.new) }
+            (ActsSafely M.meaning (λ h. ChosenAt h.genesis h.sent position command.now) self.old self.new out.old
+            out.new) }
     {
         self.learn(position, command, out)?;
         self.execute(out)?;
@@ -79,7 +81,7 @@ impl<M: Machine> Node<M> {
             (λ o. TakesPairs M.meaning decided.now.first decided.now.commands self.old nothing
             (length decided.now.commands) self.new o) }
         ensures goes_on { (from : ℕ)
-            → IfOk result (λ o. GoesOn M.meaning
+            → IfOk result (λ o. ActsSafely M.meaning
             (λ h. HasSent h.genesis h.sent from (kinds.Decided decided.now)) self.old self.new nothing o) }
     {
         decided.facts();

@@ -8,12 +8,12 @@ ghost use Rattle.lk_node.specs.Nearness.{AreNear};
 ghost use Rattle.lk_node.specs.Saying.{to_node};
 
 use lk_acceptor::Acceptor;
-use lk_entries::Header;
 use lk_leader::Leader;
 use lk_learner::Learner;
 use lk_members::Roster;
 use lk_node_io::{Letter, Outbox, SeenRound, TickCount, To, spelled};
 use lk_state::Machine;
+use lk_store_format::Header;
 use lk_types::{NoMemory, NodeNo};
 use lk_wire::NodeMessage;
 use std::alloc::Global;

@@ -8,9 +8,9 @@ ghost use Rattle.lk_node.specs.Reaching.{HoldsNear};
 
 use crate::node::Node;
 use lk_acceptor::votes_above;
-use lk_entries::Standing;
 use lk_learner::copied_pairs;
 use lk_state::Machine;
+use lk_store_format::Standing;
 use lk_types::NoMemory;
 
 impl<M: Machine> Node<M> {

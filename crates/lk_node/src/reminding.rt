@@ -3,7 +3,7 @@ ghost use Rattle.std.specs.Prelude.{◌≡◌, ◌+◌, IfOk, OnOk};
 ghost use Rattle.lk_node_io.specs.Outboxes.{nothing};
 ghost use Rattle.lk_node.specs.Leading.{NothingOpen};
 ghost use Rattle.lk_node.specs.Reminding.{IsTermOf, AsksAgain, OffersAgain, OffersAll, TellsLead, Reminds};
-ghost use Rattle.lk_node.specs.Serving.{GoesOn};
+ghost use Rattle.lk_node.specs.Serving.{ActsSafely};
 
 use crate::node::Node;
 use lk_leader::unheard;
@@ -29,7 +29,7 @@ impl<M: Machine> Node<M> {
     fn resend_prepares_of_term(&self, ballot: RealBallot, out: &mut Outbox) -> Result<(), NoMemory>
         requires { IsTermOf ballot self.now.leader }
         ensures exact { OnOk result (AsksAgain self.now ballot out.old out.new) }
-        ensures goes_on { OnOk result (GoesOn M.meaning (λ h. Unit {0}) self.now self.now out.old out.new) }
+        ensures goes_on { OnOk result (ActsSafely M.meaning (λ h. Unit {0}) self.now self.now out.old out.new) }
     {
         self.facts();
         self.resend_prepares(ballot, out)?;
@@ -71,7 +71,7 @@ impl<M: Machine> Node<M> {
     ) -> Result<(), NoMemory>
         requires { IsTermOf ballot self.now.leader }
         ensures exact { OnOk result (OffersAgain self.now ballot position out.old out.new) }
-        ensures goes_on { OnOk result (GoesOn M.meaning (λ h. Unit {0}) self.now self.now out.old out.new) }
+        ensures goes_on { OnOk result (ActsSafely M.meaning (λ h. Unit {0}) self.now self.now out.old out.new) }
     {
         self.facts();
         self.resend_accept(ballot, position, out)?;
@@ -82,7 +82,7 @@ impl<M: Machine> Node<M> {
     fn resend_accepts(&self, ballot: RealBallot, out: &mut Outbox) -> Result<(), NoMemory>
         requires { IsTermOf ballot self.now.leader }
         ensures exact { OnOk result (OffersAll self.now ballot out.old out.new) }
-        ensures goes_on { OnOk result (GoesOn M.meaning (λ h. Unit {0}) self.now self.now out.old out.new) }
+        ensures goes_on { OnOk result (ActsSafely M.meaning (λ h. Unit {0}) self.now self.now out.old out.new) }
     {
         let next = self.learner.whole().executed().get() + 1;
         'ahead: for ahead in 0..self.roster().alpha() {
@@ -96,7 +96,7 @@ impl<M: Machine> Node<M> {
     // Sends Lead to the other nodes of the window: who leads, and how many positions it has executed.
     pub(crate) fn send_lead(&self, ballot: RealBallot, out: &mut Outbox) -> Result<(), NoMemory>
         ensures exact { OnOk result (TellsLead self.now ballot out.old out.new) }
-        ensures goes_on { OnOk result (GoesOn M.meaning (λ h. Unit {0}) self.now self.now out.old out.new) }
+        ensures goes_on { OnOk result (ActsSafely M.meaning (λ h. Unit {0}) self.now self.now out.old out.new) }
     {
         let nodes = self.others()?;
         let executed = self.learner.whole().executed();
@@ -109,7 +109,7 @@ impl<M: Machine> Node<M> {
         requires { IsTermOf ballot self.old.leader }
         ensures exact { IfOk result (λ o. Reminds ballot self.old self.new o) }
         ensures done { OnOk result (NothingOpen self.new) }
-        ensures goes_on { IfOk result (λ o. GoesOn M.meaning (λ h. Unit {0}) self.old self.new nothing o) }
+        ensures goes_on { IfOk result (λ o. ActsSafely M.meaning (λ h. Unit {0}) self.old self.new nothing o) }
     {
         let mut out = Outbox::new(self.alloc);
         self.resend_prepares_of_term(ballot, &mut out)?;

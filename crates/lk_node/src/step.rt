@@ -8,7 +8,7 @@ ghost use Rattle.lk_node.specs.Calls.{InputFits};
 ghost use Rattle.lk_node.specs.Executing.{NothingToRun};
 ghost use Rattle.lk_node.specs.Histories.{IsHeard};
 ghost use Rattle.lk_node.specs.Leading.{NothingOpen};
-ghost use Rattle.lk_node.specs.Serving.{GoesOn};
+ghost use Rattle.lk_node.specs.Serving.{ActsSafely};
 ghost use Rattle.lk_node.specs.Steps.{Hears, HearsNode, TakesBytes, TakesDatagram, Steps, WasHeard};
 
 use crate::node::Node;
@@ -28,7 +28,7 @@ impl<M: Machine> Node<M> {
         ensures exact { IfOk result
             (λ o. HearsNode M.meaning M.IsText self.old from (shown_node message.now) self.new o) }
         ensures goes_on { IfOk result
-            (λ o. GoesOn M.meaning (λ h. HasSent h.genesis h.sent from (shown_node message.now))
+            (λ o. ActsSafely M.meaning (λ h. HasSent h.genesis h.sent from (shown_node message.now))
             self.old self.new nothing o) }
     {
         match message {
@@ -50,7 +50,7 @@ impl<M: Machine> Node<M> {
     fn handle_message(&mut self, content: &ContentRef<'_>) -> Result<Outbox, NoMemory>
         ensures exact { IfOk result (λ o. Hears M.meaning M.IsText self.old (shown_content content.now) self.new o) }
         ensures goes_on { IfOk result
-            (λ o. GoesOn M.meaning (λ h. WasHeard h (shown_content content.now)) self.old self.new nothing o) }
+            (λ o. ActsSafely M.meaning (λ h. WasHeard h (shown_content content.now)) self.old self.new nothing o) }
     {
         match content {
             ContentRef::Request(request) => self.handle_request(&request.request()),
@@ -63,7 +63,7 @@ impl<M: Machine> Node<M> {
     fn take_bytes(&mut self, datagram: &Datagram<'_>) -> Result<Outbox, NoMemory>
         ensures exact { IfOk result (λ o. TakesBytes M.meaning M.IsText self.old datagram.now self.new o) }
         ensures goes_on { IfOk result
-            (λ o. GoesOn M.meaning (λ h. IsHeard h datagram.now) self.old self.new nothing o) }
+            (λ o. ActsSafely M.meaning (λ h. IsHeard h datagram.now) self.old self.new nothing o) }
     {
         let Ok(message) = datagram.message() else {
             return Ok(Outbox::new(self.alloc));
@@ -80,7 +80,7 @@ impl<M: Machine> Node<M> {
         ensures exact { IfOk result (λ o. TakesDatagram M.meaning M.IsText self.old datagram.now self.new o) }
         ensures done { OnOk result (NothingOpen self.new) }
         ensures goes_on { IfOk result
-            (λ o. GoesOn M.meaning (λ h. IsHeard h datagram.now) self.old self.new nothing o) }
+            (λ o. ActsSafely M.meaning (λ h. IsHeard h datagram.now) self.old self.new nothing o) }
     {
         let mut out = self.take_bytes(datagram)?;
         self.propose(&mut out)?;
@@ -92,7 +92,7 @@ impl<M: Machine> Node<M> {
     fn handle_input(&mut self, input: Input) -> Result<Outbox, NoMemory>
         ensures exact { IfOk result (λ o. Steps M.meaning M.IsText self.old input.entry self.new o) }
         ensures goes_on { IfOk result
-            (λ o. GoesOn M.meaning (λ h. InputFits h input.entry) self.old self.new nothing o) }
+            (λ o. ActsSafely M.meaning (λ h. InputFits h input.entry) self.old self.new nothing o) }
     {
         match input {
             Input::Tick => self.tick(),
@@ -108,7 +108,7 @@ impl<M: Machine> Node<M> {
     pub fn step(&mut self, input: Input) -> Result<Outbox, Halted>
         ensures steps { IfOk result (λ o. Steps M.meaning M.IsText self.old input.entry self.new o) }
         ensures goes_on { IfOk result
-            (λ o. GoesOn M.meaning (λ h. InputFits h input.entry) self.old self.new nothing o) }
+            (λ o. ActsSafely M.meaning (λ h. InputFits h input.entry) self.old self.new nothing o) }
         ensures runs { NothingToRun self.old → OnOk result (NothingToRun self.new) }
         ensures done { OnOk result (NothingOpen self.new) }
         ensures halts { OnErr result (self.new.halted ≡ true) }

@@ -3,7 +3,7 @@ ghost use Rattle.std.specs.Prelude.{◌≡◌, IfOk};
 ghost use Rattle.lk_node_io.specs.Outboxes.{nothing};
 ghost use Rattle.lk_node_io.specs.Ticks.{is_enough};
 ghost use Rattle.lk_node.specs.Reminding.{Ticks};
-ghost use Rattle.lk_node.specs.Serving.{GoesOn};
+ghost use Rattle.lk_node.specs.Serving.{ActsSafely};
 ghost use Rattle.lk_node.specs.Waiting.{place_of, ticked, BeginsWhereDue};
 
 use crate::node::Node;
@@ -25,7 +25,7 @@ impl<M: Machine> Node<M> {
     // Begins the next ballot if it has waited long enough, and its round is at most 2^48.
     fn begin_if_due(&mut self) -> Result<Outbox, NoMemory>
         ensures exact { IfOk result (λ o. BeginsWhereDue self.old self.new o) }
-        ensures goes_on { IfOk result (λ o. GoesOn M.meaning (λ h. Unit {0}) self.old self.new nothing o) }
+        ensures goes_on { IfOk result (λ o. ActsSafely M.meaning (λ h. Unit {0}) self.old self.new nothing o) }
     {
         if !self.is_due() {
             return Ok(Outbox::new(self.alloc));
@@ -42,7 +42,7 @@ impl<M: Machine> Node<M> {
     // Handles a tick without a term: counts it, and begins a ballot if it has now waited long enough.
     fn wait(&mut self) -> Result<Outbox, NoMemory>
         ensures exact { IfOk result (λ o. BeginsWhereDue (ticked self.old) self.new o) }
-        ensures goes_on { IfOk result (λ o. GoesOn M.meaning (λ h. Unit {0}) self.old self.new nothing o) }
+        ensures goes_on { IfOk result (λ o. ActsSafely M.meaning (λ h. Unit {0}) self.old self.new nothing o) }
     {
         self.ticks.count_tick();
         let out = self.begin_if_due()?;
@@ -52,7 +52,7 @@ impl<M: Machine> Node<M> {
     // Handles a tick: with a term it resends (`remind`), without one it waits for a leader (`wait`).
     pub(crate) fn tick(&mut self) -> Result<Outbox, NoMemory>
         ensures exact { IfOk result (λ o. Ticks self.old self.new o) }
-        ensures goes_on { IfOk result (λ o. GoesOn M.meaning (λ h. Unit {0}) self.old self.new nothing o) }
+        ensures goes_on { IfOk result (λ o. ActsSafely M.meaning (λ h. Unit {0}) self.old self.new nothing o) }
     {
         match self.leader.ballot() {
             Some(ballot) => self.remind(ballot),

@@ -2,7 +2,7 @@
 use Rattle.std.specs.Prelude.{◌≡◌, ℕ, not, ◌==◌, Option, List, [], ◌∷◌, map, filter}
 use Rattle.std.specs.List.{position}
 use Rattle.lk_types.specs.declared.member.Member.{Member}
-use Rattle.lk_entries.specs.Values.{HeaderValue}
+use Rattle.lk_store_format.specs.Values.{HeaderValue}
 use Rattle.lk_messages.specs.Grammar.{spelling}
 use Rattle.lk_messages.specs.declared.message.NodeMessage.{NodeMessage}
 use Rattle.lk_members.specs.Ports.{is_named, AreAllAbove, port_of, number_or_zero}

@@ -2,7 +2,7 @@
 use Rattle.lk_messages.specs.declared.message.Content.TheVariants as content
 use Rattle.lk_messages.specs.declared.message.Message.{Message}
 use Rattle.lk_messages.specs.declared.message.NodeMessage.{NodeMessage}
-use Rattle.lk_entries.specs.Values.{HeaderValue}
+use Rattle.lk_store_format.specs.Values.{HeaderValue}
 
 -- a node of this header sends this
 abbrev pub saying : HeaderValue → NodeMessage → Message

@@ -4,7 +4,7 @@ ghost use Rattle.lk_messages.specs.Grammar.{spelling, IsMessage};
 ghost use Rattle.lk_node_io.specs.Saying.{saying};
 
 use bytes::BytesMut;
-use lk_entries::Header;
+use lk_store_format::Header;
 use lk_types::NoMemory;
 use lk_wire::{Content, Message, NodeMessage, write};
 use std::alloc::Global;

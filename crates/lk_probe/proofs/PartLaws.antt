@@ -8,12 +8,12 @@ use Rattle.std.proofs.lemmas.Bool.Decides.{nat_tests}
 use Rattle.std.proofs.lemmas.List.{take_at, drop_at, take-append-drop, length-append, length-take}
 use Rattle.lk_types.specs.Ranges.{IsNode, IsClient, IsTotal}
 use Rattle.lk_types.specs.BallotValue.{BallotValue}
-use Rattle.lk_types.specs.Ballots.{IsMark}
+use Rattle.lk_types.specs.Ballots.{IsBallot}
 use Rattle.lk_types.specs.Rosters.{IsMember, AreMembers}
 use Rattle.lk_types.specs.declared.member.Member.{Member}
 use Rattle.lk_fields.specs.Fields.{one, two, four, eight, ballot, members}
 use Rattle.lk_fields.specs.Parser.{read_byte, both, tested}
-use Rattle.lk_fields.specs.FieldReading.{read_two, read_four, read_eight, read_node, read_total, read_mark}
+use Rattle.lk_fields.specs.FieldReading.{read_two, read_four, read_eight, read_node, read_total, read_any_ballot}
 use Rattle.lk_fields.specs.FieldReading.{read_members}
 use Rattle.lk_fields.proofs.Spellings.{IsBytes, IsBytes-drop, chosen, some_is, Took, Reads, fitting, both_reads}
 use Rattle.lk_fields.proofs.Spellings.{made_reads, byte_reads, two_reads, four_reads, eight_reads, limited_reads}
@@ -140,7 +140,8 @@ identity_reads = fitting read_identity identity
 leadership_reads : Reads read_leadership leadership IsLeadership
 unfolding read_leadership
 leadership_reads = fitting read_leadership leadership
-    (λ (l : Leadership). Unit {0} × (IfSome l.leader IsNode × ((l.silence < 2 ^ 64) × IsMark l.promised))) IsLeadership
+    (λ (l : Leadership). Unit {0} × (IfSome l.leader IsNode × ((l.silence < 2 ^ 64)
+    × IsBallot l.promised))) IsLeadership
     (λ l f. (f.1.0, f.1.1.0, f.1.1.1)) (λ l f. (tt, (f.0, (f.1, f.2))))
     (made_reads (λ (l : Bool × (Option ℕ × (ℕ × BallotValue))). let x : Leadership =
     record { leads = l.0; leader = l.1.0; silence = l.1.1.0; promised = l.1.1.1 } in x)
@@ -148,7 +149,7 @@ leadership_reads = fitting read_leadership leadership
     (both_reads read_flag (λ (b : Bool). one (flag b)) (λ (b : Bool). Unit {0}) _ _ _ flag_reads
     (both_reads read_maybe_node (λ (o : Option ℕ). four (or_zero o))
     (λ (o : Option ℕ). IfSome o IsNode) _ _ _ maybe_node_reads
-    (both_reads read_eight eight (λ n. n < 2 ^ 64) read_mark ballot IsMark eight_reads mark_reads))))
+    (both_reads read_eight eight (λ n. n < 2 ^ 64) read_any_ballot ballot IsBallot eight_reads mark_reads))))
 
 progress_reads : Reads read_progress progress IsProgress
 unfolding read_progress

@@ -3,7 +3,7 @@ use Rattle.std.specs.Prelude.{◌≡◌, ℕ, ◌-◌, ◌<◌, ◌^◌, Bool, t
 use Rattle.std.specs.Prelude.{replicate, IfSome}
 use Rattle.std.specs.List.{AllByRecursion}
 use Rattle.lk_types.specs.Ranges.{IsNode, IsClient, IsTotal}
-use Rattle.lk_types.specs.Ballots.{IsMark}
+use Rattle.lk_types.specs.Ballots.{IsBallot}
 use Rattle.lk_types.specs.Rosters.{IsMember, AreMembers}
 use Rattle.lk_fields.specs.Fields.{one, two, four, eight, ballot, members}
 use Rattle.lk_seal.specs.Seals.{no_genesis}
@@ -95,7 +95,7 @@ abbrev pub IsIdentity : Identity → Type 0
 IsIdentity i = (length i.genesis ≡ 32) × IsVersion i.program × IsByte i.format × IsByte i.table
 
 abbrev pub IsLeadership : Leadership → Type 0
-IsLeadership l = IfSome l.leader IsNode × (l.silence < 2 ^ 64) × IsMark l.promised
+IsLeadership l = IfSome l.leader IsNode × (l.silence < 2 ^ 64) × IsBallot l.promised
 
 abbrev pub IsProgress : Progress → Type 0
 IsProgress p = IsTotal p.executed × IsTotal p.snapshot × IsByte p.pending

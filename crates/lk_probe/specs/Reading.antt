@@ -3,7 +3,7 @@ use Rattle.std.specs.Prelude.{ℕ, Bool, true, Option, Some, None, List, [], ◌
 use Rattle.std.specs.Prelude.{◌==◌, ◌&&◌, if◌then◌else◌}
 use Rattle.lk_types.specs.Limits.{max_node, max_client}
 use Rattle.lk_fields.specs.Parser.{◌>>=◌, read_byte, both, made, tested}
-use Rattle.lk_fields.specs.FieldReading.{read_two, read_four, read_eight, read_node, read_total, read_mark}
+use Rattle.lk_fields.specs.FieldReading.{read_two, read_four, read_eight, read_node, read_total, read_any_ballot}
 use Rattle.lk_fields.specs.FieldReading.{read_members}
 use Rattle.lk_probe.specs.Grammar.{probe_length}
 use Rattle.lk_probe.specs.declared.neighbours.Origin.{Origin}
@@ -46,7 +46,7 @@ read_identity = made (λ i. record { genesis = i.0; program = i.1.0; format = i.
 
 unfoldable pub read_leadership : List ℕ → Option (Leadership × List ℕ)
 read_leadership = made (λ l. record { leads = l.0; leader = l.1.0; silence = l.1.1.0; promised = l.1.1.1 })
-    (both read_flag (both read_maybe_node (both read_eight read_mark)))
+    (both read_flag (both read_maybe_node (both read_eight read_any_ballot)))
 
 unfoldable pub read_progress : List ℕ → Option (Progress × List ℕ)
 read_progress = made (λ p. record { executed = p.0; snapshot = p.1.0; pending = p.1.1 })

@@ -14,7 +14,7 @@ use crate::neighbours::Origin;
 use crate::probe::{Probe, Report};
 use crate::status::{DIGEST, Identity, LENGTH, Leadership, Progress, Status, Traffic, Version};
 use lk_fields::{
-    read_executed, read_mark, read_members, read_node, read_u8, read_u16, read_u32, read_u64,
+    read_any_ballot, read_executed, read_members, read_node, read_u8, read_u16, read_u32, read_u64,
 };
 use lk_types::{ClientNo, NodeNo};
 
@@ -101,7 +101,7 @@ fn read_leadership(bytes: &[u8]) -> Option<(Leadership, &[u8])>
     let (leads, rest) = read_flag(bytes)?;
     if let Some((leader, rest)) = read_maybe_node(rest)
         && let Some((silence, rest)) = read_u64(rest)
-        && let Some((promised, rest)) = read_mark(rest)
+        && let Some((promised, rest)) = read_any_ballot(rest)
     {
         let leadership = Leadership {
             leads,

@@ -117,7 +117,7 @@ fn put_identity(out: &mut Bytes, value: &Identity)
 }
 
 // Appends a ballot, which may be `Ballot::ZERO`: its round, then its node.
-fn put_mark(out: &mut Bytes, value: Ballot)
+fn put_any_ballot(out: &mut Bytes, value: Ballot)
     requires { array_vec_len out.old + 12 ≤ probe_length }
     ensures items { out.new.items ≡ out.old.items ++ ballot value }
     ensures len { array_vec_len out.new ≡ array_vec_len out.old + 12 }
@@ -146,7 +146,7 @@ fn put_leadership(out: &mut Bytes, value: &Leadership)
     put_flag(out, value.leads);
     put_maybe_node(out, value.leader);
     put_u64(out, value.silence);
-    put_mark(out, value.promised);
+    put_any_ballot(out, value.promised);
 }
 
 fn put_progress(out: &mut Bytes, value: &Progress)

@@ -8,11 +8,11 @@ use Rattle.lk_types.specs.declared.entry.Entry.TheVariants.{Promise, Vote, Decid
 use Rattle.lk_types.specs.declared.vote.Vote.{Vote as VoteValue}
 use Rattle.lk_messages.specs.declared.message.NodeMessage.{NodeMessage}
 use Rattle.lk_messages.specs.declared.message.NodeMessage.TheVariants as kinds
-use Rattle.lk_entries.specs.VoteLists.{votes_with}
-use Rattle.lk_entries.specs.Values.{StandingValue}
-use Rattle.lk_entries.specs.Standings.{greater, with_pair, with_plain}
-use Rattle.lk_entries.specs.declared.stored.Stored.{Stored}
-use Rattle.lk_entries.specs.declared.stored.Stored.TheVariants.{Plain}
+use Rattle.lk_store_format.specs.VoteLists.{votes_with}
+use Rattle.lk_store_format.specs.Values.{StandingValue}
+use Rattle.lk_store_format.specs.Standings.{greater, with_pair, with_plain}
+use Rattle.lk_store_format.specs.declared.stored.Stored.{Stored}
+use Rattle.lk_store_format.specs.declared.stored.Stored.TheVariants.{Plain}
 use Rattle.lk_log.proofs.StoreLaws.{plain_stands, header_more}
 use Rattle.lk_state.specs.Meanings.{Meaning}
 use Rattle.lk_types.specs.BallotValue.{BallotValue}

@@ -6,11 +6,11 @@ use Rattle.lk_types.specs.declared.entry.Entry.{Entry}
 use Rattle.lk_types.specs.declared.entry.Entry.TheVariants.{Promise, Vote, Decided}
 use Rattle.lk_disk.specs.Disk.{Disk}
 use Rattle.lk_disk.specs.declared.device.Side.{Side}
-use Rattle.lk_entries.specs.Standings.{HasHeader, StandsFor, with_plain}
-use Rattle.lk_entries.specs.Entries.{plain}
-use Rattle.lk_entries.specs.Values.{StandingValue}
-use Rattle.lk_entries.specs.declared.stored.Stored.{Stored}
-use Rattle.lk_entries.specs.declared.stored.Stored.TheVariants.{Plain}
+use Rattle.lk_store_format.specs.Standings.{HasHeader, StandsFor, with_plain}
+use Rattle.lk_store_format.specs.Entries.{plain}
+use Rattle.lk_store_format.specs.Values.{StandingValue}
+use Rattle.lk_store_format.specs.declared.stored.Stored.{Stored}
+use Rattle.lk_store_format.specs.declared.stored.Stored.TheVariants.{Plain}
 use Rattle.lk_log.specs.EveryImage.{EveryFound}
 use Rattle.lk_log.specs.StoreValue.{StoreValue, disks}
 use Rattle.lk_log.specs.Stores.{Holds, KeepsAtLeast, NarrowsOrBegins}

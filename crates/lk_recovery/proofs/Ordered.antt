@@ -9,11 +9,11 @@ use Rattle.lk_types.specs.declared.entry.Entry.TheVariants.{Promise, Vote, Decid
 use Rattle.lk_types.specs.declared.vote.Vote.{Vote as VoteValue}
 use Rattle.lk_types.proofs.Values.{below_by_test, at_most_by_test}
 use Rattle.lk_types.specs.Votes.{are_votes_above}
-use Rattle.lk_entries.specs.Standings.{greater, greatest_of, ballot_of, ballots_in, ballots, votes_in, all_votes}
-use Rattle.lk_entries.specs.Standings.{better, best_from, best_vote, vote_at, StandsFor}
-use Rattle.lk_entries.specs.Values.{StandingValue}
-use Rattle.lk_entries.specs.declared.stored.Stored.{Stored}
-use Rattle.lk_entries.specs.declared.stored.Stored.TheVariants.{Base, Plain}
+use Rattle.lk_store_format.specs.Standings.{greater, greatest_of, ballot_of, ballots_in, ballots, votes_in, all_votes}
+use Rattle.lk_store_format.specs.Standings.{better, best_from, best_vote, vote_at, StandsFor}
+use Rattle.lk_store_format.specs.Values.{StandingValue}
+use Rattle.lk_store_format.specs.declared.stored.Stored.{Stored}
+use Rattle.lk_store_format.specs.declared.stored.Stored.TheVariants.{Base, Plain}
 use Rattle.lk_agreement.proofs.Histories.{at_most_trans}
 use Rattle.lk_acceptor.specs.States.{IsOrdered}
 use Rattle.lk_node.specs.Leavings.{acceptor_of}

@@ -9,13 +9,13 @@ use Rattle.lk_disk.specs.Meters.{Passes}
 use Rattle.lk_disk.specs.declared.device.Side.{Side}
 use Rattle.lk_disk.specs.declared.meter.Meter.{Meter}
 use Rattle.lk_disk.proofs.Devices.{passes_on}
-use Rattle.lk_entries.specs.Entries.{IsStored}
-use Rattle.lk_entries.specs.Formats.{format}
-use Rattle.lk_entries.specs.Bases.{generation}
-use Rattle.lk_entries.specs.Standings.{HasHeader}
-use Rattle.lk_entries.specs.Values.{HeaderValue, StandingValue}
-use Rattle.lk_entries.specs.declared.stored.Stored.{Stored}
-use Rattle.lk_entries.specs.declared.stored.Stored.TheVariants.{Base, Plain}
+use Rattle.lk_store_format.specs.Entries.{IsStored}
+use Rattle.lk_store_format.specs.Formats.{format}
+use Rattle.lk_store_format.specs.Bases.{generation}
+use Rattle.lk_store_format.specs.Standings.{HasHeader}
+use Rattle.lk_store_format.specs.Values.{HeaderValue, StandingValue}
+use Rattle.lk_store_format.specs.declared.stored.Stored.{Stored}
+use Rattle.lk_store_format.specs.declared.stored.Stored.TheVariants.{Base, Plain}
 use Rattle.lk_log.specs.Images.{Image, IsLive, seen}
 use Rattle.lk_log.specs.StoreValue.{StoreValue, disks}
 use Rattle.lk_log.specs.Stores.{KeepsOrIs, next_base, Opens}

@@ -8,7 +8,7 @@ use Rattle.lk_acceptor.specs.AcceptorValue.{AcceptorValue}
 use Rattle.lk_acceptor.specs.States.{IsOrdered}
 use Rattle.lk_learner.specs.Learners.{Pair, LearnerValue}
 use Rattle.lk_leader.specs.Terms.{idle}
-use Rattle.lk_entries.specs.Values.{HeaderValue, StandingValue}
+use Rattle.lk_store_format.specs.Values.{HeaderValue, StandingValue}
 use Rattle.lk_log.specs.Stores.{StandsForSome}
 use Rattle.lk_state.specs.Meanings.{Meaning}
 use Rattle.lk_state.specs.Packed.{Packs}

@@ -10,9 +10,9 @@ use Rattle.lk_types.proofs.Values.{same_genesis}
 use Rattle.lk_disk.specs.Disk.{Disk, other}
 use Rattle.lk_disk.specs.declared.device.Side.{Side}
 use Rattle.lk_disk.specs.declared.device.Side.TheVariants.{A, B}
-use Rattle.lk_entries.specs.Standings.{HasHeader, StandsFor}
-use Rattle.lk_entries.specs.Values.{HeaderValue, StandingValue}
-use Rattle.lk_entries.specs.declared.stored.Stored.{Stored}
+use Rattle.lk_store_format.specs.Standings.{HasHeader, StandsFor}
+use Rattle.lk_store_format.specs.Values.{HeaderValue, StandingValue}
+use Rattle.lk_store_format.specs.declared.stored.Stored.{Stored}
 use Rattle.lk_log.specs.Images.{Image, IsDamaged, seen}
 use Rattle.lk_log.specs.Rooms.{StaysWithin}
 use Rattle.lk_log.specs.StoreValue.{StoreValue, pick, disks}
@@ -29,7 +29,7 @@ use Rattle.lk_agreement.specs.Datagrams.{NodeMessage}
 use Rattle.lk_agreement.specs.Chosen.{command_at, Chosen, ChosenAt}
 use Rattle.lk_agreement.specs.Nodes.{Stems, View}
 use Rattle.lk_agreement.proofs.Histories.{chosen_push, chosen_fits, chosen_short}
-use Rattle.lk_learner.specs.Following.{Follows}
+use Rattle.lk_learner.specs.Following.{AgreesWithList}
 use Rattle.lk_learner.specs.Learners.{Pair}
 use Rattle.lk_learner.proofs.Learnerships.{executed_is}
 use Rattle.lk_node_io.specs.declared.note.Note.{Note}
@@ -172,7 +172,7 @@ module _ (m : Meaning) (h : History) (lawful : IsLawful m h) where
 -- a learner that has learned again follows the list with what it ran
 follows_again : (m : Meaning) (genesis : Genesis) (under : List Command) (w : WholeValue) (ps : List Pair)
     → w ≡ whole_after m genesis under
-    → Follows m genesis (under ++ run_from w.roster.executed ps) (relearned m w ps).pairs (relearned m w ps)
+    → AgreesWithList m genesis (under ++ run_from w.roster.executed ps) (relearned m w ps).pairs (relearned m w ps)
 follows_again m genesis under w ps sums =
     let vs : List Command = run_from w.roster.executed ps in
     let e : w.roster.executed ≡ length under = executed_is m genesis under w sums in

@@ -7,11 +7,11 @@ use Rattle.lk_disk.specs.Disk.{Disk}
 use Rattle.lk_disk.specs.Meters.{Passes}
 use Rattle.lk_disk.specs.declared.device.Side.{Side}
 use Rattle.lk_disk.specs.declared.meter.Meter.{Meter}
-use Rattle.lk_entries.specs.Formats.{format}
-use Rattle.lk_entries.specs.Bases.{generation}
-use Rattle.lk_entries.specs.Values.{HeaderValue, StandingValue, BaseValue}
-use Rattle.lk_entries.specs.declared.stored.Stored.{Stored}
-use Rattle.lk_entries.specs.declared.stored.Stored.TheVariants.{Base}
+use Rattle.lk_store_format.specs.Formats.{format}
+use Rattle.lk_store_format.specs.Bases.{generation}
+use Rattle.lk_store_format.specs.Values.{HeaderValue, StandingValue, BaseValue}
+use Rattle.lk_store_format.specs.declared.stored.Stored.{Stored}
+use Rattle.lk_store_format.specs.declared.stored.Stored.TheVariants.{Base}
 use Rattle.lk_log.specs.Causes.{rebase_calls}
 use Rattle.lk_log.specs.Images.{Image, MayLeaveBoth, IsDamaged, IsEmpty, IsLive, SameMeaning, seen}
 use Rattle.lk_log.specs.Stores.{IsWrong, Opens, OpensBy, first_base}

@@ -3,7 +3,7 @@ ghost use Rattle.std.specs.Prelude.{◌≡◌, ◌+◌, ◌≤◌, ◌<◌, leng
 ghost use Rattle.std.specs.Prelude.{IsErrOf, ⊤};
 ghost use Rattle.lk_types.specs.Limits.{max_base, max_count};
 ghost use Rattle.lk_disk.specs.Disk.{contents};
-ghost use Rattle.lk_entries.specs.declared.stored.Stored.{Stored};
+ghost use Rattle.lk_store_format.specs.declared.stored.Stored.{Stored};
 ghost use Rattle.lk_log.specs.StoreValue.{disks};
 ghost use Rattle.lk_log.specs.Stores.{Holds, KeepsItsFile, KeepsOrIs, next_base};
 ghost use Rattle.lk_node.specs.Packing.{standing_of};

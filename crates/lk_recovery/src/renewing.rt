@@ -1,7 +1,7 @@
 // Converting a store to format 2.
 ghost use Rattle.std.specs.Prelude.{◌≡◌, ◌≤◌, List, OnOk, OnErr, IfErr, IsErrOf};
 ghost use Rattle.lk_types.specs.Limits.{max_count};
-ghost use Rattle.lk_entries.specs.declared.stored.Stored.{Stored};
+ghost use Rattle.lk_store_format.specs.declared.stored.Stored.{Stored};
 ghost use Rattle.lk_log.specs.StoreValue.{disks};
 ghost use Rattle.lk_log.specs.Stores.{Holds, KeepsOrIs, next_base};
 ghost use Rattle.lk_node.specs.Packing.{standing_of};

@@ -26,11 +26,11 @@ use crate::relearning::relearn;
 use bytes::BytesMut;
 use lk_acceptor::Acceptor;
 use lk_disk::LogDisk;
-use lk_entries::{Header, Standing};
 use lk_log::{Store, reopen};
 use lk_node::Node;
 use lk_node_io::{Note, ReplicaFault};
 use lk_state::{Machine, Whole};
+use lk_store_format::{Header, Standing};
 use lk_types::{Executed, Genesis, NoMemory, Vote};
 use std::alloc::Global;
 

@@ -3,8 +3,8 @@ use Rattle.std.proofs.Common.{◌≡◌, ℕ, ◌≤◌, true, List, [], ◌∷�
 use Rattle.lk_messages.specs.Grammar.{Spells}
 use Rattle.lk_messages.specs.declared.message.NodeMessage.{NodeMessage}
 use Rattle.lk_messages.specs.declared.message.NodeMessage.TheVariants as kinds
-use Rattle.lk_entries.specs.Values.{StandingValue}
-use Rattle.lk_entries.specs.declared.stored.Stored.TheVariants.{Base}
+use Rattle.lk_store_format.specs.Values.{StandingValue}
+use Rattle.lk_store_format.specs.declared.stored.Stored.TheVariants.{Base}
 use Rattle.lk_log.specs.StoreValue.{StoreValue, disks}
 use Rattle.lk_log.specs.Stores.{Holds, MayBegin, next_base}
 use Rattle.lk_log.proofs.StoreLaws.{one_standing}
@@ -31,7 +31,7 @@ use Rattle.lk_node.specs.NodeValue.{NodeValue}
 use Rattle.lk_node.specs.Packing.{standing_of, with_snapshot}
 use Rattle.lk_node.specs.Reaching.{HoldsNear}
 use Rattle.lk_node.specs.Served.{IsOfNode, IsBorneOut}
-use Rattle.lk_node.specs.Serving.{IsLight, Tells, Serves, GoesOn}
+use Rattle.lk_node.specs.Serving.{IsLight, Tells, Serves, ActsSafely}
 use Rattle.lk_replica.specs.Posts.{AreOf}
 use Rattle.lk_recovery.specs.Remembering.{Remembers}
 use Rattle.lk_replica.proofs.Going.{said_covered, said_light, batch_covered, bound, serves}
@@ -123,7 +123,7 @@ module _ (m : Meaning) (h : History) (n : ℕ) (node : NodeValue) (old new : Sto
 module _ (m : Meaning) (Heard : History → Type 0) (genesis : Genesis) (n : ℕ) (node stepped : NodeValue)
     (old : StoreValue) (whose : node.header ≡ header_of genesis n)
     (k : Keeps (header_of genesis n) old node.acceptor.state) (out : OutboxValue)
-    (g : GoesOn m Heard node stepped nothing out) (is : out.rebase ≡ true) where
+    (g : ActsSafely m Heard node stepped nothing out) (is : out.rebase ≡ true) where
   abbrev pub still_keeps : Keeps (header_of genesis n) old stepped.acceptor.state
   still_keeps = record {
     entries = k.entries;
@@ -150,7 +150,7 @@ module _ (m : Meaning) (Heard : History → Type 0) (genesis : Genesis) (n : ℕ
 module _ (m : Meaning) (h : History) (n : ℕ) (node stepped : NodeValue) (old : StoreValue)
     (i : Input) (out : OutboxValue)
     (f : NodeFits m h n (Stands m node old h.genesis n) (disks old)) (heard : InputFits h i)
-    (g : GoesOn m (λ k. InputFits k i) node stepped nothing out) (is : out.rebase ≡ true) where
+    (g : ActsSafely m (λ k. InputFits k i) node stepped nothing out) (is : out.rebase ≡ true) where
   abbrev served : Serves m h n f.shown.keeps.loose stepped out
   served = serves m h n node stepped old old i out f heard g
 

@@ -12,10 +12,10 @@ use Rattle.lk_replica.specs.Taking.{write_calls}
 use Rattle.lk_messages.specs.Grammar.{Spells}
 use Rattle.lk_messages.specs.declared.message.NodeMessage.{NodeMessage}
 use Rattle.lk_messages.specs.declared.message.NodeMessage.TheVariants as kinds
-use Rattle.lk_entries.specs.Standings.{with_all}
-use Rattle.lk_entries.specs.Entries.{plain}
-use Rattle.lk_entries.specs.Values.{HeaderValue, StandingValue}
-use Rattle.lk_entries.specs.declared.stored.Stored.{Stored}
+use Rattle.lk_store_format.specs.Standings.{with_all}
+use Rattle.lk_store_format.specs.Entries.{plain}
+use Rattle.lk_store_format.specs.Values.{HeaderValue, StandingValue}
+use Rattle.lk_store_format.specs.declared.stored.Stored.{Stored}
 use Rattle.lk_log.specs.StoreValue.{StoreValue, disks}
 use Rattle.lk_log.specs.Stores.{Holds, KeepsAtLeast}
 use Rattle.lk_log.proofs.StoreLaws.{all_stand, header_more, one_standing, plain_append}
@@ -37,7 +37,7 @@ use Rattle.lk_node.specs.Leavings.{header_of, acceptor_of, view_of, DisksFit, Al
 use Rattle.lk_replica.specs.Posts.{AreOf}
 use Rattle.lk_recovery.specs.Remembering.{Remembers}
 use Rattle.lk_node.specs.NodeValue.{NodeValue}
-use Rattle.lk_node.specs.Serving.{IsLight, with_entries, Tells, Binds, Serves, GoesOn}
+use Rattle.lk_node.specs.Serving.{IsLight, with_entries, Tells, Binds, Serves, ActsSafely}
 use Rattle.lk_recovery.proofs.Recoveries.{known_rests, held_fit, fit_disks, cover_disks, put_fits, put_covers}
 use Rattle.lk_node.proofs.Nodes.{take_contains, map_contains, letter_spelled, told_behind, told_synced}
 use Rattle.lk_replica.proofs.Standings.{entries_are, decided_leave, entries_behind}
@@ -153,7 +153,7 @@ module _ (genesis : Genesis) (n : ℕ) (new : NodeValue) (rebase : Bool) (letter
 -- ---- the call
 
 pub bound : (m : Meaning) (Heard : History → Type 0) (node new : NodeValue) (out : OutboxValue)
-    → GoesOn m Heard node new nothing out → Binds node new out
+    → ActsSafely m Heard node new nothing out → Binds node new out
 bound m Heard node new out g =
     g.binds node (record {
       header = refl;
@@ -166,7 +166,7 @@ bound m Heard node new out g =
 module _ (m : Meaning) (h : History) (n : ℕ) (node new : NodeValue) (old store : StoreValue)
     (i : Input) (out : OutboxValue)
     (f : NodeFits m h n (Stands m node old h.genesis n) (disks old)) (heard : InputFits h i)
-    (g : GoesOn m (λ k. InputFits k i) node new nothing out) where
+    (g : ActsSafely m (λ k. InputFits k i) node new nothing out) where
   abbrev loose : List Entry
   loose = f.shown.keeps.loose
 
@@ -188,7 +188,7 @@ module _ (m : Meaning) (h : History) (n : ℕ) (node new : NodeValue) (old store
 module _ (m : Meaning) (h : History) (n : ℕ) (node new : NodeValue) (old store : StoreValue)
     (i : Input) (out : OutboxValue)
     (f : NodeFits m h n (Stands m node old h.genesis n) (disks old)) (heard : InputFits h i)
-    (g : GoesOn m (λ k. InputFits k i) node new nothing out) (on : TellsOn node new out.entries) where
+    (g : ActsSafely m (λ k. InputFits k i) node new nothing out) (on : TellsOn node new out.entries) where
   abbrev unsynced : List Entry
   unsynced = f.shown.keeps.loose
 
@@ -267,7 +267,7 @@ remembered m genesis n held node store shown = record { whose = shown.whose; kee
 
 module _ (m : Meaning) (genesis : Genesis) (n : ℕ) (node new : NodeValue) (old store : StoreValue)
     (Heard : History → Type 0) (out : OutboxValue)
-    (shown : Remembers node old genesis n) (g : GoesOn m Heard node new nothing out) where
+    (shown : Remembers node old genesis n) (g : ActsSafely m Heard node new nothing out) where
   -- what was put the store keeps
   pub step_keeps : (out.sync ≡ false → Holds store shown.keeps.entries (plain shown.keeps.loose ++ plain out.entries))
       → (out.sync ≡ true → Holds store (shown.keeps.entries ++ (plain shown.keeps.loose ++ plain out.entries)) [])

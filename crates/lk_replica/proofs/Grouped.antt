@@ -8,7 +8,7 @@ use Rattle.std.proofs.Math.Seq.{take-length}
 use Rattle.std.proofs.lemmas.List.Elements.{Contains-append_cases}
 use Rattle.lk_types.specs.declared.entry.Entry.{Entry}
 use Rattle.lk_disk.specs.declared.device.Side.{Side}
-use Rattle.lk_disk.specs.Disk.{contents, flushed}
+use Rattle.lk_disk.specs.Disk.{contents, fully_synced}
 use Rattle.lk_disk.specs.declared.device.Side.TheVariants.{A, B}
 use Rattle.lk_log.specs.Rooms.{StaysWithin}
 use Rattle.lk_disk.specs.Meters.{Passes}
@@ -17,15 +17,15 @@ use Rattle.lk_disk.proofs.Devices.{passes_on}
 use Rattle.lk_log.specs.Causes.{put_calls, rebase_calls}
 use Rattle.lk_messages.specs.Grammar.{Spells}
 use Rattle.lk_messages.specs.declared.message.NodeMessage.{NodeMessage}
-use Rattle.lk_entries.specs.Bases.{is_misplaced, generation}
-use Rattle.lk_entries.specs.Entries.{plain, spelling, spelling_of_all, IsStored}
-use Rattle.lk_entries.specs.Formats.{is_mixed}
-use Rattle.lk_entries.specs.Standings.{HasHeader, StandsFor, with_all}
-use Rattle.lk_entries.specs.Values.{HeaderValue, StandingValue, BaseValue}
-use Rattle.lk_entries.specs.declared.stored.Stored.{Stored}
-use Rattle.lk_entries.specs.declared.stored.Stored.TheVariants.{Base, Plain}
-use Rattle.lk_entries.proofs.Mixed.{format-append}
-use Rattle.lk_entries.proofs.Spelling.{spelled-append, spelled_long, all-append}
+use Rattle.lk_store_format.specs.Bases.{is_misplaced, generation}
+use Rattle.lk_store_format.specs.Entries.{plain, spelling, spelling_of_all, IsStored}
+use Rattle.lk_store_format.specs.Formats.{is_mixed}
+use Rattle.lk_store_format.specs.Standings.{HasHeader, StandsFor, with_all}
+use Rattle.lk_store_format.specs.Values.{HeaderValue, StandingValue, BaseValue}
+use Rattle.lk_store_format.specs.declared.stored.Stored.{Stored}
+use Rattle.lk_store_format.specs.declared.stored.Stored.TheVariants.{Base, Plain}
+use Rattle.lk_store_format.proofs.Mixed.{format-append}
+use Rattle.lk_store_format.proofs.Spelling.{spelled-append, spelled_long, all-append}
 use Rattle.lk_log.specs.Images.{Image, IsLive, MayLeaveBoth, seen}
 use Rattle.lk_log.specs.StoreValue.{StoreValue, pick, disks}
 use Rattle.lk_log.specs.Stores.{Holds, IsOlder, KeepsAtLeast, KeepsItsFile, MayBegin, next_base}
@@ -50,7 +50,7 @@ use Rattle.lk_node.specs.NodeValue.{NodeValue}
 use Rattle.lk_node.specs.Packing.{standing_of, with_snapshot}
 use Rattle.lk_node.specs.Reaching.{EntriesLieNear, TellsOf, TellsOn, IsTold, HoldsNear}
 use Rattle.lk_node.specs.Served.{text}
-use Rattle.lk_node.specs.Serving.{with_entries, GoesOn}
+use Rattle.lk_node.specs.Serving.{with_entries, ActsSafely}
 use Rattle.lk_node.proofs.Nodes.{with_all_behind, near_behind, told_behind, told_synced}
 use Rattle.lk_recovery.specs.Compacting.{IsDue, IsSameStore, Rebases}
 use Rattle.lk_replica.specs.Groups.{as_synced, as_sent, needs_sync_after, Gathers, Recalls, Gathered, GroupFits}
@@ -292,7 +292,7 @@ known_before m h n node s true f w known none = absurd (cc none)
 module _ (m : Meaning) (h : History) (n : ℕ) (node new : NodeValue) (old store : StoreValue) (needs_sync : Bool)
     (i : Input) (out : OutboxValue)
     (f : GroupFits m h n node old needs_sync) (heard : InputFits h i)
-    (g : GoesOn m (λ k. InputFits k i) node new nothing out) (on : TellsOn node new out.entries)
+    (g : ActsSafely m (λ k. InputFits k i) node new nothing out) (on : TellsOn node new out.entries)
     (is : out.rebase ≡ false)
     (added : Holds store f.shown.keeps.entries (plain f.shown.keeps.loose ++ plain out.entries)) where
   abbrev mine : HeaderValue
@@ -400,7 +400,7 @@ module _ (m : Meaning) (h : History) (n : ℕ) (node new : NodeValue) (old store
 module _ (m : Meaning) (h : History) (n : ℕ) (node new : NodeValue) (old store : StoreValue) (needs_sync : Bool)
     (i : Input) (out : OutboxValue)
     (s : GroupStays m h n node old needs_sync) (heard : InputFits h i)
-    (g : GoesOn m (λ k. InputFits k i) node new nothing out) (on : TellsOn node new out.entries) where
+    (g : ActsSafely m (λ k. InputFits k i) node new nothing out) (on : TellsOn node new out.entries) where
   abbrev pretended : NodeFits m h n (Stands m node (as_sent needs_sync old) h.genesis n)
       (disks (as_sent needs_sync old))
   pretended = group_fits m h n node old needs_sync s.fits
@@ -460,7 +460,7 @@ recalled node s needs_sync genesis n r =
 
 module _ (m : Meaning) (genesis : Genesis) (n : ℕ) (node new : NodeValue) (old store : StoreValue) (needs_sync : Bool)
     (Heard : History → Type 0) (out : OutboxValue)
-    (r : Recalls node old needs_sync genesis n) (g : GoesOn m Heard node new nothing out) (is : out.rebase ≡ false)
+    (r : Recalls node old needs_sync genesis n) (g : ActsSafely m Heard node new nothing out) (is : out.rebase ≡ false)
     (added : Holds store r.keeps.entries (plain r.keeps.loose ++ plain out.entries)) where
   pub gather_recalls : Recalls new store (needs_sync_after needs_sync out) genesis n
   gather_recalls =
@@ -632,7 +632,7 @@ based_cover m genesis n s needs_sync out x is c =
 module _ (m : Meaning) (h : History) (n : ℕ) (node stepped : NodeValue) (mid new : StoreValue) (needs_sync : Bool)
     (i : Input) (out : OutboxValue)
     (f : NodeFits m h n (Stands m node mid h.genesis n) (disks mid)) (heard : InputFits h i)
-    (g : GoesOn m (λ k. InputFits k i) node stepped nothing out) (is : out.rebase ≡ true)
+    (g : ActsSafely m (λ k. InputFits k i) node stepped nothing out) (is : out.rebase ≡ true)
     (may : MayBegin (standing_of stepped)) (close : HoldsNear stepped)
     (holds : Holds new (Base (next_base mid (standing_of stepped)) ∷ []) []) where
   pub based_goes : (sent : List LetterValue) → AreOf sent out.letters
@@ -656,7 +656,7 @@ module _ (m : Meaning) (h : History) (n : ℕ) (node stepped : NodeValue) (mid n
 
 module _ (m : Meaning) (old new : StoreValue) (same : IsSameStore old new) where
   pub same_as_sent : (needs_sync : Bool) → disks (as_sent needs_sync new) ≡ disks (as_sent needs_sync old)
-  same_as_sent true = λ i. pick (same.live i) (flushed (same.live_disk i)) (same.other_disk i)
+  same_as_sent true = λ i. pick (same.live i) (fully_synced (same.live_disk i)) (same.other_disk i)
   same_as_sent false = λ i. pick (same.live i) (same.live_disk i) (same.other_disk i)
 
   abbrev same_gathers : (whose : HeaderValue) (needs_sync : Bool) (a : AcceptorState) → Gathers whose old needs_sync a
@@ -981,7 +981,7 @@ as_long : (needs_sync : Bool) (s : StoreValue) (side : Side)
 as_long false s side = refl
 as_long true s side = at s.live side
   where
-    at : (live side : Side) → length (contents (pick live (flushed s.live_disk) s.other_disk side))
+    at : (live side : Side) → length (contents (pick live (fully_synced s.live_disk) s.other_disk side))
         ≡ length (contents (pick live s.live_disk s.other_disk side))
     at A A = ap length (append-nil (contents s.live_disk))
     at A B = refl

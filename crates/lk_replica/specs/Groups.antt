@@ -3,14 +3,14 @@
 use Rattle.std.specs.Prelude.{◌≡◌, ℕ, ◌+◌, ◌<◌, ◌||◌, Bool, true, false, if◌then◌else◌, List, [], ◌∷◌, ◌++◌, Contains}
 use Rattle.std.specs.List.{AllByRecursion}
 use Rattle.lk_types.specs.declared.entry.Entry.{Entry}
-use Rattle.lk_disk.specs.Disk.{Disk, flushed}
+use Rattle.lk_disk.specs.Disk.{Disk, fully_synced}
 use Rattle.lk_disk.specs.declared.device.Side.{Side}
 use Rattle.lk_disk.specs.Meters.{Passes}
 use Rattle.lk_log.specs.Causes.{put_calls, rebase_calls}
-use Rattle.lk_entries.specs.Entries.{plain}
-use Rattle.lk_entries.specs.Standings.{HasHeader, StandsFor, with_all}
-use Rattle.lk_entries.specs.Values.{HeaderValue, StandingValue}
-use Rattle.lk_entries.specs.declared.stored.Stored.{Stored}
+use Rattle.lk_store_format.specs.Entries.{plain}
+use Rattle.lk_store_format.specs.Standings.{HasHeader, StandsFor, with_all}
+use Rattle.lk_store_format.specs.Values.{HeaderValue, StandingValue}
+use Rattle.lk_store_format.specs.declared.stored.Stored.{Stored}
 use Rattle.lk_log.specs.Rooms.{StaysWithin}
 use Rattle.lk_log.specs.StoreValue.{StoreValue, disks}
 use Rattle.lk_log.specs.Stores.{Holds}
@@ -41,7 +41,7 @@ use Rattle.lk_node.specs.Serving.{with_entries}
 
 -- the store, with all bytes of its live file synced
 abbrev pub as_synced : StoreValue → StoreValue
-as_synced s = record s { live_disk = flushed s.live_disk }
+as_synced s = record s { live_disk = fully_synced s.live_disk }
 
 -- the store as it will be when the group's letters are sent: synced, if something waits for that
 abbrev pub as_sent : Bool → StoreValue → StoreValue
@@ -93,6 +93,16 @@ GroupFits m h n node store needs_sync =
 abbrev pub GroupGoes : Meaning → History → ℕ → NodeValue → StoreValue → Bool → List Note → List Datagram → Type 0
 GroupGoes m h n node store needs_sync notes batch =
     Goes m h n (Gathered m node store needs_sync h.genesis n) (disks (as_sent needs_sync store)) notes batch
+
+-- what a caller sees of both: the node fits in what it holds and has on its disks once everything that waits is synced,
+-- and goes on from there
+abbrev pub FitsOnceSynced : Meaning → History → ℕ → NodeValue → StoreValue → Bool → Type 0
+FitsOnceSynced m h n node store needs_sync =
+    NodeFits m h n (Stands m node (as_sent needs_sync store) h.genesis n) (disks (as_sent needs_sync store))
+
+abbrev pub GoesOnceSynced : Meaning → History → ℕ → NodeValue → StoreValue → Bool → List Note → List Datagram → Type 0
+GoesOnceSynced m h n node store needs_sync notes batch =
+    Goes m h n (Stands m node (as_sent needs_sync store) h.genesis n) (disks (as_sent needs_sync store)) notes batch
 
 -- in this history, which contains nothing of what the group has said, the node fits, what it has written rests on what
 -- was sent and lies near, and whatever a stop may leave of the files as they are fits

@@ -4,8 +4,8 @@ use Rattle.std.specs.Prelude.{◌++◌, length, Contains, Vec}
 use Rattle.std.specs.Global.{Global}
 use Rattle.lk_disk.specs.Meters.{Passes}
 use Rattle.lk_types.specs.Limits.{max_count}
-use Rattle.lk_entries.specs.Entries.{plain}
-use Rattle.lk_entries.specs.declared.stored.Stored.{Stored}
+use Rattle.lk_store_format.specs.Entries.{plain}
+use Rattle.lk_store_format.specs.declared.stored.Stored.{Stored}
 use Rattle.lk_log.specs.Causes.{put_calls, rebase_calls}
 use Rattle.lk_log.specs.StoreValue.{StoreValue, disks}
 use Rattle.lk_log.specs.Stores.{Holds}

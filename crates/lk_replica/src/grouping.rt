@@ -4,14 +4,14 @@ ghost use Rattle.std.specs.Prelude.{OnErr, IsErrOf, ⊤};
 ghost use Rattle.lk_types.specs.Limits.{max_base};
 ghost use Rattle.lk_disk.specs.Disk.{contents};
 ghost use Rattle.lk_disk.specs.Meters.{Passes};
-ghost use Rattle.lk_entries.specs.declared.stored.Stored.{Stored};
+ghost use Rattle.lk_store_format.specs.declared.stored.Stored.{Stored};
 ghost use Rattle.lk_log.specs.Rooms.{StaysWithin};
 ghost use Rattle.lk_log.specs.StoreValue.{disks};
 ghost use Rattle.lk_log.specs.Stores.{Holds, KeepsAtLeast, KeepsItsFile};
 ghost use Rattle.lk_messages.specs.Grammar.{Spells};
 ghost use Rattle.lk_agreement.specs.Datagrams.{NodeMessage, Datagram as DatagramValue, said_by};
 ghost use Rattle.lk_node_io.specs.Letters.{LetterValue, batch_of};
-ghost use Rattle.lk_node.specs.Calls.{InputFits, NodeFits, Goes};
+ghost use Rattle.lk_node.specs.Calls.{InputFits, NodeFits};
 ghost use Rattle.lk_node.specs.Executing.{NothingToRun};
 ghost use Rattle.lk_node.specs.Histories.{History, Genesis};
 ghost use Rattle.lk_node.specs.Keeping.{Stands};
@@ -20,7 +20,7 @@ ghost use Rattle.lk_node_io.specs.Faults.{RaisesFailures, fault_number};
 ghost use Rattle.lk_replica.specs.Groups.{Adds, IsCovered, LeavesInGroup, KeepsGroup, MakesRoom, StepsToFile};
 ghost use Rattle.lk_replica.specs.Groups.{IsGathered, IsSettled, IsRefusedInGroup, settle_calls, as_sent};
 ghost use Rattle.lk_replica.specs.Groups.{needs_sync_after, with_step, Settles, Recalls, GroupFits, GroupGoes};
-ghost use Rattle.lk_replica.specs.Groups.{GroupStays};
+ghost use Rattle.lk_replica.specs.Groups.{GroupStays, FitsOnceSynced, GoesOnceSynced};
 ghost use Rattle.lk_replica.specs.Posts.{AreOf, CarriesAll, TellsSends};
 ghost use Rattle.lk_recovery.specs.Rebased.{IsNotWritten, StaysAlive};
 ghost use Rattle.lk_recovery.specs.Rooms.{GrowsFromBase, max_after};
@@ -319,13 +319,11 @@ impl<M: Machine, D: LogDisk + Drop> Replica<M, D> {
             → OnOk result (Adds group.old group.new
             (λ notes letters. (genesis : Genesis) (k : ℕ)
             → Recalls self.old.node self.old.store group.old.needs_sync genesis k
-            → (h : History) (n : ℕ) → NodeFits M.meaning h n
-            (Stands M.meaning self.old.node (as_sent group.old.needs_sync self.old.store) h.genesis n)
-            (disks (as_sent group.old.needs_sync self.old.store)) → InputFits h input.entry
-            → (sent : List LetterValue) → AreOf sent letters
-            → Goes M.meaning h n (Stands M.meaning self.new.node
-            (as_sent group.new.needs_sync self.new.store) h.genesis n)
-            (disks (as_sent group.new.needs_sync self.new.store)) notes (batch_of n sent))) }
+            → (h : History) (n : ℕ)
+            → FitsOnceSynced M.meaning h n self.old.node self.old.store group.old.needs_sync
+            → InputFits h input.entry → (sent : List LetterValue) → AreOf sent letters
+            → GoesOnceSynced M.meaning h n self.new.node self.new.store group.new.needs_sync notes
+            (batch_of n sent))) }
         // After any exit, if nothing of the group is sent, the disks fit. Each step first writes a Base if one is due,
         // so no file exceeds half of its maximum by more than a step and, except for a Base, none grows by more than a
         // step.
@@ -369,9 +367,8 @@ impl<M: Machine, D: LogDisk + Drop> Replica<M, D> {
         // The node fits each history that it was to fit once it was synced.
         ensures fits { D.is_honest → (genesis : Genesis) (k : ℕ)
             → Recalls self.old.node self.old.store group.now.needs_sync genesis k
-            → (h : History) (n : ℕ) → NodeFits M.meaning h n
-            (Stands M.meaning self.old.node (as_sent group.now.needs_sync self.old.store) h.genesis n)
-            (disks (as_sent group.now.needs_sync self.old.store))
+            → (h : History) (n : ℕ)
+            → FitsOnceSynced M.meaning h n self.old.node self.old.store group.now.needs_sync
             → IfOk result (λ all. NodeFits M.meaning h n (Stands M.meaning self.new.node self.new.store h.genesis n)
             (disks self.new.store)) }
         // After any exit, if nothing of the group is sent, the disks fit, and neither file has grown.

@@ -14,11 +14,11 @@ use crate::memory_replica::{MemoryReplica, Revived};
 use crate::replica::Replica;
 use crate::taken::{Taken, TakenAll};
 use lk_disk::{LogDisk, Trap};
-use lk_entries::Header;
 use lk_node_io::{Input, ReplicaFault};
 use lk_recovery::ReviveFault;
 use lk_simulated_disk::MemoryDisk;
 use lk_state::Machine;
+use lk_store_format::Header;
 use lk_types::{NoMemory, NodeNo};
 use std::alloc::Global;
 

@@ -23,10 +23,10 @@ ghost use Rattle.lk_replica.specs.Together.{GoesAll, said_in, sent_of};
 
 use crate::taken::{Taken, TakenAll};
 use lk_disk::Trap;
-use lk_entries::Header;
 use lk_node_io::{Input, Note, ReplicaFault};
 use lk_recovery::ReviveFault;
 use lk_simulated_disk::MemoryDisk;
+use lk_store_format::Header;
 use std::alloc::Global;
 
 /// A replica, and what it executed while it restarted.

@@ -18,9 +18,9 @@ ghost use Rattle.lk_node.specs.Served.{text};
 use crate::memory_replica::Revived;
 use crate::replica::Replica;
 use lk_disk::LogDisk;
-use lk_entries::Header;
 use lk_recovery::{ReviveFault, TakenUp, renew, take_up};
 use lk_state::Machine;
+use lk_store_format::Header;
 use std::alloc::Global;
 
 impl<M: Machine, D: LogDisk + Drop> Replica<M, D> {

@@ -4,14 +4,14 @@ use Rattle.std.proofs.Common.{None, Result, Ok, Err, IfOk, refl, sym, ap, subst,
 use Rattle.std.proofs.Math.Seq.{take-length}
 use Rattle.std.proofs.lemmas.List.{take-replicate, length-replicate}
 use Rattle.lk_replica.specs.Behaviours.{Behaviour}
-use Rattle.lk_sim.specs.Events.{Does, IsRefused}
+use Rattle.lk_sim.specs.Events.{IsExecuted, IsRefused}
 use Rattle.lk_sim.specs.Runs.{Passes}
 use Rattle.lk_sim.specs.Scenes.{Scene}
 use Rattle.lk_sim.specs.declared.event.Event.{Event}
 use Rattle.lk_world_nodes.specs.declared.refused.Refused.{Refused}
-use Rattle.lk_lines.specs.WorldLines.{SpellsInstruction}
+use Rattle.lk_script_lines.specs.WorldLines.{SpellsInstruction}
 use Rattle.lk_script.specs.Worlds.{events_of, Follows}
-use Rattle.lk_lines.specs.declared.instruction.Instruction.{Instruction}
+use Rattle.lk_script_lines.specs.declared.instruction.Instruction.{Instruction}
 use Rattle.lk_script.specs.declared.world_run.WorldRun.{WorldRun}
 
 module _ {R : Type 0} (b : Behaviour R) where
@@ -31,7 +31,7 @@ module _ {R : Type 0} (b : Behaviour R) where
   -- ---- one event
 
   pub once : {E : Type 0} (e : Event) (result : Result (Option Refused) E) (old new : Scene R) (before after : ℕ)
-      → (result ≡ Ok None → Does b old e new × (after ≡ before + 1))
+      → (result ≡ Ok None → IsExecuted b old e new × (after ≡ before + 1))
       → ((r : Refused) → result ≡ Ok (Some r) → IsRefused b old e r new × (after ≡ before))
       → IfOk result (λ refused. (k : ℕ) × Follows b old (e ∷ []) k refused new × (after ≡ before + k))
   once e (Ok None) old new before after does refused = let did = does refl in
@@ -44,12 +44,12 @@ module _ {R : Type 0} (b : Behaviour R) where
   -- ---- the same event many times
 
   module _ (e : Event) where
-    more : (n : ℕ) (old mid new : Scene R) → Passes b (replicate n e) old mid → Does b mid e new
+    more : (n : ℕ) (old mid new : Scene R) → Passes b (replicate n e) old mid → IsExecuted b mid e new
         → Passes b (replicate (suc n) e) old new
-    more zero old mid new p d = (new, subst (λ w. Does b w e new) p d, refl)
+    more zero old mid new p d = (new, subst (λ w. IsExecuted b w e new) p d, refl)
     more (suc n) old mid new p d = (p.0, p.1, more n p.0 mid new p.2 d)
 
-    pub one_more : (n : ℕ) (old mid new : Scene R) → Passes b (replicate n e) old mid → Does b mid e new
+    pub one_more : (n : ℕ) (old mid new : Scene R) → Passes b (replicate n e) old mid → IsExecuted b mid e new
         → Passes b (replicate (n + 1) e) old new
     one_more n old mid new p d =
         subst (λ k. Passes b (replicate k e) old new) (sym (add-one n)) (more n old mid new p d)

@@ -9,23 +9,23 @@ use Rattle.lk_members.specs.Effects.{Command}
 use Rattle.lk_replica.specs.Behaviours.{Behaviour}
 use Rattle.lk_sim.specs.Runs.{Passes}
 use Rattle.lk_world_nodes.specs.declared.refused.Refused.{Refused}
-use Rattle.lk_lines.specs.HexLines.{SpellsBytes}
-use Rattle.lk_lines.specs.Lines.{lines_of, TakesLine, TakesWithinLine}
+use Rattle.lk_script_lines.specs.HexLines.{SpellsBytes}
+use Rattle.lk_script_lines.specs.Lines.{lines_of, TakesLine, TakesWithinLine}
 use Rattle.lk_script.specs.TableMode.{Prints, IsTableLine}
-use Rattle.lk_lines.specs.GenesisLines.{IsGenesisLine}
-use Rattle.lk_lines.specs.WorldLines.{SpellsInstruction}
+use Rattle.lk_script_lines.specs.GenesisLines.{IsGenesisLine}
+use Rattle.lk_script_lines.specs.WorldLines.{SpellsInstruction}
 use Rattle.lk_script.specs.Worlds.{events_of, Follows, refused_line}
 use Rattle.lk_script.specs.Scripts.{Script, begun, table, world, IsFirstLine, IsUnderstood, Takes, Refuses, Stop}
 use Rattle.lk_script.specs.Scripts.{at_end, at_line, at_refusal, Runs, last_line}
 use Rattle.lk_script.specs.Scripts.Takes.{prints, happens}
 use Rattle.lk_script.specs.Scripts.Runs.{ends, skips, takes, stops, refuses}
 use Rattle.lk_script.specs.Endings.{SetsUp, BreaksOff, EndsBy}
-use Rattle.lk_lines.specs.Faults.{fault_of_line}
-use Rattle.lk_lines.specs.declared.instruction.Instruction.{Instruction}
-use Rattle.lk_lines.specs.declared.fault.ScriptFault.{ScriptFault}
-use Rattle.lk_lines.specs.declared.fault.ScriptFault.TheVariants.{Read, Write, ScriptMemory, Ended}
-use Rattle.lk_lines.specs.declared.fault.LineFault.{LineFault}
-use Rattle.lk_lines.specs.declared.fault.LineFault.TheVariants.{NoMemory, NotUnderstood}
+use Rattle.lk_script_lines.specs.Faults.{fault_of_line}
+use Rattle.lk_script_lines.specs.declared.instruction.Instruction.{Instruction}
+use Rattle.lk_script_lines.specs.declared.fault.ScriptFault.{ScriptFault}
+use Rattle.lk_script_lines.specs.declared.fault.ScriptFault.TheVariants.{Read, Write, ScriptMemory, Ended}
+use Rattle.lk_script_lines.specs.declared.fault.LineFault.{LineFault}
+use Rattle.lk_script_lines.specs.declared.fault.LineFault.TheVariants.{NoMemory, NotUnderstood}
 use Rattle.lk_script.specs.TableServers.{HasServed, Fits}
 use Rattle.lk_script.specs.declared.mode.Mode.{Mode}
 use Rattle.lk_script.specs.declared.mode.Mode.TheVariants as mode

@@ -7,12 +7,12 @@ use Rattle.lk_replica.specs.Behaviours.{Behaviour}
 use Rattle.lk_sim.specs.Runs.{Passes}
 use Rattle.lk_sim.specs.Scenes.{Scene}
 use Rattle.lk_world_nodes.specs.declared.refused.Refused.{Refused}
-use Rattle.lk_lines.specs.HexLines.{SpellsBytes}
+use Rattle.lk_script_lines.specs.HexLines.{SpellsBytes}
 use Rattle.lk_script.specs.TableMode.{Prints, IsTableLine}
-use Rattle.lk_lines.specs.GenesisLines.{IsGenesisLine}
-use Rattle.lk_lines.specs.WorldLines.{SpellsInstruction}
+use Rattle.lk_script_lines.specs.GenesisLines.{IsGenesisLine}
+use Rattle.lk_script_lines.specs.WorldLines.{SpellsInstruction}
 use Rattle.lk_script.specs.Worlds.{new_world, events_of, Follows, refused_line, done_line}
-use Rattle.lk_lines.specs.declared.instruction.Instruction.{Instruction}
+use Rattle.lk_script_lines.specs.declared.instruction.Instruction.{Instruction}
 
 -- what a script has set up: nothing yet, a lock table with the list of the requests that took effect so far, or a
 -- world, in which this many events were done

@@ -11,8 +11,8 @@ use Rattle.lk_sim.specs.declared.event.Event.TheVariants.{Tick}
 use Rattle.lk_world_nodes.specs.declared.refused.Refused.{Refused}
 use Rattle.lk_world_nodes.specs.declared.refused.Refused.TheVariants.{NoSuchNode, NotUp, AlreadyUp, NoSuchDatagram}
 use Rattle.lk_world_nodes.specs.declared.refused.Refused.TheVariants.{Forged, WorldFull, WorldMemory}
-use Rattle.lk_lines.specs.declared.instruction.Instruction.{Instruction}
-use Rattle.lk_lines.specs.declared.instruction.Instruction.TheVariants.{Ticks, Once}
+use Rattle.lk_script_lines.specs.declared.instruction.Instruction.{Instruction}
+use Rattle.lk_script_lines.specs.declared.instruction.Instruction.TheVariants.{Ticks, Once}
 
 -- a world in which nothing has happened
 abbrev pub new_world : {R : Type 0} → Genesis → Scene R

@@ -3,7 +3,7 @@
 ghost use Rattle.std.specs.Prelude.{◌≡◌, ◌⊎◌, Ok};
 ghost use Rattle.std.specs.Io.KnownBytes.{Keeps};
 
-use lk_lines::fault::ScriptFault;
+use lk_script_lines::fault::ScriptFault;
 use std::io::Write;
 
 /// Writes the line of a fault. Returns status 1.

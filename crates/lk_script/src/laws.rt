@@ -1,7 +1,7 @@
 //! A law about the definitions alone: in table mode a script determines its output.
 
 ghost use Rattle.std.specs.Prelude.{◌≡◌, List, ℕ};
-ghost use Rattle.lk_lines.specs.Lines.{lines_of};
+ghost use Rattle.lk_script_lines.specs.Lines.{lines_of};
 ghost use Rattle.lk_script.specs.Scripts.{Runs, Stop, begun, OpensWorld};
 
 use lk_replica::MemoryReplica;

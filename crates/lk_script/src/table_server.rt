@@ -10,10 +10,10 @@ ghost use Rattle.lk_messages.specs.declared.message.Message.{Message as MessageV
 ghost use Rattle.lk_script.specs.TableMode.{from_client, is_request_to, is_for_table};
 
 use crate::buffers::Buffers;
-use lk_lines::fault::LineFault;
-use lk_lines::hex_line::read_bytes;
 use lk_locks::LockTable;
 use lk_node_io::kept_reply;
+use lk_script_lines::fault::LineFault;
+use lk_script_lines::hex_line::read_bytes;
 use lk_state::Whole;
 use lk_types::{Answer, Command, Genesis, Member, NoMemory, NodeNo, Op, Request};
 use lk_wire::{Answered, Bad, Content, ContentRef, Message, MessageRef, NodeMessage, view};
@@ -64,7 +64,7 @@ impl TableServer {
     ghost use Rattle.lk_state.specs.Sessions.{session_of, is_new};
     ghost use Rattle.lk_script.specs.Replies.{with_request};
     ghost use Rattle.lk_script.specs.TableMode.{Replies, Prints};
-    ghost use Rattle.lk_lines.specs.HexLines.{SpellsBytes};
+    ghost use Rattle.lk_script_lines.specs.HexLines.{SpellsBytes};
     ghost use Rattle.lk_script.specs.TableServers.{HasServed, executed_of};
 
     /// Returns the server of a cluster before any request.

@@ -1,18 +1,18 @@
 // World mode: executes the lines of a script in a world, and prints what their events do.
 ghost use Rattle.std.specs.Prelude.{◌≡◌, ◌+◌, ◌*◌, ◌<◌, ◌≤◌, ◌++◌, ℕ, List, replicate, Ok, Some, None, IfOk, IsErrOf};
-ghost use Rattle.lk_sim.specs.Events.{Does, IsRefused};
+ghost use Rattle.lk_sim.specs.Events.{IsExecuted, IsRefused};
 ghost use Rattle.lk_sim.specs.declared.event.Event.TheVariants.{Tick};
 ghost use Rattle.lk_world_nodes.specs.declared.refused.Refused.{Refused as RefusedValue};
 ghost use Rattle.lk_types.specs.Limits.{max_count};
-ghost use Rattle.lk_lines.specs.declared.instruction.Instruction.{Instruction as InstructionValue};
-ghost use Rattle.lk_lines.specs.WorldLines.{SpellsInstruction};
+ghost use Rattle.lk_script_lines.specs.declared.instruction.Instruction.{Instruction as InstructionValue};
+ghost use Rattle.lk_script_lines.specs.WorldLines.{SpellsInstruction};
 ghost use Rattle.lk_script.specs.Worlds.{new_world, events_of, Follows, refused_line};
 
 use crate::printing::{print_event, print_refusal};
-use lk_lines::fault::LineFault;
-use lk_lines::instruction::Instruction;
-use lk_lines::world_line::read_instruction;
 use lk_replica::MemoryReplica;
+use lk_script_lines::fault::LineFault;
+use lk_script_lines::instruction::Instruction;
+use lk_script_lines::world_line::read_instruction;
 use lk_sim::{Event, Refused, World};
 use lk_types::{Genesis, NoMemory, NodeNo};
 use std::alloc::Global;
@@ -55,7 +55,7 @@ impl<R: MemoryReplica> WorldRun<R> {
     fn happen(&mut self, event: Event, text: &mut Vec<u8>) -> Result<Option<Refused>, NoMemory>
         requires { self.old.done < 2 * max_count }
         ensures does { result ≡ Ok None
-            → Does R.behaves self.old.world event self.new.world × (self.new.done ≡ self.old.done + 1) }
+            → IsExecuted R.behaves self.old.world event self.new.world × (self.new.done ≡ self.old.done + 1) }
         ensures refused { (r : RefusedValue) → result ≡ Ok (Some r)
             → IsRefused R.behaves self.old.world event r self.new.world × (self.new.done ≡ self.old.done) }
         ensures paces { self.new.done ≤ self.old.done + 1 }

@@ -127,7 +127,7 @@ impl Seals {
 
     /// Seals a datagram to a node: writes its frame into the buffer and returns that. Without a key it returns the
     /// datagram itself, and cannot fail.
-    pub fn frame_to_node<'a>(
+    pub fn seal_to_node<'a>(
         &self,
         node: u32,
         datagram: &'a [u8],
@@ -140,8 +140,8 @@ impl Seals {
         self.nodes.frame_of(&self.to_node(node), datagram, frame)
     }
 
-    /// Seals a datagram to that client, as `frame_to_node` does for a node.
-    pub fn frame_to_client<'a>(
+    /// Seals a datagram to that client, as `seal_to_node` does for a node.
+    pub fn seal_to_client<'a>(
         &self,
         client: u16,
         datagram: &'a [u8],

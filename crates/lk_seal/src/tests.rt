@@ -112,7 +112,7 @@ fn frames_are_heard_by_their_bytes(rt: HostRuntime) -> Result<(), Fail> {
     let mut frame = Vec::new(alloc);
     let datagram = hex::decode(alloc, FRAMES[0].1)?;
     assert_eq!(rt;
-        of_node_2(alloc)?.frame_to_node(2, &datagram, &mut frame)?,
+        of_node_2(alloc)?.seal_to_node(2, &datagram, &mut frame)?,
         hex::decode(alloc, FRAMES[0].0)?.as_slice()
     );
     Ok(())

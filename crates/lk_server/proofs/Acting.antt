@@ -8,7 +8,7 @@ use Rattle.lk_transport.specs.declared.received_probe.ReceivedProbe.{ReceivedPro
 use Rattle.lk_server.specs.ProbeHandling.{HandlesProbes}
 use Rattle.lk_server.specs.Probes.{AnswersKept}
 use Rattle.lk_server.specs.Servers.{ServerValue, tray_at}
-use Rattle.lk_served_replica.specs.declared.probed_state.ProbedState.{ProbedState}
+use Rattle.lk_replica_interface.specs.declared.probed_state.ProbedState.{ProbedState}
 
 -- an answer leaves what is to come
 answer_still : {R : Type 0} (Shows : R → ProbedState → Type 0) (tells : Type 0) (asked : Option ReceivedProbe)

@@ -8,10 +8,10 @@ use Rattle.lk_probe.specs.declared.probe.Report.{Report}
 use Rattle.lk_probe.specs.declared.reported.Reported.{Reported}
 use Rattle.lk_seal.specs.Seals.{heard}
 use Rattle.lk_seal.specs.declared.seals.Seals.{Seals}
-use Rattle.lk_pace.specs.declared.turn_input.TurnInput.{TurnInput}
-use Rattle.lk_pace.specs.declared.turn_input.TurnInput.TheVariants.{Nothing, Beside, Something}
+use Rattle.lk_timing.specs.declared.turn_input.TurnInput.{TurnInput}
+use Rattle.lk_timing.specs.declared.turn_input.TurnInput.TheVariants.{Nothing, Filtered, Something}
 use Rattle.lk_transport.specs.Askers.{BringsProbe}
-use Rattle.lk_transport.specs.Hearing.{BufferValue, listed}
+use Rattle.lk_transport.specs.ReceiveBuffers.{BufferValue, listed}
 use Rattle.lk_transport.specs.Inquiring.{IsToldBy}
 use Rattle.lk_transport.specs.Kept.{BringNothing, BringsFirst, IsFirstOf, KeepsFirst, KeepsFirstOf, Keeps, KeepsOf}
 use Rattle.lk_transport.specs.Posts.{is_beside}
@@ -161,14 +161,14 @@ keeps_strange n s d old is apart = record {
 -- of what came last, where a replica is given nothing of it
 pub keeps_found : (n m : ℕ) (s t : Seals) (found : TurnInput) (old mid new : BufferValue) → m ≡ n → t ≡ s
     → mid.asked ≡ old.asked → mid.reported ≡ old.reported → (found ≡ Nothing → mid.last ≡ None)
-    → (found ≡ Beside → (d : SocketAddr × List ℕ) × (mid.last ≡ Some d)) → (found ≡ Beside → Keeps m t mid new)
-    → ((found ≡ Beside → ⊥) → new ≡ mid) → (found ≡ Something → ⊥) → KeepsOf n s (listed mid.last) old new
+    → (found ≡ Filtered → (d : SocketAddr × List ℕ) × (mid.last ≡ Some d)) → (found ≡ Filtered → Keeps m t mid new)
+    → ((found ≡ Filtered → ⊥) → new ≡ mid) → (found ≡ Something → ⊥) → KeepsOf n s (listed mid.last) old new
 keeps_found n m s t Nothing old mid new node seals asked reported nothing beside kept rest apart =
     let same = rest (λ is. cc is) in
     subst (λ (l : List (SocketAddr × List ℕ)). KeepsOf n s l old new) (sym (ap listed (nothing refl)))
     (keeps_still n s old new (ap (λ (b : BufferValue). b.asked) same ∙ asked)
     (ap (λ (b : BufferValue). b.reported) same ∙ reported))
-keeps_found n m s t Beside old mid new node seals asked reported nothing beside kept rest apart =
+keeps_found n m s t Filtered old mid new node seals asked reported nothing beside kept rest apart =
     let b = beside refl in
     subst (λ (l : List (SocketAddr × List ℕ)). KeepsOf n s l old new) (sym (ap listed b.1))
     (keeps_beside n m s t b.0 old mid new node seals asked reported b.1 (kept refl))

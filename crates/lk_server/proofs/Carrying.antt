@@ -6,8 +6,8 @@ use Rattle.lk_node_io.specs.Letters.{LetterValue}
 use Rattle.lk_replica.specs.Groups.{GroupValue}
 use Rattle.lk_replica.specs.Posts.{CarriesAll, GivesLetters}
 use Rattle.lk_transport.specs.Addresses.{AddressBook}
-use Rattle.lk_served_replica.specs.Groups.{Sayings, Gatherings}
-use Rattle.lk_server.specs.Gatherings.{HandsOnAll, SaysNothing}
+use Rattle.lk_replica_interface.specs.Groups.{Sayings, Gatherings}
+use Rattle.lk_server.specs.Gatherings.{DeliversAllLetters, SaysNothing}
 use Rattle.lk_transport.specs.Posts.{PostValue, Tray, Becomes, CarriesLetter, tray_of}
 use Rattle.lk_server.specs.Servers.{ServerValue, Grows, tray_at}
 
@@ -111,7 +111,7 @@ module _ {R : Type 0} (S : Sayings R) (G : Gatherings R) (tells : Type 0) (old n
       (λ letters. (first : R) (given : List (Option (List ℕ))) → G first given group mine
       → S first given letters new.replica))
       → new.node ≡ before.node → new.addresses ≡ before.addresses → tray_of before ≡ tray_at old.own old
-      → tray_of after ≡ tray_at new.own new → OnOk r (HandsOnAll S G tells group old new)
+      → tray_of after ≡ tray_at new.own new → OnOk r (DeliversAllLetters S G tells group old new)
   hands_on_all mine is (Err e) said whose by first last = tt
   hands_on_all mine is (Ok x) said whose by begun last = λ from given was sent failures.
       let all = trays tells new.node new.addresses before after said.letters whose by said.carried in

@@ -8,15 +8,15 @@ use Rattle.std.specs.declared.net.socket_addr.SocketAddr.{SocketAddr}
 use Rattle.lk_node_io.specs.Letters.{LetterValue}
 use Rattle.lk_replica.specs.Groups.{GroupValue}
 use Rattle.lk_transport.specs.Addresses.{AddressBook, Filter, filter_of, IsSameFilter}
-use Rattle.lk_served_replica.specs.Groups.{Sayings, Gatherings, GathersMore, SaysNoMore}
+use Rattle.lk_replica_interface.specs.Groups.{Sayings, Gatherings, GathersMore, SaysNoMore}
 use Rattle.lk_server.specs.Gatherings.{TakesAll, EndsWithin, TakesOwn, EndsOwn, TakesHeard, EndsHeard, TakesSocket}
 use Rattle.lk_server.specs.Gatherings.{EndsSocket, AreFound, Finds}
-use Rattle.lk_pace.specs.declared.turn_input.TurnInput.{TurnInput}
-use Rattle.lk_pace.specs.declared.turn_input.TurnInput.TheVariants.{Nothing, Beside, Something}
-use Rattle.lk_transport.specs.Hearing.{listed}
+use Rattle.lk_timing.specs.declared.turn_input.TurnInput.{TurnInput}
+use Rattle.lk_timing.specs.declared.turn_input.TurnInput.TheVariants.{Nothing, Filtered, Something}
+use Rattle.lk_transport.specs.ReceiveBuffers.{listed}
 use Rattle.lk_transport.specs.Posts.{Hears, HearsAll, is_filtered_out, opened_as, filtered, all_filtered}
-use Rattle.lk_pace.specs.Paces.{ticks_after}
-use Rattle.lk_pace.specs.declared.pace.Pace.{Pace}
+use Rattle.lk_timing.specs.Paces.{ticks_after}
+use Rattle.lk_timing.specs.declared.pace.Pace.{Pace}
 use Rattle.lk_server.specs.Servers.{ServerValue, one_more, one_more_tick, ticks_behind, inputs, all_inputs, all_ticks}
 use Rattle.lk_server.specs.Servers.{counted, datagrams_in}
 
@@ -198,7 +198,7 @@ still_not_out {R} old mid frame others apart =
 pub found_none : (s : Filter) (found : TurnInput) (frames : List (SocketAddr × List ℕ)) → AreFound s found frames
     → all_filtered s frames ≡ []
 found_none s Nothing frames none = ap (λ (l : List (SocketAddr × List ℕ)). all_filtered s l) none
-found_none s Beside frames one =
+found_none s Filtered frames one =
     ap (λ (l : List (SocketAddr × List ℕ)). all_filtered s l) one.1 ∙ taken_none s one.0 one.2
 found_none s Something frames never = absurd never
 
@@ -206,7 +206,7 @@ found_none s Something frames never = absurd never
 pub found_few : (s : Filter) (found : TurnInput) (frames : List (SocketAddr × List ℕ))
     → AreFound s found frames → length frames ≤ 64
 found_few s Nothing frames none = omega (arith, ap length none)
-found_few s Beside frames one = omega (arith, ap length one.1)
+found_few s Filtered frames one = omega (arith, ap length one.1)
 found_few s Something frames never = absurd never
 
 -- what was found at the socket, where a replica is given nothing of it
@@ -215,7 +215,7 @@ pub finds : {R : Type 0} (tells : Type 0) (found : TurnInput) (e : Option (Socke
     → (tells → old.coming ≡ listed e ++ mid.coming) → (tells → e ≡ None → old.coming ≡ [])
     → mid ≡ record old { coming = mid.coming }
     → (found ≡ Nothing → (e ≡ None) × (new ≡ mid) × (now ≡ group))
-    → (found ≡ Beside → (frame : SocketAddr × List ℕ) × (e ≡ Some frame)
+    → (found ≡ Filtered → (frame : SocketAddr × List ℕ) × (e ≡ Some frame)
     × (is_filtered_out (filter_of mid.addresses) frame ≡ true) × (new ≡ mid) × (now ≡ group))
     → (found ≡ Something → ⊥) → Finds tells found (listed e) old new × (now ≡ group)
 finds {R} tells Nothing e group now old mid new comes none others nothing beside apart =
@@ -228,7 +228,7 @@ finds {R} tells Nothing e group now old mid new comes none others nothing beside
       },
       n.2,
     )
-finds {R} tells Beside e group now old mid new comes none others nothing beside apart =
+finds {R} tells Filtered e group now old mid new comes none others nothing beside apart =
     let b = beside refl in
     let is : is_filtered_out (filter_of old.addresses) b.0 ≡ true =
     subst (λ (s : Filter). is_filtered_out s b.0 ≡ true)

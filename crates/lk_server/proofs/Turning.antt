@@ -7,19 +7,21 @@ use Rattle.std.specs.declared.net.socket_addr.SocketAddr.{SocketAddr}
 use Rattle.lk_node_io.specs.Letters.{LetterValue}
 use Rattle.lk_replica.specs.Groups.{GroupValue}
 use Rattle.lk_transport.specs.Addresses.{AddressBook, Filter, filter_of, IsSameFilter}
-use Rattle.lk_served_replica.specs.Groups.{Sayings, Gatherings, GathersMore, SaysNoMore}
+use Rattle.lk_replica_interface.specs.Groups.{Sayings, Gatherings, GathersMore, SaysNoMore}
 use Rattle.lk_server.specs.Gatherings.{AreFound, Finds, TakesAll, EndsWithin, TakesOwn, EndsOwn, TakesSocket}
-use Rattle.lk_server.specs.Gatherings.{EndsSocket, TakesWaiting, TakesGroup, EndsGroup, HandsOnAll, SaysNothing}
-use Rattle.lk_pace.specs.Paces.{MayFollow}
+use Rattle.lk_server.specs.Gatherings.{EndsSocket, TakesWaiting, TakesGroup, EndsGroup, DeliversAllLetters, SaysNothing}
+use Rattle.lk_timing.specs.Paces.{MayFollow}
 use Rattle.lk_seal.specs.Seals.{heard}
 use Rattle.lk_transport.specs.Posts.{HearsAll, is_filtered_out, all_filtered}
-use Rattle.lk_server.specs.Servers.{ServerValue, HandsOn, HandsNothing, HasReceived, IsSameServer, Turn, LastTurn}
-use Rattle.lk_server.specs.Servers.{IsIdle, Given, GivenFirst, TakesFirst, all_inputs, all_ticks, counted, datagrams_in}
+use Rattle.lk_server.specs.Servers.{ServerValue, DeliversLetters, DeliversNothing, HasReceived, IsSameServer, Turn}
+use Rattle.lk_server.specs.Servers.{LastTurn}
+use Rattle.lk_server.specs.Servers.{IsIdle, Given, GivenPrefix, TakesFirst, all_inputs, all_ticks, counted}
+use Rattle.lk_server.specs.Servers.{datagrams_in}
 use Rattle.lk_server.specs.Servers.{one_more_tick}
-use Rattle.lk_pace.specs.declared.turn_input.TurnInput.{TurnInput}
-use Rattle.lk_pace.specs.declared.turn_input.TurnInput.TheVariants.{Nothing, Beside, Something}
-use Rattle.lk_pace.specs.declared.pace.Pace.{Pace}
-use Rattle.lk_pace.specs.declared.pace.Pace.TheVariants.{Datagrams, Clock}
+use Rattle.lk_timing.specs.declared.turn_input.TurnInput.{TurnInput}
+use Rattle.lk_timing.specs.declared.turn_input.TurnInput.TheVariants.{Nothing, Filtered, Something}
+use Rattle.lk_timing.specs.declared.pace.Pace.{Pace}
+use Rattle.lk_timing.specs.declared.pace.Pace.TheVariants.{Datagrams, Clock}
 use Rattle.lk_server.proofs.Gatherings.{takes_more, ends_more, ticks_more, long_as, taken_more, taken_first, found_none}
 use Rattle.lk_server.proofs.Gatherings.{found_few}
 
@@ -46,7 +48,7 @@ given_some pace received ds some =
 
 -- all of what may be given is a beginning of it
 given_all : (pace : Pace) (received : ℕ) (ds : List (List ℕ)) (given : List (Option (List ℕ)))
-    → Given pace received ds given → GivenFirst pace received ds given
+    → Given pace received ds given → GivenPrefix pace received ds given
 given_all pace received ds given may = record { whole = given; may = may; front = ([], sym (append-nil given)) }
 
 -- where nothing is taken a tick may be given
@@ -420,7 +422,7 @@ module _ {R : Type 0} (S : Sayings R) (G : Gatherings R) (tells : Type 0) where
       → frames ≡ [] → pace ≡ Clock
   by_clock s Clock found frames due isnt nothing are empty = refl
   by_clock s Datagrams Nothing frames due isnt nothing are empty = absurd (cc (isnt, nothing refl refl))
-  by_clock s Datagrams Beside frames due isnt nothing are empty =
+  by_clock s Datagrams Filtered frames due isnt nothing are empty =
       absurd (let both : are.0 ∷ [] ≡ [] = sym are.1 ∙ empty in cc both)
   by_clock s Datagrams Something frames due isnt nothing are empty = absurd are
 
@@ -488,8 +490,8 @@ module _ {R : Type 0} (S : Sayings R) (G : Gatherings R) (tells : Type 0) where
           )
       tick_turn Nothing now takes none given ticks = let n = none (λ is. cc is) in
           (n.1, tick_alone Nothing n.1 group one old mid new n.0 n.2 n.3 same now timed ticks, n.4)
-      tick_turn Beside now takes none given ticks = let n = none (λ is. cc is) in
-          (n.1, tick_alone Beside n.1 group one old mid new n.0 n.2 n.3 same now timed ticks, n.4)
+      tick_turn Filtered now takes none given ticks = let n = none (λ is. cc is) in
+          (n.1, tick_alone Filtered n.1 group one old mid new n.0 n.2 n.3 same now timed ticks, n.4)
 
       pub tick_turn_ends : (found : TurnInput) → (found ≡ Something → HasWaiting group one old mid)
           → ((found ≡ Something → ⊥) → HasFound found group one old mid)
@@ -504,14 +506,14 @@ module _ {R : Type 0} (S : Sayings R) (G : Gatherings R) (tells : Type 0) where
           )
       tick_turn_ends Nothing takes none given silent = let n = none (λ is. cc is) in
           (n.1, tick_ends_alone Nothing n.1 group one old mid new n.0 n.2 n.3 same timed silent)
-      tick_turn_ends Beside takes none given silent = let n = none (λ is. cc is) in
-          (n.1, tick_ends_alone Beside n.1 group one old mid new n.0 n.2 n.3 same timed silent)
+      tick_turn_ends Filtered takes none given silent = let n = none (λ is. cc is) in
+          (n.1, tick_ends_alone Filtered n.1 group one old mid new n.0 n.2 n.3 same timed silent)
 
   -- ---- what is handed on
 
   -- a replica that says nothing more
   abbrev pub hands_none : (given : List (Option (List ℕ))) (own : List LetterValue) (old new : ServerValue R)
-      → HandsNothing S given own old new → HandsOn S tells given own old new
+      → DeliversNothing S given own old new → DeliversLetters S tells given own old new
   hands_none given own old new h = record {
     letters = [];
     says = h.says;
@@ -529,7 +531,7 @@ module _ {R : Type 0} (S : Sayings R) (G : Gatherings R) (tells : Type 0) where
 
   pub turn_of : (frames : List (SocketAddr × List ℕ)) (group now : GroupValue) (old mid new : ServerValue R)
       → G old.replica [] group old.replica → TakesGroup G tells frames group now old mid
-      → HandsOnAll S G tells now mid new
+      → DeliversAllLetters S G tells now mid new
       → mid.sent ≡ old.sent → mid.socket_failures ≡ old.socket_failures → IsSameServer old mid
       → new.addresses ≡ mid.addresses → new.received ≡ mid.received → new.ticks ≡ mid.ticks
       → IsSameServer mid new → new.failed ≡ false
@@ -538,7 +540,7 @@ module _ {R : Type 0} (S : Sayings R) (G : Gatherings R) (tells : Type 0) where
     takes = received_first tells frames old mid t.received;
     given = t.given;
     may = t.may;
-    hands_on = subst (λ (own : List LetterValue). HandsOn S tells t.given own old new) t.left
+    hands_on = subst (λ (own : List LetterValue). DeliversLetters S tells t.given own old new) t.left
         (hands old t.given (t.gathers old.replica [] begins) (sym sent) (sym failures));
     counted = received ∙ t.counted;
     ticks = untimed ∙ t.ticks;
@@ -600,16 +602,16 @@ module _ {R : Type 0} (S : Sayings R) (G : Gatherings R) (tells : Type 0) where
   pub tick_of : {T E : Type 0} (r : Result T E) (group now : GroupValue) (old mid new : ServerValue R)
       → G old.replica [] group old.replica → GathersMore G (None ∷ []) group now old.replica mid.replica
       → mid.own ≡ old.own → mid.sent ≡ old.sent → mid.socket_failures ≡ old.socket_failures
-      → OnOk r (HandsOnAll S G tells now mid new) → OnOk r (HandsOn S tells (None ∷ []) old.own old new)
+      → OnOk r (DeliversAllLetters S G tells now mid new) → OnOk r (DeliversLetters S tells (None ∷ []) old.own old new)
   tick_of (Ok x) group now old mid new begins gathers own sent failures hands =
-      subst (λ (o : List LetterValue). HandsOn S tells (None ∷ []) o old new) own
+      subst (λ (o : List LetterValue). DeliversLetters S tells (None ∷ []) o old new) own
       (hands old (None ∷ []) (gathers old.replica [] begins) (sym sent) (sym failures))
   tick_of (Err e) group now old mid new begins gathers own sent failures hands = tt
 
   pub tick_ends : {T E : Type 0} (r : Result T E) (group now : GroupValue) (old mid new : ServerValue R)
       → G old.replica [] group old.replica → GathersMore G (None ∷ []) group now old.replica mid.replica
       → mid.own ≡ old.own → mid.sent ≡ old.sent → mid.socket_failures ≡ old.socket_failures
-      → OnErr r (SaysNothing S G now mid new) → OnErr r (HandsNothing S (None ∷ []) old.own old new)
+      → OnErr r (SaysNothing S G now mid new) → OnErr r (DeliversNothing S (None ∷ []) old.own old new)
   tick_ends (Ok x) group now old mid new begins gathers own sent failures none = tt
   tick_ends (Err e) group now old mid new begins gathers own sent failures none = record {
     says = none.silent old.replica (None ∷ []) (gathers old.replica [] begins);
@@ -622,6 +624,6 @@ module _ {R : Type 0} (S : Sayings R) (G : Gatherings R) (tells : Type 0) where
   pub tick_silent : (group : GroupValue) (old new : ServerValue R) → G old.replica [] group old.replica
       → SaysNoMore S G (None ∷ []) group old.replica new.replica
       → new.own ≡ old.own → new.sent ≡ old.sent → new.socket_failures ≡ old.socket_failures
-      → HandsNothing S (None ∷ []) old.own old new
+      → DeliversNothing S (None ∷ []) old.own old new
   tick_silent group old new begins silent own sent failures =
       record { says = silent old.replica [] begins; own = own; sent = sent; failures = failures }

@@ -2,19 +2,19 @@
 use Rattle.std.specs.Prelude.{◌≡◌, ◌≢◌, ◌≤◌, ℕ, true, List, [], ◌∷◌, ◌++◌, take, drop, Option}
 use Rattle.std.specs.declared.net.socket_addr.SocketAddr.{SocketAddr}
 use Rattle.lk_replica.specs.Groups.{GroupValue}
-use Rattle.lk_served_replica.specs.Groups.{Sayings, Gatherings, GathersMore, SaysNoMore}
-use Rattle.lk_pace.specs.declared.turn_input.TurnInput.{TurnInput}
-use Rattle.lk_pace.specs.declared.turn_input.TurnInput.TheVariants.{Nothing, Beside, Something}
+use Rattle.lk_replica_interface.specs.Groups.{Sayings, Gatherings, GathersMore, SaysNoMore}
+use Rattle.lk_timing.specs.declared.turn_input.TurnInput.{TurnInput}
+use Rattle.lk_timing.specs.declared.turn_input.TurnInput.TheVariants.{Nothing, Filtered, Something}
 use Rattle.lk_transport.specs.Addresses.{Filter, filter_of, IsSameFilter}
 use Rattle.lk_transport.specs.Posts.{HearsAll, is_filtered_out, all_filtered}
-use Rattle.lk_server.specs.Servers.{ServerValue, all_inputs, all_ticks, counted, datagrams_in, Given, GivenFirst}
-use Rattle.lk_server.specs.Servers.{HasReceived, IsFront, TakesLetters, HandsOn}
+use Rattle.lk_server.specs.Servers.{ServerValue, all_inputs, all_ticks, counted, datagrams_in, Given, GivenPrefix}
+use Rattle.lk_server.specs.Servers.{HasReceived, IsPrefix, TakesLetters, DeliversLetters}
 
 -- a replica is given nothing of these frames: there is none, or one, which is a probe or a report, or came from a node
 -- of another genesis
 abbrev pub AreFound : Filter → TurnInput → List (SocketAddr × List ℕ) → Type 0
 AreFound s Nothing frames = frames ≡ []
-AreFound s Beside frames = (frame : SocketAddr × List ℕ) × (frames ≡ frame ∷ []) × (is_filtered_out s frame ≡ true)
+AreFound s Filtered frames = (frame : SocketAddr × List ℕ) × (frames ≡ frame ∷ []) × (is_filtered_out s frame ≡ true)
 AreFound s Something frames = ⊥
 
 -- these frames were found at the socket, and a replica is given nothing of them; where there is none, nothing was to
@@ -26,8 +26,8 @@ pub record Finds {R : Type 0} (tells : Type 0) (found : TurnInput) (frames : Lis
   pub comes : tells → old.coming ≡ frames ++ new.coming
   pub same : record new { coming = old.coming } ≡ old
 
--- ---- what a part of a turn may change: a datagram that the replica takes, a letter of the node to itself, what comes to
--- the socket, and all that a turn takes
+-- ---- what a part of a turn may change: a datagram that the replica takes, a letter of the node to itself, what comes
+-- to the socket, and all that a turn takes
 
 abbrev pub ChangesAtDatagram : {R : Type 0} → ServerValue R → ServerValue R → Type 0
 ChangesAtDatagram old new =
@@ -36,25 +36,45 @@ ChangesAtDatagram old new =
 abbrev pub ChangesAtLetter : {R : Type 0} → ServerValue R → ServerValue R → Type 0
 ChangesAtLetter old new =
     new ≡ record old {
-      replica = new.replica; failed = new.failed; received = new.received; ticks = new.ticks; own = new.own }
+      replica = new.replica;
+      failed = new.failed;
+      received = new.received;
+      ticks = new.ticks;
+      own = new.own;
+    }
 
 abbrev pub ChangesAtFrame : {R : Type 0} → ServerValue R → ServerValue R → Type 0
 ChangesAtFrame old new =
     new ≡ record old {
-      replica = new.replica; failed = new.failed; received = new.received; ticks = new.ticks;
-      addresses = new.addresses }
+      replica = new.replica;
+      failed = new.failed;
+      received = new.received;
+      ticks = new.ticks;
+      addresses = new.addresses;
+    }
 
 abbrev pub ChangesAtSocket : {R : Type 0} → ServerValue R → ServerValue R → Type 0
 ChangesAtSocket old new =
     new ≡ record old {
-      replica = new.replica; failed = new.failed; received = new.received; ticks = new.ticks;
-      addresses = new.addresses; coming = new.coming }
+      replica = new.replica;
+      failed = new.failed;
+      received = new.received;
+      ticks = new.ticks;
+      addresses = new.addresses;
+      coming = new.coming;
+    }
 
 abbrev pub ChangesInGroup : {R : Type 0} → ServerValue R → ServerValue R → Type 0
 ChangesInGroup old new =
     new ≡ record old {
-      replica = new.replica; failed = new.failed; received = new.received; ticks = new.ticks; own = new.own;
-      addresses = new.addresses; coming = new.coming }
+      replica = new.replica;
+      failed = new.failed;
+      received = new.received;
+      ticks = new.ticks;
+      own = new.own;
+      addresses = new.addresses;
+      coming = new.coming;
+    }
 
 module _ {R : Type 0} (Gathers : Gatherings R) where
   -- these datagrams were taken into the group one after another, each counted, and where ticks go by datagrams a tick
@@ -113,7 +133,7 @@ module _ {R : Type 0} (Says : Sayings R) (Gathers : Gatherings R) where
   -- the replica ended within the input at these datagrams, after this prefix of it
   pub record EndsWithin (datagrams : List (List ℕ)) (group : GroupValue) (old new : ServerValue R) : Type 0 where
     pub given : List (Option (List ℕ))
-    pub front : IsFront given (all_inputs old.pace old.received datagrams)
+    pub front : IsPrefix given (all_inputs old.pace old.received datagrams)
     pub silent : SaysNoMore Says Gathers given group old.replica new.replica
     pub ticks : new.ticks ≡ all_ticks old.ticks given
 
@@ -146,7 +166,7 @@ module _ {R : Type 0} (Says : Sayings R) (Gathers : Gatherings R) where
     pub count : ℕ
     pub letters : TakesLetters count old.own
     pub given : List (Option (List ℕ))
-    pub first : GivenFirst old.pace old.received
+    pub first : GivenPrefix old.pace old.received
         (datagrams_in (take count old.own) (all_filtered (filter_of old.addresses) frames)) given
     pub silent : SaysNoMore Says Gathers given group old.replica new.replica
     pub ticks : new.ticks ≡ all_ticks old.ticks given
@@ -166,7 +186,8 @@ module _ {R : Type 0} (Says : Sayings R) (Gathers : Gatherings R) where
 
   -- whatever input the group had since the server was in this state, with nothing of it sent, the server has handed on
   -- the replica's letters
-  abbrev pub HandsOnAll : Type 0 → GroupValue → ServerValue R → ServerValue R → Type 0
-  HandsOnAll tells group old new =
+  abbrev pub DeliversAllLetters : Type 0 → GroupValue → ServerValue R → ServerValue R → Type 0
+  DeliversAllLetters tells group old new =
       (start : ServerValue R) (given : List (Option (List ℕ))) → Gathers start.replica given group old.replica
-      → start.sent ≡ old.sent → start.socket_failures ≡ old.socket_failures → HandsOn Says tells given old.own start new
+      → start.sent ≡ old.sent → start.socket_failures ≡ old.socket_failures
+      → DeliversLetters Says tells given old.own start new

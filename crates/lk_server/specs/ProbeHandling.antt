@@ -6,7 +6,7 @@ use Rattle.lk_transport.specs.Inquiring.{AsksOne, LearnsKept, ReadmitsKept}
 use Rattle.lk_transport.specs.declared.received_probe.ReceivedProbe.{ReceivedProbe}
 use Rattle.lk_server.specs.Probes.{AnswersKept}
 use Rattle.lk_server.specs.Servers.{ServerValue, tray_at}
-use Rattle.lk_served_replica.specs.declared.probed_state.ProbedState.{ProbedState}
+use Rattle.lk_replica_interface.specs.declared.probed_state.ProbedState.{ProbedState}
 
 -- the probe that was kept is answered, and a node of the same genesis that asks by it is heard again; what the report
 -- tells that was kept is learned; and then one question is sent where one is due at the server's count of ticks.

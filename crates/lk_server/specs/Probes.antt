@@ -6,7 +6,7 @@ use Rattle.lk_probe.specs.declared.probe.Report.{Report}
 use Rattle.lk_probe.specs.declared.status.Status.{Status}
 use Rattle.lk_server.specs.Servers.{ServerValue, tray_at}
 use Rattle.lk_transport.specs.declared.received_probe.ReceivedProbe.{ReceivedProbe}
-use Rattle.lk_served_replica.specs.declared.probed_state.ProbedState.{ProbedState}
+use Rattle.lk_replica_interface.specs.declared.probed_state.ProbedState.{ProbedState}
 use Rattle.lk_transport.specs.Askers.{Replies}
 
 -- ---- what a node tells

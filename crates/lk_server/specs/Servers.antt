@@ -6,11 +6,11 @@ use Rattle.lk_types.specs.Ranges.{IsClient}
 use Rattle.lk_node_io.specs.Letters.{LetterValue}
 use Rattle.lk_replica.specs.Posts.{CarriesAll}
 use Rattle.lk_transport.specs.Addresses.{AddressBook, filter_of, client_at, node_at}
-use Rattle.lk_pace.specs.Paces.{ticks_after, MayFollow}
+use Rattle.lk_timing.specs.Paces.{ticks_after, MayFollow}
 use Rattle.lk_transport.specs.Posts.{HearsAll, Tray, Becomes, all_filtered}
 use Rattle.lk_transport.specs.declared.network.Network.{Network}
-use Rattle.lk_pace.specs.declared.pace.Pace.{Pace}
-use Rattle.lk_pace.specs.declared.pace.Pace.TheVariants.{Clock}
+use Rattle.lk_timing.specs.declared.pace.Pace.{Pace}
+use Rattle.lk_timing.specs.declared.pace.Pace.TheVariants.{Clock}
 
 -- how clauses see a server
 pub record ServerValue (R : Type 0) : Type 0 where
@@ -108,15 +108,15 @@ abbrev pub datagrams_in : List LetterValue → List (SocketAddr × List ℕ) →
 datagrams_in own came = map (λ (l : LetterValue). l.bytes) own ++ map (λ (c : SocketAddr × List ℕ). c.1) came
 
 -- it is a prefix of the other list
-abbrev pub IsFront : {X : Type 0} → List X → List X → Type 0
-IsFront {X} front whole = (rest : List X) × (whole ≡ front ++ rest)
+abbrev pub IsPrefix : {X : Type 0} → List X → List X → Type 0
+IsPrefix {X} front whole = (rest : List X) × (whole ≡ front ++ rest)
 
 -- a prefix of what a replica may be given in a turn
-pub record GivenFirst (pace : Pace) (received : ℕ) (datagrams : List (List ℕ))
+pub record GivenPrefix (pace : Pace) (received : ℕ) (datagrams : List (List ℕ))
     (given : List (Option (List ℕ))) : Type 0 where
   pub whole : List (Option (List ℕ))
   pub may : Given pace received datagrams whole
-  pub front : IsFront given whole
+  pub front : IsPrefix given whole
 
 -- ---- the fate of the letters
 
@@ -132,7 +132,8 @@ tray_at own s = record { own = own; sent = s.sent; failures = s.socket_failures 
 -- the replica took exactly this input as one group and produced these letters; each was kept, sent to its destination,
 -- or lost by a failed send, in order, and nothing else was sent or kept. `own` are the earlier letters of the node to
 -- itself, without those that were taken
-pub record HandsOn {R : Type 0} (Says : R → List (Option (List ℕ)) → List LetterValue → R → Type 0) (tells : Type 0)
+pub record DeliversLetters {R : Type 0} (Says : R → List (Option (List ℕ)) → List LetterValue → R
+    → Type 0) (tells : Type 0)
     (given : List (Option (List ℕ))) (own : List LetterValue) (old new : ServerValue R) : Type 0 where
   pub letters : List LetterValue
   pub says : Says old.replica given letters new.replica
@@ -141,7 +142,7 @@ pub record HandsOn {R : Type 0} (Says : R → List (Option (List ℕ)) → List 
 
 -- the replica took exactly this input and produced nothing: no letter was kept or sent. `stood` are the earlier
 -- letters of the node to itself
-pub record HandsNothing {R : Type 0} (Says : R → List (Option (List ℕ)) → List LetterValue → R → Type 0)
+pub record DeliversNothing {R : Type 0} (Says : R → List (Option (List ℕ)) → List LetterValue → R → Type 0)
     (given : List (Option (List ℕ))) (stood : List LetterValue) (old new : ServerValue R) : Type 0 where
   pub says : Says old.replica given [] new.replica
   pub own : new.own ≡ stood
@@ -167,7 +168,7 @@ pub record TakesFirst {R : Type 0} (tells : Type 0) (came : List (SocketAddr × 
     (old : ServerValue R) : Type 0 where
   pub alone : (old.own ≡ []) ⊎ (came ≡ [])
   pub few : length came ≤ 64
-  pub comes : tells → old.own ≡ [] → IsFront came (all_filtered (filter_of old.addresses) old.coming)
+  pub comes : tells → old.own ≡ [] → IsPrefix came (all_filtered (filter_of old.addresses) old.coming)
 
 -- so many letters of the node to itself are taken: at most 64, and at least one where some wait
 pub record TakesLetters (count : ℕ) (own : List LetterValue) : Type 0 where
@@ -188,7 +189,7 @@ pub record Turn {R : Type 0} (Says : R → List (Option (List ℕ)) → List Let
   pub takes : TakesFirst tells came old
   pub given : List (Option (List ℕ))
   pub may : Given old.pace old.received (datagrams_in (take 64 old.own) came) given
-  pub hands_on : HandsOn Says tells given (drop 64 old.own) old new
+  pub hands_on : DeliversLetters Says tells given (drop 64 old.own) old new
   pub counted : new.received ≡ counted old.received (datagrams_in (take 64 old.own) came)
   pub ticks : new.ticks ≡ all_ticks old.ticks given
   pub heard : HearsAll old.cluster came old.addresses new.addresses
@@ -203,8 +204,8 @@ pub record LastTurn {R : Type 0} (Says : R → List (Option (List ℕ)) → List
   pub count : ℕ
   pub letters : TakesLetters count old.own
   pub given : List (Option (List ℕ))
-  pub first : GivenFirst old.pace old.received (datagrams_in (take count old.own) came) given
-  pub hands_on : HandsOn Says tells given (drop count old.own) old new
+  pub first : GivenPrefix old.pace old.received (datagrams_in (take count old.own) came) given
+  pub hands_on : DeliversLetters Says tells given (drop count old.own) old new
   pub silent : hands_on.letters ≡ []
   pub ticks : new.ticks ≡ all_ticks old.ticks given
   pub heard : HearsAll old.cluster came old.addresses new.addresses

@@ -8,7 +8,7 @@ ghost use Rattle.std.specs.Prelude.{◌≡◌, ℕ, List, ◌∷◌, [], Some, N
 ghost use Rattle.std.specs.declared.net.socket_addr.SocketAddr.{SocketAddr as Address};
 ghost use Rattle.lk_node_io.specs.Letters.{LetterValue};
 ghost use Rattle.lk_node.specs.Calls.{heard_by};
-ghost use Rattle.lk_served_replica.specs.Groups.{GathersMore, SaysNoMore};
+ghost use Rattle.lk_replica_interface.specs.Groups.{GathersMore, SaysNoMore};
 ghost use Rattle.lk_server.specs.Gatherings.{Finds, TakesAll, EndsWithin, TakesOwn, EndsOwn, TakesWaiting, TakesGroup};
 ghost use Rattle.lk_server.specs.Gatherings.{EndsGroup, ChangesAtDatagram, ChangesAtLetter, ChangesInGroup};
 ghost use Rattle.lk_transport.specs.Kept.{KeepsOf};
@@ -18,10 +18,10 @@ use crate::group_fault::GroupFault;
 use crate::server::Server;
 use crate::watching::{log_changes, log_served};
 use lk_node_io::{Input, Letter};
-use lk_pace::metronome::Metronome;
-use lk_pace::turn_input::TurnInput;
 use lk_replica::Group;
-use lk_served_replica::ServedReplica;
+use lk_replica_interface::ServedReplica;
+use lk_timing::tick_timer::TickTimer;
+use lk_timing::turn_input::TurnInput;
 use lk_transport::arrival::Arrival;
 use lk_transport::receive_buffer::ReceiveBuffer;
 use lk_transport::socket::DatagramSocket;
@@ -159,7 +159,7 @@ impl<R: ServedReplica, S: DatagramSocket + Drop> Server<R, S> {
     pub(crate) fn add_pending<C: Clock, L: Log>(
         &mut self,
         buffer: &mut ReceiveBuffer,
-        metronome: &Metronome<C>,
+        tick_timer: &TickTimer<C>,
         group: &mut Group,
         log: &L,
     ) -> Result<TurnInput, GroupFault>
@@ -180,7 +180,7 @@ impl<R: ServedReplica, S: DatagramSocket + Drop> Server<R, S> {
         ensures broken { OnErr result (self.new.failed ≡ true) }
     {
         if !self.add_own_letter(group, log)? {
-            return self.add_from_socket(buffer, metronome, group, log);
+            return self.add_from_socket(buffer, tick_timer, group, log);
         }
         self.add_own_letters(group, log)?;
         Ok(TurnInput::Something)
@@ -191,7 +191,7 @@ impl<R: ServedReplica, S: DatagramSocket + Drop> Server<R, S> {
     pub(crate) fn fill_group<C: Clock, L: Log>(
         &mut self,
         buffer: &mut ReceiveBuffer,
-        metronome: &mut Metronome<C>,
+        tick_timer: &mut TickTimer<C>,
         group: &mut Group,
         log: &L,
     ) -> Result<bool, GroupFault>
@@ -209,9 +209,9 @@ impl<R: ServedReplica, S: DatagramSocket + Drop> Server<R, S> {
         ensures others { ChangesInGroup self.old self.new }
         ensures broken { OnErr result (self.new.failed ≡ true) }
     {
-        self.set_timeout(metronome.left());
-        let found = self.add_pending(buffer, metronome, group, log)?;
-        if !self.pace.is_due(found, metronome) {
+        self.set_timeout(tick_timer.left());
+        let found = self.add_pending(buffer, tick_timer, group, log)?;
+        if !self.pace.is_due(found, tick_timer) {
             return Ok(found.is_something());
         }
         self.add_tick(group, log)?;

@@ -11,7 +11,7 @@ ghost use Rattle.lk_server.specs.Servers.{tray_at};
 use crate::server::Server;
 use crate::watching::log_stranger;
 use lk_probe::neighbours::{Neighbour, Origin};
-use lk_served_replica::ServedReplica;
+use lk_replica_interface::ServedReplica;
 use lk_transport::receive_buffer::ReceiveBuffer;
 use lk_transport::received_probe::ReceivedProbe;
 use lk_transport::socket::DatagramSocket;

@@ -2,20 +2,20 @@
 
 ghost use Rattle.std.specs.Prelude.{◌≡◌, ◌↔◌, ◌+◌, ◌++◌, [], None, true, IsTrue};
 ghost use Rattle.lk_server.specs.Pauses.{IsPauseDue};
-ghost use Rattle.lk_transport.specs.Hearing.{listed};
+ghost use Rattle.lk_transport.specs.ReceiveBuffers.{listed};
 
 use crate::server::Server;
-use lk_pace::metronome::Metronome;
-use lk_pace::sync_pause::SyncPause;
 use lk_replica::Group;
-use lk_served_replica::ServedReplica;
+use lk_replica_interface::ServedReplica;
+use lk_timing::sync_pause::SyncPause;
+use lk_timing::tick_timer::TickTimer;
 use lk_transport::post::SocketPost;
 use lk_transport::receive_buffer::ReceiveBuffer;
 use lk_transport::socket::DatagramSocket;
 use std::time::{Clock, Instant};
 
 // Sleeps for a pause, if one is due before the sync of this group. Returns whether it did.
-fn pauses<C: Clock>(pause: &mut SyncPause, metronome: &Metronome<C>, group: &Group) -> bool
+fn pauses<C: Clock>(pause: &mut SyncPause, tick_timer: &TickTimer<C>, group: &Group) -> bool
     ensures due { IsTrue result ↔ IsPauseDue pause.old group.now }
     // The group then has one pause fewer left.
     ensures fewer { result ≡ true → pause.new.left + 1 ≡ pause.old.left }
@@ -27,7 +27,7 @@ fn pauses<C: Clock>(pause: &mut SyncPause, metronome: &Metronome<C>, group: &Gro
     let Some(time) = pause.next_pause(group.letters().len()) else {
         return false;
     };
-    metronome.pass(time);
+    tick_timer.pass(time);
     true
 }
 
@@ -36,7 +36,7 @@ fn receive_after_pause<S: DatagramSocket + Drop, C: Clock>(
     post: &mut SocketPost<S>,
     pause: &mut SyncPause,
     buffer: &mut ReceiveBuffer,
-    metronome: &Metronome<C>,
+    tick_timer: &TickTimer<C>,
     group: &Group,
 )
     // A datagram that arrived in the pause is in the buffer.
@@ -48,8 +48,8 @@ fn receive_after_pause<S: DatagramSocket + Drop, C: Clock>(
     ensures reported { buffer.new.reported ≡ buffer.old.reported }
     ensures others { post.new ≡ record post.old { coming = post.new.coming } }
 {
-    if pauses(pause, metronome, group) {
-        post.receive_waiting(buffer);
+    if pauses(pause, tick_timer, group) {
+        post.try_receive(buffer);
     }
 }
 
@@ -59,7 +59,7 @@ pub(crate) fn receive_or_pause<S: DatagramSocket + Drop, C: Clock>(
     post: &mut SocketPost<S>,
     pause: &mut SyncPause,
     buffer: &mut ReceiveBuffer,
-    metronome: &Metronome<C>,
+    tick_timer: &TickTimer<C>,
     group: &Group,
 )
     ensures comes { S.is_telling → post.old.coming ≡ listed buffer.new.last ++ post.new.coming }
@@ -71,11 +71,11 @@ pub(crate) fn receive_or_pause<S: DatagramSocket + Drop, C: Clock>(
     ensures reported { buffer.new.reported ≡ buffer.old.reported }
     ensures others { post.new ≡ record post.old { coming = post.new.coming } }
 {
-    post.receive_waiting(buffer);
+    post.try_receive(buffer);
     if buffer.latest().is_some() {
         return;
     }
-    receive_after_pause(post, pause, buffer, metronome, group);
+    receive_after_pause(post, pause, buffer, tick_timer, group);
 }
 
 impl<R: ServedReplica, S: DatagramSocket + Drop> Server<R, S> {
@@ -84,14 +84,14 @@ impl<R: ServedReplica, S: DatagramSocket + Drop> Server<R, S> {
     pub(crate) fn note_sync<C: Clock>(
         &mut self,
         group: &Group,
-        metronome: &Metronome<C>,
+        tick_timer: &TickTimer<C>,
         began: Option<Instant>,
     )
         ensures { self.new ≡ self.old }
     {
         if group.needs_sync() {
             let letters = group.letters().len();
-            self.sync_pause.note(metronome.since(began), letters);
+            self.sync_pause.note(tick_timer.since(began), letters);
         }
     }
 }

@@ -3,11 +3,12 @@
 ghost use Rattle.std.specs.Prelude.{◌≡◌, ℕ, List, ◌∷◌, [], None, true, false, OnOk, OnErr, IfOk, IfErr};
 ghost use Rattle.std.specs.declared.net.socket_addr.SocketAddr.{SocketAddr as Address};
 ghost use Rattle.lk_transport.specs.Addresses.{filter_of, IsSameNetwork};
-ghost use Rattle.lk_server.specs.Gatherings.{Finds, HandsOnAll, SaysNothing};
+ghost use Rattle.lk_server.specs.Gatherings.{Finds, DeliversAllLetters, SaysNothing};
 ghost use Rattle.lk_transport.specs.Posts.{all_filtered};
 ghost use Rattle.lk_transport.specs.Kept.{KeepsOf};
-ghost use Rattle.lk_served_replica.specs.Refusals.{IsOfGroups};
-ghost use Rattle.lk_server.specs.Servers.{HandsOn, HandsNothing, HasHeardNobody, HasReceived, IsSameServer, LastTurn};
+ghost use Rattle.lk_replica_interface.specs.Refusals.{IsOfGroups};
+ghost use Rattle.lk_server.specs.Servers.{DeliversLetters, DeliversNothing, HasHeardNobody, HasReceived, IsSameServer};
+ghost use Rattle.lk_server.specs.Servers.{LastTurn};
 ghost use Rattle.lk_server.specs.Servers.{Runs, ServesAs, ServesOn, TakesTurn, Turn, one_more_tick};
 
 use crate::group_fault::GroupFault;
@@ -16,12 +17,12 @@ use crate::notes::log_notes;
 use crate::turn_events::TurnEvents;
 use crate::watching::log_sends;
 use lk_node_io::ReplicaFault;
-use lk_pace::metronome::{Metronome, Still};
-use lk_pace::pace::Pace;
-use lk_pace::sync_pause::SyncPause;
-use lk_pace::turn_input::TurnInput;
 use lk_replica::Group;
-use lk_served_replica::{ServedReplica, TableVersion};
+use lk_replica_interface::{ServedReplica, TableVersion};
+use lk_timing::pace::Pace;
+use lk_timing::sync_pause::SyncPause;
+use lk_timing::tick_timer::{Still, TickTimer};
+use lk_timing::turn_input::TurnInput;
 use lk_transport::network::Network;
 use lk_transport::post::SocketPost;
 use lk_transport::receive_buffer::ReceiveBuffer;
@@ -168,7 +169,7 @@ impl<R: ServedReplica, S: DatagramSocket + Drop> Server<R, S> {
     // Releases a group: after its sync each letter is sent, or kept if it is to the node itself. Logs their fate, and
     // counts failed sends. Returns whether none failed.
     fn sync_and_send<L: Log>(&mut self, group: &Group, log: &L) -> Result<bool, ReplicaFault>
-        ensures gives { OnOk result (HandsOnAll R.Says R.Gathers S.is_telling group.now self.old self.new) }
+        ensures gives { OnOk result (DeliversAllLetters R.Says R.Gathers S.is_telling group.now self.old self.new) }
         ensures silent { OnErr result (SaysNothing R.Says R.Gathers group.now self.old self.new) }
         ensures addresses { self.new.addresses ≡ self.old.addresses }
         ensures same { IsSameServer self.old self.new }
@@ -191,7 +192,7 @@ impl<R: ServedReplica, S: DatagramSocket + Drop> Server<R, S> {
     fn end_group<L: Log>(&mut self, group: &Group, log: &L) -> Result<(), GroupFault>
         // Each letter of the group was sent to its destination, kept for the node itself, or lost by a failed send, in
         // order.
-        ensures gives { OnOk result (HandsOnAll R.Says R.Gathers S.is_telling group.now self.old self.new) }
+        ensures gives { OnOk result (DeliversAllLetters R.Says R.Gathers S.is_telling group.now self.old self.new) }
         // After an error nothing of the group is sent.
         ensures silent { OnErr result (SaysNothing R.Says R.Gathers group.now self.old self.new) }
         ensures addresses { self.new.addresses ≡ self.old.addresses }
@@ -216,8 +217,9 @@ impl<R: ServedReplica, S: DatagramSocket + Drop> Server<R, S> {
     pub fn tick<L: Log>(&mut self, log: &L) -> Result<(), GroupFault>
         // The replica took a tick and nothing else. Each of its letters was sent, kept, lost by a failed send, or
         // dropped since no address is known for it, and nothing else was sent.
-        ensures hands_on { OnOk result (HandsOn R.Says S.is_telling (None ∷ []) self.old.own self.old self.new) }
-        ensures ends { OnErr result (HandsNothing R.Says (None ∷ []) self.old.own self.old self.new) }
+        ensures hands_on { OnOk result (DeliversLetters R.Says S.is_telling
+            (None ∷ []) self.old.own self.old self.new) }
+        ensures ends { OnErr result (DeliversNothing R.Says (None ∷ []) self.old.own self.old self.new) }
         ensures addresses { self.new.addresses ≡ self.old.addresses }
         ensures same { IsSameServer self.old self.new }
         ensures received { self.new.received ≡ self.old.received }
@@ -254,8 +256,8 @@ impl<R: ServedReplica, S: DatagramSocket + Drop> Server<R, S> {
         ensures network { IsSameNetwork self.old.addresses self.new.addresses }
     {
         let mut group = self.begin_group();
-        let metronome = Metronome::new(Still);
-        let found = self.add_pending(buffer, &metronome, &mut group, log)?;
+        let tick_timer = TickTimer::new(Still);
+        let found = self.add_pending(buffer, &tick_timer, &mut group, log)?;
         if !found.is_something() {
             return Ok(false);
         }
@@ -269,7 +271,7 @@ impl<R: ServedReplica, S: DatagramSocket + Drop> Server<R, S> {
 pub fn node_turn<R: ServedReplica, S: DatagramSocket + Drop, C: Clock, L: Log>(
     server: &mut Server<R, S>,
     buffer: &mut ReceiveBuffer,
-    metronome: &mut Metronome<C>,
+    tick_timer: &mut TickTimer<C>,
     log: &L,
 ) -> Result<(), GroupFault>
     // If letters of the node to itself wait, it takes the first 64 of them, once and in order, and nothing of the
@@ -290,11 +292,11 @@ pub fn node_turn<R: ServedReplica, S: DatagramSocket + Drop, C: Clock, L: Log>(
     ensures network { IsSameNetwork server.old.addresses server.new.addresses }
 {
     let mut group = server.begin_group();
-    if !server.fill_group(buffer, metronome, &mut group, log)? {
+    if !server.fill_group(buffer, tick_timer, &mut group, log)? {
         return Ok(());
     }
-    let began = metronome.now();
+    let began = tick_timer.now();
     server.end_group(&group, log)?;
-    server.note_sync(&group, metronome, began);
+    server.note_sync(&group, tick_timer, began);
     Ok(())
 }

@@ -9,7 +9,7 @@ ghost use Rattle.std.specs.declared.net.socket_addr.SocketAddr.{SocketAddr as Ad
 ghost use Rattle.lk_transport.specs.Addresses.{filter_of, IsSameFilter};
 ghost use Rattle.lk_server.specs.Gatherings.{Finds, TakesHeard, EndsHeard, TakesSocket, EndsSocket, TakesWaiting};
 ghost use Rattle.lk_server.specs.Gatherings.{EndsGroup, ChangesAtFrame, ChangesAtSocket};
-ghost use Rattle.lk_transport.specs.Hearing.{listed};
+ghost use Rattle.lk_transport.specs.ReceiveBuffers.{listed};
 ghost use Rattle.lk_transport.specs.Posts.{Hears, is_filtered_out};
 ghost use Rattle.lk_transport.specs.Kept.{Keeps, KeepsOf};
 
@@ -17,10 +17,10 @@ use crate::gathering::FURTHER;
 use crate::group_fault::GroupFault;
 use crate::pausing::receive_or_pause;
 use crate::server::Server;
-use lk_pace::metronome::Metronome;
-use lk_pace::turn_input::TurnInput;
 use lk_replica::Group;
-use lk_served_replica::ServedReplica;
+use lk_replica_interface::ServedReplica;
+use lk_timing::tick_timer::TickTimer;
+use lk_timing::turn_input::TurnInput;
 use lk_transport::arrival::Arrival;
 use lk_transport::receive_buffer::ReceiveBuffer;
 use lk_transport::received_probe::is_beside;
@@ -47,7 +47,7 @@ impl<R: ServedReplica, S: DatagramSocket + Drop> Server<R, S> {
     fn receive_or_pause<C: Clock>(
         &mut self,
         buffer: &mut ReceiveBuffer,
-        metronome: &Metronome<C>,
+        tick_timer: &TickTimer<C>,
         group: &Group,
     )
         ensures comes { S.is_telling → self.old.coming ≡ listed buffer.new.last ++ self.new.coming }
@@ -60,7 +60,7 @@ impl<R: ServedReplica, S: DatagramSocket + Drop> Server<R, S> {
             &mut self.post,
             &mut self.sync_pause,
             buffer,
-            metronome,
+            tick_timer,
             group,
         );
     }
@@ -100,7 +100,7 @@ impl<R: ServedReplica, S: DatagramSocket + Drop> Server<R, S> {
             × (is_filtered_out (filter_of self.old.addresses) frame ≡ false)
             × TakesHeard R.Gathers (frame ∷ []) group.old group.new self.old self.new) }
         ensures beside { IfOk result
-            (λ found. found ≡ TurnInput.Beside
+            (λ found. found ≡ TurnInput.Filtered
             → (frame : Address × List ℕ) × (buffer.old.last ≡ Some frame)
             × (is_filtered_out (filter_of self.old.addresses) frame ≡ true) × (self.new ≡ self.old)
             × (group.new ≡ group.old)) }
@@ -112,8 +112,8 @@ impl<R: ServedReplica, S: DatagramSocket + Drop> Server<R, S> {
             × (is_filtered_out (filter_of self.old.addresses) frame ≡ false)
             × EndsHeard R.Says R.Gathers (frame ∷ []) group.old self.old self.new) }
         ensures kept { IfOk result
-            (λ found. found ≡ TurnInput.Beside → Keeps self.old.node self.old.addresses.seals buffer.old buffer.new) }
-        ensures rest { IfOk result (λ found. (found ≡ TurnInput.Beside → ⊥) → buffer.new ≡ buffer.old) }
+            (λ found. found ≡ TurnInput.Filtered → Keeps self.old.node self.old.addresses.seals buffer.old buffer.new) }
+        ensures rest { IfOk result (λ found. (found ≡ TurnInput.Filtered → ⊥) → buffer.new ≡ buffer.old) }
         ensures spares { OnErr result (buffer.new ≡ buffer.old) }
         ensures others { ChangesAtFrame self.old self.new }
         ensures broken { OnErr result (self.new.failed ≡ true) }
@@ -127,11 +127,11 @@ impl<R: ServedReplica, S: DatagramSocket + Drop> Server<R, S> {
             let reported = self.post.read_report(from, datagram);
             buffer.keep_probe(asked);
             buffer.keep_report(reported);
-            return Ok(TurnInput::Beside);
+            return Ok(TurnInput::Filtered);
         }
         if let Some(node) = self.post.stranger(from) {
             self.warn_of_stranger(node, log);
-            return Ok(TurnInput::Beside);
+            return Ok(TurnInput::Filtered);
         }
         let viewed = Datagram::of(datagram);
         let came = self.record_sender(&viewed, from, log);
@@ -170,7 +170,7 @@ impl<R: ServedReplica, S: DatagramSocket + Drop> Server<R, S> {
     fn add_next_datagram<C: Clock, L: Log>(
         &mut self,
         buffer: &mut ReceiveBuffer,
-        metronome: &Metronome<C>,
+        tick_timer: &TickTimer<C>,
         group: &mut Group,
         log: &L,
     ) -> Result<bool, GroupFault>
@@ -191,10 +191,10 @@ impl<R: ServedReplica, S: DatagramSocket + Drop> Server<R, S> {
         if group.letters().is_empty() {
             return Ok(false);
         }
-        self.receive_or_pause(buffer, metronome, group);
+        self.receive_or_pause(buffer, tick_timer, group);
         match self.add_received(buffer, group, log)? {
             TurnInput::Nothing => Ok(false),
-            TurnInput::Beside => Ok(true),
+            TurnInput::Filtered => Ok(true),
             TurnInput::Something => Ok(true),
         }
     }
@@ -204,7 +204,7 @@ impl<R: ServedReplica, S: DatagramSocket + Drop> Server<R, S> {
     fn add_further_datagrams<C: Clock, L: Log>(
         &mut self,
         buffer: &mut ReceiveBuffer,
-        metronome: &Metronome<C>,
+        tick_timer: &TickTimer<C>,
         group: &mut Group,
         log: &L,
     ) -> Result<(), GroupFault>
@@ -219,7 +219,7 @@ impl<R: ServedReplica, S: DatagramSocket + Drop> Server<R, S> {
         ensures broken { OnErr result (self.new.failed ≡ true) }
     {
         'datagrams: for _ in 0..FURTHER {
-            if !self.add_next_datagram(buffer, metronome, group, log)? {
+            if !self.add_next_datagram(buffer, tick_timer, group, log)? {
                 return Ok(());
             }
         }
@@ -230,7 +230,7 @@ impl<R: ServedReplica, S: DatagramSocket + Drop> Server<R, S> {
     pub(crate) fn add_from_socket<C: Clock, L: Log>(
         &mut self,
         buffer: &mut ReceiveBuffer,
-        metronome: &Metronome<C>,
+        tick_timer: &TickTimer<C>,
         group: &mut Group,
         log: &L,
     ) -> Result<TurnInput, GroupFault>
@@ -255,7 +255,7 @@ impl<R: ServedReplica, S: DatagramSocket + Drop> Server<R, S> {
         if !found.is_something() {
             return Ok(found);
         }
-        self.add_further_datagrams(buffer, metronome, group, log)?;
+        self.add_further_datagrams(buffer, tick_timer, group, log)?;
         Ok(TurnInput::Something)
     }
 }

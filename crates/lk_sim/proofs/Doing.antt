@@ -4,7 +4,7 @@ use Rattle.std.proofs.Common.{subst, subst₂, inl, inr, append_assoc, append-ni
 use Rattle.std.proofs.lemmas.List.{get_or_default}
 use Rattle.lk_simulated_disk.specs.Memory.{Memory}
 use Rattle.lk_disk.specs.Meters.{stopping}
-use Rattle.lk_entries.specs.Values.{HeaderValue}
+use Rattle.lk_store_format.specs.Values.{HeaderValue}
 use Rattle.lk_state.specs.Meanings.{Meaning}
 use Rattle.lk_agreement.specs.Nodes.{View}
 use Rattle.lk_node_io.specs.declared.note.Note.{Note}
@@ -18,9 +18,11 @@ use Rattle.lk_world_nodes.specs.Seats.{At, SeatFits, SeatGoes, stopped_on, falle
 use Rattle.lk_replica.specs.Behaviours.{Behaviour, TrapsAlone, disks_by}
 use Rattle.lk_world_nodes.specs.Ends.{Breaks, StaysDown, FailsToCompact, IsToldEnd, end_by, end_at}
 use Rattle.lk_world_nodes.specs.Sends.{stop_among, after_sends}
-use Rattle.lk_sim.specs.Events.{AreOwn, Adds, Falls, Comes, IsGiven, IsBack, ComesUp, GoesOnCompacted, IsCompacted}
+use Rattle.lk_sim.specs.Events.{AreOwn, Adds, EndsByFault, Comes, IsGiven, IsBack, ComesUp, GoesOnCompacted}
+use Rattle.lk_sim.specs.Events.{IsCompacted}
 use Rattle.lk_sim.specs.Events.{IsHalted, LeftBy, LeftByRevival}
-use Rattle.lk_world_nodes.specs.Outcomes.{HasFallen, HasTaken, HasRevived, HasCompacted, HasWanted, Rests}
+use Rattle.lk_world_nodes.specs.Outcomes.{HasEndedByFault, HasTaken, HasRevived, HasCompacted, HasStoppedOutOfMemory}
+use Rattle.lk_world_nodes.specs.Outcomes.{Rests}
 use Rattle.lk_sim.specs.Settled.{HasAdded, HasSettled, HasGivenUp}
 use Rattle.lk_sim.specs.Worlds.{Holds}
 use Rattle.lk_world_nodes.specs.declared.end.End.{End}
@@ -49,8 +51,8 @@ module _ {R : Type 0} (b : Behaviour R) (old new : Scene R) where
   pub falls : (Ends : ℕ → Memory → Type 0) (t next : Seat R) (asked mine told : List Note) (batch : List Datagram)
       (how : Option End) (stop : Option ℕ) → Adds old new ((asked ++ mine) ++ told) batch
       → Tells batch told → new.ended ≡ how
-      → next.number ≡ t.number → Rests b stop t next → IsToldEnd how → HasFallen Ends t mine batch how stop
-      → Falls Ends old new next asked
+      → next.number ≡ t.number → Rests b stop t next → IsToldEnd how → HasEndedByFault Ends t mine batch how stop
+      → EndsByFault Ends old new next asked
   falls Ends t next asked mine told batch how stop a tells ended number rests tellable f = record {
     number = f.number;
     left = f.left;
@@ -113,7 +115,7 @@ module _ {R : Type 0} (b : Behaviour R) (old new : Scene R) where
       (o : Option (List ℕ)) (asked mine : List Note) (batch : List Datagram) (how : Option End) (stop : Option ℕ)
       → At old.seats i s → s.number ≡ n → s.life ≡ Up r → t.number ≡ s.number → ((q : R) → t.life ≡ Up q → AreOwn mine)
       → HasSettled Shows b m (record old { seats = set old.seats i t }) i new asked mine batch how stop → IsToldEnd how
-      → HasTaken b r o t mine batch how stop ⊎ HasFallen (Breaks b r o) t mine batch how stop
+      → HasTaken b r o t mine batch how stop ⊎ HasEndedByFault (Breaks b r o) t mine batch how stop
       → IsGiven b old new n o asked
   given Shows m i n s t r o asked mine batch how stop at is up number own k tellable cases = record {
     seat = s;
@@ -146,7 +148,7 @@ module _ {R : Type 0} (b : Behaviour R) (old new : Scene R) where
       → t.number ≡ n → next.number ≡ t.number → Rests b stop t next → ((q : R) → t.life ≡ Up q → AreOwn mine)
       → Adds old new (([] ++ mine) ++ told) batch → Tells batch told → new.ended ≡ how → IsToldEnd how
       → HasRevived b d (header_of old.genesis n) t mine batch how stop
-      ⊎ HasFallen (StaysDown b d (header_of old.genesis n)) t mine batch how stop → ComesUp b old new next d
+      ⊎ HasEndedByFault (StaysDown b d (header_of old.genesis n)) t mine batch how stop → ComesUp b old new next d
   comes t next d n mine told batch how stop number on rests own a tells ended tellable cases = elim cases [
     | inl k ↦ inl (record {
       replica = k.replica;
@@ -166,7 +168,7 @@ module _ {R : Type 0} (b : Behaviour R) (old new : Scene R) where
     })
     | inr f ↦ inr (falls (StaysDown b d (header_of old.genesis next.number)) t next [] mine told batch how stop a tells
         ended on rests tellable (subst
-        (λ z. HasFallen (StaysDown b d (header_of old.genesis z)) t mine batch how stop) (sym (on ∙ number)) f))
+        (λ z. HasEndedByFault (StaysDown b d (header_of old.genesis z)) t mine batch how stop) (sym (on ∙ number)) f))
   ]
 
   -- a node that came up
@@ -176,7 +178,7 @@ module _ {R : Type 0} (b : Behaviour R) (old new : Scene R) where
       → ((q : R) → t.life ≡ Up q → AreOwn mine)
       → HasSettled Shows b m (record old { seats = set old.seats i t }) i new [] mine batch how stop → IsToldEnd how
       → HasRevived b d (header_of old.genesis s.number) t mine batch how stop
-      ⊎ HasFallen (StaysDown b d (header_of old.genesis s.number)) t mine batch how stop → IsBack b old new n
+      ⊎ HasEndedByFault (StaysDown b d (header_of old.genesis s.number)) t mine batch how stop → IsBack b old new n
   back Shows m i n s t d mine batch how stop at is down number own k tellable cases =
       let same : k.seat ≡ t = at_same (set old.seats i t) i k.seat t k.at (at_set_here old.seats i t at.0) in
       let on : k.next.number ≡ t.number = k.number ∙ ap (λ (z : Seat R). z.number) same in
@@ -196,8 +198,8 @@ module _ {R : Type 0} (b : Behaviour R) (old new : Scene R) where
   packs : (t next : Seat R) (r : R) (mine told : List Note) (batch : List Datagram) (how : Option End) (stop : Option ℕ)
       → next.number ≡ t.number → Rests b stop t next → Adds old new (([] ++ mine) ++ told) batch → Tells batch told
       → new.ended ≡ how → IsToldEnd how
-      → HasCompacted b r t mine batch how stop ⊎ HasFallen (FailsToCompact b r) t mine batch how stop
-      → GoesOnCompacted b old new r next ⊎ Falls (FailsToCompact b r) old new next []
+      → HasCompacted b r t mine batch how stop ⊎ HasEndedByFault (FailsToCompact b r) t mine batch how stop
+      → GoesOnCompacted b old new r next ⊎ EndsByFault (FailsToCompact b r) old new next []
   packs t next r mine told batch how stop on rests a tells ended tellable cases = elim cases [
     | inl k ↦ inl (record {
       replica = k.replica;
@@ -220,7 +222,7 @@ module _ {R : Type 0} (b : Behaviour R) (old new : Scene R) where
       (mine : List Note) (batch : List Datagram) (how : Option End) (stop : Option ℕ)
       → At old.seats i s → s.number ≡ n → s.life ≡ Up r → t.number ≡ s.number
       → HasSettled Shows b m (record old { seats = set old.seats i t }) i new [] mine batch how stop → IsToldEnd how
-      → HasCompacted b r t mine batch how stop ⊎ HasFallen (FailsToCompact b r) t mine batch how stop
+      → HasCompacted b r t mine batch how stop ⊎ HasEndedByFault (FailsToCompact b r) t mine batch how stop
       → IsCompacted b old new n
   compacted Shows m i n s t r mine batch how stop at is up number k tellable cases =
       let same : k.seat ≡ t = at_same (set old.seats i t) i k.seat t k.at (at_set_here old.seats i t at.0) in
@@ -267,7 +269,7 @@ module _ {R : Type 0} (b : Behaviour R) where
   pub taken_left : TrapsAlone b
       → (r : R) (o : Option (List ℕ)) (life : Life R) (t : Seat R) (mine : List Note) (batch : List Datagram)
       (how : Option End) (stop : Option ℕ) → (mine ≡ [] → batch ≡ [] → ⊥)
-      → life ≡ Up r → HasTaken b r o t mine batch how stop ⊎ HasFallen (Breaks b r o) t mine batch how stop
+      → life ≡ Up r → HasTaken b r o t mine batch how stop ⊎ HasEndedByFault (Breaks b r o) t mine batch how stop
       → StopsOn b (LeftBy b o life) t.life
   taken_left alone r o life t mine batch how stop some up cases = elim cases [
     | inl k ↦ (
@@ -290,7 +292,7 @@ module _ {R : Type 0} (b : Behaviour R) where
   pub revived_left : (d : Memory) (header : HeaderValue) (life : Life R) (t : Seat R) (mine : List Note)
       (batch : List Datagram) (how : Option End) (stop : Option ℕ) → (mine ≡ [] → batch ≡ [] → ⊥)
       → life ≡ Down d → HasRevived b d header t mine batch how stop
-      ⊎ HasFallen (StaysDown b d header) t mine batch how stop → StopsOn b (LeftByRevival b header life) t.life
+      ⊎ HasEndedByFault (StaysDown b d header) t mine batch how stop → StopsOn b (LeftByRevival b header life) t.life
   revived_left d header life t mine batch how stop some down cases = elim cases [
     | inl k ↦ (
       b.memory k.replica,
@@ -304,14 +306,15 @@ module _ {R : Type 0} (b : Behaviour R) where
 module _ {R : Type 0} (b : Behaviour R) where
   pub packed_none : (r : R) (t : Seat R) (mine : List Note) (batch : List Datagram) (how : Option End)
       (stop : Option ℕ) → (mine ≡ [] → batch ≡ [] → ⊥)
-      → HasCompacted b r t mine batch how stop ⊎ HasFallen (FailsToCompact b r) t mine batch how stop → ⊥
+      → HasCompacted b r t mine batch how stop ⊎ HasEndedByFault (FailsToCompact b r) t mine batch how stop → ⊥
   packed_none r t mine batch how stop some cases =
       elim cases [ inl k ↦ some k.no_notes k.no_batch | inr f ↦ some f.no_notes f.no_batch ]
 
 -- a node that was stopped when out of memory
 module _ {R : Type 0} (old : Scene R) (Left : Life R → Memory → Type 0) (Ends : ℕ → Memory → Type 0) where
   pub wanted : (i n : ℕ) (s t : Seat R) → At old.seats i s → s.number ≡ n → t.number ≡ s.number
-      → (k : HasWanted Ends t) → Left s.life k.left → IsHalted Left old (record old { seats = set old.seats i t }) n
+      → (k : HasStoppedOutOfMemory Ends t) → Left s.life k.left
+      → IsHalted Left old (record old { seats = set old.seats i t }) n
   wanted i n s t at is number k left = record {
     seat = s;
     number = is;
@@ -333,7 +336,7 @@ pub record Ends {R : Type 0} (t : Seat R) (mine : List Note) (batch : List Datag
 
 pub taken_cases : {R : Type 0} (b : Behaviour R) (r : R) (o : Option (List ℕ)) (t : Seat R) (mine : List Note)
     (batch : List Datagram) (how : Option End) (stop : Option ℕ)
-    → HasTaken b r o t mine batch how stop ⊎ HasFallen (Breaks b r o) t mine batch how stop
+    → HasTaken b r o t mine batch how stop ⊎ HasEndedByFault (Breaks b r o) t mine batch how stop
     → ((q : R) × (t.life ≡ Up q)) ⊎ Ends t mine batch
 taken_cases b r o t mine batch how stop cases = elim cases [
   | inl k ↦ inl (k.after, k.up)
@@ -342,7 +345,7 @@ taken_cases b r o t mine batch how stop cases = elim cases [
 
 pub revived_cases : {R : Type 0} (b : Behaviour R) (d : Memory) (whose : HeaderValue) (t : Seat R) (mine : List Note)
     (batch : List Datagram) (how : Option End) (stop : Option ℕ)
-    → HasRevived b d whose t mine batch how stop ⊎ HasFallen (StaysDown b d whose) t mine batch how stop
+    → HasRevived b d whose t mine batch how stop ⊎ HasEndedByFault (StaysDown b d whose) t mine batch how stop
     → ((q : R) × (t.life ≡ Up q)) ⊎ Ends t mine batch
 revived_cases b d whose t mine batch how stop cases = elim cases [
   | inl k ↦ inl (k.replica, k.up)
@@ -351,7 +354,7 @@ revived_cases b d whose t mine batch how stop cases = elim cases [
 
 pub packed_cases : {R : Type 0} (b : Behaviour R) (r : R) (t : Seat R) (mine : List Note) (batch : List Datagram)
     (how : Option End) (stop : Option ℕ)
-    → HasCompacted b r t mine batch how stop ⊎ HasFallen (FailsToCompact b r) t mine batch how stop
+    → HasCompacted b r t mine batch how stop ⊎ HasEndedByFault (FailsToCompact b r) t mine batch how stop
     → ((q : R) × (t.life ≡ Up q)) ⊎ Ends t mine batch
 packed_cases b r t mine batch how stop cases = elim cases [
   | inl k ↦ inl (k.replica, k.up)

@@ -5,7 +5,7 @@ use Rattle.lk_simulated_disk.specs.Memory.{Memory, empty}
 use Rattle.lk_replica.specs.Behaviours.{Behaviour}
 use Rattle.lk_node_io.specs.declared.note.Note.{Note}
 use Rattle.lk_world_nodes.specs.Ends.{IsToldEnd}
-use Rattle.lk_sim.specs.Events.{IsGiven, IsGivenTogether, ComesUp, Brings, Does, Wants, IsRefused}
+use Rattle.lk_sim.specs.Events.{IsGiven, IsGivenTogether, ComesUp, HasEffect, IsExecuted, Wants, IsRefused}
 use Rattle.lk_sim.specs.Groups.{given_by}
 use Rattle.lk_sim.specs.Runs.{Passes, StopsAt, Runs}
 use Rattle.lk_sim.specs.Scenes.{Scene}
@@ -44,7 +44,7 @@ module _ {R : Type 0} (b : Behaviour R) where
         | inr (inr f) ↦ f.told
       ]
 
-  brings_told : (old new : Scene R) (e : Event) → Brings b old e new → IsToldEnd new.ended
+  brings_told : (old new : Scene R) (e : Event) → HasEffect b old e new → IsToldEnd new.ended
   brings_told old new (event.Start n) k = come_told old new k.seat empty k.comes
   brings_told old new (event.Restart n) k = come_told old new k.next k.device k.comes
   brings_told old new (event.Tick n) k = given_told old new n None [] k
@@ -57,7 +57,7 @@ module _ {R : Type 0} (b : Behaviour R) where
   brings_told old new (event.FailAt n count) k = nothing_told new k.ended
   brings_told old new (event.Arm n count bytes) k = nothing_told new k.ended
 
-  pub done_told : (old new : Scene R) (e : Event) → Does b old e new → IsToldEnd new.ended
+  pub done_told : (old new : Scene R) (e : Event) → IsExecuted b old e new → IsToldEnd new.ended
   done_told old new e k = brings_told old new e k.1
 
   same_told : (old new : Scene R) → new ≡ old → IsToldEnd old.ended → IsToldEnd new.ended

@@ -4,7 +4,7 @@ use Rattle.std.proofs.Common.{Ok, refl, ap, sym, ◌∙◌, subst, subst₂, inl
 use Rattle.std.specs.List.{AllByRecursion}
 use Rattle.std.proofs.Math.Seq.{take-append_seam, drop-append_seam}
 use Rattle.std.proofs.lemmas.List.{length-take, take-append-drop}
-use Rattle.lk_disk.specs.Disk.{Disk, kept_by}
+use Rattle.lk_disk.specs.Disk.{Disk, after_stop}
 use Rattle.lk_simulated_disk.specs.Memory.{Memory, disk_of}
 use Rattle.lk_disk.specs.declared.device.Side.{Side}
 use Rattle.lk_disk.specs.declared.device.Side.TheVariants.{A, B}
@@ -21,7 +21,7 @@ use Rattle.lk_replica.specs.Together.{Said, sent_of, parts_of, GoesAll}
 use Rattle.lk_replica.specs.declared.taken.Step.{Step}
 use Rattle.lk_world_nodes.specs.Ends.{BreaksTogether, IsToldEnd, end_at}
 use Rattle.lk_world_nodes.specs.Sends.{after_sends, stop_among}
-use Rattle.lk_sim.specs.Events.{Adds, AreAllOwn, Falls, ComesTogether, IsGivenTogether, LeftByGroup}
+use Rattle.lk_sim.specs.Events.{Adds, AreAllOwn, EndsByFault, ComesTogether, IsGivenTogether, LeftByGroup}
 use Rattle.lk_sim.specs.Groups.{WasSentTo, WereSentTo, AreNotesOf, given_by}
 use Rattle.lk_world_nodes.specs.Outcomes.{HasTakenTogether, HasFallenTogether, Rests}
 use Rattle.lk_sim.specs.Settled.{HasSettledSteps, HasGivenUp}
@@ -138,7 +138,7 @@ module _ {R : Type 0} (b : Behaviour R) (old new : Scene R) where
   fell_together : (Ends : ℕ → Memory → Type 0) (t next : Seat R) (steps : List Step) (notes : List Note)
       (batch : List Datagram) (how : Option End) (stop : Option ℕ) → HasFallenTogether Ends t steps batch how stop
       → AreNotesOf (parts_of steps batch) notes → Adds old new notes batch → new.ended ≡ how → next.number ≡ t.number
-      → Rests b stop t next → IsToldEnd how → Falls Ends old new next []
+      → Rests b stop t next → IsToldEnd how → EndsByFault Ends old new next []
   fell_together Ends t next steps notes batch how stop f tells adds ended number rests tellable =
       falls b old new Ends t next [] [] [] batch how stop
       (subst (λ (l : List Note). Adds old new l batch) (no_notes steps batch notes f.no_steps tells) adds)
@@ -211,7 +211,7 @@ group_left b alone r given life t steps batch how stop some up (inr f) = absurd 
 
 -- ---- what keeps all that holds
 
-kept_none : (m : Memory) (s : Side) → (k : ℕ) × (disk_of (stopped_on 0 0 m) s ≡ kept_by k (disk_of m s))
+kept_none : (m : Memory) (s : Side) → (k : ℕ) × (disk_of (stopped_on 0 0 m) s ≡ after_stop k (disk_of m s))
 kept_none m A = (0, refl)
 kept_none m B = (0, refl)
 

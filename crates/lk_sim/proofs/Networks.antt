@@ -1,7 +1,7 @@
 -- What holds of each world holds of each network of processes.
 use Rattle.std.proofs.Common.{◌≡◌, ℕ, Option, Some, None, List, [], ◌∷◌, ◌++◌, Contains, refl, ap, sym, ◌∙◌, subst}
 use Rattle.std.proofs.Common.{subst₂, inl, inr, append_assoc, append-nil, set, arith}
-use Rattle.lk_disk.specs.Disk.{Disk, kept_by}
+use Rattle.lk_disk.specs.Disk.{Disk, after_stop}
 use Rattle.lk_simulated_disk.specs.Memory.{Memory, disk_of}
 use Rattle.lk_disk.specs.declared.device.Side.{Side}
 use Rattle.lk_messages.specs.Grammar.{Spells}
@@ -143,7 +143,7 @@ module _ {R : Type 0} (Shows : R → Genesis → ℕ → Holding → Type 0) (di
     fit : SeatFits Shows disks m before (w.views a.seat.number) a.seat
     fit = w.seated a.turns.place a.seat a.turns.at
 
-    stopped_by : (was : Side → Disk) → ((s : Side) → (k : ℕ) × (disk_of a.left s ≡ kept_by k (was s)))
+    stopped_by : (was : Side → Disk) → ((s : Side) → (k : ℕ) × (disk_of a.left s ≡ after_stop k (was s)))
         → DisksFit m before a.seat.number was → AreShort was
         → SeatFits Shows disks m before (w.views a.seat.number) a.next
     stopped_by was kept f short = down_fits Shows disks m before (w.views a.seat.number) a.next a.left a.down

@@ -6,7 +6,8 @@ use Rattle.lk_replica.specs.Behaviours.{Behaviour}
 use Rattle.std.specs.Prelude.{Option, Result, Ok, Err, Vec, OnOk, IfErr, IsErrAnd}
 use Rattle.std.specs.Global.{Global}
 use Rattle.lk_node_io.specs.declared.note.Note.{Note}
-use Rattle.lk_sim.specs.Events.{IsGiven, IsGivenTogether, ComesUp, Brings, Does, Wants, IsRefused, IsNotInjected}
+use Rattle.lk_sim.specs.Events.{IsGiven, IsGivenTogether, ComesUp, HasEffect, IsExecuted, Wants, IsRefused}
+use Rattle.lk_sim.specs.Events.{IsNotInjected}
 use Rattle.lk_sim.specs.Events.{IsNotGrouped, Grows}
 use Rattle.lk_replica.specs.Together.{sent_of}
 use Rattle.lk_sim.specs.Groups.{given_by}
@@ -22,14 +23,14 @@ use Rattle.lk_world_nodes.specs.declared.seat.Seat.{Seat}
 use Rattle.lk_world_nodes.proofs.Tellings.{take_next}
 
 module _ {R : Type 0} (b : Behaviour R) where
-  passes_on : (es : List Event) (e : Event) (old mid new : Scene R) → Passes b es old mid → Does b mid e new
+  passes_on : (es : List Event) (e : Event) (old mid new : Scene R) → Passes b es old mid → IsExecuted b mid e new
       → Passes b (es ++ e ∷ []) old new
-  passes_on [] e old mid new p d = (new, subst (λ z. Does b z e new) p d, refl)
+  passes_on [] e old mid new p d = (new, subst (λ z. IsExecuted b z e new) p d, refl)
   passes_on (x ∷ es) e old mid new p d = (p.0, p.1, passes_on es e p.0 mid new p.2 d)
 
   -- one event more
   pub passes_next : (es : List Event) (i : ℕ) (e : Event) (old mid new : Scene R) → slice_get es i ≡ Some e
-      → Passes b (take i es) old mid → Does b mid e new → Passes b (take (suc i) es) old new
+      → Passes b (take i es) old mid → IsExecuted b mid e new → Passes b (take (suc i) es) old new
   passes_next es i e old mid new at p d =
       subst (λ l. Passes b l old new) (sym (take_next es i e at)) (passes_on (take i es) e old mid new p d)
 
@@ -94,7 +95,7 @@ module _ {R : Type 0} (b : Behaviour R) where
         | inr (inr f) ↦ ([], f.adds.sent)
       ]
 
-  brings_grows : (old new : Scene R) (e : Event) → Brings b old e new → Grows old new
+  brings_grows : (old new : Scene R) (e : Event) → HasEffect b old e new → Grows old new
   brings_grows old new (event.Start n) k = come_grows old new k.seat empty k.comes
   brings_grows old new (event.Restart n) k = come_grows old new k.next k.device k.comes
   brings_grows old new (event.Tick n) k = given_grows old new n None [] k
@@ -108,7 +109,7 @@ module _ {R : Type 0} (b : Behaviour R) where
   brings_grows old new (event.FailAt n count) k = ([], k.adds.sent)
   brings_grows old new (event.Arm n count bytes) k = ([], k.adds.sent)
 
-  pub done_grows : (old new : Scene R) (e : Event) → Does b old e new → Grows old new
+  pub done_grows : (old new : Scene R) (e : Event) → IsExecuted b old e new → Grows old new
   done_grows old new e k = brings_grows old new e k.1
 
   wants_grow : (old new : Scene R) (e : Event) → Wants b old e new → Grows old new

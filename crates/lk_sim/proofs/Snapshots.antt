@@ -10,7 +10,7 @@ use Rattle.lk_node.specs.Leavings.{header_of, StandsAs}
 use Rattle.lk_node.specs.Served.{text}
 use Rattle.lk_replica.specs.Behaviours.{Behaviour, disks_by}
 use Rattle.lk_recovery.specs.Compacting.{AllStandAt}
-use Rattle.lk_sim.specs.Events.{Does, IsCompacted, GoesOnCompacted}
+use Rattle.lk_sim.specs.Events.{IsExecuted, IsCompacted, GoesOnCompacted}
 use Rattle.lk_world_nodes.specs.Seats.{disks_of, At}
 use Rattle.lk_sim.specs.Packed.{StandsPacked, LeavesPacked}
 use Rattle.lk_sim.specs.Scenes.{Scene}
@@ -61,7 +61,7 @@ module _ {R : Type 0} (b : Behaviour R) (Shows : R → Genesis → ℕ → Holdi
 
   -- an event that is done leaves such disks where a node compacted
   pub leaves_packed : (old new : Scene R) → Holds Shows (disks_by b) m old.genesis old.seats old.sent old.trace
-      → (e : Event) → Does b old e new → LeavesPacked whole (disks_by b) m e new
+      → (e : Event) → IsExecuted b old e new → LeavesPacked whole (disks_by b) m e new
   leaves_packed old new w (event.Start n) k = tt
   leaves_packed old new w (event.Restart n) k = tt
   leaves_packed old new w (event.Tick n) k = tt

@@ -5,7 +5,7 @@ use Rattle.lk_disk.specs.Disk.{Disk}
 use Rattle.lk_simulated_disk.specs.Memory.{Memory, disk_of}
 use Rattle.lk_disk.specs.declared.device.Side.{Side}
 use Rattle.lk_state.specs.Meanings.{Meaning}
-use Rattle.lk_entries.specs.declared.stored.Stored.TheVariants.{Base}
+use Rattle.lk_store_format.specs.declared.stored.Stored.TheVariants.{Base}
 use Rattle.lk_log.specs.Stores.{first_base}
 use Rattle.lk_log.proofs.StoreLaws.{empty_image, first_stands}
 use Rattle.lk_agreement.specs.Datagrams.{NodeMessage, HasSent}

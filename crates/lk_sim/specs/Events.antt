@@ -7,7 +7,7 @@ use Rattle.lk_simulated_disk.specs.Memory.{Memory, empty}
 use Rattle.lk_disk.specs.Meters.{Passes, stopping}
 use Rattle.lk_disk.specs.declared.trap.Trap.{Trap}
 use Rattle.lk_disk.specs.declared.trap.Trap.TheVariants.{Fail, Arm}
-use Rattle.lk_entries.specs.Values.{HeaderValue}
+use Rattle.lk_store_format.specs.Values.{HeaderValue}
 use Rattle.lk_log.specs.Causes.{rebase_calls}
 use Rattle.lk_messages.specs.Grammar.{Spells}
 use Rattle.lk_messages.specs.declared.message.Content.TheVariants as content
@@ -19,7 +19,8 @@ use Rattle.lk_node.specs.Leavings.{header_of}
 use Rattle.lk_node.specs.Served.{IsOfNode}
 use Rattle.lk_replica.specs.Behaviours.{Behaviour}
 use Rattle.lk_replica.specs.Together.{Said, sent_of}
-use Rattle.lk_world_nodes.specs.Ends.{Breaks, BreaksTogether, StaysDown, FailsToCompact, IsNoWant, IsWant, IsToldEnd}
+use Rattle.lk_world_nodes.specs.Ends.{Breaks, BreaksTogether, StaysDown, FailsToCompact, IsOtherFault, IsOutOfMemory}
+use Rattle.lk_world_nodes.specs.Ends.{IsToldEnd}
 use Rattle.lk_world_nodes.specs.Ends.{end_by}
 use Rattle.lk_world_nodes.specs.Seats.{At, stopped_on, rested_on, IsTrapped}
 use Rattle.lk_world_nodes.specs.Sends.{stop_among, after_sends, cut_short}
@@ -32,7 +33,7 @@ use Rattle.lk_world_nodes.specs.declared.seat.Life.{Life}
 use Rattle.lk_world_nodes.specs.declared.seat.Life.TheVariants.{Up, Down}
 use Rattle.lk_sim.specs.Groups.{AreNotesOf, given_by}
 use Rattle.lk_sim.specs.Heard.{Asks}
-use Rattle.lk_sim.specs.Refusals.{datagram_at, May, MayGroup, MayInject, MayNot, NoGroup, NoInjection}
+use Rattle.lk_sim.specs.Refusals.{datagram_at, IsPermitted, MayGroup, MayInject, IsRejectedFor, NoGroup, NoInjection}
 use Rattle.lk_sim.specs.Scenes.{Scene}
 use Rattle.lk_sim.specs.Traces.{asked_note}
 use Rattle.lk_sim.specs.declared.event.Event.{Event}
@@ -58,12 +59,12 @@ pub record Adds {R : Type 0} (old new : Scene R) (notes : List Note) (batch : Li
 
 -- a fault of that kind, or an armed stop at a call of the device, ended the node, which is down: it noted and sent
 -- nothing
-pub record Falls {R : Type 0} (Ends : ℕ → Memory → Type 0) (old new : Scene R) (t : Seat R)
+pub record EndsByFault {R : Type 0} (Ends : ℕ → Memory → Type 0) (old new : Scene R) (t : Seat R)
     (asked : List Note) : Type 0 where
   pub number : ℕ
   pub left : Memory
   pub ends : Ends number left
-  pub no_want : IsNoWant number left
+  pub no_want : IsOtherFault number left
   pub down : t.life ≡ Down (rested_on (stopping left.meter) left)
   pub ended : new.ended ≡ Some (end_by (stopping left.meter) t.number number)
   pub told : IsToldEnd new.ended
@@ -111,7 +112,7 @@ pub record StopsSending {R : Type 0} (b : Behaviour R) (old new : Scene R) (r : 
 -- the result of a tick (`None`) or of these bytes: the node goes on, or stops at a send, or a fault ends it
 abbrev pub Comes : {R : Type 0} → Behaviour R → Scene R → Scene R → R → Seat R → Option (List ℕ) → List Note → Type 0
 Comes b old new r t o asked =
-    GoesOn b old new r t o asked ⊎ StopsSending b old new r t o asked ⊎ Falls (Breaks b r o) old new t asked
+    GoesOn b old new r t o asked ⊎ StopsSending b old new r t o asked ⊎ EndsByFault (Breaks b r o) old new t asked
 
 -- the node of this number took a tick or these bytes
 pub record IsGiven {R : Type 0} (b : Behaviour R) (old new : Scene R) (n : ℕ) (o : Option (List ℕ))
@@ -178,7 +179,7 @@ pub record StopsTogether {R : Type 0} (b : Behaviour R) (old new : Scene R) (r :
 abbrev pub ComesTogether : {R : Type 0} → Behaviour R → Scene R → Scene R → R → Seat R → List (Option (List ℕ)) → Type 0
 ComesTogether b old new r t given =
     GoesOnTogether b old new r t given ⊎ StopsTogether b old new r t given
-    ⊎ Falls (BreaksTogether b r given) old new t []
+    ⊎ EndsByFault (BreaksTogether b r given) old new t []
 
 -- the node of this number took these together
 pub record IsGivenTogether {R : Type 0} (b : Behaviour R) (old new : Scene R) (n : ℕ)
@@ -224,7 +225,7 @@ pub record IsRevived {R : Type 0} (b : Behaviour R) (old new : Scene R) (t : Sea
 -- the result of a restart: the node is up, or a fault has left it down
 abbrev pub ComesUp : {R : Type 0} → Behaviour R → Scene R → Scene R → Seat R → Memory → Type 0
 ComesUp b old new t device =
-    IsRevived b old new t device ⊎ Falls (StaysDown b device (header_of old.genesis t.number)) old new t []
+    IsRevived b old new t device ⊎ EndsByFault (StaysDown b device (header_of old.genesis t.number)) old new t []
 
 -- a node was added, and started with empty disks
 pub record IsBegun {R : Type 0} (b : Behaviour R) (old new : Scene R) (n : ℕ) : Type 0 where
@@ -263,7 +264,7 @@ pub record IsCompacted {R : Type 0} (b : Behaviour R) (old new : Scene R) (n : �
   pub up : seat.life ≡ Up replica
   pub next : Seat R
   pub turns : Turns old.seats new.seats seat next
-  pub comes_to : GoesOnCompacted b old new replica next ⊎ Falls (FailsToCompact b replica) old new next []
+  pub comes_to : GoesOnCompacted b old new replica next ⊎ EndsByFault (FailsToCompact b replica) old new next []
 
 -- ---- a node goes down, or its device will fail
 
@@ -292,29 +293,29 @@ pub record HasTrap {R : Type 0} (b : Behaviour R) (old new : Scene R) (n : ℕ) 
 -- ---- an event
 
 -- the result of each event
-abbrev pub Brings : {R : Type 0} → Behaviour R → Scene R → Event → Scene R → Type 0
-Brings b old (event.Start n) new = IsBegun b old new n
-Brings b old (event.Restart n) new = IsBack b old new n
-Brings b old (event.Tick n) new = IsGiven b old new n None []
-Brings b old (event.Compact n) new = IsCompacted b old new n
-Brings b old (event.Client n r) new = IsAsked old new n r
-Brings b old (event.Deliver k) new = IsDelivered b old new k
-Brings b old (event.Group n turns) new = IsGivenTogether b old new n (map (given_by old.sent) turns.items)
-Brings b old (event.Inject n bytes) new = IsInjected b old new n bytes.items
-Brings b old (event.Stop n x y) new = GoesDown b old new n x y
-Brings b old (event.FailAt n count) new = HasTrap b old new n (Fail count)
-Brings b old (event.Arm n count bytes) new = HasTrap b old new n (Arm count bytes)
+abbrev pub HasEffect : {R : Type 0} → Behaviour R → Scene R → Event → Scene R → Type 0
+HasEffect b old (event.Start n) new = IsBegun b old new n
+HasEffect b old (event.Restart n) new = IsBack b old new n
+HasEffect b old (event.Tick n) new = IsGiven b old new n None []
+HasEffect b old (event.Compact n) new = IsCompacted b old new n
+HasEffect b old (event.Client n r) new = IsAsked old new n r
+HasEffect b old (event.Deliver k) new = IsDelivered b old new k
+HasEffect b old (event.Group n turns) new = IsGivenTogether b old new n (map (given_by old.sent) turns.items)
+HasEffect b old (event.Inject n bytes) new = IsInjected b old new n bytes.items
+HasEffect b old (event.Stop n x y) new = GoesDown b old new n x y
+HasEffect b old (event.FailAt n count) new = HasTrap b old new n (Fail count)
+HasEffect b old (event.Arm n count bytes) new = HasTrap b old new n (Arm count bytes)
 
 -- the event is permitted, and has its result
-abbrev pub Does : {R : Type 0} → Behaviour R → Scene R → Event → Scene R → Type 0
-Does b old e new = May old e × Brings b old e new
+abbrev pub IsExecuted : {R : Type 0} → Behaviour R → Scene R → Event → Scene R → Type 0
+IsExecuted b old e new = IsPermitted old e × HasEffect b old e new
 
 -- ---- what running out of memory leaves
 
 -- the result of a call takes memory: the call ran out of memory, or there is something to note or send
 abbrev pub TakesMemory : Result (List Note × List Datagram) ℕ → Memory → Type 0
 TakesMemory (Ok told) left = told.0 ≡ [] → told.1 ≡ [] → ⊥
-TakesMemory (Err number) left = IsWant number left
+TakesMemory (Err number) left = IsOutOfMemory number left
 
 -- such a call of the replica left this device
 abbrev pub LeftBy : {R : Type 0} → Behaviour R → Option (List ℕ) → Life R → Memory → Type 0
@@ -325,7 +326,7 @@ LeftBy {R = R} b o life left =
 -- what a group came to takes memory: it was refused when out of memory, or there is what a step noted or sent
 abbrev pub TakesMemoryTogether : Result (List Said) ℕ → Memory → Type 0
 TakesMemoryTogether (Ok said) left = said ≡ [] → ⊥
-TakesMemoryTogether (Err number) left = IsWant number left
+TakesMemoryTogether (Err number) left = IsOutOfMemory number left
 
 -- such a call for a group left this device
 abbrev pub LeftByGroup : {R : Type 0} → Behaviour R → List (Option (List ℕ)) → Life R → Memory → Type 0
@@ -336,7 +337,7 @@ LeftByGroup {R = R} b given life left =
 -- this is the device of a restart whose result takes memory: it ran out of memory, or there is something to note
 abbrev pub IsOf : {R : Type 0} → Behaviour R → Result (R × List Note) (ℕ × Memory) → Memory → Type 0
 IsOf b (Ok came) left = (left ≡ b.memory came.0) × (came.1 ≡ [] → ⊥)
-IsOf b (Err came) left = (left ≡ came.1) × IsWant came.0 came.1
+IsOf b (Err came) left = (left ≡ came.1) × IsOutOfMemory came.0 came.1
 
 -- such a restart left this device
 abbrev pub LeftByRevival : {R : Type 0} → Behaviour R → HeaderValue → Life R → Memory → Type 0
@@ -353,7 +354,8 @@ StartWants b genesis n seats =
 -- a compaction that ran out of memory left this device
 abbrev pub LeftByCompacting : {R : Type 0} → Behaviour R → Life R → Memory → Type 0
 LeftByCompacting {R = R} b life left =
-    (r q : R) × (number : ℕ) × (life ≡ Up r) × b.Compacts r q (Err number) × (left ≡ b.memory q) × IsWant number left
+    (r q : R) × (number : ℕ) × (life ≡ Up r) × b.Compacts r q (Err number) × (left ≡ b.memory q)
+    × IsOutOfMemory number left
 
 -- the node has stopped, with none of the unsynced bytes of the disks that its call had left
 pub record IsHalted {R : Type 0} (Left : Life R → Memory → Type 0) (old new : Scene R) (n : ℕ) : Type 0 where
@@ -400,7 +402,8 @@ Wants b old (event.Arm n count bytes) new = ⊥
 
 -- what a rejected event leaves. Memory runs out only if nothing else rejects the event
 abbrev pub IsRefused : {R : Type 0} → Behaviour R → Scene R → Event → Refused → Scene R → Type 0
-IsRefused b old e r new = (MayNot old e r × (new ≡ old)) ⊎ ((r ≡ WorldMemory) × May old e × Wants b old e new)
+IsRefused b old e r new = (IsRejectedFor old e r × (new ≡ old)) ⊎ ((r ≡ WorldMemory) × IsPermitted old e
+    × Wants b old e new)
 
 -- what a rejected injection leaves
 abbrev pub IsNotInjected : {R : Type 0} → Behaviour R → Scene R → ℕ → List ℕ → Refused → Scene R → Type 0

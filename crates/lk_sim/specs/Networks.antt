@@ -1,7 +1,7 @@
 -- Processes of a network: nodes that take what arrives, start and stop, one step of one node after another, in any
 -- order.
 use Rattle.std.specs.Prelude.{◌≡◌, ◌⊎◌, ℕ, Option, Some, None, List, [], ◌∷◌, ◌++◌}
-use Rattle.lk_disk.specs.Disk.{Disk, kept_by}
+use Rattle.lk_disk.specs.Disk.{Disk, after_stop}
 use Rattle.lk_simulated_disk.specs.Memory.{Memory, disk_of}
 use Rattle.lk_disk.specs.declared.device.Side.{Side}
 use Rattle.lk_messages.specs.Grammar.{Spells}
@@ -168,8 +168,9 @@ pub record Stops {R : Type 0} (disks : R → Side → Disk) (old new : Scene R) 
   pub turns : Turns old.seats new.seats seat next
   pub left : Memory
   pub down : next.life ≡ Down left
-  pub was_up : (r : R) → seat.life ≡ Up r → (s : Side) → (k : ℕ) × (disk_of left s ≡ kept_by k (disks r s))
-  pub was_down : (d : Memory) → seat.life ≡ Down d → (s : Side) → (k : ℕ) × (disk_of left s ≡ kept_by k (disk_of d s))
+  pub was_up : (r : R) → seat.life ≡ Up r → (s : Side) → (k : ℕ) × (disk_of left s ≡ after_stop k (disks r s))
+  pub was_down : (d : Memory) → seat.life ≡ Down d → (s : Side)
+      → (k : ℕ) × (disk_of left s ≡ after_stop k (disk_of d s))
   pub adds : Adds old new [] []
 
 abbrev pub Steps : {R : Type 0} → (R → Genesis → ℕ → Holding → Type 0) → (R → Side → Disk) → Meaning

@@ -91,18 +91,18 @@ NoGroup seats sent n turns WorldFull = IsUp seats n × AreFor sent n turns × Is
 NoGroup seats sent n turns _ = ⊥
 
 -- the event is rejected for this reason, and not because memory ran out
-abbrev pub MayNot : {R : Type 0} → Scene R → Event → Refused → Type 0
-MayNot w (event.Start n) e = NoStart w.seats n e
-MayNot w (event.Restart n) e = NoRestart w.seats n e
-MayNot w (event.Tick n) e = NoTurn w.seats w.sent n e
-MayNot w (event.Compact n) e = NoneUp w.seats n e
-MayNot w (event.Client n r) e = NoClient w.seats w.sent n e
-MayNot w (event.Deliver k) e = NoDelivery w.seats w.sent (datagram_at w.sent k) e
-MayNot w (event.Group n turns) e = NoGroup w.seats w.sent n turns.items e
-MayNot w (event.Inject n bytes) e = NoInjection w.seats w.sent n bytes.items e
-MayNot w (event.Stop n x y) e = NoneUp w.seats n e
-MayNot w (event.FailAt n count) e = NotStarted w.seats n e
-MayNot w (event.Arm n count bytes) e = NotStarted w.seats n e
+abbrev pub IsRejectedFor : {R : Type 0} → Scene R → Event → Refused → Type 0
+IsRejectedFor w (event.Start n) e = NoStart w.seats n e
+IsRejectedFor w (event.Restart n) e = NoRestart w.seats n e
+IsRejectedFor w (event.Tick n) e = NoTurn w.seats w.sent n e
+IsRejectedFor w (event.Compact n) e = NoneUp w.seats n e
+IsRejectedFor w (event.Client n r) e = NoClient w.seats w.sent n e
+IsRejectedFor w (event.Deliver k) e = NoDelivery w.seats w.sent (datagram_at w.sent k) e
+IsRejectedFor w (event.Group n turns) e = NoGroup w.seats w.sent n turns.items e
+IsRejectedFor w (event.Inject n bytes) e = NoInjection w.seats w.sent n bytes.items e
+IsRejectedFor w (event.Stop n x y) e = NoneUp w.seats n e
+IsRejectedFor w (event.FailAt n count) e = NotStarted w.seats n e
+IsRejectedFor w (event.Arm n count bytes) e = NotStarted w.seats n e
 
 -- ---- what is not rejected for it
 
@@ -123,15 +123,15 @@ abbrev pub MayInject : {R : Type 0} → Scene R → ℕ → List ℕ → Type 0
 MayInject w n bytes = MayTurn w n × (IsForged bytes → ⊥)
 
 -- the event is rejected for no reason but running out of memory
-abbrev pub May : {R : Type 0} → Scene R → Event → Type 0
-May w (event.Start n) = HasNo w.seats n × (length w.seats < 16)
-May w (event.Restart n) = IsDown w.seats n
-May w (event.Tick n) = MayTurn w n
-May w (event.Compact n) = IsUp w.seats n
-May w (event.Client n r) = IsStarted w.seats n × HasRoom w.sent
-May w (event.Deliver k) = MayDeliver w k
-May w (event.Group n turns) = MayGroup w n turns.items
-May w (event.Inject n bytes) = MayInject w n bytes.items
-May w (event.Stop n x y) = IsUp w.seats n
-May w (event.FailAt n count) = IsStarted w.seats n
-May w (event.Arm n count bytes) = IsStarted w.seats n
+abbrev pub IsPermitted : {R : Type 0} → Scene R → Event → Type 0
+IsPermitted w (event.Start n) = HasNo w.seats n × (length w.seats < 16)
+IsPermitted w (event.Restart n) = IsDown w.seats n
+IsPermitted w (event.Tick n) = MayTurn w n
+IsPermitted w (event.Compact n) = IsUp w.seats n
+IsPermitted w (event.Client n r) = IsStarted w.seats n × HasRoom w.sent
+IsPermitted w (event.Deliver k) = MayDeliver w k
+IsPermitted w (event.Group n turns) = MayGroup w n turns.items
+IsPermitted w (event.Inject n bytes) = MayInject w n bytes.items
+IsPermitted w (event.Stop n x y) = IsUp w.seats n
+IsPermitted w (event.FailAt n count) = IsStarted w.seats n
+IsPermitted w (event.Arm n count bytes) = IsStarted w.seats n

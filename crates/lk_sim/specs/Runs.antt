@@ -1,7 +1,7 @@
 -- What a run of events does: some events in order, up to the first that is rejected.
 use Rattle.std.specs.Prelude.{◌≡◌, ℕ, List, [], ◌∷◌, length, take, slice_get, Option, Some, None}
 use Rattle.lk_replica.specs.Behaviours.{Behaviour}
-use Rattle.lk_sim.specs.Events.{Does, IsRefused}
+use Rattle.lk_sim.specs.Events.{IsExecuted, IsRefused}
 use Rattle.lk_sim.specs.Scenes.{Scene}
 use Rattle.lk_sim.specs.declared.end.RunEnd.{RunEnd}
 use Rattle.lk_sim.specs.declared.event.Event.{Event}
@@ -10,7 +10,7 @@ use Rattle.lk_world_nodes.specs.declared.refused.Refused.{Refused}
 -- the events are done, one after another
 abbrev pub Passes : {R : Type 0} → Behaviour R → List Event → Scene R → Scene R → Type 0
 Passes b [] old new = new ≡ old
-Passes {R = R} b (e ∷ es) old new = (mid : Scene R) × Does b old e mid × Passes b es mid new
+Passes {R = R} b (e ∷ es) old new = (mid : Scene R) × IsExecuted b old e mid × Passes b es mid new
 
 -- all events were done, or the next one was rejected
 abbrev pub StopsAt : {R : Type 0} → Behaviour R → List Event → ℕ → Option Refused → Scene R → Scene R → Type 0

@@ -3,7 +3,7 @@ ghost use Rattle.std.specs.Prelude.{◌≡◌, ◌++◌, [], ◌∷◌, IfOk, If
 ghost use Rattle.lk_messages.specs.Grammar.{Spells};
 ghost use Rattle.lk_messages.specs.declared.message.Content.TheVariants as content;
 ghost use Rattle.lk_replica.specs.Behaviours.{disks_by};
-ghost use Rattle.lk_sim.specs.Events.{Does, IsAsked, IsRefused};
+ghost use Rattle.lk_sim.specs.Events.{IsExecuted, IsAsked, IsRefused};
 ghost use Rattle.lk_sim.specs.Worlds.{PartsHold, scene_of};
 ghost use Rattle.lk_sim.specs.declared.event.Event.TheVariants as event;
 
@@ -81,7 +81,7 @@ pub fn client<R: MemoryReplica>(
     requires { PartsHold R.Shows (disks_by R.behaves) R.meaning parts.old }
     ensures holds { PartsHold R.Shows (disks_by R.behaves) R.meaning parts.new }
     ensures ok { OnOk result
-        (Does R.behaves (scene_of parts.old) (event.Client number request.now) (scene_of parts.new)) }
+        (IsExecuted R.behaves (scene_of parts.old) (event.Client number request.now) (scene_of parts.new)) }
     ensures err { IfErr result
         (λ e. IsRefused R.behaves (scene_of parts.old) (event.Client number request.now) e (scene_of parts.new)) }
 {

@@ -2,7 +2,7 @@
 ghost use Rattle.std.specs.Prelude.{ℕ, IfErr, OnOk, OnErr};
 ghost use Rattle.lk_replica.specs.Behaviours.{disks_by};
 ghost use Rattle.lk_world_nodes.specs.Seats.{IsUpAt};
-ghost use Rattle.lk_sim.specs.Events.{Does, IsCompacted, IsHalted, IsRefused, LeftByCompacting};
+ghost use Rattle.lk_sim.specs.Events.{IsExecuted, IsCompacted, IsHalted, IsRefused, LeftByCompacting};
 ghost use Rattle.lk_sim.specs.Worlds.{PartsHold, scene_of};
 ghost use Rattle.lk_sim.specs.declared.event.Event.TheVariants as event;
 
@@ -31,7 +31,7 @@ fn compact_at<R: MemoryReplica>(parts: &mut WorldParts<R>, i: usize) -> Result<(
 pub fn compact<R: MemoryReplica>(parts: &mut WorldParts<R>, number: NodeNo) -> Result<(), Refused>
     requires { PartsHold R.Shows (disks_by R.behaves) R.meaning parts.old }
     ensures holds { PartsHold R.Shows (disks_by R.behaves) R.meaning parts.new }
-    ensures ok { OnOk result (Does R.behaves (scene_of parts.old) (event.Compact number) (scene_of parts.new)) }
+    ensures ok { OnOk result (IsExecuted R.behaves (scene_of parts.old) (event.Compact number) (scene_of parts.new)) }
     ensures err { IfErr result
         (λ e. IsRefused R.behaves (scene_of parts.old) (event.Compact number) e (scene_of parts.new)) }
 {

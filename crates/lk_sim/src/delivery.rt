@@ -6,7 +6,7 @@ ghost use Rattle.lk_wire.specs.Shown.{shown_content};
 ghost use Rattle.lk_messages.specs.declared.message.Content.TheVariants as content;
 ghost use Rattle.lk_node.specs.Histories.{RequestValue};
 ghost use Rattle.lk_replica.specs.Behaviours.{disks_by};
-ghost use Rattle.lk_sim.specs.Events.{Does, IsInjected, IsNotInjected, IsRefused};
+ghost use Rattle.lk_sim.specs.Events.{IsExecuted, IsInjected, IsNotInjected, IsRefused};
 ghost use Rattle.lk_sim.specs.Heard.{Asks, IsForged};
 ghost use Rattle.lk_sim.specs.Refusals.{datagram_at, HasRoom, NoTurn, NoDelivery, MayInject};
 ghost use Rattle.lk_sim.specs.Rooms.{HasNoteRoom};
@@ -40,7 +40,7 @@ fn find_ready<R: MemoryReplica>(parts: &WorldParts<R>, number: NodeNo) -> Result
 pub fn tick<R: MemoryReplica>(parts: &mut WorldParts<R>, number: NodeNo) -> Result<(), Refused>
     requires { PartsHold R.Shows (disks_by R.behaves) R.meaning parts.old }
     ensures holds { PartsHold R.Shows (disks_by R.behaves) R.meaning parts.new }
-    ensures ok { OnOk result (Does R.behaves (scene_of parts.old) (event.Tick number) (scene_of parts.new)) }
+    ensures ok { OnOk result (IsExecuted R.behaves (scene_of parts.old) (event.Tick number) (scene_of parts.new)) }
     ensures err { IfErr result
         (λ e. IsRefused R.behaves (scene_of parts.old) (event.Tick number) e (scene_of parts.new)) }
 {
@@ -83,7 +83,7 @@ fn bytes_of<R: MemoryReplica>(parts: &WorldParts<R>, k: usize) -> Result<Vec<u8>
 pub fn deliver<R: MemoryReplica>(parts: &mut WorldParts<R>, k: usize) -> Result<(), Refused>
     requires { PartsHold R.Shows (disks_by R.behaves) R.meaning parts.old }
     ensures holds { PartsHold R.Shows (disks_by R.behaves) R.meaning parts.new }
-    ensures ok { OnOk result (Does R.behaves (scene_of parts.old) (event.Deliver k) (scene_of parts.new)) }
+    ensures ok { OnOk result (IsExecuted R.behaves (scene_of parts.old) (event.Deliver k) (scene_of parts.new)) }
     ensures err { IfErr result
         (λ e. IsRefused R.behaves (scene_of parts.old) (event.Deliver k) e (scene_of parts.new)) }
 {

@@ -1,7 +1,7 @@
 // Dispatches each event to the function that executes it.
 ghost use Rattle.std.specs.Prelude.{OnOk, IfErr};
 ghost use Rattle.lk_replica.specs.Behaviours.{disks_by};
-ghost use Rattle.lk_sim.specs.Events.{Does, IsRefused};
+ghost use Rattle.lk_sim.specs.Events.{IsExecuted, IsRefused};
 ghost use Rattle.lk_sim.specs.Runs.{Runs};
 ghost use Rattle.lk_sim.specs.Worlds.{PartsHold, scene_of};
 
@@ -20,7 +20,7 @@ use lk_world_nodes::Refused;
 pub fn happen<R: MemoryReplica>(parts: &mut WorldParts<R>, event: &Event) -> Result<(), Refused>
     requires { PartsHold R.Shows (disks_by R.behaves) R.meaning parts.old }
     ensures holds { PartsHold R.Shows (disks_by R.behaves) R.meaning parts.new }
-    ensures ok { OnOk result (Does R.behaves (scene_of parts.old) event.now (scene_of parts.new)) }
+    ensures ok { OnOk result (IsExecuted R.behaves (scene_of parts.old) event.now (scene_of parts.new)) }
     ensures err { IfErr result (λ e. IsRefused R.behaves (scene_of parts.old) event.now e (scene_of parts.new)) }
 {
     match event {

@@ -1,7 +1,7 @@
 // Events that start, restart or stop a node, or set a trap at its device.
 ghost use Rattle.std.specs.Prelude.{◌≡◌, IfErr, OnOk, OnErr};
 ghost use Rattle.lk_replica.specs.Behaviours.{disks_by};
-ghost use Rattle.lk_sim.specs.Events.{Does, IsBegun, IsRefused, StartWants};
+ghost use Rattle.lk_sim.specs.Events.{IsExecuted, IsBegun, IsRefused, StartWants};
 ghost use Rattle.lk_world_nodes.specs.Seats.{HasNo};
 ghost use Rattle.lk_sim.specs.Worlds.{PartsHold, scene_of};
 ghost use Rattle.lk_sim.specs.declared.event.Event.TheVariants as event;
@@ -46,7 +46,7 @@ fn begin<R: MemoryReplica>(parts: &mut WorldParts<R>, number: NodeNo) -> Result<
 pub fn start<R: MemoryReplica>(parts: &mut WorldParts<R>, number: NodeNo) -> Result<(), Refused>
     requires { PartsHold R.Shows (disks_by R.behaves) R.meaning parts.old }
     ensures holds { PartsHold R.Shows (disks_by R.behaves) R.meaning parts.new }
-    ensures ok { OnOk result (Does R.behaves (scene_of parts.old) (event.Start number) (scene_of parts.new)) }
+    ensures ok { OnOk result (IsExecuted R.behaves (scene_of parts.old) (event.Start number) (scene_of parts.new)) }
     ensures err { IfErr result
         (λ e. IsRefused R.behaves (scene_of parts.old) (event.Start number) e (scene_of parts.new)) }
     ensures wants { IfErr result
@@ -66,7 +66,7 @@ pub fn start<R: MemoryReplica>(parts: &mut WorldParts<R>, number: NodeNo) -> Res
 pub fn restart<R: MemoryReplica>(parts: &mut WorldParts<R>, number: NodeNo) -> Result<(), Refused>
     requires { PartsHold R.Shows (disks_by R.behaves) R.meaning parts.old }
     ensures holds { PartsHold R.Shows (disks_by R.behaves) R.meaning parts.new }
-    ensures ok { OnOk result (Does R.behaves (scene_of parts.old) (event.Restart number) (scene_of parts.new)) }
+    ensures ok { OnOk result (IsExecuted R.behaves (scene_of parts.old) (event.Restart number) (scene_of parts.new)) }
     ensures err { IfErr result
         (λ e. IsRefused R.behaves (scene_of parts.old) (event.Restart number) e (scene_of parts.new)) }
 {
@@ -84,7 +84,7 @@ pub fn halt<R: MemoryReplica>(
 ) -> Result<(), Refused>
     requires { PartsHold R.Shows (disks_by R.behaves) R.meaning parts.old }
     ensures holds { PartsHold R.Shows (disks_by R.behaves) R.meaning parts.new }
-    ensures ok { OnOk result (Does R.behaves (scene_of parts.old) (event.Stop number x y) (scene_of parts.new)) }
+    ensures ok { OnOk result (IsExecuted R.behaves (scene_of parts.old) (event.Stop number x y) (scene_of parts.new)) }
     ensures err { IfErr result
         (λ e. IsRefused R.behaves (scene_of parts.old) (event.Stop number x y) e (scene_of parts.new)) }
 {
@@ -102,7 +102,8 @@ pub fn fail_at<R: MemoryReplica>(
 ) -> Result<(), Refused>
     requires { PartsHold R.Shows (disks_by R.behaves) R.meaning parts.old }
     ensures holds { PartsHold R.Shows (disks_by R.behaves) R.meaning parts.new }
-    ensures ok { OnOk result (Does R.behaves (scene_of parts.old) (event.FailAt number count) (scene_of parts.new)) }
+    ensures ok { OnOk result (IsExecuted R.behaves (scene_of parts.old) (event.FailAt number count)
+        (scene_of parts.new)) }
     ensures err { IfErr result
         (λ e. IsRefused R.behaves (scene_of parts.old) (event.FailAt number count) e (scene_of parts.new)) }
 {
@@ -121,7 +122,8 @@ pub fn arm<R: MemoryReplica>(
 ) -> Result<(), Refused>
     requires { PartsHold R.Shows (disks_by R.behaves) R.meaning parts.old }
     ensures holds { PartsHold R.Shows (disks_by R.behaves) R.meaning parts.new }
-    ensures ok { OnOk result (Does R.behaves (scene_of parts.old) (event.Arm number count bytes) (scene_of parts.new)) }
+    ensures ok { OnOk result (IsExecuted R.behaves (scene_of parts.old) (event.Arm number count bytes)
+        (scene_of parts.new)) }
     ensures err { IfErr result
         (λ e. IsRefused R.behaves (scene_of parts.old) (event.Arm number count bytes) e (scene_of parts.new)) }
 {

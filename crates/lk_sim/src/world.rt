@@ -33,7 +33,7 @@ impl<R: MemoryReplica> World<R> {
     ghost use Rattle.std.specs.Prelude.{◌≡◌, ℕ, [], length, map, None, IfSome, IfOk, OnOk, IfErr};
     ghost use Rattle.lk_replica.specs.Behaviours.{disks_by};
     ghost use Rattle.lk_world_nodes.specs.Ends.{IsToldEnd};
-    ghost use Rattle.lk_sim.specs.Events.{Does, IsRefused, Grows};
+    ghost use Rattle.lk_sim.specs.Events.{IsExecuted, IsRefused, Grows};
     ghost use Rattle.lk_disk.specs.Disk.{contents};
     ghost use Rattle.lk_disk.specs.declared.device.Side.TheVariants.{A, B};
     ghost use Rattle.lk_world_nodes.specs.Seats.{disks_of, At, HasNo};
@@ -65,7 +65,7 @@ impl<R: MemoryReplica> World<R> {
     /// A rejected event changes nothing, except that under `WorldMemory` a node that was stepping, compacting or
     /// restarting may have stopped.
     pub fn apply(&mut self, event: Event) -> Result<(), Refused>
-        ensures does { OnOk result (Does R.behaves self.old event self.new) }
+        ensures does { OnOk result (IsExecuted R.behaves self.old event self.new) }
         ensures refused { IfErr result (λ e. IsRefused R.behaves self.old event e self.new) }
         ensures grows { Grows self.old self.new }
         ensures promised { Promises R.behaves R.whole R.meaning self.new }

@@ -3,7 +3,7 @@ use Rattle.std.proofs.Common.{◌≡◌, ℕ, ◌+◌, ◌-◌, ◌≤◌, min, 
 use Rattle.std.proofs.Common.{append_assoc, length-drop, Option, Some, None}
 use Rattle.std.proofs.Math.Seq.{take-add, take-append-add, take-length}
 use Rattle.std.proofs.lemmas.List.{take_min, take_all, drop_all, append-nil, take-append-drop, length-take-le}
-use Rattle.lk_disk.specs.Disk.{Disk, MayLeave, AppendsSome, CutShort, contents, appended, kept_by}
+use Rattle.lk_disk.specs.Disk.{Disk, MayLeave, AppendsSome, CutShort, contents, appended, after_stop}
 use Rattle.lk_disk.specs.Files.{left_of}
 use Rattle.lk_disk.proofs.Devices.{cut_length}
 use Rattle.lk_simulated_disk.specs.Memory.{cut_within}
@@ -17,7 +17,11 @@ keep_front n s b =
 
 -- the file that is cut there, all of it synced
 pub kept_front : (n s m : ℕ) (b l : List ℕ) → l ≡ take (s + min n (length b - s)) b → m ≡ length l
-    → record { synced = take m l; unsynced = drop m l } ≡ kept_by n (record { synced = take s b; unsynced = drop s b })
+    → record { synced = take m l; unsynced = drop m l } ≡ after_stop n (record {
+      synced = take s b;
+      unsynced =
+          drop s b;
+    })
 kept_front n s m b l cut size =
     (λ i. record {
       synced = (take_all m l (omega arith) ∙ cut ∙ keep_front n s b) i;
@@ -25,12 +29,12 @@ kept_front n s m b l cut size =
     })
 
 -- what a stop keeps is what a stop may leave
-pub keeps_image : (n : ℕ) (d : Disk) → MayLeave d (contents (kept_by n d))
+pub keeps_image : (n : ℕ) (d : Disk) → MayLeave d (contents (after_stop n d))
 keeps_image n d = (n, append-nil (d.synced ++ take n d.unsynced))
 
 -- also of a file that was shortened, whose synced bytes after that place need not be left
 pub keeps_image_of : (n : ℕ) (shown : Option ℕ) (d : Disk)
-    → MayLeave (left_of (file_showing shown d)) (contents (kept_by n d))
+    → MayLeave (left_of (file_showing shown d)) (contents (after_stop n d))
 keeps_image_of n None d = keeps_image n d
 keeps_image_of n (Some k) d = (
   length (drop k d.synced) + n,

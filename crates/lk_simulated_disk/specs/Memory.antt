@@ -1,7 +1,7 @@
 -- What a contract sees of a device in memory.
 use Rattle.std.specs.Prelude.{ℕ, min, max, length, []}
-use Rattle.lk_disk.specs.Disk.{Disk, contents, cut_to, kept_by, one_more}
-use Rattle.lk_disk.specs.Meters.{fresh, called, starving, asked, eased}
+use Rattle.lk_disk.specs.Disk.{Disk, contents, cut_to, after_stop, one_more}
+use Rattle.lk_disk.specs.Meters.{fresh, called, starving, asked, disarmed}
 use Rattle.lk_disk.specs.declared.device.Side.{Side}
 use Rattle.lk_disk.specs.declared.device.Side.TheVariants.{A, B}
 use Rattle.lk_disk.specs.declared.meter.Meter.{Meter}
@@ -36,8 +36,8 @@ abbrev pub counted : Memory → Memory
 counted m = record m { meter = called m.meter }
 
 -- a reading call was counted
-abbrev pub heeded : Memory → Memory
-heeded m = record m { meter = asked m.meter }
+abbrev pub read_counted : Memory → Memory
+read_counted m = record m { meter = asked m.meter }
 
 -- a call failed
 abbrev pub failed : Memory → Memory
@@ -59,4 +59,4 @@ wanting m = failed (record m { meter = starving m.meter })
 -- after a stop that keeps up to x of the unsynced bytes of A and up to y of those of B: what is left is synced, and
 -- nothing makes a changing call fail
 abbrev pub stopped : ℕ → ℕ → Memory → Memory
-stopped x y m = record m { a = kept_by x m.a; b = kept_by y m.b; meter = eased m.meter }
+stopped x y m = record m { a = after_stop x m.a; b = after_stop y m.b; meter = disarmed m.meter }

@@ -1,6 +1,6 @@
 // The bytes of one disk in memory.
 ghost use Rattle.std.specs.Prelude.{◌≡◌, ◌≤◌, ◌+◌, ◌↔◌, [], length, IsTrue, IsFalse, OnOk, OnErr, slice_range};
-ghost use Rattle.lk_disk.specs.Disk.{contents, appended, flushed, cut_to, kept_by};
+ghost use Rattle.lk_disk.specs.Disk.{contents, appended, fully_synced, cut_to, after_stop};
 
 use std::alloc::{AllocError, Global};
 use std::marker::Model;
@@ -67,7 +67,7 @@ impl DiskBytes {
 
     /// Marks all bytes as synced.
     pub fn sync(&mut self)
-        ensures { self.new ≡ flushed self.old }
+        ensures { self.new ≡ fully_synced self.old }
     {
         self.synced = self.bytes.len();
     }
@@ -83,7 +83,7 @@ impl DiskBytes {
     /// Simulates a stop of the machine: keeps the synced bytes and up to this many unsynced ones. What is left is
     /// synced.
     pub fn stop(&mut self, unsynced: usize)
-        ensures { self.new ≡ kept_by unsynced self.old }
+        ensures { self.new ≡ after_stop unsynced self.old }
     {
         let kept = unsynced.min(self.bytes.len() - self.synced);
         self.bytes.truncate(self.synced + kept);

@@ -1,9 +1,10 @@
 // A device in memory, which can be made to fail.
 ghost use Rattle.std.specs.Prelude.{◌≡◌, ◌⊎◌, ◌≤◌, ◌<◌, ◌+◌, ℕ, None, Some, Ok, length, true, false, ⊤, slice_range};
 ghost use Rattle.std.specs.Prelude.{IsTrue, IsFalse, IsOk, IsErr, IfOk, OnOk, OnErr, MatchResult};
-ghost use Rattle.lk_disk.specs.Disk.{MayLeave, AppendsSome, CutShort, HasCause, other, contents, appended, flushed};
+ghost use Rattle.lk_disk.specs.Disk.{MayLeave, AppendsSome, CutShort, HasCause, other, contents, appended};
+ghost use Rattle.lk_disk.specs.Disk.{fully_synced};
 ghost use Rattle.lk_disk.specs.Disk.{cut_to};
-ghost use Rattle.lk_simulated_disk.specs.Memory.{empty, disk_of, with_disk, counted, heeded, cut_within, failed};
+ghost use Rattle.lk_simulated_disk.specs.Memory.{empty, disk_of, with_disk, counted, read_counted, cut_within, failed};
 ghost use Rattle.lk_simulated_disk.specs.Memory.{refused, wanting, stopped};
 ghost use Rattle.lk_disk.specs.Meters.{is_refused, is_unread, Calls, Reads, trapped, stopping};
 ghost use Rattle.lk_disk.specs.Traps.{stops_next};
@@ -133,8 +134,8 @@ impl MemoryDisk {
 
     // Counts a reading call. Fails if it is the one that `fail_read` chose.
     fn begin_read(&mut self) -> Result<(), DeviceFault>
-        ensures ok { OnOk result ((is_unread self.old.meter ≡ false) × (self.new ≡ heeded self.old)) }
-        ensures err { OnErr result ((is_unread self.old.meter ≡ true) × (self.new ≡ failed (heeded self.old))) }
+        ensures ok { OnOk result ((is_unread self.old.meter ≡ false) × (self.new ≡ read_counted self.old)) }
+        ensures err { OnErr result ((is_unread self.old.meter ≡ true) × (self.new ≡ failed (read_counted self.old))) }
     {
         match count_read(&mut self.meter) {
             Ok(()) => Ok(()),
@@ -173,7 +174,7 @@ impl MemoryDisk {
 
     // Syncs everything that the disk has.
     fn make_synced(&mut self, side: Side)
-        ensures { self.new ≡ with_disk side (flushed (disk_of self.old side)) self.old }
+        ensures { self.new ≡ with_disk side (fully_synced (disk_of self.old side)) self.old }
     {
         match side {
             Side::A => self.a.sync(),
@@ -204,9 +205,10 @@ impl LogDisk for MemoryDisk {
     ghost is_metered = { ⊤ };
 
     fn length(&mut self, side: Side) -> Result<usize, DeviceFault>
-        ensures refused { IsTrue (is_unread self.old.meter) → IsErr result × (self.new ≡ failed (heeded self.old)) }
+        ensures refused { IsTrue (is_unread self.old.meter)
+            → IsErr result × (self.new ≡ failed (read_counted self.old)) }
         ensures passed { IsFalse (is_unread self.old.meter)
-            → (result ≡ Ok (length (contents (disk_of self.old side)))) × (self.new ≡ heeded self.old) }
+            → (result ≡ Ok (length (contents (disk_of self.old side)))) × (self.new ≡ read_counted self.old) }
     {
         self.begin_read()?;
         Ok(self.len_of(side))
@@ -219,8 +221,8 @@ impl LogDisk for MemoryDisk {
             → offset + length buffer.old ≤ length (contents (disk_of self.old side)) → IsOk result }
         ensures value { OnOk result
             (buffer.new ≡ slice_range (contents (disk_of self.old side)) offset (offset + length buffer.old)) }
-        ensures ok { OnOk result (self.new ≡ heeded self.old) }
-        ensures err { OnErr result ((self.new ≡ failed (heeded self.old)) × (buffer.new ≡ buffer.old)) }
+        ensures ok { OnOk result (self.new ≡ read_counted self.old) }
+        ensures err { OnErr result ((self.new ≡ failed (read_counted self.old)) × (buffer.new ≡ buffer.old)) }
     {
         self.begin_read()?;
         let is_read = match side {
@@ -268,7 +270,7 @@ impl LogDisk for MemoryDisk {
         ensures stopped { IsFalse (is_refused self.old.meter) → (bytes : ℕ)
             → stops_next self.old.meter.trap ≡ Some bytes → IsErr result × (self.new ≡ refused self.old) }
         ensures passed { IsFalse (is_refused self.old.meter) → stops_next self.old.meter.trap ≡ None → IsOk result
-            × (self.new ≡ with_disk side (flushed (disk_of self.old side)) (counted self.old)) }
+            × (self.new ≡ with_disk side (fully_synced (disk_of self.old side)) (counted self.old)) }
     {
         match self.begin()? {
             Some(_) => Err(self.fail()),

@@ -1,6 +1,7 @@
 // A file in memory, which shows that a file can be honest.
 ghost use Rattle.std.specs.Prelude.{◌≡◌, ◌↔◌, ◌≤◌, ◌+◌, ℕ, [], length, Ok, ⊤, slice_range, IsOk, OnOk, OnErr};
-ghost use Rattle.lk_disk.specs.Disk.{Disk, MayLeave, contents, appended, flushed, cut_to, kept_by, one_more, HasCause};
+ghost use Rattle.lk_disk.specs.Disk.{Disk, MayLeave, contents, appended, fully_synced, cut_to, after_stop, one_more};
+ghost use Rattle.lk_disk.specs.Disk.{HasCause};
 ghost use Rattle.lk_disk.specs.Files.{whole, shortened, left_of, IsWhole};
 ghost use Rattle.lk_simulated_disk.specs.CountedFile.{bytes_of};
 
@@ -42,7 +43,7 @@ impl MemoryFile {
     /// Simulates a stop of the machine: keeps up to this many of the unsynced bytes, and undoes a shorten that was not
     /// synced. What is left is synced.
     pub fn stop(&mut self, unsynced: usize)
-        ensures after { self.new ≡ record self.old { file = whole (kept_by unsynced (bytes_of self.old.file)) } }
+        ensures after { self.new ≡ record self.old { file = whole (after_stop unsynced (bytes_of self.old.file)) } }
         ensures image { MayLeave (left_of self.old.file) (contents (left_of self.new.file)) }
     {
         self.bytes.stop(unsynced);
@@ -108,7 +109,7 @@ impl AppendFile for MemoryFile {
 
     fn sync(&mut self) -> Result<(), FileFault>
         ensures ok { IsOk result }
-        ensures whole { IsWhole self.old.file → self.new.file ≡ whole (flushed (left_of self.old.file)) }
+        ensures whole { IsWhole self.old.file → self.new.file ≡ whole (fully_synced (left_of self.old.file)) }
         ensures short { (n : ℕ) (d : Disk) → self.old.file ≡ shortened n d → self.new.file ≡ whole (cut_to n d) }
         ensures failures { self.new.failures ≡ self.old.failures }
     {

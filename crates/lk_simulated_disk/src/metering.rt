@@ -1,6 +1,6 @@
 // What each call of a device in memory does to its meter, and to the trap.
 ghost use Rattle.std.specs.Prelude.{◌≡◌, true, false, IfOk, OnOk, OnErr};
-ghost use Rattle.lk_disk.specs.Meters.{fresh, is_refused, is_unread, called, asked, trapped, eased, stopping};
+ghost use Rattle.lk_disk.specs.Meters.{fresh, is_refused, is_unread, called, asked, trapped, disarmed, stopping};
 ghost use Rattle.lk_disk.specs.Traps.{is_due, stops_next, trap_after};
 
 use lk_disk::{DeviceFault, Meter, Trap};
@@ -98,7 +98,7 @@ pub fn set_trap(meter: &mut Meter, trap: Trap)
 
 /// Removes the trap and the fuse.
 pub fn disarm(meter: &mut Meter)
-    ensures { meter.new ≡ eased meter.old }
+    ensures { meter.new ≡ disarmed meter.old }
 {
     meter.trap = Trap::Off;
     meter.fuse = None;

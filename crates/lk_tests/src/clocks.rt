@@ -1,6 +1,6 @@
-//! Clocks that a test sets, and what a metronome makes of them.
+//! Clocks that a test sets, and what a tick timer makes of them.
 
-use lk_pace::metronome::Metronome;
+use lk_timing::tick_timer::TickTimer;
 use std::cell::Cell;
 use std::io;
 use std::test::Fail;
@@ -37,31 +37,31 @@ impl Clock for Hands {
 }
 
 #[test]
-fn a_metronome_tells_each_100_ms(rt: HostRuntime) -> Result<(), Fail> {
+fn a_tick_timer_passes_each_100_ms(rt: HostRuntime) -> Result<(), Fail> {
     let clock = Hands {
         shown: Cell::new(7),
     };
-    let mut metronome = Metronome::new(&clock);
+    let mut tick_timer = TickTimer::new(&clock);
     assert_eq!(rt;
-        (metronome.has_passed(), metronome.left()),
+        (tick_timer.has_passed(), tick_timer.left()),
         (false, Duration::from_millis(100))
     );
     clock.shown.set(77);
     assert_eq!(rt;
-        (metronome.has_passed(), metronome.left()),
+        (tick_timer.has_passed(), tick_timer.left()),
         (false, Duration::from_millis(30))
     );
     clock.shown.set(377);
     assert_eq!(rt;
-        (metronome.left(), metronome.has_passed()),
+        (tick_timer.left(), tick_timer.has_passed()),
         (Duration::ZERO, true)
     );
     assert_eq!(rt;
-        (metronome.has_passed(), metronome.left()),
+        (tick_timer.has_passed(), tick_timer.left()),
         (false, Duration::from_millis(100))
     );
     clock.shown.set(400);
-    metronome.reset();
-    assert_eq!(rt; metronome.left(), Duration::from_millis(100));
+    tick_timer.reset();
+    assert_eq!(rt; tick_timer.left(), Duration::from_millis(100));
     Ok(())
 }

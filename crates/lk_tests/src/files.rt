@@ -164,10 +164,10 @@ fn given<R: Files>(rt: &R, alloc: Global, folder: &str, file: &str) -> Result<[u
     disk.append(Side::A, b"de")?;
     let appended = fs::metadata(rt, file)?.len();
     disk.flush(Side::A)?;
-    let flushed = fs::metadata(rt, file)?.len();
+    let fully_synced = fs::metadata(rt, file)?.len();
     disk.append(Side::A, b"f")?;
     disk.sync(Side::A)?;
-    Ok([appended, flushed, fs::metadata(rt, file)?.len()])
+    Ok([appended, fully_synced, fs::metadata(rt, file)?.len()])
 }
 
 #[test]

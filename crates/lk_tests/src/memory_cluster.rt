@@ -5,14 +5,14 @@ use crate::digits::bytes_of;
 use crate::node_turns::{Locks, header};
 use lk_locks::LockTable;
 use lk_memory_socket::{MemoryDatagram, MemorySocket};
-use lk_pace::metronome::Metronome;
-use lk_pace::pace::Pace;
+use lk_node_process::resources::Resources;
+use lk_node_process::running::revive;
 use lk_recovery::ReviveFault;
-use lk_served_replica::ServedReplica;
+use lk_replica_interface::ServedReplica;
 use lk_server::server::{Server, node_turn};
-use lk_service::resources::Resources;
-use lk_service::running::revive;
 use lk_simulated_disk::MemoryDisk;
+use lk_timing::pace::Pace;
+use lk_timing::tick_timer::TickTimer;
 use lk_transport::network::Network;
 use lk_transport::receive_buffer::ReceiveBuffer;
 use lk_transport::socket::{DatagramSocket, local};
@@ -102,7 +102,7 @@ impl Cluster {
         node_turn(
             server,
             &mut self.buffer,
-            &mut Metronome::new(Stopped),
+            &mut TickTimer::new(Stopped),
             &Discard,
         )?;
         let port = server.socket_mut().port().unwrap_or(0);

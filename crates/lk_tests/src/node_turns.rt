@@ -3,12 +3,12 @@
 use crate::digits::bytes_of;
 use lk_agreement::Party;
 use lk_disk::{LogDisk, Side};
-use lk_entries::Header;
 use lk_locks::LockTable;
 use lk_node_io::Input;
 use lk_recovery::ReviveFault;
 use lk_replica::{Datagram, MemoryReplica, Replica};
 use lk_simulated_disk::MemoryDisk;
+use lk_store_format::Header;
 use lk_types::{ClientNo, Genesis, Member, NodeNo, Port};
 use std::alloc::Global;
 use std::test::Fail;

@@ -6,13 +6,13 @@ use crate::node_turns::{Locks, begun};
 use lk_locks::LockTable;
 use lk_memory_socket::MemorySocket;
 use lk_node_io::{Input, Note, Outbox, Post, ReplicaFault};
-use lk_pace::metronome::Metronome;
-use lk_pace::pace::Pace;
+use lk_node_process::demo::{Sockets, run_demo};
 use lk_replica::Group;
-use lk_served_replica::replica_status::ReplicaStatus;
-use lk_served_replica::{ProbedState, ServedReplica};
+use lk_replica_interface::replica_status::ReplicaStatus;
+use lk_replica_interface::{ProbedState, ServedReplica};
 use lk_server::server::{Server, node_turn};
-use lk_service::demo::{Sockets, run_demo};
+use lk_timing::pace::Pace;
+use lk_timing::tick_timer::TickTimer;
 use lk_transport::network::Network;
 use lk_transport::receive_buffer::ReceiveBuffer;
 use lk_types::{Ballot, Command, Executed, NodeNo, Position, RealBallot};
@@ -147,11 +147,11 @@ fn server(
 fn logged(alloc: Global, end: End, before: Seen, after: Seen) -> Result<Vec<u8>, Fail> {
     let memory = Memory::new(alloc);
     let mut server = server(alloc, end, before, after)?;
-    let mut metronome = Metronome::new(Stopped);
+    let mut tick_timer = TickTimer::new(Stopped);
     let _ = node_turn(
         &mut server,
         &mut ReceiveBuffer::new(),
-        &mut metronome,
+        &mut tick_timer,
         &memory,
     );
     let mut text = Vec::new(alloc);

@@ -5,7 +5,7 @@ use Rattle.std.specs.List.{AllByRecursion}
 use Rattle.std.specs.declared.net.socket_addr.SocketAddr.{SocketAddr}
 use Rattle.lk_seal.specs.declared.seals.Seals.{Seals}
 use Rattle.lk_transport.specs.Askers.{BringsProbe}
-use Rattle.lk_transport.specs.Hearing.{BufferValue}
+use Rattle.lk_transport.specs.ReceiveBuffers.{BufferValue}
 use Rattle.lk_transport.specs.Inquiring.{IsToldBy}
 
 -- ---- the first of what frames bring. `Brings` says what a frame brings, if anything

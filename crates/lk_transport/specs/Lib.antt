@@ -3,7 +3,7 @@ pub mod Faults
 pub mod Addresses
 pub mod Hosts
 pub mod Posts
-pub mod Hearing
+pub mod ReceiveBuffers
 pub mod Askers
 pub mod Inquiring
 pub mod Kept

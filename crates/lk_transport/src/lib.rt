@@ -5,11 +5,11 @@
 pub mod addresses;
 pub mod arrival;
 pub mod fault;
-mod hearing;
 pub mod hosts;
 mod inquiring;
 pub mod network;
 pub mod post;
 pub mod receive_buffer;
 pub mod received_probe;
+mod sender_records;
 pub mod socket;

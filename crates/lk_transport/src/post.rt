@@ -5,7 +5,7 @@ ghost use Rattle.std.specs.Prelude.{IsErr, IfSome, IsNone};
 ghost use Rattle.lk_types.specs.Ranges.{IsClient};
 ghost use Rattle.lk_disk.specs.Disk.{HasCause, one_more};
 ghost use Rattle.lk_transport.specs.Addresses.{client_at, node_at, IsSameFilter};
-ghost use Rattle.lk_transport.specs.Hearing.{listed};
+ghost use Rattle.lk_transport.specs.ReceiveBuffers.{listed};
 ghost use Rattle.lk_seal.specs.Seals.{heard};
 ghost use Rattle.lk_transport.specs.Posts.{IsRoute, IsBoundFor, Becomes, Hears, tray_of, frame_of, keys_for};
 ghost use Rattle.lk_transport.specs.Askers.{BringsProbe, Replies, asker, frame_for, keys_to};
@@ -117,8 +117,8 @@ fn framed<'a>(
     ensures refused { IsErr result → keys_for seals.now to.now ≢ [] }
 {
     match to {
-        To::Node(node, _) => seals.frame_to_node(node.get(), bytes, frame),
-        To::Client(client) => seals.frame_to_client(client.get(), bytes, frame),
+        To::Node(node, _) => seals.seal_to_node(node.get(), bytes, frame),
+        To::Client(client) => seals.seal_to_client(client.get(), bytes, frame),
     }
 }
 
@@ -208,14 +208,14 @@ impl<S: DatagramSocket + Drop> SocketPost<S> {
     }
 
     /// Receives the next datagram into the buffer if one is already waiting, and does not wait for one.
-    pub fn receive_waiting(&mut self, buffer: &mut ReceiveBuffer)
+    pub fn try_receive(&mut self, buffer: &mut ReceiveBuffer)
         ensures comes { S.is_telling → self.old.coming ≡ listed buffer.new.last ++ self.new.coming }
         ensures none { S.is_telling → buffer.new.last ≡ None → self.old.coming ≡ [] }
         ensures asked { buffer.new.asked ≡ buffer.old.asked }
         ensures reported { buffer.new.reported ≡ buffer.old.reported }
         ensures others { self.new ≡ record self.old { coming = self.new.coming } }
     {
-        buffer.receive_waiting(&mut self.socket);
+        buffer.try_receive(&mut self.socket);
     }
 
     /// Opens a frame: returns its datagram if a node sealed it for this one, or it is a client's request, sealed if

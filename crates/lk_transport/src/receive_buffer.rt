@@ -1,7 +1,7 @@
 //! The buffer into which a socket receives.
 
 ghost use Rattle.std.specs.Prelude.{◌≡◌, ◌++◌, Some, None, IfSome, IsNone};
-ghost use Rattle.lk_transport.specs.Hearing.{first_asked, first_reported, listed, next_of};
+ghost use Rattle.lk_transport.specs.ReceiveBuffers.{first_asked, first_reported, listed, next_of};
 
 use crate::received_probe::ReceivedProbe;
 use crate::socket::DatagramSocket;
@@ -25,7 +25,7 @@ pub struct ReceiveBuffer {
 
 impl Model for ReceiveBuffer {
     ghost use Rattle.std.specs.Prelude.{◌≤◌, IfSome};
-    ghost use Rattle.lk_transport.specs.Hearing.{BufferValue, heard_in};
+    ghost use Rattle.lk_transport.specs.ReceiveBuffers.{BufferValue, heard_in};
 
     ghost Value = { BufferValue };
 
@@ -61,7 +61,7 @@ impl ReceiveBuffer {
     }
 
     /// Receives a datagram that is already waiting, without waiting for one; nothing if there is none.
-    pub fn receive_waiting<S: DatagramSocket>(&mut self, socket: &mut S)
+    pub fn try_receive<S: DatagramSocket>(&mut self, socket: &mut S)
         ensures comes { S.is_telling → S.coming socket.old ≡ listed self.new.last ++ S.coming socket.new }
         ensures next { S.is_telling → next_of S.coming socket.old ≡ self.new.last }
         ensures asked { self.new.asked ≡ self.old.asked }
@@ -69,7 +69,7 @@ impl ReceiveBuffer {
         ensures unchanged { S.sent socket.new ≡ S.sent socket.old }
         ensures spares { S.failures socket.new ≡ S.failures socket.old }
     {
-        self.last = socket.receive_waiting(&mut self.buffer);
+        self.last = socket.try_receive(&mut self.buffer);
     }
 
     /// Returns the bytes and the source of the latest datagram, or `None` if the last receive got nothing.

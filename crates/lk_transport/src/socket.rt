@@ -65,7 +65,7 @@ pub trait DatagramSocket {
         ensures spares { failures self.new ≡ failures self.old };
 
     /// Does the same as `receive` without waiting: `None` if no datagram has arrived yet.
-    fn receive_waiting(&mut self, buffer: &mut [u8]) -> Option<(usize, SocketAddr)>
+    fn try_receive(&mut self, buffer: &mut [u8]) -> Option<(usize, SocketAddr)>
         requires room { 8229 ≤ length buffer.old }
         ensures within { IfSome result (λ r. r.0 ≤ length buffer.new) }
         ensures some { is_telling
@@ -199,7 +199,7 @@ impl DatagramSocket for LocalSocket {
     // mode.
     fn receive(&mut self, buffer: &mut [u8]) -> Option<(usize, SocketAddr)> {
         if self.wait.is_zero() {
-            return self.receive_waiting(buffer);
+            return self.try_receive(buffer);
         }
         if self.waits {
             return self.receive_in_time(buffer);
@@ -210,7 +210,7 @@ impl DatagramSocket for LocalSocket {
         }
     }
 
-    fn receive_waiting(&mut self, buffer: &mut [u8]) -> Option<(usize, SocketAddr)> {
+    fn try_receive(&mut self, buffer: &mut [u8]) -> Option<(usize, SocketAddr)> {
         if !self.set_waiting(false) {
             return None;
         }

@@ -20,9 +20,9 @@ abbrev pub zero_ballot : BallotValue
 zero_ballot = record { round = 0; node = 0 }
 
 -- a ballot that a node can lead: round and node are in their ranges
-abbrev pub IsReal : BallotValue → Type 0
-IsReal b = IsCount b.round × IsNode b.node
+abbrev pub IsRealBallot : BallotValue → Type 0
+IsRealBallot b = IsCount b.round × IsNode b.node
 
 -- a real ballot or the one below all
-abbrev pub IsMark : BallotValue → Type 0
-IsMark b = IsReal b ⊎ (b ≡ zero_ballot)
+abbrev pub IsBallot : BallotValue → Type 0
+IsBallot b = IsRealBallot b ⊎ (b ≡ zero_ballot)

@@ -1,6 +1,6 @@
 ghost use Rattle.std.specs.Prelude.{◌≡◌, ◌≤◌, ◌↔◌, ℕ, IsSome, IfSome, IsTrue};
 ghost use Rattle.lk_types.specs.Ranges.{IsNode, IsCount};
-ghost use Rattle.lk_types.specs.Ballots.{IsBelow, IsMark, IsReal, is_below};
+ghost use Rattle.lk_types.specs.Ballots.{IsBelow, IsBallot, IsRealBallot, is_below};
 
 use crate::node::NodeNo;
 use crate::round::Round;
@@ -16,13 +16,13 @@ pub struct Ballot {
 
 impl Model for Ballot {
     ghost use Rattle.lk_types.specs.BallotValue.{BallotValue};
-    ghost use Rattle.lk_types.specs.Ballots.{IsMark};
+    ghost use Rattle.lk_types.specs.Ballots.{IsBallot};
 
     ghost Value = { BallotValue };
 
     ghost view = { λ b. record { round = b.round; node = b.node } };
 
-    ghost invariant = { λ b. IsMark (record { round = b.round; node = b.node }) };
+    ghost invariant = { λ b. IsBallot (record { round = b.round; node = b.node }) };
 
     ghost inverse = { λ b. record { round = b.round; node = b.node } };
 }
@@ -33,7 +33,7 @@ impl Ballot {
 
     /// The ballot of a node (1 to 2^31) in a round (1 to 2^48), or `None` if either is out of range.
     pub fn of(round: u64, node: u32) -> Option<Ballot>
-        ensures some { IsSome result ↔ IsReal (record { round = round; node = node }) }
+        ensures some { IsSome result ↔ IsRealBallot (record { round = round; node = node }) }
         ensures value { IfSome result (λ b. b ≡ record { round = round; node = node }) }
     {
         let round = Round::of(round)?;
@@ -47,7 +47,7 @@ impl Ballot {
     /// The round, 0 for `ZERO`.
     pub fn round(self) -> u64
         ensures value { result ≡ self.round }
-        ensures in_range { IsMark self }
+        ensures in_range { IsBallot self }
     {
         self.round
     }
@@ -55,7 +55,7 @@ impl Ballot {
     /// The number of the node, 0 for `ZERO`.
     pub fn node(self) -> u32
         ensures value { result ≡ self.node }
-        ensures in_range { IsMark self }
+        ensures in_range { IsBallot self }
     {
         self.node
     }
@@ -77,13 +77,13 @@ pub struct RealBallot {
 
 impl Model for RealBallot {
     ghost use Rattle.lk_types.specs.BallotValue.{BallotValue};
-    ghost use Rattle.lk_types.specs.Ballots.{IsReal};
+    ghost use Rattle.lk_types.specs.Ballots.{IsRealBallot};
 
     ghost Value = { BallotValue };
 
     ghost view = { λ b. b.ballot };
 
-    ghost invariant = { λ b. IsReal b.ballot };
+    ghost invariant = { λ b. IsRealBallot b.ballot };
 
     ghost inverse = { λ b. record { ballot = b } };
 }
@@ -102,7 +102,7 @@ impl RealBallot {
 
     /// The ballot, or `None` for `Ballot::ZERO`.
     pub fn of(ballot: Ballot) -> Option<RealBallot>
-        ensures some { IsSome result ↔ IsReal ballot }
+        ensures some { IsSome result ↔ IsRealBallot ballot }
         ensures value { IfSome result (λ b. b ≡ ballot) }
     {
         if ballot.round() == 0 {
@@ -114,7 +114,7 @@ impl RealBallot {
     /// The same as a `Ballot`, to compare with `Ballot::ZERO` and with what was promised.
     pub fn get(self) -> Ballot
         ensures value { result ≡ self }
-        ensures real { IsReal self }
+        ensures real { IsRealBallot self }
     {
         self.ballot
     }

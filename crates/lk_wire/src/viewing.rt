@@ -20,8 +20,8 @@ use crate::fault::{Bad, ReadFault};
 use command::{RequestRef, VoteRef};
 use decided::DecidedRef;
 use lk_fields::{
-    read_answer, read_ballot, read_client, read_executed, read_mark, read_member, read_number,
-    read_position, read_u8, read_u32, read_u64,
+    read_answer, read_any_ballot, read_ballot, read_client, read_executed, read_member,
+    read_number, read_position, read_u8, read_u32, read_u64,
 };
 use lk_messages::{Answered, Elsewhere, Message, Nack, PartRef, Passed, PromiseRef, Want};
 use lk_types::NodeNo;
@@ -72,7 +72,7 @@ fn read_nack(bytes: &[u8]) -> Option<(NodeMessageRef<'_>, &[u8])>
     ensures { Finds (λ x. (shown_node x.0, x.1.now)) result (made kinds.Nack read_nack bytes.now) }
 {
     if let Some((ballot, rest)) = read_ballot(bytes)
-        && let Some((promised, rest)) = read_mark(rest)
+        && let Some((promised, rest)) = read_any_ballot(rest)
         && let Some((executed, rest)) = read_executed(rest)
     {
         let nack = Nack {

@@ -8,7 +8,7 @@ ghost use Rattle.lk_messages.specs.Grammar.{node_fields, fields, header, kind, s
 
 use bytes::{BufMut, BytesMut};
 use lk_fields::{
-    put_answer, put_ballot, put_client, put_command, put_executed, put_mark, put_member,
+    put_answer, put_any_ballot, put_ballot, put_client, put_command, put_executed, put_member,
     put_number, put_position, put_request, put_u8, put_u16, put_u32, put_u64, put_vote, room,
 };
 use lk_messages::{Content, Decided, Message, Nack, NodeMessage, Part, Promise};
@@ -53,7 +53,7 @@ fn put_nack(out: &mut BytesMut, value: &Nack) -> Result<(), AllocError>
     ensures room { UsesRoom result out.old.spare out.new.spare (mark_room + mark_room + 8) }
 {
     put_ballot(out, value.ballot)?;
-    put_mark(out, value.promised)?;
+    put_any_ballot(out, value.promised)?;
     put_executed(out, value.executed)
 }
 

@@ -4,11 +4,11 @@ use Rattle.lk_simulated_disk.specs.Memory.{Memory}
 use Rattle.lk_node_io.specs.Faults.{IsStoreFault, fault_number, IsNumberOfCalls, IsNumberOfRevival}
 use Rattle.lk_node_io.specs.declared.fault.ReplicaFault.{ReplicaFault}
 use Rattle.lk_node_io.specs.declared.fault.ReplicaFault.TheVariants as fault
-use Rattle.lk_world_nodes.specs.Ends.{IsNoWant, IsSound, IsNumberOfEnd, IsToldEnd, end_by, end_at}
+use Rattle.lk_world_nodes.specs.Ends.{IsOtherFault, IsSound, IsNumberOfEnd, IsToldEnd, end_by, end_at}
 use Rattle.lk_world_nodes.specs.declared.end.End.{End}
 
 -- no fault is another one, where it is not "out of memory", and neither damage nor another's store
-pub told_fault : (e : ReplicaFault) (left : Memory) → IsNoWant (fault_number e) left → IsSound (fault_number e)
+pub told_fault : (e : ReplicaFault) (left : Memory) → IsOtherFault (fault_number e) left → IsSound (fault_number e)
     → IsNumberOfEnd (fault_number e)
 told_fault fault.Device left no_want sound = inl refl
 told_fault fault.NoMemory left no_want sound = absurd (no_want.memory refl)

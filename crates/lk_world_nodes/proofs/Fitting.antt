@@ -1,10 +1,10 @@
 -- A node, or a device, that fits.
 use Rattle.std.proofs.Common.{◌≡◌, ℕ, zero, suc, List, [], ◌++◌, take, refl, ap, sym, ◌∙◌, subst, append-nil}
 use Rattle.lk_types.specs.declared.member.Member.{Member}
-use Rattle.lk_disk.specs.Disk.{Disk, kept_by}
+use Rattle.lk_disk.specs.Disk.{Disk, after_stop}
 use Rattle.lk_simulated_disk.specs.Memory.{Memory, disk_of}
 use Rattle.lk_disk.specs.declared.device.Side.{Side}
-use Rattle.lk_entries.specs.Values.{HeaderValue}
+use Rattle.lk_store_format.specs.Values.{HeaderValue}
 use Rattle.lk_state.specs.Meanings.{Meaning}
 use Rattle.lk_agreement.specs.Nodes.{View}
 use Rattle.lk_node.specs.Calls.{NodeFits}
@@ -29,10 +29,10 @@ same_disks m h n old new same f image may =
 
 -- what is left once a stop is over is an image that it might leave
 pub stopped_fit : (m : Meaning) (h : History) (n : ℕ) (old new : Side → Disk)
-    → ((s : Side) → (k : ℕ) × (new s ≡ kept_by k (old s))) → DisksFit m h n old → DisksFit m h n new
+    → ((s : Side) → (k : ℕ) × (new s ≡ after_stop k (old s))) → DisksFit m h n old → DisksFit m h n new
 stopped_fit m h n old new kept f image may = f image (λ s. side s (kept s).0 (kept s).1 (may s))
   where
-    side : (s : Side) (k : ℕ) → new s ≡ kept_by k (old s)
+    side : (s : Side) (k : ℕ) → new s ≡ after_stop k (old s)
         → (j : ℕ) × (image s ≡ (new s).synced ++ take j (new s).unsynced)
         → (j : ℕ) × (image s ≡ (old s).synced ++ take j (old s).unsynced)
     side s k e l = (

@@ -1,7 +1,7 @@
 -- Files that stay short.
 use Rattle.std.proofs.Common.{◌≡◌, ℕ, ◌≤◌, [], ◌++◌, length, take, ap, sym, subst, arith, append-nil}
 use Rattle.std.proofs.lemmas.List.{length-take, length-append}
-use Rattle.lk_disk.specs.Disk.{Disk, contents, kept_by}
+use Rattle.lk_disk.specs.Disk.{Disk, contents, after_stop}
 use Rattle.lk_disk.specs.declared.device.Side.{Side}
 use Rattle.lk_log.specs.Rooms.{StaysWithin}
 use Rattle.lk_log.proofs.Room.{refused_room, never_longer}
@@ -22,7 +22,7 @@ pub empty_short : (disks : Side → Disk)
     → ((s : Side) → disks s ≡ record { synced = []; unsynced = [] }) → AreShort disks
 empty_short disks empty s = subst (λ (d : Disk). length (contents d) ≤ 262144) (sym (empty s)) (omega arith)
 
-kept_length : (k : ℕ) (d : Disk) → length (contents (kept_by k d)) ≤ length (contents d)
+kept_length : (k : ℕ) (d : Disk) → length (contents (after_stop k d)) ≤ length (contents d)
 kept_length k d = omega (
   arith,
   ap length (append-nil (d.synced ++ take k d.unsynced)),
@@ -32,7 +32,7 @@ kept_length k d = omega (
 )
 
 -- after a stop
-pub kept_short : (old new : Side → Disk) → ((s : Side) → (k : ℕ) × (new s ≡ kept_by k (old s)))
+pub kept_short : (old new : Side → Disk) → ((s : Side) → (k : ℕ) × (new s ≡ after_stop k (old s)))
     → AreShort old → AreShort new
 kept_short old new kept short s =
     omega (arith, ap (λ (d : Disk). length (contents d)) (kept s).1, kept_length (kept s).0 (old s), short s)

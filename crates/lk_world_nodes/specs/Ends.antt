@@ -1,7 +1,7 @@
 -- How a call of a node ends it: which calls fail, by which fault, and what that leaves.
 use Rattle.std.specs.Prelude.{◌≡◌, ℕ, ◌⊎◌, false, true, List, Option, Some, None, Err}
 use Rattle.lk_simulated_disk.specs.Memory.{Memory}
-use Rattle.lk_entries.specs.Values.{HeaderValue}
+use Rattle.lk_store_format.specs.Values.{HeaderValue}
 use Rattle.lk_node_io.specs.Faults.{RefusedAfter}
 use Rattle.lk_replica.specs.Behaviours.{Behaviour}
 use Rattle.lk_world_nodes.specs.declared.end.End.{End}
@@ -33,15 +33,15 @@ FailsToCompact {R = R} b r number left =
 -- ---- by which fault
 
 -- a fault other than "out of memory"
-pub record IsNoWant (number : ℕ) (left : Memory) : Type 0 where
+pub record IsOtherFault (number : ℕ) (left : Memory) : Type 0 where
   pub memory : number ≡ 8 → ⊥
   pub halted : number ≡ 14 → ⊥
   pub letters : number ≡ 15 → ⊥
   pub starved : left.meter.starved ≡ false
 
 -- the fault "out of memory"
-abbrev pub IsWant : ℕ → Memory → Type 0
-IsWant number left = (number ≡ 8) ⊎ (number ≡ 14) ⊎ (number ≡ 15) ⊎ (left.meter.starved ≡ true)
+abbrev pub IsOutOfMemory : ℕ → Memory → Type 0
+IsOutOfMemory number left = (number ≡ 8) ⊎ (number ≡ 14) ⊎ (number ≡ 15) ⊎ (left.meter.starved ≡ true)
 
 -- the fault is neither that of a damaged store nor that of another's
 abbrev pub IsSound : ℕ → Type 0

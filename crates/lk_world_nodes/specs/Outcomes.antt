@@ -2,14 +2,14 @@
 use Rattle.std.specs.Prelude.{◌≡◌, ℕ, List, [], Option, Some, None, Ok}
 use Rattle.lk_simulated_disk.specs.Memory.{Memory}
 use Rattle.lk_disk.specs.Meters.{Passes, stopping}
-use Rattle.lk_entries.specs.Values.{HeaderValue}
+use Rattle.lk_store_format.specs.Values.{HeaderValue}
 use Rattle.lk_log.specs.Causes.{rebase_calls}
 use Rattle.lk_node_io.specs.declared.note.Note.{Note}
 use Rattle.lk_node.specs.Histories.{Datagram}
 use Rattle.lk_replica.specs.Behaviours.{Behaviour}
 use Rattle.lk_replica.specs.Together.{sent_of, parts_of}
 use Rattle.lk_replica.specs.declared.taken.Step.{Step}
-use Rattle.lk_world_nodes.specs.Ends.{IsNoWant, IsWant, end_by, end_at}
+use Rattle.lk_world_nodes.specs.Ends.{IsOtherFault, IsOutOfMemory, end_by, end_at}
 use Rattle.lk_world_nodes.specs.Seats.{stopped_on, fallen_on, device_in}
 use Rattle.lk_world_nodes.specs.Sends.{SentUpTo}
 use Rattle.lk_world_nodes.specs.declared.end.End.{End}
@@ -18,12 +18,13 @@ use Rattle.lk_world_nodes.specs.declared.seat.Life.TheVariants.{Up, Down}
 
 -- a fault of that kind ended the node: it is down with the disks that it left, its trap is gone, and it noted and sent
 -- nothing. An armed stop that it has reached is still to be carried out
-pub record HasFallen {R : Type 0} (Ends : ℕ → Memory → Type 0) (s : Seat R) (mine : List Note) (batch : List Datagram)
+pub record HasEndedByFault {R : Type 0} (Ends : ℕ → Memory
+    → Type 0) (s : Seat R) (mine : List Note) (batch : List Datagram)
     (how : Option End) (stop : Option ℕ) : Type 0 where
   pub number : ℕ
   pub left : Memory
   pub ends : Ends number left
-  pub no_want : IsNoWant number left
+  pub no_want : IsOtherFault number left
   pub down : s.life ≡ Down (fallen_on left)
   pub stop_is : stop ≡ stopping left.meter
   pub ended : how ≡ Some (end_by stop s.number number)
@@ -35,11 +36,11 @@ abbrev pub IsThis : ℕ → Memory → ℕ → Memory → Type 0
 IsThis number left n d = (n ≡ number) × (d ≡ left)
 
 -- running out of memory has stopped it, with the disks that it left, without their unsynced bytes
-pub record HasWanted {R : Type 0} (Ends : ℕ → Memory → Type 0) (s : Seat R) : Type 0 where
+pub record HasStoppedOutOfMemory {R : Type 0} (Ends : ℕ → Memory → Type 0) (s : Seat R) : Type 0 where
   pub number : ℕ
   pub left : Memory
   pub ends : Ends number left
-  pub want : IsWant number left
+  pub want : IsOutOfMemory number left
   pub down : s.life ≡ Down (stopped_on 0 0 left)
 
 -- a node that has reached an armed stop, for this many bytes, was stopped; any other is unchanged
@@ -78,7 +79,7 @@ pub record HasTakenTogether {R : Type 0} (b : Behaviour R) (r : R) (given : List
 pub record HasFallenTogether {R : Type 0} (Ends : ℕ → Memory → Type 0) (s : Seat R) (steps : List Step)
     (batch : List Datagram) (how : Option End) (stop : Option ℕ) : Type 0 where
   pub no_steps : steps ≡ []
-  pub fallen : HasFallen Ends s [] batch how stop
+  pub fallen : HasEndedByFault Ends s [] batch how stop
 
 -- it restarted from this device
 pub record HasRevived {R : Type 0} (b : Behaviour R) (device : Memory) (header : HeaderValue) (s : Seat R)

@@ -2,7 +2,7 @@
 use Rattle.std.specs.Prelude.{◌≡◌, ℕ, ◌<◌, ◌⊎◌, Option, Some, None, List, length, get_or}
 use Rattle.lk_disk.specs.Disk.{Disk}
 use Rattle.lk_simulated_disk.specs.Memory.{Memory, disk_of, stopped}
-use Rattle.lk_disk.specs.Meters.{trapped, eased}
+use Rattle.lk_disk.specs.Meters.{trapped, disarmed}
 use Rattle.lk_disk.specs.declared.device.Side.{Side}
 use Rattle.lk_disk.specs.declared.trap.Trap.{Trap}
 use Rattle.lk_disk.specs.declared.trap.Trap.TheVariants.{Off}
@@ -44,7 +44,7 @@ HasNo {R = R} seats number = (k : ℕ) (s : Seat R) → At seats k s → s.numbe
 
 -- a stop that keeps up to this many unsynced bytes of each disk has left it, and nothing is pending
 abbrev pub stopped_on : ℕ → ℕ → Memory → Memory
-stopped_on x y m = record (stopped x y m) { meter = trapped Off (eased m.meter) }
+stopped_on x y m = record (stopped x y m) { meter = trapped Off (disarmed m.meter) }
 
 -- a fault has left it unchanged, and no trap is pending
 abbrev pub fallen_on : Memory → Memory

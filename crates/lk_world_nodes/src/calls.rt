@@ -7,15 +7,16 @@ ghost use Rattle.lk_node.specs.Histories.{History, IsLawful};
 ghost use Rattle.lk_node.specs.Leavings.{header_of};
 ghost use Rattle.lk_replica.specs.Behaviours.{disks_by};
 ghost use Rattle.lk_world_nodes.specs.Ends.{Breaks, FailsToCompact, IsToldEnd, StaysDown};
-ghost use Rattle.lk_world_nodes.specs.Outcomes.{HasFallen, HasCompacted, HasRevived, HasTaken, HasWanted};
+ghost use Rattle.lk_world_nodes.specs.Outcomes.{HasEndedByFault, HasCompacted, HasRevived, HasTaken};
+ghost use Rattle.lk_world_nodes.specs.Outcomes.{HasStoppedOutOfMemory};
 ghost use Rattle.lk_world_nodes.specs.Seats.{SeatFits, SeatGoes};
 ghost use Rattle.lk_world_nodes.specs.declared.seat.Life.TheVariants.{Up, Down};
 
 use crate::outcome::{Outcome, count_sends, ended_at, take_down};
 use crate::seat::{Life, Seat, take_device};
-use lk_entries::Header;
 use lk_node_io::Input;
 use lk_replica::{MemoryReplica, Taken};
+use lk_store_format::Header;
 use lk_types::{Genesis, NoMemory};
 use std::alloc::Global;
 
@@ -38,10 +39,11 @@ pub fn step<R: MemoryReplica>(
     ensures exact { (r : R) → seat.old.life ≡ Up r
         → IfOk result (λ o. HasTaken R.behaves r
         (heard_by input.entry) seat.new o.notes.items o.sent.items o.ended o.stop
-        ⊎ HasFallen (Breaks R.behaves r (heard_by input.entry)) seat.new o.notes.items o.sent.items o.ended o.stop) }
+        ⊎ HasEndedByFault (Breaks R.behaves r
+        (heard_by input.entry)) seat.new o.notes.items o.sent.items o.ended o.stop) }
     ensures told { IfOk result (λ o. IsToldEnd o.ended) }
     ensures wants { (r : R) → seat.old.life ≡ Up r
-        → OnErr result (HasWanted (Breaks R.behaves r (heard_by input.entry)) seat.new) }
+        → OnErr result (HasStoppedOutOfMemory (Breaks R.behaves r (heard_by input.entry)) seat.new) }
 {
     let node = seat.number;
     let Life::Up(replica) = &mut seat.life else {
@@ -81,9 +83,10 @@ pub fn compact_node<R: MemoryReplica>(
         → (d : Memory) → seat.new.life ≡ Down d → SeatFits R.Shows (disks_by R.behaves) R.meaning h w seat.new }
     ensures exact { (r : R) → seat.old.life ≡ Up r
         → IfOk result (λ o. HasCompacted R.behaves r seat.new o.notes.items o.sent.items o.ended o.stop
-        ⊎ HasFallen (FailsToCompact R.behaves r) seat.new o.notes.items o.sent.items o.ended o.stop) }
+        ⊎ HasEndedByFault (FailsToCompact R.behaves r) seat.new o.notes.items o.sent.items o.ended o.stop) }
     ensures told { IfOk result (λ o. IsToldEnd o.ended) }
-    ensures wants { (r : R) → seat.old.life ≡ Up r → OnErr result (HasWanted (FailsToCompact R.behaves r) seat.new) }
+    ensures wants { (r : R) → seat.old.life ≡ Up r
+        → OnErr result (HasStoppedOutOfMemory (FailsToCompact R.behaves r) seat.new) }
 {
     let Life::Up(replica) = &mut seat.life else {
         unreachable!()
@@ -119,12 +122,13 @@ pub fn revive<R: MemoryReplica>(
     ensures exact { (d : Memory) → seat.old.life ≡ Down d
         → IfOk result (λ o. HasRevived R.behaves d
         (header_of genesis.now seat.old.number) seat.new o.notes.items o.sent.items o.ended o.stop
-        ⊎ HasFallen (StaysDown R.behaves d (header_of genesis.now seat.old.number)) seat.new o.notes.items
+        ⊎ HasEndedByFault (StaysDown R.behaves d (header_of genesis.now seat.old.number)) seat.new o.notes.items
         o.sent.items o.ended o.stop) }
     ensures told { (h : History) (w : View) → h.genesis ≡ genesis.now → IsLawful R.meaning h
         → SeatFits R.Shows (disks_by R.behaves) R.meaning h w seat.old → IfOk result (λ o. IsToldEnd o.ended) }
     ensures wants { (d : Memory) → seat.old.life ≡ Down d
-        → OnErr result (HasWanted (StaysDown R.behaves d (header_of genesis.now seat.old.number)) seat.new) }
+        → OnErr result (HasStoppedOutOfMemory (StaysDown R.behaves d
+        (header_of genesis.now seat.old.number)) seat.new) }
 {
     let device = take_device(alloc, seat);
     match R::revive(alloc, device, &Header::new(seat.number, genesis.copy())) {

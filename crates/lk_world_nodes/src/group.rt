@@ -10,7 +10,7 @@ ghost use Rattle.lk_node.specs.Leavings.{DisksFit};
 ghost use Rattle.lk_replica.specs.Behaviours.{disks_by};
 ghost use Rattle.lk_replica.specs.Together.{GoesAll, parts_of};
 ghost use Rattle.lk_world_nodes.specs.Ends.{BreaksTogether, IsToldEnd};
-ghost use Rattle.lk_world_nodes.specs.Outcomes.{HasFallenTogether, HasTakenTogether, HasWanted};
+ghost use Rattle.lk_world_nodes.specs.Outcomes.{HasFallenTogether, HasTakenTogether, HasStoppedOutOfMemory};
 ghost use Rattle.lk_world_nodes.specs.Rooms.{AreShort};
 ghost use Rattle.lk_world_nodes.specs.Seats.{SeatFits, device_in};
 ghost use Rattle.lk_world_nodes.specs.declared.seat.Life.TheVariants.{Up};
@@ -74,7 +74,7 @@ pub fn step_all<R: MemoryReplica>(
         o.sent.items o.ended o.stop) }
     ensures told { IfOk result (λ o. IsToldEnd o.ended) }
     ensures wants { (r : R) → seat.old.life ≡ Up r
-        → OnErr result (HasWanted (BreaksTogether R.behaves r (map heard_by inputs.entry.items)) seat.new) }
+        → OnErr result (HasStoppedOutOfMemory (BreaksTogether R.behaves r (map heard_by inputs.entry.items)) seat.new) }
 {
     let node = seat.number;
     let Life::Up(replica) = &mut seat.life else {

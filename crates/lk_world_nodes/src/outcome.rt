@@ -6,8 +6,8 @@ ghost use Rattle.lk_node.specs.Histories.{History};
 ghost use Rattle.lk_node.specs.Leavings.{DisksFit};
 ghost use Rattle.lk_node_io.specs.Faults.{fault_number};
 ghost use Rattle.lk_replica.specs.Behaviours.{disks_by};
-ghost use Rattle.lk_world_nodes.specs.Ends.{IsNoWant, IsSound, IsToldEnd, IsWant, end_by, end_at};
-ghost use Rattle.lk_world_nodes.specs.Outcomes.{HasFallen, IsThis, Rests};
+ghost use Rattle.lk_world_nodes.specs.Ends.{IsOtherFault, IsSound, IsToldEnd, IsOutOfMemory, end_by, end_at};
+ghost use Rattle.lk_world_nodes.specs.Outcomes.{HasEndedByFault, IsThis, Rests};
 ghost use Rattle.lk_world_nodes.specs.Rooms.{AreShort};
 ghost use Rattle.lk_world_nodes.specs.Seats.{SeatFits, stopped_on};
 ghost use Rattle.lk_world_nodes.specs.Sends.{SentUpTo};
@@ -46,8 +46,8 @@ pub fn carry_out_stop<R: MemoryReplica>(alloc: Global, seat: &mut Seat<R>, at: O
 
 // Whether the node ran out of memory. A failed send counts: on a post in memory a send fails for no other reason.
 fn is_wanting(fault: &ReplicaFault, device: &MemoryDisk) -> bool
-    ensures no_want { result ≡ false → IsNoWant (fault_number fault.now) device.now }
-    ensures want { result ≡ true → IsWant (fault_number fault.now) device.now }
+    ensures no_want { result ≡ false → IsOtherFault (fault_number fault.now) device.now }
+    ensures want { result ≡ true → IsOutOfMemory (fault_number fault.now) device.now }
 {
     device.starved()
         || matches!(
@@ -69,10 +69,10 @@ pub fn take_down<R: MemoryReplica>(
     ensures fits { (h : History) (w : View) → DisksFit R.meaning h seat.old.number (disk_of device)
         → AreShort (disk_of device) → SeatFits R.Shows (disks_by R.behaves) R.meaning h w seat.new }
     ensures fallen { IfOk result
-        (λ o. HasFallen (IsThis (fault_number fault) device) seat.new o.notes.items o.sent.items o.ended o.stop) }
+        (λ o. HasEndedByFault (IsThis (fault_number fault) device) seat.new o.notes.items o.sent.items o.ended o.stop) }
     ensures told { IsSound (fault_number fault) → IfOk result (λ o. IsToldEnd o.ended) }
     ensures halted { OnErr result (seat.new.life ≡ Down (stopped_on 0 0 device)) }
-    ensures want { OnErr result (IsWant (fault_number fault) device) }
+    ensures want { OnErr result (IsOutOfMemory (fault_number fault) device) }
 {
     if is_wanting(&fault, &device) {
         device.stop(0, 0);

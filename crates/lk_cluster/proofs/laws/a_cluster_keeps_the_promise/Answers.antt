@@ -1,5 +1,5 @@
 use Rattle.lk_locks.specs.Meaning.{table_meaning}
-use Rattle.lk_promise.proofs.Clauses.{locks_behave, promised}
+use Rattle.lk_guarantees.proofs.Clauses.{locks_behave, promised}
 use Rattle.lk_sim.proofs.Networks.{promises_of}
 use Rattle.lk_cluster.specs.Clusters.{ForgesNothing, scene_of}
 use Rattle.lk_cluster.proofs.Keeping.{reachable_sound, forges_nothing}

@@ -1,6 +1,6 @@
 use Rattle.std.proofs.Common.{rules, ◌∙◌, ap, arith, length}
 use Rattle.lk_disk.specs.Disk.{other, contents}
-use Rattle.lk_entries.specs.Entries.{plain}
+use Rattle.lk_store_format.specs.Entries.{plain}
 use Rattle.lk_log.proofs.Room.{some_room, all_room, synced_room}
 use Rattle.lk_log.proofs.Steps.{stands_at, keeps_at, torn_piece, grows_holds, holds_piece, holds_same, holds_sync}
 use Rattle.lk_log.proofs.Steps.{grows_synced}

@@ -1,10 +1,10 @@
 use Rattle.std.proofs.Common.{◌++◌, not, ◌||◌, List, ℕ, length, sym, subst, ap, ◌∙◌, arith, length-append}
 use Rattle.std.specs.List.{AllByRecursion}
-use Rattle.lk_entries.specs.Entries.{spelling, spelling_of_all, IsStored}
-use Rattle.lk_entries.specs.Files.{is_torn}
-use Rattle.lk_entries.specs.Formats.{is_mixed}
-use Rattle.lk_entries.specs.declared.stored.Stored.{Stored}
-use Rattle.lk_entries.proofs.Spelling.{spelled_long, spelled-push, all-append}
+use Rattle.lk_store_format.specs.Entries.{spelling, spelling_of_all, IsStored}
+use Rattle.lk_store_format.specs.Files.{is_torn}
+use Rattle.lk_store_format.specs.Formats.{is_mixed}
+use Rattle.lk_store_format.specs.declared.stored.Stored.{Stored}
+use Rattle.lk_store_format.proofs.Spelling.{spelled_long, spelled-push, all-append}
 use Rattle.lk_log.proofs.file.file_of.Goals as goal
 
 pub read-smaller : goal.read-smaller

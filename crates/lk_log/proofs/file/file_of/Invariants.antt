@@ -1,6 +1,6 @@
 use Rattle.std.proofs.Common.{◌≡◌, ◌++◌, length}
 use Rattle.std.specs.List.{AllByRecursion}
-use Rattle.lk_entries.specs.Entries.{spelling_of_all, IsStored}
+use Rattle.lk_store_format.specs.Entries.{spelling_of_all, IsStored}
 use Rattle.lk_log.proofs.file.file_of.Given as goal
 
 abbrev pub invariant-read : goal.invariant-read

@@ -1,5 +1,5 @@
 use Rattle.std.proofs.Common.{ℕ, List, ◌∙◌, subst}
-use Rattle.lk_entries.specs.Files.{IsFile}
+use Rattle.lk_store_format.specs.Files.{IsFile}
 use Rattle.lk_log.proofs.file.read_file.Goals as goal
 
 pub returns-clause-file : goal.returns-clause-file

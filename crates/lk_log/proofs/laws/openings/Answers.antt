@@ -1,5 +1,5 @@
 use Rattle.std.proofs.Common.{◌≡◌, true, List}
-use Rattle.lk_entries.specs.declared.stored.Stored.{Stored}
+use Rattle.lk_store_format.specs.declared.stored.Stored.{Stored}
 use Rattle.lk_log.proofs.StoreLaws.{opening_is, openings, openings_every}
 use Rattle.lk_log.proofs.laws.openings.Goals as goal
 

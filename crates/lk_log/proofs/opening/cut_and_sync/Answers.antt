@@ -1,7 +1,7 @@
 use Rattle.std.proofs.Common.{◌∙◌, ap, arith, length}
 use Rattle.lk_disk.specs.Disk.{other, contents}
 use Rattle.lk_disk.specs.declared.device.Side.{Side}
-use Rattle.lk_entries.proofs.Whole.{file_sound}
+use Rattle.lk_store_format.proofs.Whole.{file_sound}
 use Rattle.lk_log.specs.Stores.{FileNarrows}
 use Rattle.lk_log.proofs.ImageLaws.{each_side}
 use Rattle.lk_log.proofs.Settle.{narrows, file_same, file_then, flushed_narrows, settled}

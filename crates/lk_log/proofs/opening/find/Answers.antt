@@ -1,7 +1,7 @@
 use Rattle.std.proofs.Common.{ap, subst, ◌∙◌, length}
 use Rattle.lk_disk.specs.Disk.{Disk, contents}
 use Rattle.lk_disk.specs.declared.device.Side.TheVariants.{A, B}
-use Rattle.lk_entries.specs.Files.{IsFile}
+use Rattle.lk_store_format.specs.Files.{IsFile}
 use Rattle.lk_log.specs.Images.{seen}
 use Rattle.lk_log.specs.StoreValue.{pick}
 use Rattle.lk_log.specs.declared.verdict.Verdict.TheVariants.{Damaged, Empty}

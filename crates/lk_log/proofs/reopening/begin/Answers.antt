@@ -1,9 +1,9 @@
 use Rattle.std.proofs.Common.{◌≡◌, ◌∙◌, refl, sym, ap, subst, List, [], ◌∷◌, ℕ}
 use Rattle.lk_disk.specs.declared.device.Side.TheVariants.{A, B}
-use Rattle.lk_entries.specs.Entries.{spelling, IsStored}
-use Rattle.lk_entries.specs.Standings.{StandsFor}
-use Rattle.lk_entries.specs.Values.{BaseValue}
-use Rattle.lk_entries.specs.declared.stored.Stored.TheVariants.{Base}
+use Rattle.lk_store_format.specs.Entries.{spelling, IsStored}
+use Rattle.lk_store_format.specs.Standings.{StandsFor}
+use Rattle.lk_store_format.specs.Values.{BaseValue}
+use Rattle.lk_store_format.specs.declared.stored.Stored.TheVariants.{Base}
 use Rattle.lk_log.specs.Images.{seen}
 use Rattle.lk_log.specs.Stores.{first_base, IsWrittenOver, OpensOn}
 use Rattle.lk_log.proofs.BeginLaws.{begins_same, begins, begun_opens, first_fits}

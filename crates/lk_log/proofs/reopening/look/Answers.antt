@@ -1,6 +1,6 @@
 use Rattle.std.proofs.Common.{◌∙◌, ap}
-use Rattle.lk_entries.specs.Formats.{format}
-use Rattle.lk_entries.specs.Bases.{generation}
+use Rattle.lk_store_format.specs.Formats.{format}
+use Rattle.lk_store_format.specs.Bases.{generation}
 use Rattle.lk_log.proofs.ImageLaws.{found_is_live}
 use Rattle.lk_log.proofs.reopening.look.Goals as goal
 

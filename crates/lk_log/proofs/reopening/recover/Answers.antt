@@ -1,7 +1,7 @@
 use Rattle.std.proofs.Common.{rules, ap, refl, inl, subst, List}
 use Rattle.lk_disk.specs.Disk.{contents, other}
-use Rattle.lk_entries.specs.Standings.{HasHeader}
-use Rattle.lk_entries.specs.declared.stored.Stored.{Stored}
+use Rattle.lk_store_format.specs.Standings.{HasHeader}
+use Rattle.lk_store_format.specs.declared.stored.Stored.{Stored}
 use Rattle.lk_log.specs.Images.{seen}
 use Rattle.lk_log.proofs.BeginLaws.{begins_same, begins_after}
 use Rattle.lk_log.proofs.ImageLaws.{found_is_live}

@@ -1,5 +1,5 @@
 use Rattle.std.proofs.Common.{◌≡◌, map, drop}
-use Rattle.lk_entries.specs.Standings.{greatest_of, ballot_of}
+use Rattle.lk_store_format.specs.Standings.{greatest_of, ballot_of}
 use Rattle.lk_log.proofs.replaying.greatest_of.Given as goal
 
 abbrev pub invariant-loop-vote : goal.invariant-loop-vote

@@ -2,7 +2,7 @@
 use Rattle.std.proofs.Common.{ℕ, rules, nat_lt}
 use Rattle.std.proofs.lemmas.List.Sorted.{IsPartitionPoint-from_clause, IsPartitionedBy-ltb}
 use Rattle.lk_types.specs.declared.command.Command.{Command}
-use Rattle.lk_entries.proofs.Halving.{pairs_rise, point_is_below}
+use Rattle.lk_store_format.proofs.Halving.{pairs_rise, point_is_below}
 use Rattle.lk_log.proofs.replaying.pairs_below.Goals as goal
 
 pub returns-clause-value : goal.returns-clause-value

@@ -1,9 +1,9 @@
 use Rattle.std.proofs.Common.{◌++◌, ◌∷◌, [], List, sym, subst}
 use Rattle.std.specs.List.{AllByRecursion}
-use Rattle.lk_entries.specs.Entries.{IsStored}
-use Rattle.lk_entries.specs.Standings.{Rises}
-use Rattle.lk_entries.specs.declared.stored.Stored.{Stored}
-use Rattle.lk_entries.proofs.StandingLaws.{StandsSoFar, so_far_base, so_far_plain, rises_alone, rises_with}
+use Rattle.lk_store_format.specs.Entries.{IsStored}
+use Rattle.lk_store_format.specs.Standings.{Rises}
+use Rattle.lk_store_format.specs.declared.stored.Stored.{Stored}
+use Rattle.lk_store_format.proofs.StandingLaws.{StandsSoFar, so_far_base, so_far_plain, rises_alone, rises_with}
 use Rattle.lk_log.proofs.replaying.replay.Goals as goal
 
 pub loop-entry-preserved-in-Base : goal.loop-entry-preserved-in-Base

@@ -1,7 +1,7 @@
 use Rattle.std.specs.List.{AllByRecursion}
-use Rattle.lk_entries.specs.Entries.{IsStored}
-use Rattle.lk_entries.specs.Standings.{Rises}
-use Rattle.lk_entries.proofs.StandingLaws.{StandsSoFar}
+use Rattle.lk_store_format.specs.Entries.{IsStored}
+use Rattle.lk_store_format.specs.Standings.{Rises}
+use Rattle.lk_store_format.proofs.StandingLaws.{StandsSoFar}
 use Rattle.lk_log.proofs.replaying.replay.Given as goal
 
 -- what stands so far, in order, and what is left is in its range

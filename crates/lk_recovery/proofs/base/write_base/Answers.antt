@@ -1,6 +1,6 @@
 use Rattle.std.proofs.Common.{◌≡◌, rules, arith, [], ◌∷◌, refl, sym, ap, subst, inl, inr}
-use Rattle.lk_entries.specs.Values.{StandingValue}
-use Rattle.lk_entries.specs.declared.stored.Stored.TheVariants.{Base}
+use Rattle.lk_store_format.specs.Values.{StandingValue}
+use Rattle.lk_store_format.specs.declared.stored.Stored.TheVariants.{Base}
 use Rattle.lk_log.specs.StoreValue.{disks}
 use Rattle.lk_log.specs.Stores.{Holds, MayBegin, next_base, KeepsOrIs}
 use Rattle.lk_state.specs.Meanings.{Meaning}

@@ -2,7 +2,7 @@ use Rattle.std.proofs.Common.{◌≡◌, ℕ, ◌+◌, ◌*◌, true, nat_le, Li
 use Rattle.lk_acceptor.specs.States.{IsOrdered}
 use Rattle.lk_learner.specs.Learners.{Command, LearnerValue, IsNext, executed}
 use Rattle.lk_node.specs.NodeValue.{NodeValue}
-use Rattle.lk_entries.specs.Values.{StandingValue}
+use Rattle.lk_store_format.specs.Values.{StandingValue}
 use Rattle.lk_state.specs.Packed.{Packs}
 use Rattle.lk_state.specs.States.{WholeValue}
 use Rattle.lk_node.specs.Leavings.{acceptor_of}

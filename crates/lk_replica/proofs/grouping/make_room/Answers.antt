@@ -1,5 +1,5 @@
 use Rattle.std.proofs.Common.{◌≡◌, Err, rules, true, false, ◌∙◌, sym, ap, arith}
-use Rattle.lk_entries.specs.Entries.{plain}
+use Rattle.lk_store_format.specs.Entries.{plain}
 use Rattle.lk_log.specs.StoreValue.{disks}
 use Rattle.lk_state.specs.Meanings.{Meaning}
 use Rattle.lk_replica.proofs.Grouped.{of_store_too, no_room_made, room_made, begin_fits, begun, settled_keeps}

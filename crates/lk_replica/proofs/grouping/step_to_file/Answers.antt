@@ -1,6 +1,6 @@
 use Rattle.std.proofs.Common.{◌≡◌, ◌≤◌, true, false, List, ◌++◌, ◌∙◌, length, refl, sym, ap, subst, arith}
 use Rattle.lk_types.specs.declared.entry.Entry.{Entry}
-use Rattle.lk_entries.specs.Entries.{plain}
+use Rattle.lk_store_format.specs.Entries.{plain}
 use Rattle.lk_log.specs.StoreValue.{disks}
 use Rattle.lk_log.specs.Stores.{Holds, KeepsAtLeast}
 use Rattle.lk_log.proofs.Room.{within_same, within_first, within_more, behind_room, refused_room}

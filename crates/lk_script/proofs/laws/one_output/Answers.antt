@@ -1,4 +1,4 @@
-use Rattle.lk_lines.specs.Lines.{lines_of}
+use Rattle.lk_script_lines.specs.Lines.{lines_of}
 use Rattle.lk_script.specs.Scripts.{begun}
 use Rattle.lk_script.proofs.OutputLaws.{runs_once}
 use Rattle.lk_script.proofs.laws.one_output.Goals as goal

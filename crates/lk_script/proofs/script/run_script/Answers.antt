@@ -1,7 +1,7 @@
 use Rattle.std.proofs.Common.{rules, arith, inl, refl, subst, ℕ, List}
 use Rattle.std.proofs.lemmas.List.{nil_from_length}
 use Rattle.std.proofs.lemmas.Result.{err_from_is_err_and}
-use Rattle.lk_lines.proofs.LineLaws.{took_nothing}
+use Rattle.lk_script_lines.proofs.LineLaws.{took_nothing}
 use Rattle.lk_script.proofs.ScriptLaws.{known_starts, known_ended, known_last, known_line, known_broke, known_failed}
 use Rattle.lk_script.proofs.ScriptLaws.{known_skipped, known_taken}
 use Rattle.lk_script.specs.Scripts.{Script, Takes, Refuses}

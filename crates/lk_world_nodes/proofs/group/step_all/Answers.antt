@@ -6,7 +6,7 @@ use Rattle.lk_replica.specs.Behaviours.{disks_by}
 use Rattle.lk_replica.specs.Together.{GoesAll, parts_of}
 use Rattle.lk_node_io.specs.Faults.{fault_number, RefusedAfter}
 use Rattle.lk_world_nodes.specs.Ends.{BreaksTogether}
-use Rattle.lk_world_nodes.specs.Outcomes.{HasWanted}
+use Rattle.lk_world_nodes.specs.Outcomes.{HasStoppedOutOfMemory}
 use Rattle.lk_world_nodes.specs.Rooms.{AreShort}
 use Rattle.lk_world_nodes.specs.Seats.{stopped_on, fallen_on}
 use Rattle.lk_world_nodes.specs.declared.seat.Life.TheVariants.{Up}
@@ -93,7 +93,7 @@ returns-in_err-outcome-in-Err-clause-wants g c r up =
     let e = c.in_err-outcome-in-Err.ensures in
     let left : c.take_device-device.result ≡ b.memory c.take_all.new.self = c.take_device-device.ensures.is in
     on_err_of c.from_residual.result
-    (subst (λ z. HasWanted (BreaksTogether b z given) c.take_down.new.seat) own
+    (subst (λ z. HasStoppedOutOfMemory (BreaksTogether b z given) c.take_down.new.seat) own
     (record {
       number = fault_number c.in-Err.fault;
       left = c.take_device-device.result;

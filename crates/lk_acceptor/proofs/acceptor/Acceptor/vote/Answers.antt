@@ -6,7 +6,7 @@ use Rattle.lk_agreement.specs.Acceptors.{AcceptorState}
 use Rattle.lk_types.specs.Ballots.{IsAtMost}
 use Rattle.lk_acceptor.specs.AcceptorValue.{AcceptorValue}
 use Rattle.lk_acceptor.specs.States.{IsOrdered, with_state}
-use Rattle.lk_entries.specs.VoteLists.{votes_with}
+use Rattle.lk_store_format.specs.VoteLists.{votes_with}
 use Rattle.lk_acceptor.proofs.Searching.{ranges_with}
 use Rattle.lk_acceptor.proofs.Keeping.{vote_kept, still_kept}
 use Rattle.lk_acceptor.proofs.acceptor.Acceptor.vote.Goals as goal

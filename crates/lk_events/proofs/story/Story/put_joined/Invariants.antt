@@ -2,10 +2,10 @@
 use Rattle.std.specs.Prelude.{List, drop}
 use Rattle.lk_events.specs.News.{joins}
 use Rattle.lk_events.specs.Watches.{PutsNews}
-use Rattle.lk_events.specs.declared.slot.Slot.{Slot}
+use Rattle.lk_events.specs.declared.rate_limit.RateLimit.{RateLimit}
 use Rattle.lk_events.proofs.story.Story.put_joined.Given as goal
 
 abbrev pub invariant-members : goal.invariant-members
 invariant-members l =
-    (new : List Slot) → PutsNews l.now l.self l.seen (joins (drop l.member-index l.members)) l.slots.all new
+    (new : List RateLimit) → PutsNews l.now l.self l.seen (joins (drop l.member-index l.members)) l.slots.all new
     → PutsNews l.now l.self l.seen (joins l.members) l.initial.slots.all new

@@ -1,5 +1,5 @@
 use Rattle.std.proofs.Common.{subst, Bool}
-use Rattle.lk_events.specs.Quiets.{TurnsQuiet}
+use Rattle.lk_events.specs.Timers.{TurnsQuiet}
 use Rattle.lk_events.proofs.watch.Watch.put_times.Goals as goal
 
 pub returns : goal.returns

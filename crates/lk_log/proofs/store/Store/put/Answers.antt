@@ -1,5 +1,5 @@
 use Rattle.std.proofs.Common.{rules}
-use Rattle.lk_entries.specs.Entries.{plain}
+use Rattle.lk_store_format.specs.Entries.{plain}
 use Rattle.lk_log.proofs.Steps.{keeps_at}
 use Rattle.lk_log.proofs.store.Store.put.Goals as goal
 use Rattle.lk_disk.specs.Meters.{start}

@@ -1,6 +1,6 @@
 use Rattle.std.proofs.Common.{◌≡◌, ◌≤◌, ◌+◌, false, [], ◌∷◌, length, refl, sym, ◌∙◌, ap, subst, arith}
-use Rattle.lk_entries.specs.Values.{BaseValue}
-use Rattle.lk_entries.specs.declared.stored.Stored.TheVariants.{Base}
+use Rattle.lk_store_format.specs.Values.{BaseValue}
+use Rattle.lk_store_format.specs.declared.stored.Stored.TheVariants.{Base}
 use Rattle.lk_log.specs.Stores.{Holds, next_base, KeepsOrIs}
 use Rattle.lk_log.specs.StoreValue.{StoreValue, pick, disks}
 use Rattle.lk_disk.specs.Disk.{other, contents}

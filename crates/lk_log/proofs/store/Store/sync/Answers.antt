@@ -2,8 +2,8 @@ use Rattle.std.proofs.Common.{◌∙◌, ◌<◌, sym, subst, arith}
 use Rattle.lk_disk.specs.Disk.{other}
 use Rattle.lk_disk.specs.Meters.{start}
 use Rattle.lk_disk.proofs.Devices.{call_passes, call_breaks}
-use Rattle.lk_entries.specs.Bases.{generation}
-use Rattle.lk_entries.proofs.Mixed.{format-append}
+use Rattle.lk_store_format.specs.Bases.{generation}
+use Rattle.lk_store_format.proofs.Mixed.{format-append}
 use Rattle.lk_log.specs.Causes.{IsMetered}
 use Rattle.lk_log.specs.StoreValue.{StoreValue}
 use Rattle.lk_log.specs.Stores.{Holds}

@@ -4,7 +4,7 @@ use Rattle.lk_agreement.specs.Chosen.{Command, ChosenAt}
 use Rattle.lk_node_io.specs.Outboxes.{OutboxValue, with_note}
 use Rattle.lk_node_io.specs.declared.note.Note.TheVariants as note
 use Rattle.lk_node.specs.Learning.{Learns}
-use Rattle.lk_node.specs.Serving.{GoesOn}
+use Rattle.lk_node.specs.Serving.{ActsSafely}
 use Rattle.lk_node.proofs.DecidingLaws.{decides_goes_on}
 use Rattle.lk_node.proofs.node.Node.decide.Goals as goal
 
@@ -15,7 +15,7 @@ returns-clause-goes_on g c = λ at.
     ≡ with_note (note.Counted c.node.result c.args.position c.args.members c.args.command.now) c.args.out.now =
     c.in_ok-note.ensures ∙ ap (λ (v : Command). with_note
     (note.Counted c.node.result c.args.position c.args.members v) c.args.out.now) c.copy.ensures in
-    subst (λ (o : OutboxValue). GoesOn m
+    subst (λ (o : OutboxValue). ActsSafely m
     (λ h. ChosenAt h.genesis h.sent c.args.position c.args.command.now) c.args.self.now c.execute.new.self
     c.args.out.now o) (sym c.in_ok-add_letters.ensures)
     (decides_goes_on m c.args.members c.args.position c.args.command.now c.node.result c.args.self.now c.learn.new.self
@@ -25,7 +25,7 @@ returns-clause-goes_on g c = λ at.
     (c.args.position, c.args.command.now) c.args.self.now o c.learn.new.self c.learn.new.out) noted
     c.in_ok-learn.ensures.exact)
     c.in_ok-execute.ensures.exact.0
-    (subst (λ (o : OutboxValue). GoesOn m
+    (subst (λ (o : OutboxValue). ActsSafely m
     (λ h. ChosenAt h.genesis h.sent c.args.position c.args.command.now) c.args.self.now c.learn.new.self o
     c.learn.new.out) noted c.in_ok-learn.ensures.goes_on)
     c.in_ok-execute.ensures.goes_on)

@@ -5,7 +5,7 @@ use Rattle.lk_state.specs.Meanings.{Meaning}
 use Rattle.lk_agreement.specs.Datagrams.{HasSent}
 use Rattle.lk_node_io.specs.Outboxes.{OutboxValue, nothing}
 use Rattle.lk_node.specs.DecidedPairs.{TakesFirst, TakesPairs, none_yet}
-use Rattle.lk_node.specs.Serving.{GoesOn}
+use Rattle.lk_node.specs.Serving.{ActsSafely}
 use Rattle.lk_node.proofs.LearnerLaws.{told_goes_on, takes_more, walked, not_walked}
 use Rattle.lk_node.proofs.Serving.{rests_here}
 use Rattle.lk_node.proofs.node.Node.handle_decided.Goals as goal
@@ -15,7 +15,7 @@ pairs-init g c =
     let m : Meaning = g.M.Machine.meaning in (
       subst (λ (o : OutboxValue). TakesPairs m c.args.decided.now.first c.args.decided.now.commands c.args.self.now
           nothing 0 c.args.self.now o) (sym c.new-out.ensures) none_yet,
-      λ from. subst (λ (o : OutboxValue). GoesOn m
+      λ from. subst (λ (o : OutboxValue). ActsSafely m
           (λ h. HasSent h.genesis h.sent from (kinds.Decided c.args.decided.now)) c.args.self.now c.args.self.now
           nothing o) (sym c.new-out.ensures) (rests_here m _ c.args.self.now nothing),
       c.copy-rest.ensures ∙ c.commands.ensures,

@@ -3,12 +3,12 @@ use Rattle.lk_messages.specs.declared.message.NodeMessage.TheVariants as kinds
 use Rattle.lk_agreement.specs.Datagrams.{HasSent}
 use Rattle.lk_node_io.specs.Outboxes.{nothing}
 use Rattle.lk_node.specs.DecidedPairs.{TakesPairs}
-use Rattle.lk_node.specs.Serving.{GoesOn}
+use Rattle.lk_node.specs.Serving.{ActsSafely}
 use Rattle.lk_node.proofs.node.Node.handle_decided.Given as goal
 
 abbrev pub invariant-pairs : goal.invariant-pairs
 invariant-pairs g l =
     TakesPairs g.M.Machine.meaning l.decided.first l.decided.commands l.fn.self nothing l.index l.self l.out
-    × ((from : ℕ) → GoesOn g.M.Machine.meaning
+    × ((from : ℕ) → ActsSafely g.M.Machine.meaning
     (λ h. HasSent h.genesis h.sent from (kinds.Decided l.decided)) l.fn.self l.self nothing l.out)
     × (l.rest ≡ drop l.index l.decided.commands)

@@ -5,7 +5,7 @@ use Rattle.lk_state.specs.Meanings.{Meaning, KeepsTexts}
 use Rattle.lk_node_io.specs.Outboxes.{OutboxValue, nothing}
 use Rattle.lk_node.specs.Histories.{History}
 use Rattle.lk_node.specs.NodeValue.{NodeValue}
-use Rattle.lk_node.specs.Serving.{GoesOn}
+use Rattle.lk_node.specs.Serving.{ActsSafely}
 use Rattle.lk_node.proofs.InstallLaws.{BeganWell, began_well, gathers_goes_on}
 use Rattle.lk_node.proofs.LearnerLaws.{unheard}
 use Rattle.lk_node.proofs.Serving.{then_goes_on}
@@ -24,7 +24,7 @@ returns-then-not-branch-clause-goes_on g c = λ from.
     (λ k n is. began_well c.genesis.result.now k c.self.inside.header n c.genesis.ensures.cluster
     c.genesis.ensures.alpha c.genesis.ensures.members
     c.facts.ensures (ap (λ (node : NodeValue). node.header) c.self.view_is ∙ is)) in
-    subst (λ (o : OutboxValue). GoesOn m
+    subst (λ (o : OutboxValue). ActsSafely m
     (λ h. HasSent h.genesis h.sent from (kinds.Part c.args.part.now)) c.args.self.now c.add_part.new.self nothing o)
     (sym c.new.ensures)
     (gathers_goes_on m from g.M.Machine.IsText keeps c.in_ok-add_part.field-0 c.args.part.now c.args.self.now

@@ -5,7 +5,7 @@ use Rattle.lk_state.specs.States.{WholeValue}
 use Rattle.lk_node_io.specs.Outboxes.{OutboxValue, with_rebase}
 use Rattle.lk_node.specs.Installing.{SettlesAll}
 use Rattle.lk_node.specs.NodeValue.{NodeValue}
-use Rattle.lk_node.specs.Serving.{GoesOn}
+use Rattle.lk_node.specs.Serving.{ActsSafely}
 use Rattle.lk_node.proofs.TakingUp.{takes_up_goes_on}
 use Rattle.lk_node.proofs.node.Node.install_gathered.Goals as goal
 
@@ -20,6 +20,6 @@ returns-clause-goes_on g c =
     (subst (λ (o : OutboxValue). SettlesAll c.args.self.now.learner.whole.sessions c.args.self.now o
     c.reply_to_all_waiting.new.self c.reply_to_all_waiting.new.out)
     (c.rebase_store.ensures ∙ ap with_rebase c.new-out.ensures) c.in_ok-reply_to_all_waiting.ensures)
-    (subst (λ (node : NodeValue). GoesOn m
+    (subst (λ (node : NodeValue). ActsSafely m
     (λ h. Unit {0}) node c.execute.new.self c.reply_to_all_waiting.new.out c.execute.new.out) c.leave_outside.ensures
     c.in_ok-execute.ensures.goes_on)

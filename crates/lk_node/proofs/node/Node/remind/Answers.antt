@@ -2,7 +2,7 @@ use Rattle.std.proofs.Common.{subst}
 use Rattle.lk_state.specs.Meanings.{Meaning}
 use Rattle.lk_node_io.specs.Outboxes.{OutboxValue, nothing}
 use Rattle.lk_node.specs.Histories.{History}
-use Rattle.lk_node.specs.Serving.{GoesOn}
+use Rattle.lk_node.specs.Serving.{ActsSafely}
 use Rattle.lk_node.proofs.Serving.{then_goes_on}
 use Rattle.lk_node.proofs.node.Node.remind.Goals as goal
 
@@ -16,7 +16,7 @@ returns-clause-goes_on g c =
     c.resend_accepts.new.out c.propose.new.out
     (then_goes_on m Any c.args.self.now c.args.self.now c.args.self.now nothing
     c.resend_prepares_of_term.new.out c.resend_accepts.new.out
-    (subst (λ (o : OutboxValue). GoesOn m Any c.args.self.now c.args.self.now o c.resend_prepares_of_term.new.out)
+    (subst (λ (o : OutboxValue). ActsSafely m Any c.args.self.now c.args.self.now o c.resend_prepares_of_term.new.out)
     c.new-out.ensures c.in_ok-resend_prepares_of_term.ensures.goes_on)
     c.in_ok-resend_accepts.ensures.goes_on)
     c.in_ok-propose.ensures.goes_on)

@@ -6,7 +6,7 @@ use Rattle.lk_learner.specs.Learners.{executed}
 use Rattle.lk_node_io.specs.Outboxes.{OutboxValue}
 use Rattle.lk_node.specs.NodeValue.{NodeValue}
 use Rattle.lk_node.specs.Reminding.{OffersAgain, OffersFirst, none_offered, one_offered}
-use Rattle.lk_node.specs.Serving.{GoesOn}
+use Rattle.lk_node.specs.Serving.{ActsSafely}
 use Rattle.lk_node.proofs.Serving.{rests_here, then_goes_on}
 use Rattle.lk_node.proofs.node.Node.resend_accepts.Goals as goal
 use Rattle.lk_node.proofs.node.Node.resend_accepts.Goals.{in-Some+in_ok-resend_accept_of_term, in_default}
@@ -18,7 +18,7 @@ pub ahead-preserved : goal.ahead-preserved
 ahead-preserved g c =
     let m : Meaning = g.M.Machine.meaning in
     let So : OutboxValue → Type 0 = λ o. OffersFirst c.args.self.now c.args.ballot c.args.out.now (c.ahead.ahead + 1) o
-    × GoesOn m (λ h. Unit {0}) c.args.self.now c.args.self.now c.args.out.now o in
+    × ActsSafely m (λ h. Unit {0}) c.args.self.now c.args.self.now c.args.out.now o in
     let next : c.get-next.result ≡ executed c.args.self.now.learner =
     c.get-next.ensures.value ∙ c.executed.ensures ∙ ap (λ (w : WholeValue). w.roster.executed) c.whole.ensures
     ∙ ap (λ (k : NodeValue). executed k.learner) c.self.view_is in

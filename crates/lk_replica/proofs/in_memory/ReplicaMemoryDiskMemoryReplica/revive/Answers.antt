@@ -1,7 +1,7 @@
 use Rattle.std.proofs.Common.{◌≡◌, ℕ, ◌+◌, ◌≤◌, ◌⊎◌, inl, inr, List, [], Result, Ok, Err, IfOk, MatchResult, subst}
 use Rattle.std.proofs.Common.{arith}
 use Rattle.std.specs.Prelude.{IfErr}
-use Rattle.lk_entries.specs.Values.{HeaderValue}
+use Rattle.lk_store_format.specs.Values.{HeaderValue}
 use Rattle.lk_log.specs.Rooms.{StaysWithin}
 use Rattle.lk_disk.specs.Disk.{Disk}
 use Rattle.lk_simulated_disk.specs.Memory.{Memory, disk_of}

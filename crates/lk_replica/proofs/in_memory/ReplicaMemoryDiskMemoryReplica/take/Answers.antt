@@ -1,6 +1,6 @@
 use Rattle.std.proofs.Common.{◌≡◌, ◌∙◌, List, ◌++◌, Result, Ok, Err, OnErr, Contains, refl, ap, sym, subst}
 use Rattle.std.specs.Prelude.{⊤}
-use Rattle.lk_entries.specs.Values.{HeaderValue}
+use Rattle.lk_store_format.specs.Values.{HeaderValue}
 use Rattle.lk_replica.specs.ReplicaValue.{device_of}
 use Rattle.lk_simulated_disk.specs.Memory.{disk_of}
 use Rattle.lk_state.specs.Meanings.{Meaning}

@@ -1,5 +1,5 @@
 use Rattle.std.proofs.Common.{◌≡◌, ◌∙◌, sym, ap}
-use Rattle.lk_pace.specs.declared.turn_input.TurnInput.TheVariants.{Beside, Something}
+use Rattle.lk_timing.specs.declared.turn_input.TurnInput.TheVariants.{Filtered, Something}
 use Rattle.lk_transport.specs.Addresses.{filter_of}
 use Rattle.lk_server.specs.Servers.{ServerValue}
 use Rattle.lk_server.proofs.FilteredOut.{not_beside}
@@ -7,7 +7,7 @@ use Rattle.lk_server.proofs.Asking.{keeps_given, keeps_found}
 use Rattle.lk_server.proofs.Carrying.{if_ok_both, if_ok_four, if_err_on}
 use Rattle.lk_server.proofs.Gatherings.{socket_one, ends_socket, finds, still_not_out}
 use Rattle.lk_server.proofs.server.Server.add_first_datagram.Goals as goal
-use Rattle.lk_transport.specs.Hearing.{BufferValue, listed}
+use Rattle.lk_transport.specs.ReceiveBuffers.{BufferValue, listed}
 
 pub returns-clause-takes : goal.returns-clause-takes
 returns-clause-takes g c =
@@ -16,7 +16,7 @@ returns-clause-takes g c =
     if_ok_both c.add_received.result (λ found takes rest yes.
     let t = takes yes in
     let apart = still_not_out c.args.self.now c.receive.new.self t.0 l.others t.2 in
-    let same = rest (λ is. let both : Something ≡ Beside = sym yes ∙ is in cc both) in (
+    let same = rest (λ is. let both : Something ≡ Filtered = sym yes ∙ is in cc both) in (
       t.0,
       apart,
       socket_one g.R.ServedReplica.Gathers g.S.DatagramSocket.is_telling c.receive.new.buffer.last t.0 c.args.group.now

@@ -6,7 +6,7 @@ use Rattle.lk_server.proofs.Asking.{keeps_given, keeps_beside}
 use Rattle.lk_server.proofs.Carrying.{on_err}
 use Rattle.lk_server.proofs.Gatherings.{socket_one, socket_beside, ends_socket, none_came, still_not_out}
 use Rattle.lk_server.proofs.server.Server.add_next_datagram.Goals as goal
-use Rattle.lk_transport.specs.Hearing.{BufferValue}
+use Rattle.lk_transport.specs.ReceiveBuffers.{BufferValue}
 
 pub returns-in-Something-clause-takes : goal.returns-in-Something-clause-takes
 returns-in-Something-clause-takes g c = λ came.
@@ -24,8 +24,8 @@ returns-in-Something-clause-takes g c = λ came.
           (ap (λ (b : BufferValue). b.asked) same ∙ l.asked) (ap (λ (b : BufferValue). b.reported) same ∙ l.reported),
     )
 
-pub returns-in-Beside-clause-takes : goal.returns-in-Beside-clause-takes
-returns-in-Beside-clause-takes g c = λ came.
+pub returns-in-Filtered-clause-takes : goal.returns-in-Filtered-clause-takes
+returns-in-Filtered-clause-takes g c = λ came.
     let l = c.receive_or_pause.ensures in
     let b = c.in_ok-add_received.ensures.beside (search rules) in (
       b.0,

@@ -1,6 +1,6 @@
 use Rattle.std.proofs.Common.{Option, ap, subst}
 use Rattle.lk_probe.specs.declared.reported.Reported.{Reported}
-use Rattle.lk_transport.specs.Hearing.{BufferValue}
+use Rattle.lk_transport.specs.ReceiveBuffers.{BufferValue}
 use Rattle.lk_transport.specs.Inquiring.{LearnsKept, ReadmitsKept}
 use Rattle.lk_transport.specs.declared.received_probe.ReceivedProbe.{ReceivedProbe}
 use Rattle.lk_server.proofs.Acting.{acted}

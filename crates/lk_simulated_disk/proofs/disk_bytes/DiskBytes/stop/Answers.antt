@@ -1,5 +1,5 @@
 use Rattle.std.proofs.Common.{rules, ◌≡◌, ◌∙◌, ap, ◌-◌, ◌+◌, min, take, length}
-use Rattle.lk_disk.specs.Disk.{kept_by}
+use Rattle.lk_disk.specs.Disk.{after_stop}
 use Rattle.lk_simulated_disk.proofs.Keep.{kept_front}
 use Rattle.lk_simulated_disk.proofs.disk_bytes.DiskBytes.stop.Goals as goal
 
@@ -10,4 +10,4 @@ returns c =
     kept_front c.args.unsynced c.self.inside.synced c.len-self-inside.result c.self.inside.bytes.items
     c.truncate.new.self.items
     (c.truncate.ensures.items ∙ ap (λ k. take (c.self.inside.synced + k) c.self.inside.bytes.items) kept) (search rules)
-    ∙ ap (kept_by c.args.unsynced) c.self.view_is
+    ∙ ap (after_stop c.args.unsynced) c.self.view_is

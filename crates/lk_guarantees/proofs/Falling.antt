@@ -1,0 +1,121 @@
+-- What an end leaves, in the words of the promise.
+use Rattle.std.proofs.Common.{◌≡◌, ℕ, List, [], ◌∷◌, map, Option, Some, None, Contains, refl, sym, ◌∙◌, subst, inl, inr}
+use Rattle.std.proofs.Common.{arith}
+use Rattle.std.proofs.lemmas.List.Elements.{Contains-append_right}
+use Rattle.lk_simulated_disk.specs.Memory.{Memory}
+use Rattle.lk_disk.specs.Meters.{stopping}
+use Rattle.lk_node_io.specs.declared.note.Note.{Note}
+use Rattle.lk_replica.specs.Behaviours.{Behaviour}
+use Rattle.lk_replica.specs.ReplicaValue.{ReplicaValue}
+use Rattle.lk_world_nodes.specs.Ends.{IsToldEnd, end_by}
+use Rattle.lk_sim.specs.Events.{Turns, EndsByFault, IsGiven, IsGivenTogether, HasEffect}
+use Rattle.lk_sim.specs.Groups.{given_by}
+use Rattle.lk_sim.specs.Scenes.{Scene}
+use Rattle.lk_sim.specs.Traces.{asked_note}
+use Rattle.lk_world_nodes.specs.declared.end.End.{End}
+use Rattle.lk_world_nodes.specs.declared.end.End.TheVariants.{Fault, Stopped}
+use Rattle.lk_sim.specs.declared.event.Event.{Event}
+use Rattle.lk_sim.specs.declared.event.Event.TheVariants as event
+use Rattle.lk_world_nodes.specs.declared.seat.Seat.{Seat}
+use Rattle.lk_world_nodes.specs.declared.seat.Life.TheVariants.{Down}
+use Rattle.lk_sim.proofs.Networks.{at_set_here}
+use Rattle.lk_guarantees.specs.Events.{IsFor, IsDown, ended_node, IsEnding, LeavesDown}
+use Rattle.lk_guarantees.proofs.Refusing.{is_for}
+
+is_ending : (x : End) → IsToldEnd (Some x) → IsEnding x
+is_ending (Fault n number) told = told
+is_ending (Stopped n) told = tt
+
+node_is : (o : Option ℕ) (n number : ℕ) → ended_node (end_by o n number) ≡ n
+node_is None n number = refl
+node_is (Some bytes) n number = refl
+
+module _ (old new : Scene ReplicaValue) where
+  -- whoever is down was told of
+  told_of : (e : Event) (n : ℕ) (x : End) → ended_node x ≡ n → new.ended ≡ Some x → IsToldEnd (Some x)
+      → IsFor old.sent e n → IsDown new.seats n → LeavesDown old e new
+  told_of e n x node ended told for_it is_down y is =
+      let same : x ≡ y = one (sym ended ∙ is) in
+      subst (λ (z : End). IsFor old.sent e (ended_node z) × IsDown new.seats (ended_node z) × IsEnding z) same
+      (subst (IsFor old.sent e) (sym node) for_it, subst (IsDown new.seats) (sym node) is_down, is_ending x told)
+    where
+      one : Some x ≡ Some y → x ≡ y
+      one f = cc f
+
+  none_ended : (e : Event) → new.ended ≡ None → LeavesDown old e new
+  none_ended e none y is = absurd (cc (none, is))
+
+  sits : (s t : Seat ReplicaValue) (n : ℕ) (device : Memory) → Turns old.seats new.seats s t → s.number ≡ n
+      → t.life ≡ Down device → IsDown new.seats n
+  sits s t n device k number life =
+      let here = at_set_here old.seats k.place t k.at.0 in (
+        t,
+        device,
+        subst (λ (l : List (Seat ReplicaValue)). Contains l t) (sym k.seats) (k.place, here.0, here.1),
+        k.number ∙ number,
+        life,
+      )
+
+  -- it fell by a fault, or by an armed stop at a call
+  fell : (Ends : ℕ → Memory → Type 0) (e : Event) (n : ℕ) (t : Seat ReplicaValue) (asked : List Note)
+      → EndsByFault Ends old new t asked → t.number ≡ n → IsFor old.sent e n → IsDown new.seats n → LeavesDown old e new
+  fell Ends e n t asked f number for_it is_down =
+      told_of e n (end_by (stopping f.left.meter) t.number f.number)
+      (node_is (stopping f.left.meter) t.number f.number ∙ number) f.ended
+      (subst IsToldEnd f.ended f.told) for_it is_down
+
+  module _ (b : Behaviour ReplicaValue) where
+    given_down : (e : Event) (n : ℕ) (o : Option (List ℕ)) (asked : List Note) → IsFor old.sent e n
+        → IsGiven b old new n o asked → LeavesDown old e new
+    given_down e n o asked for_it k = elim k.comes_to [
+      | inl r ↦ none_ended e r.ended
+      | inr (inl r) ↦ told_of e n (Stopped k.next.number) (k.turns.number ∙ k.number) r.ended tt for_it
+          (sits k.seat k.next n _ k.turns k.number r.down)
+      | inr (inr f) ↦
+          fell _ e n k.next asked f (k.turns.number ∙ k.number) for_it (sits k.seat k.next n _ k.turns k.number f.down)
+    ]
+
+    together_down : (e : Event) (n : ℕ) (given : List (Option (List ℕ))) → IsFor old.sent e n
+        → IsGivenTogether b old new n given → LeavesDown old e new
+    together_down e n given for_it k = elim k.comes_to [
+      | inl r ↦ none_ended e r.ended
+      | inr (inl r) ↦ told_of e n (Stopped k.next.number) (k.turns.number ∙ k.number) r.ended tt for_it
+          (sits k.seat k.next n _ k.turns k.number r.down)
+      | inr (inr f) ↦
+          fell _ e n k.next [] f (k.turns.number ∙ k.number) for_it (sits k.seat k.next n _ k.turns k.number f.down)
+    ]
+
+    pub leaves_down : (e : Event) → HasEffect b old e new → LeavesDown old e new
+    leaves_down (event.Start n) k = elim k.comes [
+      | inl r ↦ none_ended (event.Start n) r.ended
+      | inr f ↦ fell _ (event.Start n) n k.seat [] f k.number refl (
+        k.seat,
+        _,
+        subst (λ (l : List (Seat ReplicaValue)). Contains l k.seat) (sym k.seats)
+            (Contains-append_right old.seats (k.seat ∷ []) k.seat (0, omega arith, refl)),
+        k.number,
+        f.down,
+      )
+    ]
+    leaves_down (event.Restart n) k = elim k.comes [
+      | inl r ↦ none_ended (event.Restart n) r.ended
+      | inr f ↦ fell _ (event.Restart n) n k.next [] f (k.turns.number ∙ k.number) refl
+          (sits k.seat k.next n _ k.turns k.number f.down)
+    ]
+    leaves_down (event.Tick n) k = given_down (event.Tick n) n None [] refl k
+    leaves_down (event.Compact n) k = elim k.comes_to [
+      | inl r ↦ none_ended (event.Compact n) r.ended
+      | inr f ↦ fell _ (event.Compact n) n k.next [] f (k.turns.number ∙ k.number) refl
+          (sits k.seat k.next n _ k.turns k.number f.down)
+    ]
+    leaves_down (event.Client n q) k = none_ended (event.Client n q) k.ended
+    leaves_down (event.Deliver i) k =
+        given_down (event.Deliver i) k.node (Some k.datagram.bytes) []
+        (is_for old.sent i k.datagram k.node k.stands k.bound) k.given
+    leaves_down (event.Group n turns) k =
+        together_down (event.Group n turns) n (map (given_by old.sent) turns.items) refl k
+    leaves_down (event.Inject n bytes) k =
+        given_down (event.Inject n bytes) n (Some bytes.items) (asked_note k.request) refl k.given
+    leaves_down (event.Stop n x y) k = none_ended (event.Stop n x y) k.ended
+    leaves_down (event.FailAt n count) k = none_ended (event.FailAt n count) k.ended
+    leaves_down (event.Arm n count bytes) k = none_ended (event.Arm n count bytes) k.ended

@@ -1,0 +1,111 @@
+-- What a restart leaves, in the words of the promise.
+use Rattle.std.proofs.Common.{◌≡◌, ℕ, ◌⊎◌, List, [], set, slice_get, Option, Some, None, Result, Ok, Err, refl, ap, ◌∙◌}
+use Rattle.std.proofs.Common.{subst, inl, inr, append-nil}
+use Rattle.std.proofs.lemmas.Option.{slice_get-get_or}
+use Rattle.lk_simulated_disk.specs.Memory.{Memory}
+use Rattle.lk_disk.specs.Meters.{stopping}
+use Rattle.lk_store_format.specs.Values.{HeaderValue}
+use Rattle.lk_locks.specs.Meaning.{table_meaning}
+use Rattle.lk_locks.specs.Packed.{IsTableText}
+use Rattle.lk_node_io.specs.declared.note.Note.{Note}
+use Rattle.lk_node.specs.Leavings.{header_of}
+use Rattle.lk_replica.specs.Behaviours.{Behaviour}
+use Rattle.lk_replica.specs.ReplicaValue.{ReplicaValue}
+use Rattle.lk_replica.specs.Revived.{RevivesTo}
+use Rattle.lk_world_nodes.specs.Ends.{StaysDown, end_by}
+use Rattle.lk_sim.specs.Events.{Turns, EndsByFault, IsRevived, IsBack, HasEffect}
+use Rattle.lk_sim.specs.Scenes.{Scene}
+use Rattle.lk_world_nodes.specs.Seats.{rested_on}
+use Rattle.lk_world_nodes.specs.declared.end.End.{End}
+use Rattle.lk_sim.specs.declared.event.Event.{Event}
+use Rattle.lk_sim.specs.declared.event.Event.TheVariants as event
+use Rattle.lk_world_nodes.specs.declared.seat.Seat.{Seat}
+use Rattle.lk_world_nodes.specs.declared.seat.Life.{Life}
+use Rattle.lk_world_nodes.specs.declared.seat.Life.TheVariants.{Up, Down}
+use Rattle.lk_guarantees.specs.Events.{IsRestarted, EndsOn, IsNotRestarted, RestartsAsTold}
+
+pub same_seat : (s : Seat ReplicaValue) (n : ℕ) (life : Life ReplicaValue) → s.number ≡ n → s.life ≡ life
+    → s ≡ record { number = n; life = life }
+same_seat s n life number is =
+    let made : ℕ → Life ReplicaValue → Seat ReplicaValue = λ k l. record { number = k; life = l } in
+    ap (λ (k : ℕ). made k s.life) number ∙ ap (made n) is
+
+pub stands_at : (old new : List (Seat ReplicaValue)) (s t : Seat ReplicaValue) (k : Turns old new s t)
+    → slice_get old k.place ≡ Some s
+stands_at old new s t k = slice_get-get_or old k.place s k.at.0 ∙ ap Some k.at.1
+
+-- how a node ended that a fault ended
+ends_on : (o : Option ℕ) (n number : ℕ) (left : Memory) (ended : Option End) → ended ≡ Some (end_by o n number)
+    → EndsOn o n number left (rested_on o left) ended
+ends_on None n number left ended e = (e, refl, refl)
+ends_on (Some bytes) n number left ended e = (e, refl, refl)
+
+module _ (b : Behaviour ReplicaValue)
+    (contract : (device : Memory) (whose : HeaderValue) (came : Result (ReplicaValue × List Note) (ℕ × Memory))
+    → b.Revives device whose came → RevivesTo table_meaning IsTableText device whose came)
+    (old new : Scene ReplicaValue) (n : ℕ) (k : IsBack b old new n) where
+  number : k.next.number ≡ n
+  number = k.turns.number ∙ k.number
+
+  was_down : slice_get old.seats k.turns.place ≡ Some (record { number = n; life = Down k.device })
+  was_down =
+      stands_at old.seats new.seats k.seat k.next k.turns ∙ ap Some (same_seat k.seat n (Down k.device) k.number k.down)
+
+  -- by the contract of a replica, under the header of this node
+  told : (came : Result (ReplicaValue × List Note) (ℕ × Memory))
+      → b.Revives k.device (header_of old.genesis k.next.number) came
+      → RevivesTo table_meaning IsTableText k.device (header_of old.genesis n) came
+  told came r = contract k.device (header_of old.genesis n) came
+      (subst (λ (m : ℕ). b.Revives k.device (header_of old.genesis m) came) number r)
+
+  restarted : IsRevived b old new k.next k.device → IsRestarted old n new
+  restarted r = record {
+    place = k.turns.place;
+    device = k.device;
+    was_down = was_down;
+    replica = r.replica;
+    notes = r.notes;
+    revives = told (Ok (r.replica, r.notes)) r.revives;
+    is_up = k.turns.seats ∙ ap (set old.seats k.turns.place) (same_seat k.next n (Up r.replica) number r.up);
+    noted = r.adds.trace;
+    nothing_sent = r.adds.sent ∙ append-nil old.sent;
+    none_ended = r.ended;
+  }
+
+  not_restarted : EndsByFault (StaysDown b k.device (header_of old.genesis k.next.number)) old new k.next []
+      → IsNotRestarted old n new
+  not_restarted f = record {
+    place = k.turns.place;
+    device = k.device;
+    was_down = was_down;
+    number = f.number;
+    left = f.left;
+    fails = told (Err (f.number, f.left)) f.ends.0;
+    not_starved = f.no_want.starved;
+    rest = rested_on (stopping f.left.meter) f.left;
+    is_down = k.turns.seats ∙ ap (set old.seats k.turns.place)
+        (same_seat k.next n (Down (rested_on (stopping f.left.meter) f.left)) number f.down);
+    ends = ends_on (stopping f.left.meter) n f.number f.left new.ended
+        (f.ended ∙ ap (λ (m : ℕ). Some (end_by (stopping f.left.meter) m f.number)) number);
+    nothing_noted = f.adds.trace ∙ append-nil old.trace;
+    nothing_sent = f.adds.sent ∙ append-nil old.sent;
+  }
+
+  is_back : IsRestarted old n new ⊎ IsNotRestarted old n new
+  is_back = elim k.comes [ inl r ↦ inl (restarted r) | inr f ↦ inr (not_restarted f) ]
+
+module _ (b : Behaviour ReplicaValue)
+    (contract : (device : Memory) (whose : HeaderValue) (came : Result (ReplicaValue × List Note) (ℕ × Memory))
+    → b.Revives device whose came → RevivesTo table_meaning IsTableText device whose came) where
+  pub restarts_as_told : (old new : Scene ReplicaValue) (e : Event) → HasEffect b old e new → RestartsAsTold old e new
+  restarts_as_told old new (event.Start n) k = tt
+  restarts_as_told old new (event.Restart n) k = is_back b contract old new n k
+  restarts_as_told old new (event.Tick n) k = tt
+  restarts_as_told old new (event.Compact n) k = tt
+  restarts_as_told old new (event.Client n q) k = tt
+  restarts_as_told old new (event.Deliver i) k = tt
+  restarts_as_told old new (event.Group n turns) k = tt
+  restarts_as_told old new (event.Inject n bytes) k = tt
+  restarts_as_told old new (event.Stop n x y) k = tt
+  restarts_as_told old new (event.FailAt n count) k = tt
+  restarts_as_told old new (event.Arm n count bytes) k = tt

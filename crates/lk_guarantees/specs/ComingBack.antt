@@ -1,0 +1,49 @@
+-- A restart always comes back: whatever a stop leaves of a node's files, no restart takes it for damage or for the
+-- store of another node. It fails only when out of memory, at a call of the device that failed, or for a file of format
+-- 1, which no current node writes, whose generation is the last, so that it cannot be written anew.
+--
+-- That what a crash may leave is what recovery takes: Chen et al., Using Crash Hoare Logic for Certifying the FSCQ File
+-- System, 2015.
+use Rattle.std.specs.Prelude.{◌≡◌, ℕ, ◌⊎◌, Some, None, Contains}
+use Rattle.lk_disk.specs.Disk.{Disk}
+use Rattle.lk_simulated_disk.specs.Memory.{Memory, disk_of}
+use Rattle.lk_disk.specs.declared.device.Side.{Side}
+use Rattle.lk_disk.specs.declared.meter.Meter.{Meter}
+use Rattle.lk_disk.specs.declared.trap.Trap.TheVariants.{Off}
+use Rattle.lk_log.specs.Images.{seen}
+use Rattle.lk_recovery.specs.Revivals.{IsLastOld}
+use Rattle.lk_replica.specs.ReplicaValue.{ReplicaValue}
+use Rattle.lk_sim.specs.Scenes.{Scene}
+use Rattle.lk_world_nodes.specs.declared.end.End.TheVariants.{Fault, Stopped}
+use Rattle.lk_sim.specs.declared.event.Event.TheVariants as event
+use Rattle.lk_world_nodes.specs.declared.refused.Refused.{Refused}
+use Rattle.lk_world_nodes.specs.declared.refused.Refused.TheVariants.{WorldMemory}
+use Rattle.lk_world_nodes.specs.declared.seat.Life.TheVariants.{Down}
+use Rattle.lk_guarantees.specs.Events.{IsDone, IsRefused, IsUp}
+
+-- a refusal with the fault of this number, of a restart from these disks, is excused
+abbrev pub IsExcused : (Side → Disk) → ℕ → Type 0
+IsExcused disks number = (number ≡ 7) ⊎ (number ≡ 8) ⊎ ((number ≡ 11) × IsLastOld (seen disks))
+
+-- ---- in a world
+
+-- nothing makes a call of the device fail
+abbrev pub IsQuiet : Meter → Type 0
+IsQuiet meter = (meter.trap ≡ Off) × (meter.fuse ≡ None) × (meter.unread ≡ 0)
+
+-- the node that restarted from this device is up; or, if something makes a call of the device fail, it has ended with
+-- fault 7 or at an armed stop; or, if its file has format 1 and no generation is left, with fault 11
+abbrev pub IsBack : ℕ → Memory → Scene ReplicaValue → Type 0
+IsBack n device new =
+    IsUp new.seats n
+    ⊎ ((IsQuiet device.meter → ⊥) × ((new.ended ≡ Some (Fault n 7)) ⊎ (new.ended ≡ Some (Stopped n))))
+    ⊎ (IsLastOld (seen (disk_of device)) × (new.ended ≡ Some (Fault n 11)))
+
+-- a restart of each node that is down, on whatever device, comes back
+pub record ComesBack (world : Scene ReplicaValue) : Type 0 where
+  -- it is refused for nothing but memory
+  pub refused : (n : ℕ) (device : Memory) → Contains world.seats (record { number = n; life = Down device })
+      → (why : Refused) (new : Scene ReplicaValue) → IsRefused world (event.Restart n) why new → why ≡ WorldMemory
+  -- and if it is done, the node is back
+  pub back : (n : ℕ) (device : Memory) → Contains world.seats (record { number = n; life = Down device })
+      → (new : Scene ReplicaValue) → IsDone world (event.Restart n) new → IsBack n device new

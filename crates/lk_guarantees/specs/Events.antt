@@ -1,0 +1,399 @@
+-- Events: how a world begins, what each event does to it, when one is refused, and what a run of events does.
+--
+-- As in `Promise.antt`, all is restated independently, except for the contract of a replica, which is named.
+use Rattle.std.specs.Prelude.{◌≡◌, ℕ, ◌+◌, ◌<◌, ◌≤◌, ◌⊎◌, false, Option, Some, None, Ok, Err, List, [], ◌∷◌, ◌++◌}
+use Rattle.std.specs.Prelude.{length, take, set, slice_get, Contains}
+use Rattle.std.specs.List.{filter_map, flat_map}
+use Rattle.lk_types.specs.declared.command.Request.{Request as Asking}
+use Rattle.lk_types.specs.declared.genesis.Genesis.{Genesis}
+use Rattle.lk_disk.specs.Disk.{Disk}
+use Rattle.lk_simulated_disk.specs.Memory.{Memory}
+use Rattle.lk_disk.specs.Meters.{stopping}
+use Rattle.lk_disk.specs.declared.trap.Trap.TheVariants.{Off}
+use Rattle.lk_messages.specs.Grammar.{Spells}
+use Rattle.lk_messages.specs.declared.message.Content.TheVariants as content
+use Rattle.lk_messages.specs.declared.message.NodeMessage.{NodeMessage}
+use Rattle.lk_agreement.specs.Datagrams.{Datagram}
+use Rattle.lk_agreement.specs.declared.party.Party.TheVariants as party
+use Rattle.lk_node_io.specs.declared.note.Note.{Note}
+use Rattle.lk_node_io.specs.declared.note.Note.TheVariants as note
+use Rattle.lk_locks.specs.Meaning.{table_meaning}
+use Rattle.lk_locks.specs.Packed.{IsTableText}
+use Rattle.lk_node.specs.Leavings.{header_of}
+use Rattle.lk_replica.specs.ReplicaValue.{ReplicaValue, device_of}
+use Rattle.lk_replica.specs.Revived.{RevivesTo}
+use Rattle.lk_replica.specs.Taking.{ComesTo}
+use Rattle.lk_replica.specs.Together.{ComesToAll}
+use Rattle.lk_sim.specs.Scenes.{Scene}
+use Rattle.lk_world_nodes.specs.declared.end.End.{End}
+use Rattle.lk_world_nodes.specs.declared.end.End.TheVariants.{Fault, Stopped}
+use Rattle.lk_sim.specs.declared.end.RunEnd.{RunEnd}
+use Rattle.lk_sim.specs.declared.event.Event.{Event}
+use Rattle.lk_world_nodes.specs.declared.refused.Refused.{Refused}
+use Rattle.lk_sim.specs.declared.event.Event.TheVariants as event
+use Rattle.lk_sim.specs.declared.event.Turn.{Turn}
+use Rattle.lk_sim.specs.declared.event.Turn.TheVariants as turn
+use Rattle.lk_world_nodes.specs.declared.refused.Refused.TheVariants.{NoSuchNode, NotUp, AlreadyUp, NoSuchDatagram}
+use Rattle.lk_world_nodes.specs.declared.refused.Refused.TheVariants.{Forged, WorldFull, WorldMemory}
+use Rattle.lk_world_nodes.specs.declared.seat.Life.TheVariants.{Up, Down}
+use Rattle.lk_world_nodes.specs.declared.seat.Seat.{Seat}
+use Rattle.lk_guarantees.specs.Disks.{EachImage, HasSnapshot}
+use Rattle.lk_guarantees.specs.Promise.{after_stop}
+
+-- ---- how a world begins
+
+-- nothing has happened
+abbrev pub nothing : Genesis → Scene ReplicaValue
+nothing genesis = record { genesis = genesis; seats = []; sent = []; trace = []; ended = None }
+
+-- ---- what an event asks, and which node it is for
+
+-- the request in a line of the trace
+abbrev pub asked_of : Note → Option Asking
+asked_of (note.Asked r) = Some r
+asked_of (note.Counted node i set v) = None
+asked_of (note.Ran node i v) = None
+asked_of (note.Answered node client number answer) = None
+asked_of (note.Told node client number last) = None
+
+-- the requests that were asked, in order
+abbrev pub requests : List Note → List Asking
+requests trace = filter_map asked_of trace
+
+-- bytes that are a request ask it, and others ask nothing
+abbrev pub AreAskedIn : List ℕ → List Asking → Type 0
+AreAskedIn bytes asked =
+    ((r : Asking) × ((cluster : ℕ) × Spells (record { cluster = cluster; content = content.Request r }) bytes)
+    × (asked ≡ r ∷ []))
+    ⊎ (((r : Asking) (cluster : ℕ) → Spells (record { cluster = cluster; content = content.Request r }) bytes → ⊥)
+    × (asked ≡ []))
+
+-- a client asks, or bytes are injected; no other event asks
+abbrev pub AreAskedBy : Event → List Asking → Type 0
+AreAskedBy (event.Client n r) asked = asked ≡ r ∷ []
+AreAskedBy (event.Inject n bytes) asked = AreAskedIn bytes.items asked
+AreAskedBy _ asked = asked ≡ []
+
+-- the node that an event is for. Datagrams count from 1
+abbrev pub IsFor : List Datagram → Event → ℕ → Type 0
+IsFor sent (event.Start n) number = number ≡ n
+IsFor sent (event.Restart n) number = number ≡ n
+IsFor sent (event.Tick n) number = number ≡ n
+IsFor sent (event.Compact n) number = number ≡ n
+IsFor sent (event.Client n r) number = number ≡ n
+IsFor sent (event.Deliver k) number =
+    (j : ℕ) × (d : Datagram) × (k ≡ j + 1) × (slice_get sent j ≡ Some d) × (d.to ≡ party.Node number)
+IsFor sent (event.Group n turns) number = number ≡ n
+IsFor sent (event.Inject n bytes) number = number ≡ n
+IsFor sent (event.Stop n x y) number = number ≡ n
+IsFor sent (event.FailAt n count) number = number ≡ n
+IsFor sent (event.Arm n count bytes) number = number ≡ n
+
+abbrev pub IsStarted : List (Seat ReplicaValue) → ℕ → Type 0
+IsStarted seats number = (s : Seat ReplicaValue) × Contains seats s × (s.number ≡ number)
+
+-- only this node may have changed, or it was added, if it was never started before
+abbrev pub ChangesOnly : ℕ → List (Seat ReplicaValue) → List (Seat ReplicaValue) → Type 0
+ChangesOnly number old new =
+    (new ≡ old)
+    ⊎ ((place : ℕ) × (s t : Seat ReplicaValue) × (slice_get old place ≡ Some s) × (s.number ≡ number)
+    × (t.number ≡ number) × (new ≡ set old place t))
+    ⊎ ((IsStarted old number → ⊥) × ((s : Seat ReplicaValue) × (s.number ≡ number) × (new ≡ old ++ s ∷ [])))
+
+-- it alone is down now
+abbrev pub FallsDown : ℕ → List (Seat ReplicaValue) → List (Seat ReplicaValue) → Type 0
+FallsDown number old new =
+    (place : ℕ) × (s : Seat ReplicaValue) × (device : Memory) × (slice_get old place ≡ Some s) × (s.number ≡ number)
+    × (new ≡ set old place (record { number = number; life = Down device }))
+
+-- what a client asks joins the datagrams, alone, addressed to the node, and changes no node
+abbrev pub SendsAsAsked : Scene ReplicaValue → Event → Scene ReplicaValue → Type 0
+SendsAsAsked old (event.Client n r) new =
+    (d : Datagram) × (d.from ≡ party.Client r.client) × (d.to ≡ party.Node n)
+    × Spells (record { cluster = old.genesis.cluster; content = content.Request r }) d.bytes
+    × (new.sent ≡ old.sent ++ d ∷ []) × (new.seats ≡ old.seats)
+SendsAsAsked old _ new = Unit {0}
+
+-- what was sent stays sent, and what was noted stays noted
+abbrev pub Grows : Scene ReplicaValue → Scene ReplicaValue → Type 0
+Grows old new = ((more : List Datagram) × (new.sent ≡ old.sent ++ more))
+    × ((more : List Note) × (new.trace ≡ old.trace ++ more)) × (new.genesis ≡ old.genesis)
+
+-- a stop leaves of a disk everything that was synced and up to this many of the other bytes, and all of that is synced
+abbrev pub remaining : ℕ → Disk → Disk
+remaining most disk = record { synced = disk.synced ++ take most disk.unsynced; unsynced = [] }
+
+-- a node was up and is down, with this many bytes of its disk A and of its disk B, and no trap is set; all other nodes
+-- are unchanged
+pub record IsStopped (old new : Scene ReplicaValue) (number x y : ℕ) : Type 0 where
+  pub place : ℕ
+  pub replica : ReplicaValue
+  pub was_up : slice_get old.seats place ≡ Some (record { number = number; life = Up replica })
+  pub device : Memory
+  pub is_down : new.seats ≡ set old.seats place (record { number = number; life = Down device })
+  pub disk_a : device.a ≡ remaining x (device_of replica.store).a
+  pub disk_b : device.b ≡ remaining y (device_of replica.store).b
+  pub untrapped : (device.meter.trap ≡ Off) × (device.meter.fuse ≡ None)
+  pub nothing_sent : new.sent ≡ old.sent
+  pub nothing_noted : new.trace ≡ old.trace
+
+-- a compaction notes and sends nothing, nor does a trap that is set
+abbrev pub IsSilent : Scene ReplicaValue → Event → Scene ReplicaValue → Type 0
+IsSilent old (event.Compact number) new = (new.sent ≡ old.sent) × (new.trace ≡ old.trace)
+IsSilent old (event.FailAt number count) new = (new.sent ≡ old.sent) × (new.trace ≡ old.trace)
+IsSilent old (event.Arm number count bytes) new = (new.sent ≡ old.sent) × (new.trace ≡ old.trace)
+IsSilent old _ new = Unit {0}
+
+abbrev pub StopsAsAsked : Scene ReplicaValue → Event → Scene ReplicaValue → Type 0
+StopsAsAsked old (event.Stop number x y) new = IsStopped old new number x y
+StopsAsAsked old _ new = Unit {0}
+
+-- ---- when an event is refused, and what one leaves up
+
+abbrev pub IsUpWith : List (Seat ReplicaValue) → ℕ → (ReplicaValue → Type 0) → Type 0
+IsUpWith seats number Is =
+    (s : Seat ReplicaValue) × (replica : ReplicaValue) × Contains seats s × (s.number ≡ number)
+    × (s.life ≡ Up replica) × Is replica
+
+abbrev pub IsUp : List (Seat ReplicaValue) → ℕ → Type 0
+IsUp seats number =
+    (s : Seat ReplicaValue) × (replica : ReplicaValue) × Contains seats s × (s.number ≡ number) × (s.life ≡ Up replica)
+
+abbrev pub IsDown : List (Seat ReplicaValue) → ℕ → Type 0
+IsDown seats number =
+    (s : Seat ReplicaValue) × (device : Memory) × Contains seats s × (s.number ≡ number) × (s.life ≡ Down device)
+
+-- only a node that was never started is started, and only one that is down is restarted
+abbrev pub IsAlready : List (Seat ReplicaValue) → Event → Type 0
+IsAlready seats (event.Start n) = IsStarted seats n
+IsAlready seats (event.Restart n) = IsUp seats n
+IsAlready seats _ = ⊥
+
+-- any other event is for a node that was started
+abbrev pub LacksNode : Scene ReplicaValue → Event → Type 0
+LacksNode old (event.Start n) = ⊥
+LacksNode old e = (n : ℕ) × IsFor old.sent e n × (IsStarted old.seats n → ⊥)
+
+-- and, but for a request and a trap, for one that is up
+abbrev pub LacksLife : Scene ReplicaValue → Event → Type 0
+LacksLife old (event.Start n) = ⊥
+LacksLife old (event.Restart n) = ⊥
+LacksLife old (event.Client n r) = ⊥
+LacksLife old (event.FailAt n count) = ⊥
+LacksLife old (event.Arm n count bytes) = ⊥
+LacksLife old e = (n : ℕ) × IsFor old.sent e n × IsDown old.seats n
+
+-- a datagram that is to be delivered was sent, to a node; those of a group to that of the group
+abbrev pub LacksDatagram : List Datagram → Event → Type 0
+LacksDatagram sent (event.Deliver k) = (n : ℕ) → IsFor sent (event.Deliver k) n → ⊥
+LacksDatagram sent (event.Group n turns) =
+    ((k : ℕ) → Contains turns.items (turn.Deliver k) → IsFor sent (event.Deliver k) n) → ⊥
+LacksDatagram sent _ = ⊥
+
+-- what only a node says is not injected
+abbrev pub IsForged : Event → Type 0
+IsForged (event.Inject n bytes) =
+    (cluster node : ℕ) × (m : NodeMessage)
+    × Spells (record { cluster = cluster; content = content.Node node m }) bytes.items
+IsForged _ = ⊥
+
+-- a world has 16 nodes, and no room for what is sent once it has more than 99,000 datagrams
+abbrev pub IsFull : Scene ReplicaValue → Event → Type 0
+IsFull old (event.Start n) = 16 ≤ length old.seats
+IsFull old (event.Restart n) = ⊥
+IsFull old (event.Compact n) = ⊥
+IsFull old (event.Stop n x y) = ⊥
+IsFull old (event.FailAt n count) = ⊥
+IsFull old (event.Arm n count bytes) = ⊥
+IsFull old e = 99000 < length old.sent
+
+-- a stop takes no memory, nor does a trap
+abbrev pub TakesMemory : Event → Type 0
+TakesMemory (event.Stop n x y) = ⊥
+TakesMemory (event.FailAt n count) = ⊥
+TakesMemory (event.Arm n count bytes) = ⊥
+TakesMemory _ = Unit {0}
+
+-- why an event is refused
+abbrev pub HasCause : Scene ReplicaValue → Event → Refused → Type 0
+HasCause old e NoSuchNode = LacksNode old e
+HasCause old e NotUp = LacksLife old e
+HasCause old e AlreadyUp = IsAlready old.seats e
+HasCause old e NoSuchDatagram = LacksDatagram old.sent e
+HasCause old e Forged = IsForged e
+HasCause old e WorldFull = IsFull old e
+HasCause old e WorldMemory = TakesMemory e
+
+-- where it ended no node, the node to which an event gives something, or which it starts, is up
+abbrev pub LeavesUp : Scene ReplicaValue → Event → Scene ReplicaValue → Type 0
+LeavesUp old (event.Client n r) new = Unit {0}
+LeavesUp old (event.Stop n x y) new = Unit {0}
+LeavesUp old (event.FailAt n count) new = Unit {0}
+LeavesUp old (event.Arm n count bytes) new = Unit {0}
+LeavesUp old e new = new.ended ≡ None → (n : ℕ) × IsFor old.sent e n × IsUp new.seats n
+
+-- the node of which an end tells
+abbrev pub ended_node : End → ℕ
+ended_node (Fault n number) = n
+ended_node (Stopped n) = n
+
+-- a fault that ends a node is one of its device (7), or that its store has failed before or has no generation left
+-- (11): its files are never damaged (9) or another's (10), and so a restart always comes back
+abbrev pub IsEnding : End → Type 0
+IsEnding (Fault n number) = (number ≡ 7) ⊎ (number ≡ 11)
+IsEnding (Stopped n) = Unit {0}
+
+-- where it ended a node, that is the one that it is for, and it is down
+abbrev pub LeavesDown : Scene ReplicaValue → Event → Scene ReplicaValue → Type 0
+LeavesDown old e new =
+    (x : End) → new.ended ≡ Some x → IsFor old.sent e (ended_node x) × IsDown new.seats (ended_node x) × IsEnding x
+
+-- a replica took a tick, or these bytes: it did what its contract says, and what it sent was sent. (The contracts,
+-- `ComesTo` and `ComesToAll`, are named here and not restated)
+pub record IsTaken (old : Scene ReplicaValue) (n : ℕ) (given : Option (List ℕ))
+    (new : Scene ReplicaValue) : Type 0 where
+  pub before : ReplicaValue
+  pub after : ReplicaValue
+  pub was_up : IsUpWith old.seats n (λ replica. replica ≡ before)
+  pub is_up : IsUpWith new.seats n (λ replica. replica.node ≡ after.node)
+  pub notes : List Note
+  pub batch : List Datagram
+  pub took : ComesTo table_meaning IsTableText before given after (Ok (notes, batch))
+  pub sent : new.sent ≡ old.sent ++ batch
+
+-- what the turns of a group give: nothing but the time at a tick, and else the bytes of the datagram at that place
+abbrev pub AreGiven : List Datagram → List Turn → List (Option (List ℕ)) → Type 0
+AreGiven sent [] given = given ≡ []
+AreGiven sent (turn.Tick ∷ turns) given =
+    (rest : List (Option (List ℕ))) × (given ≡ None ∷ rest) × AreGiven sent turns rest
+AreGiven sent (turn.Deliver k ∷ turns) given =
+    (j : ℕ) × (d : Datagram) × (k ≡ j + 1) × (slice_get sent j ≡ Some d)
+    × ((rest : List (Option (List ℕ))) × (given ≡ Some d.bytes ∷ rest) × AreGiven sent turns rest)
+
+-- so a replica took these together
+pub record AreTaken (old : Scene ReplicaValue) (n : ℕ) (turns : List Turn) (new : Scene ReplicaValue) : Type 0 where
+  pub before : ReplicaValue
+  pub after : ReplicaValue
+  pub was_up : IsUpWith old.seats n (λ replica. replica ≡ before)
+  pub is_up : IsUpWith new.seats n (λ replica. replica.node ≡ after.node)
+  pub given : List (Option (List ℕ))
+  pub are_given : AreGiven old.sent turns given
+  pub said : List (List Note × List Datagram)
+  pub took : ComesToAll table_meaning IsTableText before given after (Ok said)
+  pub sent : new.sent ≡ old.sent ++ flat_map (λ x. x.1) said
+
+-- so it does, where that ended no node
+abbrev pub TakesAsTold : Scene ReplicaValue → Event → Scene ReplicaValue → Type 0
+TakesAsTold old (event.Tick n) new = new.ended ≡ None → IsTaken old n None new
+TakesAsTold old (event.Inject n bytes) new = new.ended ≡ None → IsTaken old n (Some bytes.items) new
+TakesAsTold old (event.Deliver k) new =
+    new.ended ≡ None → (n : ℕ) × (f : IsFor old.sent (event.Deliver k) n) × IsTaken old n (Some f.1.bytes) new
+TakesAsTold old (event.Group n turns) new = new.ended ≡ None → AreTaken old n turns.items new
+TakesAsTold old _ new = Unit {0}
+
+-- a node that was down restarted from its disks: it is up as the contract of a replica says, and what it executed again
+-- is noted. (The contract, `RevivesTo`, is named here and not restated)
+pub record IsRestarted (old : Scene ReplicaValue) (n : ℕ) (new : Scene ReplicaValue) : Type 0 where
+  pub place : ℕ
+  pub device : Memory
+  pub was_down : slice_get old.seats place ≡ Some (record { number = n; life = Down device })
+  pub replica : ReplicaValue
+  pub notes : List Note
+  pub revives : RevivesTo table_meaning IsTableText device (header_of old.genesis n) (Ok (replica, notes))
+  pub is_up : new.seats ≡ set old.seats place (record { number = n; life = Up replica })
+  pub noted : new.trace ≡ old.trace ++ notes
+  pub nothing_sent : new.sent ≡ old.sent
+  pub none_ended : new.ended ≡ None
+
+-- how the node ended whose restart failed: with the fault of this number, and its disks are as that left them; or at an
+-- armed stop, if it has reached one, for this many bytes
+abbrev pub EndsOn : Option ℕ → ℕ → ℕ → Memory → Memory → Option End → Type 0
+EndsOn None n number left rest ended = (ended ≡ Some (Fault n number)) × (rest.a ≡ left.a) × (rest.b ≡ left.b)
+EndsOn (Some bytes) n number left rest ended =
+    (ended ≡ Some (Stopped n)) × (rest.a ≡ remaining bytes left.a) × (rest.b ≡ remaining bytes left.b)
+
+-- its restart failed as the contract of a replica says, not for want of memory, and it is down
+pub record IsNotRestarted (old : Scene ReplicaValue) (n : ℕ) (new : Scene ReplicaValue) : Type 0 where
+  pub place : ℕ
+  pub device : Memory
+  pub was_down : slice_get old.seats place ≡ Some (record { number = n; life = Down device })
+  pub number : ℕ
+  pub left : Memory
+  pub fails : RevivesTo table_meaning IsTableText device (header_of old.genesis n) (Err (number, left))
+  pub not_starved : left.meter.starved ≡ false
+  pub rest : Memory
+  pub is_down : new.seats ≡ set old.seats place (record { number = n; life = Down rest })
+  pub ends : EndsOn (stopping left.meter) n number left rest new.ended
+  pub nothing_noted : new.trace ≡ old.trace
+  pub nothing_sent : new.sent ≡ old.sent
+
+abbrev pub RestartsAsTold : Scene ReplicaValue → Event → Scene ReplicaValue → Type 0
+RestartsAsTold old (event.Restart n) new = IsRestarted old n new ⊎ IsNotRestarted old n new
+RestartsAsTold old _ new = Unit {0}
+
+-- an event that is done
+pub record IsDone (old : Scene ReplicaValue) (e : Event) (new : Scene ReplicaValue) : Type 0 where
+  pub asked : (rs : List Asking) × AreAskedBy e rs × (requests new.trace ≡ requests old.trace ++ rs)
+  pub only : (number : ℕ) × IsFor old.sent e number × ChangesOnly number old.seats new.seats
+  pub sends : SendsAsAsked old e new
+  pub stops : StopsAsAsked old e new
+  pub silent : IsSilent old e new
+  pub up : LeavesUp old e new
+  pub down : LeavesDown old e new
+  pub takes : TakesAsTold old e new
+  pub restarts : RestartsAsTold old e new
+  pub grows : Grows old new
+
+-- a node that has compacted, and that nothing has ended, remembers a snapshot of everything that it has executed,
+-- whatever a stop may leave of it
+abbrev pub Compacts : Event → Scene ReplicaValue → Type 0
+Compacts (event.Compact n) new =
+    new.ended ≡ None
+    → (s : Seat ReplicaValue) × (replica : ReplicaValue) × Contains new.seats s × (s.number ≡ n) × (s.life ≡ Up replica)
+    × EachImage new.genesis s
+    (λ memory. (memory.position ≡ (after_stop replica).executed) × HasSnapshot new.genesis new.sent memory)
+Compacts _ new = Unit {0}
+
+-- an event that is refused has a cause and changes nothing. When out of memory it notes and sends nothing, and the
+-- node that it is for may have gone down
+pub record IsRefused (old : Scene ReplicaValue) (e : Event) (refused : Refused)
+    (new : Scene ReplicaValue) : Type 0 where
+  pub cause : HasCause old e refused
+  pub unchanged : (refused ≡ WorldMemory → ⊥) → new ≡ old
+  pub only : (new.seats ≡ old.seats) ⊎ ((number : ℕ) × IsFor old.sent e number × FallsDown number old.seats new.seats)
+  pub nothing_sent : new.sent ≡ old.sent
+  pub nothing_noted : new.trace ≡ old.trace
+  pub same_genesis : new.genesis ≡ old.genesis
+
+-- events are done, one after another
+abbrev pub AreDone : List Event → Scene ReplicaValue → Scene ReplicaValue → Type 0
+AreDone [] old new = new ≡ old
+AreDone (e ∷ events) old new = (mid : Scene ReplicaValue) × IsDone old e mid × AreDone events mid new
+
+-- all of them were, or the next one is rejected
+abbrev pub EndsSo : List Event → ℕ → Option Refused → Scene ReplicaValue → Scene ReplicaValue → Type 0
+EndsSo events done None last new = (done ≡ length events) × (new ≡ last)
+EndsSo events done (Some refused) last new =
+    (e : Event) × (slice_get events done ≡ Some e) × IsRefused last e refused new
+
+-- a run does this many of the events in order, and ends like this
+pub record IsRun (old : Scene ReplicaValue) (events : List Event) (how : RunEnd)
+    (new : Scene ReplicaValue) : Type 0 where
+  pub last : Scene ReplicaValue
+  pub done : AreDone (take how.done events) old last
+  pub ends : EndsSo events how.done how.refused last new
+
+-- ---- which worlds there are
+
+-- an event is done or refused
+abbrev pub Happens : Scene ReplicaValue → Scene ReplicaValue → Type 0
+Happens old new = (e : Event) × (IsDone old e new ⊎ ((refused : Refused) × IsRefused old e refused new))
+
+-- one after another, up to this
+abbrev pub HappenAll : Scene ReplicaValue → List (Scene ReplicaValue) → Scene ReplicaValue → Type 0
+HappenAll first [] last = last ≡ first
+HappenAll first (next ∷ worlds) last = Happens first next × HappenAll next worlds last
+
+-- the world is reachable: events lead to it from one in which nothing has happened
+abbrev pub IsReachable : Genesis → Scene ReplicaValue → Type 0
+IsReachable genesis world = (worlds : List (Scene ReplicaValue)) × HappenAll (nothing genesis) worlds world

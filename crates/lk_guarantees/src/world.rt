@@ -1,0 +1,43 @@
+// The simulated world of lock tables, with the promise as the contract of each call.
+ghost use Rattle.lk_guarantees.specs.Events.{Compacts, IsDone, IsRefused, IsRun, nothing};
+ghost use Rattle.lk_guarantees.specs.Promise.{KeepsPromise};
+ghost use Rattle.std.specs.Prelude.{◌≡◌, OnOk, IfErr};
+
+use lk_locks::LockTable;
+use lk_replica::Replica;
+use lk_sim::{Event, Refused, RunEnd, World};
+use lk_simulated_disk::MemoryDisk;
+use lk_types::Genesis;
+use std::alloc::Global;
+
+/// Replicas of the lock table, with disks in memory.
+pub type Replicas = Replica<LockTable, MemoryDisk>;
+
+/// Returns a world of this genesis in which nothing has happened.
+pub fn begin(alloc: Global, genesis: Genesis) -> World<Replicas>
+    ensures begins { result ≡ nothing genesis }
+{
+    World::new(alloc, genesis)
+}
+
+/// Executes one event. The promise holds afterwards, whether the event was done or rejected.
+pub fn apply(world: &mut World<Replicas>, event: Event) -> Result<(), Refused>
+    ensures promised { KeepsPromise world.new }
+    // An event that is done has the effect stated for it.
+    ensures does { OnOk result (IsDone world.old event world.new) }
+    // A node that has compacted has a snapshot of everything that it has executed.
+    ensures compacts { OnOk result (Compacts event world.new) }
+    // A rejected event changes nothing, except that its node may have stopped for want of memory.
+    ensures refused { IfErr result (λ e. IsRefused world.old event e world.new) }
+{
+    world.apply(event)
+}
+
+/// Executes events in order, up to the first that is rejected. The promise holds afterwards.
+pub fn run(world: &mut World<Replicas>, events: &[Event]) -> RunEnd
+    ensures promised { KeepsPromise world.new }
+    // Each event has the effect stated for it, up to the first that is rejected.
+    ensures runs { IsRun world.old events.now result world.new }
+{
+    world.run(events)
+}

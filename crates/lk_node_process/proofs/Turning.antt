@@ -1,0 +1,101 @@
+-- The turns of a server, one after another, and one more.
+use Rattle.std.proofs.Common.{◌≡◌, ◌∙◌, ◌⊎◌, ◌<◌, ℕ, List, Option, Result, Ok, Err, inl, inr, refl, subst, sym}
+use Rattle.std.specs.declared.net.socket_addr.SocketAddr.{SocketAddr}
+use Rattle.std.specs.Prelude.{OnOk, OnErr, IfErr, IsErrAnd}
+use Rattle.lk_state.specs.Meanings.{Meaning}
+use Rattle.lk_node_io.specs.Letters.{LetterValue}
+use Rattle.lk_replica.specs.ReplicaValue.{ReplicaValue}
+use Rattle.lk_transport.specs.Addresses.{IsSameNetwork, filter_of}
+use Rattle.lk_transport.specs.ReceiveBuffers.{BufferValue}
+use Rattle.lk_transport.specs.Kept.{KeepsOf}
+use Rattle.lk_transport.specs.Posts.{all_filtered}
+use Rattle.lk_replica_interface.specs.Sayings.{SaysOf}
+use Rattle.lk_server.specs.ProbeHandling.{HandlesProbes}
+use Rattle.lk_replica_interface.specs.Showing.{IsShown}
+use Rattle.lk_server.specs.Servers.{ServerValue, HasReceived, TakesTurn as ServerTurn, LastTurn}
+use Rattle.lk_transport.specs.Chains.{Repeats}
+use Rattle.lk_node_process.specs.Turns.{TakesTurn, TakesTurnWith, EndsByStranger, EndsTurn, BreaksOff}
+use Rattle.lk_node_process.specs.Turns.{BreaksOffByStranger, TellsFailure}
+
+-- what a replica on a device says, where that is honest
+abbrev pub SaysOn : Type 0 → Type 0 → Meaning → (List ℕ → Type 0) → ReplicaValue → List (Option (List ℕ))
+    → List LetterValue → ReplicaValue → Type 0
+SaysOn honest metered m IsText old given letters new = honest → SaysOf m IsText metered old given letters new
+
+-- what stands whatever became of a call stands after a refusal
+pub on_err : {T E P : Type 0} (r : Result T E) → P → OnErr r P
+on_err (Ok x) p = tt
+on_err (Err e) p = p
+
+module _ {Says : ReplicaValue → List (Option (List ℕ)) → List LetterValue → ReplicaValue → Type 0} {tells : Type 0}
+    {count : ℕ} {first last new : ServerValue ReplicaValue} where
+  -- one ended the replica, or was the last
+  pub turns_end : (most : ℕ) → count < most → Repeats (TakesTurn Says tells) count first last
+      → EndsTurn Says tells last new ⊎ EndsByStranger Says tells last new
+      → BreaksOff Says tells most first new ⊎ BreaksOffByStranger Says tells most first new
+  turns_end most fewer so_far (inl ends) =
+      inl (record { count = count; fewer = fewer; last = last; turns = so_far; ends = ends })
+  turns_end most fewer so_far (inr leave) =
+      inr (record { count = count; fewer = fewer; last = last; turns = so_far; leave = leave })
+
+-- a turn that ended the replica
+pub turn_ended : {Says : ReplicaValue → List (Option (List ℕ)) → List LetterValue → ReplicaValue → Type 0}
+    {tells : Type 0} (frames : List (SocketAddr × List ℕ)) (old new : ServerValue ReplicaValue)
+    → HasReceived tells frames old new → LastTurn Says tells (all_filtered (filter_of old.addresses) frames) old new
+    → IsSameNetwork old.addresses new.addresses → TellsFailure new → EndsTurn Says tells old new
+turn_ended frames old new received turn network failure =
+    record {
+      frames = frames;
+      came = all_filtered (filter_of old.addresses) frames;
+      opened = refl;
+      received = received;
+      turn = turn;
+      network = network;
+      failure = failure;
+    }
+
+-- a turn, and what the server does beside the protocol after it
+pub turn_taken : {Says : ReplicaValue → List (Option (List ℕ)) → List LetterValue → ReplicaValue → Type 0}
+    {tells : Type 0} (After : ServerValue ReplicaValue → Type 0) (frames : List (SocketAddr × List ℕ))
+    (kept left : BufferValue)
+    (old mid new : ServerValue ReplicaValue) → HasReceived tells frames old mid → ServerTurn Says tells frames old mid
+    → KeepsOf old.node old.addresses.seals frames kept left
+    → HandlesProbes IsShown tells left.asked left.reported mid new
+    → IsSameNetwork old.addresses mid.addresses → TellsFailure new → After new
+    → TakesTurnWith Says tells kept.asked kept.reported After old new
+turn_taken After frames kept left old mid new received turn keeps acts network failure becomes = record {
+  frames = frames;
+  came = all_filtered (filter_of old.addresses) frames;
+  opened = refl;
+  received = received;
+  mid = mid;
+  turn = turn;
+  asked = left.asked;
+  first_asked = keeps.asked;
+  reported = left.reported;
+  first_reported = keeps.reported;
+  acts = acts;
+  network = (acts.network.0 ∙ network.0, acts.network.1 ∙ network.1);
+  failure = failure;
+  becomes = becomes;
+}
+
+-- one of both stands, however a call ends
+pub on_either : {T E P Q : Type 0} (r : Result T E) → OnOk r P → OnErr r Q → P ⊎ Q
+on_either (Ok x) p q = inl p
+on_either (Err e) p q = inr q
+
+-- what stands of a refusal stands beside what an error may be
+pub or_later : {T E A B : Type 0} (P : E → Type 0) (r : Result T E) → (A → B) → OnErr r A → IfErr r (λ e. P e ⊎ B)
+or_later P (Ok x) f a = tt
+or_later P (Err e) f a = inr (f a)
+
+-- what follows of what stands after a refusal
+pub on_err_weaker : {T E P Q : Type 0} (r : Result T E) → (P → Q) → OnErr r P → OnErr r Q
+on_err_weaker (Ok x) f p = tt
+on_err_weaker (Err e) f p = f p
+
+-- what stands of an error stands of a refusal with it
+pub if_err_is : {T E : Type 0} (P : E → Type 0) (r : Result T E) (e : E) → IsErrAnd r (λ y. y ≡ e) → P e → IfErr r P
+if_err_is P (Ok x) e is p = tt
+if_err_is P (Err y) e is p = subst P (sym is) p

@@ -1,0 +1,68 @@
+-- How a node starts, and why it does not.
+use Rattle.std.specs.Prelude.{◌≡◌, ◌≤◌, ℕ, false, List, []}
+use Rattle.lk_types.specs.Limits.{max_base}
+use Rattle.lk_disk.specs.Disk.{Disk}
+use Rattle.lk_disk.specs.declared.device.Side.{Side}
+use Rattle.lk_store_format.specs.Values.{HeaderValue}
+use Rattle.lk_log.specs.Rooms.{StaysWithin}
+use Rattle.lk_log.specs.StoreValue.{disks}
+use Rattle.lk_state.specs.Meanings.{Meaning}
+use Rattle.lk_node_io.specs.declared.note.Note.{Note}
+use Rattle.lk_node.specs.Calls.{Goes}
+use Rattle.lk_node.specs.Histories.{History, IsLawful}
+use Rattle.lk_node.specs.Keeping.{Stands}
+use Rattle.lk_node.specs.Leavings.{header_of, DisksFit}
+use Rattle.lk_node_io.specs.Faults.{fault_number, IsNumberOfRevival}
+use Rattle.lk_replica.specs.ReplicaValue.{ReplicaValue}
+use Rattle.lk_replica.specs.Revived.{MayGoOn}
+use Rattle.lk_recovery.specs.Revivals.{IsRefusedFor}
+use Rattle.lk_node_io.specs.declared.fault.ReplicaFault.{ReplicaFault}
+use Rattle.lk_transport.specs.Faults.{replica_fault}
+use Rattle.lk_server.specs.Servers.{ServerValue}
+use Rattle.lk_transport.specs.declared.fault.ServiceFault.{ServiceFault}
+
+-- a replica of this header restarts from what these disks have: it goes on in each history that they fit, and its
+-- files have not grown, except up to the size of a Base
+pub record ComesUp (m : Meaning) (header : HeaderValue) (old : Side → Disk) (r : ReplicaValue) : Type 0 where
+  pub notes : List Note
+  pub goes : (h : History) (n : ℕ) → header ≡ header_of h.genesis n → IsLawful m h → DisksFit m h n old
+      → Goes m h n (Stands m r.node r.store h.genesis n) (disks r.store) notes []
+  pub room : StaysWithin max_base old (disks r.store)
+
+-- no replica restarts from what these disks had, and they are left like this: whatever a stop may leave of them fits
+-- each history that they fitted, and the files have not grown, except up to the size of a Base
+pub record StaysDown (m : Meaning) (header : HeaderValue) (old left : Side → Disk) : Type 0 where
+  pub fits : (h : History) (n : ℕ) → header ≡ header_of h.genesis n → IsLawful m h
+      → DisksFit m h n old → DisksFit m h n left
+  pub room : StaysWithin max_base old left
+
+-- `honest` says that the device that had these disks is honest
+module _ (m : Meaning) (honest : Type 0) (old : Side → Disk) (header : HeaderValue) where
+  -- it is the server of the node of this header, in its cluster, with a replica that can take calls as that node and
+  -- restarts from what the device had. Nothing has arrived, and no letter of the node to itself is waiting
+  pub record IsServerStarted (s : ServerValue ReplicaValue) : Type 0 where
+    pub cluster : s.cluster ≡ header.cluster
+    pub node : s.node ≡ header.node
+    pub ready : MayGoOn header s.replica
+    pub comes_up : honest → ComesUp m header old s.replica
+    pub alive : s.failed ≡ false
+    pub own : s.own ≡ []
+    pub received : s.received ≡ 0
+
+module _ (m : Meaning) (IsText : List ℕ → Type 0) (honest : Type 0) (old : Side → Disk) (header : HeaderValue) where
+  -- the restart from what the device had failed with the fault of this number, and the device now has these disks,
+  -- which fit as those did. The faults for damage, for another's store and for a store at its last generation have
+  -- exactly that cause, and disks that fit a history have neither damage nor another's store
+  pub record IsRestartRefused (number : ℕ) (left : Side → Disk) : Type 0 where
+    pub among : (7 ≤ number) × (number ≤ 11)
+    pub cause : honest → IsRefusedFor m IsText old header number left
+    pub stays_down : honest → StaysDown m header old left
+    pub comes_back : honest → (h : History) (n : ℕ) → header ≡ header_of h.genesis n → IsLawful m h
+        → DisksFit m h n old → IsNumberOfRevival number
+
+  -- the restart failed, and this fault reports it
+  pub record IsRefusedWith (told : ServiceFault) : Type 0 where
+    pub fault : ReplicaFault
+    pub is : told ≡ replica_fault fault
+    pub left : Side → Disk
+    pub refused : IsRestartRefused (fault_number fault) left

@@ -1,0 +1,52 @@
+-- The turns of a server, each with the warning that follows it where one is due.
+use Rattle.std.specs.Prelude.{◌≡◌, ◌⊎◌, ◌<◌, ℕ, List, Option}
+use Rattle.lk_probe.specs.declared.status.Status.{Status}
+use Rattle.lk_node_io.specs.Letters.{LetterValue}
+use Rattle.lk_replica.specs.ReplicaValue.{ReplicaValue}
+use Rattle.lk_replica_interface.specs.Showing.{IsShown}
+use Rattle.lk_replica_interface.specs.declared.probed_state.ProbedState.{ProbedState}
+use Rattle.lk_server.specs.Probes.{Tells}
+use Rattle.lk_server.specs.Servers.{ServerValue}
+use Rattle.lk_transport.specs.Chains.{Repeats}
+use Rattle.lk_node_process.specs.Reminders.{IsDue, Reminds, having_warned}
+use Rattle.lk_node_process.specs.Turns.{TakesTurn, EndsByStranger, EndsTurn}
+use Rattle.lk_node_process.specs.declared.port_reminder.PortReminder.{PortReminder}
+
+-- a server, the reminder of its node, and what was written so far
+pub record Reminded : Type 0 where
+  pub server : ServerValue ReplicaValue
+  pub reminder : PortReminder
+  pub written : Option (List ℕ)
+
+-- these three together
+abbrev pub reminded : ServerValue ReplicaValue → PortReminder → Option (List ℕ) → Reminded
+reminded s r bytes = record { server = s; reminder = r; written = bytes }
+
+-- this status tells what the server's replica shows, and the server's own count of ticks
+abbrev pub IsStatusOf : ServerValue ReplicaValue → Status → Type 0
+IsStatusOf s status =
+    (shown : ProbedState) × IsShown s.replica shown × Tells s.addresses.seals.genesis s.ticks shown status
+
+-- by the server's own status, the line of the node of that number, which listens at that port, is written if a warning
+-- is due, and else nothing is; the next one is due a minute later, also where the line could not be written
+pub record Warns (node port : ℕ) (s : ServerValue ReplicaValue) (old new : PortReminder)
+    (before after : Option (List ℕ)) : Type 0 where
+  pub status : Status
+  pub told : IsStatusOf s status
+  pub reminds : Reminds node port status old new before after
+      ⊎ ((named : ℕ) × IsDue old status named × (new ≡ having_warned old status))
+
+module _ (Says : ReplicaValue → List (Option (List ℕ)) → List LetterValue → ReplicaValue → Type 0)
+    (tells : Type 0) (node port : ℕ) where
+  -- a turn, and then the warning by what the server reports after it
+  pub record TakesTurnAndWarns (old new : Reminded) : Type 0 where
+    pub turn : TakesTurn Says tells old.server new.server
+    pub warning : Warns node port new.server old.reminder new.reminder old.written new.written
+
+  -- it took fewer turns than this, each with its warning, and then one that ended it
+  pub record WarnsUntil (most : ℕ) (first : Reminded) (ended : ServerValue ReplicaValue) : Type 0 where
+    pub count : ℕ
+    pub fewer : count < most
+    pub last : Reminded
+    pub turns : Repeats TakesTurnAndWarns count first last
+    pub ends : EndsTurn Says tells last.server ended ⊎ EndsByStranger Says tells last.server ended

@@ -1,0 +1,391 @@
+//! Runs a node: starts its server from a device, and takes its turns.
+
+ghost use Rattle.std.specs.Prelude.{◌≡◌, ◌≤◌, ◌^◌, ◌⊎◌, None, IfOk, IfErr, OnOk, OnErr};
+ghost use Rattle.lk_node_io.specs.Faults.{fault_number};
+ghost use Rattle.lk_replica.specs.ReplicaValue.{ReplicaValue};
+ghost use Rattle.lk_replica.specs.Revived.{MayGoOn};
+ghost use Rattle.lk_server.specs.ProbeHandling.{HandlesProbes};
+ghost use Rattle.lk_replica_interface.specs.Showing.{IsShown};
+ghost use Rattle.lk_server.specs.Servers.{ServerValue, ServesAs, ServesOn};
+ghost use Rattle.lk_transport.specs.Chains.{Repeats};
+ghost use Rattle.lk_node_process.specs.Revivals.{ComesUp, IsServerStarted, IsRestartRefused, IsRefusedWith};
+ghost use Rattle.lk_node_process.specs.Turns.{TakesTurn, TakesTurnWith, HasFollowedNoStranger, HasFollowedStranger};
+ghost use Rattle.lk_node_process.specs.Turns.{EndsTurn, BreaksOff, BreaksOffByStranger};
+ghost use Rattle.lk_node_process.specs.Turns.{AreSealsOf, Serves, EndsEarly, EndsEarlyByStranger, TellsFailure};
+ghost use Rattle.lk_node_process.specs.Warnings.{TakesTurnAndWarns, Warns, WarnsUntil, reminded};
+
+use crate::another_genesis::write_other_genesis;
+use crate::observing::{observe_end, observe_start, observe_turn};
+use crate::port_reminder::PortReminder;
+use crate::resources::{NodePlan, Resources};
+use lk_disk::LogDisk;
+use lk_events::line::Observer;
+use lk_node_files::causes::{FailureCause, write_failed_calls};
+use lk_node_files::refusals::write_refusal;
+use lk_recovery::ReviveFault;
+use lk_replica::Replica;
+use lk_replica_interface::ServedReplica;
+use lk_server::notes::log_notes;
+use lk_server::server::{Server, node_turn};
+use lk_server::watching::{log_port, log_start};
+use lk_state::Machine;
+use lk_store_format::Header;
+use lk_timing::tick_timer::TickTimer;
+use lk_transport::fault::ServiceFault;
+use lk_transport::receive_buffer::ReceiveBuffer;
+use lk_transport::socket::DatagramSocket;
+use log::Log;
+use std::alloc::Global;
+use std::io::Write;
+use std::time::Clock;
+
+// How many turns a node takes: a loop must have a bound, and this one lasts for years.
+const TURNS: u64 = 1 << 48;
+
+// The server of a node's replica on a device, with a socket.
+type NodeServer<M, D, S> = Server<Replica<M, D>, S>;
+
+// Restarts the replica from a device. Logs how it started and what it executed. An error returns the device too.
+fn take_up<M: Machine, D: LogDisk + Drop, L: Log>(
+    alloc: Global,
+    header: &Header,
+    device: D,
+    log: &L,
+) -> Result<Replica<M, D>, ReviveFault<D>>
+    // It can take calls as the node of this header: nothing of it has failed.
+    ensures ready { IfOk result (λ r. MayGoOn header.now r) }
+    // It restarts from what the device has.
+    ensures comes_up { D.is_honest → IfOk result (ComesUp M.meaning header.now (D.disk device)) }
+    // It fails with a fault of 7 to 11, each for its own cause. The disks then fit each history that they fitted
+    // before.
+    ensures refused { IfErr result
+        (λ e. IsRestartRefused M.meaning M.IsText D.is_honest (D.disk device) header.now
+        (fault_number e.fault) (D.disk e.device)) }
+{
+    let revived = Replica::<M, D>::revive(alloc, device, header)?;
+    log_start(log, revived.is_new, &revived.replica.status());
+    log_notes(log, &revived.notes);
+    Ok(revived.replica)
+}
+
+/// Starts the server of a node from a device. Logs how it started and what it executed. An error returns the device
+/// too.
+pub fn revive<M: Machine, D: LogDisk + Drop, S: DatagramSocket + Drop, L: Log>(
+    alloc: Global,
+    header: &Header,
+    resources: Resources<D, S>,
+    log: &L,
+) -> Result<NodeServer<M, D, S>, ReviveFault<D>>
+    // It serves as the node of this header, in its cluster, with a replica restarted from what the device has, and has
+    // received nothing.
+    ensures begun { IfOk result (IsServerStarted M.meaning D.is_honest (D.disk resources.device) header.now) }
+    ensures serves { IfOk result (ServesAs header.now.cluster header.now.node resources.pace resources.network) }
+    ensures socket { IfOk result
+        (ServesOn (S.sent resources.socket) (S.failures resources.socket) (S.coming resources.socket)) }
+    // It fails with a fault of 7 to 11, each for its own cause. The disks then fit each history that they fitted
+    // before.
+    ensures refused { IfErr result
+        (λ e. IsRestartRefused M.meaning M.IsText D.is_honest (D.disk resources.device) header.now
+        (fault_number e.fault) (D.disk e.device)) }
+{
+    let Resources {
+        device,
+        socket,
+        network,
+        pace,
+        unheard: _,
+    } = resources;
+    let replica = take_up::<M, D, L>(alloc, header, device, log)?;
+    let cluster = header.genesis().cluster;
+    Ok(Server::new(
+        alloc,
+        cluster,
+        header.node(),
+        pace,
+        network,
+        replica,
+        socket,
+    ))
+}
+
+// The same for a plan. If the store does not open, writes what was found and what to do.
+fn revive_plan<
+    M: Machine,
+    D: LogDisk + FailureCause + Drop,
+    S: DatagramSocket + Drop,
+    L: Log,
+    E: Write,
+>(
+    alloc: Global,
+    plan: &NodePlan<'_>,
+    resources: Resources<D, S>,
+    log: &L,
+    err: &mut E,
+) -> Result<NodeServer<M, D, S>, ServiceFault>
+    ensures begun { IfOk result (IsServerStarted M.meaning D.is_honest (D.disk resources.device) plan.now.header) }
+    ensures seals { IfOk result (λ s. s.addresses.seals ≡ resources.network.seals) }
+    ensures refused { IfErr result
+        (IsRefusedWith M.meaning M.IsText D.is_honest (D.disk resources.device) plan.now.header) }
+{
+    match revive::<M, D, S, L>(alloc, &plan.header, resources, log) {
+        Ok(server) => Ok(server),
+        Err(refused) => {
+            let ReviveFault { fault, device } = refused;
+            let mut device = device;
+            let told = ServiceFault::of_replica(&fault);
+            Err(write_refusal(alloc, told, &mut device, plan.folder, err))
+        }
+    }
+}
+
+// Ends a turn: handles probes, and reports the turn to an observer. If the node has followed one of another genesis,
+// writes so.
+fn end_turn<M: Machine, D: LogDisk + Drop, S: DatagramSocket + Drop, L: Log, O: Observer, E: Write>(
+    server: &mut NodeServer<M, D, S>,
+    buffer: &mut ReceiveBuffer,
+    log: &L,
+    observer: &mut O,
+    err: &mut E,
+) -> Result<(), ServiceFault>
+    ensures acts { HandlesProbes IsShown S.is_telling buffer.old.asked buffer.old.reported server.old server.new }
+    ensures goes_on { OnOk result (HasFollowedNoStranger server.new) }
+    ensures leaves { OnErr result (HasFollowedStranger server.new) }
+    ensures spent { (buffer.new.asked ≡ None) × (buffer.new.reported ≡ None) }
+    ensures failure { TellsFailure server.new }
+    // While the node goes on nothing is written.
+    ensures quiet { OnOk result (E.contents err.new ≡ E.contents err.old) }
+{
+    let leader = server.handle_probes(buffer, log);
+    // The contract of this call shows that the server knows whether its replica has failed.
+    let _ = server.replica();
+    observe_turn(server, observer);
+    match leader {
+        None => Ok(()),
+        Some(leader) => Err(write_other_genesis(&server.origin(), &leader, err)),
+    }
+}
+
+// Takes one turn, and reports it to an observer. If the device failed, writes why.
+fn take_turn<
+    M: Machine,
+    D: LogDisk + FailureCause + Drop,
+    S: DatagramSocket + Drop,
+    C: Clock,
+    L: Log,
+    O: Observer,
+    E: Write,
+>(
+    server: &mut NodeServer<M, D, S>,
+    buffer: &mut ReceiveBuffer,
+    tick_timer: &mut TickTimer<C>,
+    folder: &str,
+    log: &L,
+    observer: &mut O,
+    err: &mut E,
+) -> Result<(), ServiceFault>
+    // Its replica was given as one group the letters of the node to itself, or else what was taken of the frames that
+    // came, and a tick if one was due. Of the letters that it produced, those to the node itself are kept, after the
+    // ones that wait. Then probes are handled: the probe and the report that were kept before, or else the first that
+    // came. No node of another genesis has led the node.
+    ensures turn { OnOk result
+        (TakesTurnWith ⟦<Replica<M, D> as ServedReplica>⟧.Says S.is_telling buffer.old.asked buffer.old.reported
+        HasFollowedNoStranger server.old server.new) }
+    ensures spent { OnOk result ((buffer.new.asked ≡ None) × (buffer.new.reported ≡ None)) }
+    // While the node goes on nothing is written.
+    ensures quiet { OnOk result (E.contents err.new ≡ E.contents err.old) }
+    // The turn ended the replica, and after that nothing is sent and no probe is answered; or it is such a turn, and a
+    // node of another genesis has led the node.
+    ensures ends { OnErr result
+        (EndsTurn ⟦<Replica<M, D> as ServedReplica>⟧.Says S.is_telling server.old server.new
+        ⊎ TakesTurnWith ⟦<Replica<M, D> as ServedReplica>⟧.Says S.is_telling buffer.old.asked buffer.old.reported
+        HasFollowedStranger server.old server.new) }
+{
+    match node_turn(server, buffer, tick_timer, log) {
+        Ok(()) => end_turn(server, buffer, log, observer, err),
+        Err(fault) => {
+            let told = ServiceFault::from(fault);
+            Err(write_failed_calls(told, server.replica().device(), folder, err))
+        }
+    }
+}
+
+// Warns after a turn if a warning is due, by the server's own status. A warning that cannot be written is lost.
+fn warn_if_due<M: Machine, D: LogDisk + Drop, S: DatagramSocket + Drop, E: Write>(
+    server: &NodeServer<M, D, S>,
+    reminder: &mut PortReminder,
+    plan: &NodePlan<'_>,
+    err: &mut E,
+)
+    ensures { Warns plan.now.header.node plan.now.port server.now reminder.old reminder.new
+        (E.contents err.old) (E.contents err.new) }
+{
+    let status = server.status();
+    let _ = reminder.remind(&status, plan, err);
+}
+
+// Takes 2^48 turns, warns after each if that is due, and reports them to an observer. If the device failed, writes why.
+fn take_turns<
+    M: Machine,
+    D: LogDisk + FailureCause + Drop,
+    S: DatagramSocket + Drop,
+    C: Clock,
+    L: Log,
+    O: Observer,
+    E: Write,
+>(
+    clock: &C,
+    server: &mut NodeServer<M, D, S>,
+    plan: &NodePlan<'_>,
+    reminder: PortReminder,
+    log: &L,
+    observer: &mut O,
+    err: &mut E,
+) -> Result<(), ServiceFault>
+    // At Ok it has taken exactly this many turns, one after another.
+    ensures ok { OnOk result
+        (Repeats (TakesTurn ⟦<Replica<M, D> as ServedReplica>⟧.Says S.is_telling) (2 ^ 48) server.old server.new) }
+    // At an error it has taken fewer, and then one that ended the replica, or after which a node of another genesis had
+    // led the node.
+    ensures err { OnErr result
+        (BreaksOff ⟦<Replica<M, D> as ServedReplica>⟧.Says S.is_telling (2 ^ 48) server.old server.new
+        ⊎ BreaksOffByStranger ⟦<Replica<M, D> as ServedReplica>⟧.Says S.is_telling (2 ^ 48) server.old server.new) }
+    // After each of its turns, but the last at an error, it warns by the server's own status if that is due, and
+    // nothing else is written.
+    ensures warns { OnOk result
+        ((last : PortReminder) × Repeats
+        (TakesTurnAndWarns ⟦<Replica<M, D> as ServedReplica>⟧.Says S.is_telling plan.now.header.node plan.now.port)
+        (2 ^ 48) (reminded server.old reminder (E.contents err.old)) (reminded server.new last (E.contents err.new))) }
+    ensures warned { OnErr result
+        (WarnsUntil ⟦<Replica<M, D> as ServedReplica>⟧.Says S.is_telling plan.now.header.node plan.now.port (2 ^ 48)
+        (reminded server.old reminder (E.contents err.old)) server.new) }
+{
+    let mut buffer = ReceiveBuffer::new();
+    let mut tick_timer = TickTimer::new(clock);
+    let mut reminder = reminder;
+    'turns: for _ in 0..TURNS {
+        take_turn::<M, D, S, &C, L, O, E>(
+            server,
+            &mut buffer,
+            &mut tick_timer,
+            plan.folder,
+            log,
+            observer,
+            err,
+        )?;
+        warn_if_due(server, &mut reminder, plan, err);
+    }
+    Ok(())
+}
+
+// Logs the port of a server, reports its start to an observer, and takes 2^48 turns. The server ends then.
+fn serve_turns<
+    M: Machine,
+    D: LogDisk + FailureCause + Drop,
+    S: DatagramSocket + Drop,
+    C: Clock,
+    L: Log,
+    O: Observer,
+    E: Write,
+>(
+    clock: &C,
+    server: NodeServer<M, D, S>,
+    plan: &NodePlan<'_>,
+    reminder: PortReminder,
+    log: &L,
+    observer: &mut O,
+    err: &mut E,
+) -> Result<(), ServiceFault>
+    ensures ok { OnOk result
+        ((ended : ServerValue ReplicaValue)
+        × Repeats (TakesTurn ⟦<Replica<M, D> as ServedReplica>⟧.Says S.is_telling) (2 ^ 48) server ended) }
+    ensures err { OnErr result
+        ((ended : ServerValue ReplicaValue)
+        × (BreaksOff ⟦<Replica<M, D> as ServedReplica>⟧.Says S.is_telling (2 ^ 48) server ended
+        ⊎ BreaksOffByStranger ⟦<Replica<M, D> as ServedReplica>⟧.Says S.is_telling (2 ^ 48) server ended)) }
+{
+    let mut server = server;
+    log_port(log, plan.port);
+    observe_start(server.replica(), observer);
+    take_turns(clock, &mut server, plan, reminder, log, observer, err)
+}
+
+// Starts the server of a node, and takes 2^48 turns.
+fn serve<
+    M: Machine,
+    D: LogDisk + FailureCause + Drop,
+    S: DatagramSocket + Drop,
+    C: Clock,
+    L: Log,
+    O: Observer,
+    E: Write,
+>(
+    clock: &C,
+    alloc: Global,
+    plan: &NodePlan<'_>,
+    resources: Resources<D, S>,
+    log: &L,
+    observer: &mut O,
+    err: &mut E,
+) -> Result<(), ServiceFault>
+    requires { AreSealsOf plan.now.header resources.network.seals }
+    ensures ok { OnOk result
+        (Serves (IsServerStarted M.meaning D.is_honest (D.disk resources.device) plan.now.header) plan.now.header
+        resources.network.seals ⟦<Replica<M, D> as ServedReplica>⟧.Says S.is_telling (2 ^ 48)) }
+    ensures err { IfErr result
+        (λ f. IsRefusedWith M.meaning M.IsText D.is_honest (D.disk resources.device) plan.now.header f
+        ⊎ EndsEarly (IsServerStarted M.meaning D.is_honest (D.disk resources.device) plan.now.header) plan.now.header
+        resources.network.seals ⟦<Replica<M, D> as ServedReplica>⟧.Says S.is_telling (2 ^ 48)
+        ⊎ EndsEarlyByStranger (IsServerStarted M.meaning D.is_honest
+        (D.disk resources.device) plan.now.header) plan.now.header
+        resources.network.seals ⟦<Replica<M, D> as ServedReplica>⟧.Says S.is_telling (2 ^ 48)) }
+{
+    let reminder = PortReminder::of(resources.unheard);
+    let server = revive_plan::<M, D, S, L, E>(alloc, plan, resources, log, err)?;
+    serve_turns(clock, server, plan, reminder, log, observer, err)
+}
+
+/// Runs a node on these resources, and reports what happens to it to an observer. The status is 0 after 2^48 turns, and
+/// 1 after a fault, which is written to standard error.
+pub fn run_node<
+    M: Machine,
+    D: LogDisk + FailureCause + Drop,
+    S: DatagramSocket + Drop,
+    C: Clock,
+    L: Log,
+    O: Observer,
+    E: Write,
+>(
+    clock: &C,
+    alloc: Global,
+    plan: &NodePlan<'_>,
+    resources: Resources<D, S>,
+    log: &L,
+    observer: &mut O,
+    err: &mut E,
+) -> u8
+    requires { AreSealsOf plan.now.header resources.network.seals }
+    ensures status { result ≤ 1 }
+    // At status 0 the server of the plan's node, with a replica restarted from what the device had, has taken this
+    // many turns.
+    ensures served { result ≡ 0
+        → Serves (IsServerStarted M.meaning D.is_honest (D.disk resources.device) plan.now.header) plan.now.header
+        resources.network.seals ⟦<Replica<M, D> as ServedReplica>⟧.Says S.is_telling (2 ^ 48) }
+    // At status 1 it did not start, or it has taken fewer turns, and then one that ended its replica, or after which a
+    // node of another genesis had led it.
+    ensures broken { result ≡ 1
+        → ((f : ServiceFault) × IsRefusedWith M.meaning M.IsText D.is_honest
+        (D.disk resources.device) plan.now.header f)
+        ⊎ EndsEarly (IsServerStarted M.meaning D.is_honest (D.disk resources.device) plan.now.header) plan.now.header
+        resources.network.seals ⟦<Replica<M, D> as ServedReplica>⟧.Says S.is_telling (2 ^ 48)
+        ⊎ EndsEarlyByStranger (IsServerStarted M.meaning D.is_honest
+        (D.disk resources.device) plan.now.header) plan.now.header
+        resources.network.seals ⟦<Replica<M, D> as ServedReplica>⟧.Says S.is_telling (2 ^ 48) }
+{
+    match serve::<M, D, S, C, L, O, E>(clock, alloc, plan, resources, log, observer, err) {
+        Ok(()) => 0,
+        Err(fault) => {
+            observe_end(fault, observer);
+            fault.write_to(err)
+        }
+    }
+}

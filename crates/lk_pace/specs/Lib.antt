@@ -1,2 +1,0 @@
-pub mod Metronomes
-pub mod Paces

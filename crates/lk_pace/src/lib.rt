@@ -1,8 +1,0 @@
-//! The pace of a server: when a tick is due, by a clock or by datagrams, and how long it waits for more before a sync.
-//! It knows no replica and no socket.
-#![tactic(auto)]
-
-pub mod metronome;
-pub mod pace;
-pub mod sync_pause;
-pub mod turn_input;

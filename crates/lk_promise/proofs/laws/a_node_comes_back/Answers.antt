@@ -1,5 +1,0 @@
-use Rattle.lk_promise.proofs.ComingBack.{comes_back}
-use Rattle.lk_promise.proofs.laws.a_node_comes_back.Goals as goal
-
-pub returns : goal.returns
-returns c = comes_back

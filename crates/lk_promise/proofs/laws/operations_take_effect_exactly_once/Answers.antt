@@ -1,5 +1,0 @@
-use Rattle.lk_promise.proofs.ExactlyOnce.{served_once}
-use Rattle.lk_promise.proofs.laws.operations_take_effect_exactly_once.Goals as goal
-
-pub returns : goal.returns
-returns c world p = served_once world.genesis world.sent world.trace p.explained p.told_in_time

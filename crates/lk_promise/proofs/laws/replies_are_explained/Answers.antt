@@ -1,5 +1,0 @@
-use Rattle.lk_promise.proofs.Replying.{replies_explained}
-use Rattle.lk_promise.proofs.laws.replies_are_explained.Goals as goal
-
-pub returns : goal.returns
-returns c world L p x = replies_explained world.genesis world.sent world.trace L p.told x

@@ -1,0 +1,70 @@
+-- Random schedules: which events happen in their worlds.
+use Rattle.std.specs.Prelude.{◌≡◌, ℕ, zero, suc, Bool, ◌⊎◌, ⊤, [], ◌∷◌, length}
+use Rattle.lk_node.specs.Histories.{Genesis}
+use Rattle.lk_replica.specs.Behaviours.{Behaviour}
+use Rattle.lk_sim.specs.Events.{IsExecuted}
+use Rattle.lk_sim.specs.Refusals.{IsRejectedFor}
+use Rattle.lk_sim.specs.Scenes.{Scene}
+use Rattle.lk_sim.specs.declared.event.Event.{Event}
+use Rattle.lk_sim.specs.declared.event.Event.TheVariants.{Start, Restart, Tick}
+use Rattle.lk_world_nodes.specs.declared.refused.Refused.{Refused}
+use Rattle.lk_world_nodes.specs.declared.refused.Refused.TheVariants.{NotUp, WorldFull, WorldMemory}
+use Rattle.lk_random_schedules.specs.Drawn.{IsDrawn}
+use Rattle.lk_random_schedules.specs.declared.plan.Plan.{Plan}
+
+-- cluster 5, alpha 2, and nodes 1, 2 and 3 at the ports 7001 to 7003
+pub record IsOfThree (g : Genesis) : Type 0 where
+  pub cluster : g.cluster ≡ 5
+  pub alpha : g.alpha ≡ 2
+  pub members : g.members ≡ record { node = 1; port = 7001 } ∷ record { node = 2; port = 7002 }
+      ∷ record { node = 3; port = 7003 } ∷ []
+
+-- a world of three nodes in which nothing has happened
+pub record IsNew {R : Type 0} (w : Scene R) : Type 0 where
+  pub genesis : IsOfThree w.genesis
+  pub seats : w.seats ≡ []
+  pub sent : w.sent ≡ []
+  pub trace : w.trace ≡ []
+
+-- ---- a drawn event
+
+-- the reason of a rejection is neither room nor memory, so the event is replaced
+abbrev pub IsPassedBy : Refused → Type 0
+IsPassedBy WorldFull = ⊥
+IsPassedBy WorldMemory = ⊥
+IsPassedBy _ = ⊤
+
+-- the replacement of a rejected event: node 1 ticks, or restarts if it is down
+abbrev pub PassesBy : {R : Type 0} → Behaviour R → Scene R → Scene R → Type 0
+PassesBy b old new = IsExecuted b old (Tick 1) new ⊎ (IsRejectedFor old (Tick 1) NotUp
+    × IsExecuted b old (Restart 1) new)
+
+-- the event happens, or its replacement if it is rejected for a reason other than room and memory
+abbrev pub Happens : {R : Type 0} → Behaviour R → Scene R → Event → Scene R → Type 0
+Happens b old e new = IsExecuted b old e new ⊎ ((r : Refused) × IsPassedBy r × IsRejectedFor old e r
+    × PassesBy b old new)
+
+-- ---- a run
+
+-- the three nodes are started, one after another
+pub record Starts {R : Type 0} (b : Behaviour R) (old new : Scene R) : Type 0 where
+  pub one : Scene R
+  pub two : Scene R
+  pub first : IsExecuted b old (Start 1) one
+  pub second : IsExecuted b one (Start 2) two
+  pub third : IsExecuted b two (Start 3) new
+
+-- an event that is drawn happens
+abbrev pub Next : {R : Type 0} → Behaviour R → Bool → Scene R → Scene R → Type 0
+Next b groups old new = (e : Event) × IsDrawn groups (length old.sent) e × Happens b old e new
+
+-- so many of them happen, one after another
+abbrev pub Draws : {R : Type 0} → Behaviour R → Bool → ℕ → Scene R → Scene R → Type 0
+Draws b groups zero old new = new ≡ old
+Draws {R = R} b groups (suc n) old new = (mid : Scene R) × Draws b groups n old mid × Next b groups mid new
+
+-- the three nodes are started, and then so many drawn events happen
+pub record Fuzzes {R : Type 0} (b : Behaviour R) (plan : Plan) (old new : Scene R) : Type 0 where
+  pub started : Scene R
+  pub starts : Starts b old started
+  pub draws : Draws b plan.groups plan.count started new

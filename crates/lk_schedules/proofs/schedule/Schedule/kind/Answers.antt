@@ -1,4 +1,0 @@
-use Rattle.lk_schedules.proofs.schedule.Schedule.kind.Goals as goal
-
-pub returns : goal.returns
-returns c = c.of-kind.ensures c.args.groups

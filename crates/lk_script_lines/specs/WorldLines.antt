@@ -1,0 +1,143 @@
+-- The lines of world mode after its first: how each is spelled, and which events it asks for.
+use Rattle.std.specs.Prelude.{◌≡◌, ◌≢◌, ◌≤◌, ◌⊎◌, ℕ, List, [], ◌∷◌, ◌++◌, Ok, codes}
+use Rattle.std.specs.Fmt.{decimal}
+use Rattle.hex.specs.Hex.{decode_of}
+use Rattle.lk_types.specs.Limits.{max_count, max_node, max_client}
+use Rattle.lk_members.specs.Effects.{RequestValue}
+use Rattle.lk_parsers.specs.Operations.{SpellsOp}
+use Rattle.lk_sim.specs.declared.event.Event.{Event}
+use Rattle.lk_sim.specs.declared.event.Event.TheVariants as event
+use Rattle.lk_sim.specs.declared.event.Turn.{Turn}
+use Rattle.lk_sim.specs.declared.event.Turn.TheVariants as turn
+use Rattle.lk_script_lines.specs.declared.event_verb.EventVerb.{EventVerb}
+use Rattle.lk_script_lines.specs.declared.event_verb.EventVerb.TheVariants as verb
+use Rattle.lk_script_lines.specs.declared.instruction.Instruction.{Instruction}
+use Rattle.lk_script_lines.specs.declared.instruction.Instruction.TheVariants.{Ticks, Once}
+
+-- the word spells a number from `least` to `most`
+abbrev pub IsWord : ℕ → ℕ → ℕ → List ℕ → Type 0
+IsWord least most n word = (least ≤ n) × (n ≤ most) × (word ≡ decimal n)
+
+-- the words begin with such a number, followed by a space and these words
+abbrev pub Leads : ℕ → ℕ → ℕ → List ℕ → List ℕ → Type 0
+Leads least most n rest words = (least ≤ n) × (n ≤ most) × (words ≡ decimal n ++ 32 ∷ rest)
+
+-- a node, alone or with words after it
+abbrev pub IsNodeWord : ℕ → List ℕ → Type 0
+IsNodeWord = IsWord 1 max_node
+
+abbrev pub NodeLeads : ℕ → List ℕ → List ℕ → Type 0
+NodeLeads = Leads 1 max_node
+
+-- ---- what the words after each verb ask for
+
+-- `N`
+abbrev pub AsksToStart : List ℕ → Instruction → Type 0
+AsksToStart words o = (n : ℕ) × IsNodeWord n words × (o ≡ Once (event.Start n))
+
+abbrev pub AsksToRestart : List ℕ → Instruction → Type 0
+AsksToRestart words o = (n : ℕ) × IsNodeWord n words × (o ≡ Once (event.Restart n))
+
+-- `N`, or `N TIMES`
+abbrev pub AsksForTicks : List ℕ → Instruction → Type 0
+AsksForTicks words o = ((n : ℕ) × IsNodeWord n words × (o ≡ Ticks n 1))
+    ⊎ ((n : ℕ) × (times : ℕ) × (word : List ℕ) × NodeLeads n word words
+    × IsWord 1 10000 times word × (o ≡ Ticks n times))
+
+-- `N`
+abbrev pub AsksToCompact : List ℕ → Instruction → Type 0
+AsksToCompact words o = (n : ℕ) × IsNodeWord n words × (o ≡ Once (event.Compact n))
+
+-- `K`
+abbrev pub AsksToDeliver : List ℕ → Instruction → Type 0
+AsksToDeliver words o = (k : ℕ) × IsWord 1 max_count k words × (o ≡ Once (event.Deliver k))
+
+-- `t`, or `K`
+abbrev pub IsTurnWord : Turn → List ℕ → Type 0
+IsTurnWord turn.Tick word = word ≡ codes "t"
+IsTurnWord (turn.Deliver k) word = IsWord 1 max_count k word
+
+-- parts of a group in words, one or more, separated by spaces
+pub data SpellsTurns : List ℕ → List Turn → Type 0 where
+  one : (t : Turn) (word : List ℕ) → IsTurnWord t word → SpellsTurns word (t ∷ [])
+  more : (t : Turn) (word rest : List ℕ) (turns : List Turn) → IsTurnWord t word → SpellsTurns rest turns
+      → SpellsTurns (word ++ 32 ∷ rest) (t ∷ turns)
+
+-- the node takes these together
+abbrev pub Groups : ℕ → List Turn → Event → Type 0
+Groups n turns (event.Group m taken) = (m ≡ n) × (taken.items ≡ turns)
+Groups n turns e = ⊥
+
+-- `N WORD ..`
+abbrev pub AsksForGroup : List ℕ → Instruction → Type 0
+AsksForGroup words o = (n : ℕ) × (rest : List ℕ) × (turns : List Turn) × (e : Event) × NodeLeads n rest words
+    × SpellsTurns rest turns × Groups n turns e × (o ≡ Once e)
+
+-- `C NUMBER OP`
+abbrev pub SpellsRequest : List ℕ → RequestValue → Type 0
+SpellsRequest words r = (rest : List ℕ) × (text : List ℕ) × Leads 1 max_client r.client rest words
+    × Leads 1 max_count r.number text rest × SpellsOp text r.op
+
+-- `N C NUMBER OP`
+abbrev pub AsksOfClient : List ℕ → Instruction → Type 0
+AsksOfClient words o = (n : ℕ) × (r : RequestValue) × (rest : List ℕ) × NodeLeads n rest words × SpellsRequest rest r
+    × (o ≡ Once (event.Client n r))
+
+-- the node takes these bytes
+abbrev pub Injects : ℕ → List ℕ → Event → Type 0
+Injects n bytes (event.Inject m handed) = (m ≡ n) × (handed.items ≡ bytes)
+Injects n bytes e = ⊥
+
+-- `N HEX`
+abbrev pub AsksToInject : List ℕ → Instruction → Type 0
+AsksToInject words o = (n : ℕ) × (digits : List ℕ) × (bytes : List ℕ) × (e : Event) × NodeLeads n digits words
+    × (decode_of digits ≡ Ok bytes) × (bytes ≢ [])
+    × Injects n bytes e × (o ≡ Once e)
+
+-- `N X Y`
+abbrev pub AsksToStop : List ℕ → Instruction → Type 0
+AsksToStop words o = (n : ℕ) × (x : ℕ) × (y : ℕ) × (more : List ℕ) × (word : List ℕ)
+    × NodeLeads n more words × Leads 0 max_count x word more × IsWord 0 max_count y word × (o ≡ Once (event.Stop n x y))
+
+-- `N COUNT`
+abbrev pub AsksToFail : List ℕ → Instruction → Type 0
+AsksToFail words o = (n : ℕ) × (count : ℕ) × (word : List ℕ) × NodeLeads n word words × IsWord 1 max_count count word
+    × (o ≡ Once (event.FailAt n count))
+
+-- `N COUNT BYTES`
+abbrev pub AsksToArm : List ℕ → Instruction → Type 0
+AsksToArm words o = (n : ℕ) × (count : ℕ) × (bytes : ℕ) × (more : List ℕ) × (word : List ℕ)
+    × NodeLeads n more words × Leads 1 max_count count word more × IsWord 0 max_count bytes word
+    × (o ≡ Once (event.Arm n count bytes))
+
+-- ---- a line
+
+abbrev pub word_of : EventVerb → List ℕ
+word_of verb.Start = codes "start"
+word_of verb.Restart = codes "restart"
+word_of verb.Tick = codes "tick"
+word_of verb.Compact = codes "compact"
+word_of verb.Deliver = codes "deliver"
+word_of verb.Group = codes "group"
+word_of verb.Client = codes "client"
+word_of verb.Inject = codes "inject"
+word_of verb.Stop = codes "stop"
+word_of verb.Fail = codes "fail"
+word_of verb.Arm = codes "arm"
+
+abbrev pub Asks : EventVerb → List ℕ → Instruction → Type 0
+Asks verb.Start = AsksToStart
+Asks verb.Restart = AsksToRestart
+Asks verb.Tick = AsksForTicks
+Asks verb.Compact = AsksToCompact
+Asks verb.Deliver = AsksToDeliver
+Asks verb.Group = AsksForGroup
+Asks verb.Client = AsksOfClient
+Asks verb.Inject = AsksToInject
+Asks verb.Stop = AsksToStop
+Asks verb.Fail = AsksToFail
+Asks verb.Arm = AsksToArm
+
+-- a verb, a space, and words of that verb
+abbrev pub SpellsInstruction : List ℕ → Instruction → Type 0
+SpellsInstruction line o = (v : EventVerb) × (words : List ℕ) × (line ≡ word_of v ++ 32 ∷ words) × Asks v words o

@@ -1,7 +1,0 @@
-use Rattle.std.proofs.Common.{◌≡◌, drop}
-use Rattle.lk_status.specs.Fields.{followed}
-use Rattle.lk_status.proofs.why.followed_in.Given as goal
-
--- the first of those that are left is the first of all
-abbrev pub invariant-loop-report : goal.invariant-loop-report
-invariant-loop-report l = followed (drop l.report-index l.reports) ≡ followed l.reports

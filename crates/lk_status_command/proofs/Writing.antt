@@ -1,0 +1,92 @@
+-- One text after another.
+use Rattle.std.proofs.Common.{◌≡◌, ◌<◌, ◌≤◌, ℕ, suc, ◌+◌, ◌%◌, ◌^◌, false, List, [], ◌∷◌, ◌++◌, Option, Some, None}
+use Rattle.std.proofs.Common.{length, get_or, take, drop, sym, ap, subst, ◌∙◌, append_assoc, drop-cons, arith}
+use Rattle.std.specs.List.{flat_map}
+use Rattle.std.proofs.lemmas.List.{append-nil, flat_map_more, drop_all}
+use Rattle.std.specs.Io.KnownBytes.{Appends, Keeps}
+use Rattle.std.specs.Prelude.{codes}
+use Rattle.lk_probe.specs.declared.probe.Report.{Report}
+use Rattle.lk_probe_round.specs.Verdicts.{one_genesis}
+use Rattle.lk_probe_round.specs.declared.target.Target.{Target}
+use Rattle.lk_status_command.specs.Lines.{count_text, traffic_text, stranger_word, strangers_text}
+use Rattle.lk_status_command.specs.Tokens.{by_token}
+
+pub appends_nothing : (a : Option (List ℕ)) → Appends a a []
+appends_nothing None = tt
+appends_nothing (Some xs) = sym (append-nil xs)
+
+pub appends_more : (a b c : Option (List ℕ)) (x y : List ℕ) → Appends a b x → Appends b c y → Appends a c (x ++ y)
+appends_more None b c x y f g = tt
+appends_more (Some xs) None c x y f g = absurd f
+appends_more (Some xs) (Some ys) None x y f g = absurd g
+appends_more (Some xs) (Some ys) (Some zs) x y f g = g ∙ ap (λ (t : List ℕ). t ++ y) f ∙ append_assoc xs x y
+
+-- what is flushed stays
+pub appends_kept : (a b c : Option (List ℕ)) (x : List ℕ) → Appends a b x → Keeps b c → Appends a c x
+appends_kept None b c x f g = tt
+appends_kept (Some xs) None c x f g = absurd f
+appends_kept (Some xs) (Some ys) None x f g = absurd g
+appends_kept (Some xs) (Some ys) (Some zs) x f g = g ∙ f
+
+-- one more of a list
+pub writes_more : {X : Type 0} (f : X → List ℕ) (front : List ℕ) (a b c : Option (List ℕ)) (xs : List X) (i : ℕ)
+    (x : X) → take (i + 1) xs ≡ take i xs ++ x ∷ []
+    → Appends a b (front ++ flat_map f (take i xs)) → Appends b c (f x)
+    → Appends a c (front ++ flat_map f (take (i + 1) xs))
+writes_more f front a b c xs i x more first second =
+    subst (λ (t : List ℕ). Appends a c t)
+    (flat_map_more f front (take i xs) x ∙ ap (λ (ys : List _). front ++ flat_map f ys) (sym more))
+    (appends_more a b c (front ++ flat_map f (take i xs)) (f x) first second)
+
+-- the counts of a node
+pub traffic_as : (a z : Option (List ℕ)) (r : Report) (p w : ℕ)
+    → Appends a z (count_text (codes "a change takes effect in ") p (codes "position") (codes "positions")
+    ++ (count_text [] w (codes "request waits") (codes "requests wait")
+    ++ count_text [] r.status.traffic.unsent (codes "send failed") (codes "sends failed")))
+    → p ≡ r.status.progress.pending → w ≡ r.status.traffic.waiting → Appends a z (traffic_text r)
+traffic_as a z r p w printed ps ws = rw (sym ps, sym ws) printed
+
+-- the nodes of another genesis, where there are several
+pub strangers_as : (a z : Option (List ℕ)) (measure : Report) (rs front : List Report)
+    → one_genesis rs ≡ false → front ≡ rs
+    → Appends a z (codes "; genesis differs:" ++ flat_map (stranger_word measure) front)
+    → Appends a z (strangers_text measure rs)
+strangers_as a z measure rs front several all printed =
+    rw several (subst (λ (l : List Report). Appends a z
+    (codes "; genesis differs:" ++ flat_map (stranger_word measure) l)) all printed)
+
+-- ---- a text for each target
+
+same : (n : ℕ) → suc n ≡ n + 1
+same n = omega arith
+
+-- the targets from a place on begin with the one that is there
+pub next_target : (ts : List Target) (i : ℕ) (t : Target) → i < length ts → t ≡ get_or ts i t
+    → drop i ts ≡ t ∷ drop (i + 1) ts
+next_target ts i t within is =
+    drop-cons ts i t within ∙ ap (λ (other : Target). other ∷ drop (suc i) ts) (sym is)
+    ∙ ap (λ (n : ℕ). t ∷ drop n ts) (same i)
+
+-- what was written, with the texts of the targets that are left, is all
+abbrev pub SoFar : (ℕ → Target → List ℕ) → Option (List ℕ) → Option (List ℕ) → List ℕ → ℕ → List Target → Type 0
+SoFar text old new all token ts =
+    (written : List ℕ) × Appends old new written × (written ++ by_token text token ts ≡ all)
+
+pub targets_more : (text : ℕ → Target → List ℕ) (a b c : Option (List ℕ)) (all : List ℕ) (token : ℕ) (ts : List Target)
+    (i : ℕ) (t : Target) → drop i ts ≡ t ∷ drop (i + 1) ts
+    → SoFar text a b all token (drop i ts) → Appends b c (text token t)
+    → SoFar text a c all ((token + 1) % (2 ^ 64)) (drop (i + 1) ts)
+targets_more text a b c all token ts i t next so_far more = (
+  so_far.0 ++ text token t,
+  appends_more a b c so_far.0 (text token t) so_far.1 more,
+  append_assoc so_far.0 (text token t) (by_token text ((token + 1) % (2 ^ 64)) (drop (i + 1) ts))
+      ∙ ap (λ (l : List ℕ). so_far.0 ++ l) (sym (ap (λ (l : List Target). by_token text token l) next)) ∙ so_far.2,
+)
+
+pub targets_done : (text : ℕ → Target → List ℕ) (a b : Option (List ℕ)) (all : List ℕ) (token : ℕ)
+    (ts : List Target) (i : ℕ) → length ts ≤ i
+    → SoFar text a b all token (drop i ts) → Appends a b all
+targets_done text a b all token ts i past so_far =
+    subst (λ (l : List ℕ). Appends a b l)
+    (sym (append-nil so_far.0)
+    ∙ ap (λ (l : List Target). so_far.0 ++ by_token text token l) (sym (drop_all i ts past)) ∙ so_far.2) so_far.1

@@ -1,0 +1,5 @@
+use Rattle.lk_status_command.proofs.Writing.{appends_nothing}
+use Rattle.lk_status_command.proofs.json.write_more_numbers.Goals as goal
+
+pub members-init : goal.members-init
+members-init g c = appends_nothing _

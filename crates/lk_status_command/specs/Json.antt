@@ -1,0 +1,105 @@
+-- A status as one object of JSON, in a line.
+use Rattle.std.specs.Prelude.{ℕ, ◌+◌, ◌%◌, ◌^◌, Bool, Option, Some, None, List, [], ◌∷◌, ◌++◌, length, codes, flat_map}
+use Rattle.std.specs.Prelude.{if◌then◌else◌}
+use Rattle.std.specs.Fmt.{decimal}
+use Rattle.hex.specs.Hex.{encode_lower}
+use Rattle.lk_types.specs.declared.member.Member.{Member}
+use Rattle.lk_probe.specs.declared.probe.Report.{Report}
+use Rattle.lk_probe.specs.declared.status.Version.{Version}
+use Rattle.lk_probe_round.specs.Rounds.{report_of}
+use Rattle.lk_probe_round.specs.Verdicts.{count_reporting, is_served, one_genesis}
+use Rattle.lk_probe_round.specs.declared.target.Target.{Target}
+use Rattle.lk_status_command.specs.Fields.{field_name, field_value, all_fields}
+use Rattle.lk_status_command.specs.Tokens.{by_token}
+use Rattle.lk_status_command.specs.declared.field.Field.{Field}
+
+abbrev pub truth : Bool → List ℕ
+truth is = if is then codes "true" else codes "false"
+
+-- ---- of a node
+
+-- its number, and the version of its program
+abbrev pub program_part : ℕ → Version → List ℕ
+program_part node v =
+    codes ",\"node\":"
+    ++ (decimal node
+    ++ (codes ",\"program\":\""
+    ++ (decimal v.major ++ (46 ∷ (decimal v.minor ++ (46 ∷ (decimal v.patch ++ 34 ∷ [])))))))
+
+-- the digest of its genesis in hex
+abbrev pub genesis_part : List ℕ → List ℕ
+genesis_part genesis = codes ",\"genesis\":\"" ++ (encode_lower genesis ++ 34 ∷ [])
+
+abbrev pub field_part : Report → Field → List ℕ
+field_part r field = codes ",\"" ++ (field_name field ++ (codes "\":" ++ decimal (field_value field r)))
+
+abbrev pub fields_part : Report → List ℕ
+fields_part r = flat_map (field_part r) all_fields
+
+-- the numbers of these members, each after a comma
+abbrev pub more_numbers : List Member → List ℕ
+more_numbers ms = flat_map (λ (m : Member). 44 ∷ decimal m.node) ms
+
+-- the numbers of these members, with commas between them
+abbrev pub numbers : List Member → List ℕ
+numbers [] = []
+numbers (m ∷ ms) = decimal m.node ++ more_numbers ms
+
+abbrev pub members_part : List Member → List ℕ
+members_part ms = codes ",\"member_nodes\":[" ++ (numbers ms ++ 93 ∷ [])
+
+abbrev pub report_part : Report → List ℕ
+report_part r =
+    program_part r.node r.status.identity.program
+    ++ (genesis_part r.status.identity.genesis ++ (fields_part r ++ members_part r.status.members))
+
+-- ---- of the targets
+
+-- the target at this port reports
+abbrev pub up_part : ℕ → List ℕ
+up_part port = codes "{\"port\":" ++ (decimal port ++ codes ",\"up\":true")
+
+-- the target at this port, by its report
+abbrev pub target_object : ℕ → Option Report → List ℕ
+target_object port None = codes "{\"port\":" ++ (decimal port ++ codes ",\"up\":false}")
+target_object port (Some r) = up_part port ++ (report_part r ++ 125 ∷ [])
+
+-- the target whose probe carries this token
+abbrev pub object_of : List Report → ℕ → Target → List ℕ
+object_of rs token t = target_object t.port (report_of token rs)
+
+-- these targets, each after a comma
+abbrev pub more_objects : ℕ → List Target → List Report → List ℕ
+more_objects token ts rs = by_token (λ token t. 44 ∷ object_of rs token t) token ts
+
+-- these targets, with commas between them
+abbrev pub objects : ℕ → List Target → List Report → List ℕ
+objects token [] rs = []
+objects token (t ∷ ts) rs = object_of rs token t ++ more_objects ((token + 1) % (2 ^ 64)) ts rs
+
+-- ---- of all
+
+-- the cluster, whether it is served, and whether all nodes tell one genesis
+abbrev pub head_part : ℕ → Bool → Bool → List ℕ
+head_part cluster served one =
+    codes "{\"cluster\":"
+    ++ (decimal cluster ++ (codes ",\"served\":" ++ (truth served ++ (codes ",\"one_genesis\":" ++ truth one))))
+
+abbrev pub verdict_part : ℕ → List Report → List ℕ
+verdict_part cluster rs = head_part cluster (is_served rs) (one_genesis rs)
+
+-- so many of so many members report
+abbrev pub counts_part : ℕ → ℕ → List ℕ
+counts_part reporting count =
+    codes ",\"members_up\":" ++ (decimal reporting ++ (codes ",\"members\":" ++ decimal count))
+
+-- how many of the members of the measure
+abbrev pub majority_part : Option Report → List Report → List ℕ
+majority_part None rs = []
+majority_part (Some measure) rs =
+    counts_part (count_reporting measure.status.members rs) (length measure.status.members)
+
+abbrev pub json_text : ℕ → ℕ → List Target → List Report → Option Report → List ℕ
+json_text cluster first ts rs measure =
+    verdict_part cluster rs
+    ++ (majority_part measure rs ++ (codes ",\"nodes\":[" ++ (objects first ts rs ++ codes "]}\n")))

@@ -1,0 +1,130 @@
+-- The lines of a status: one for each target, and one for the cluster.
+use Rattle.std.specs.Prelude.{ℕ, ◌+◌, ◌-◌, ◌%◌, ◌^◌, ◌==◌, nat_eq, nat_lt, nat_le, Option, Some, None, List, [], ◌∷◌}
+use Rattle.std.specs.Prelude.{◌++◌, length, codes, if◌then◌else◌}
+use Rattle.std.specs.Cmp.Lexicographic.{pointwise}
+use Rattle.std.specs.Fmt.{decimal}
+use Rattle.std.specs.List.{flat_map}
+use Rattle.lk_types.specs.BallotValue.{BallotValue}
+use Rattle.lk_types.specs.declared.member.Member.{Member}
+use Rattle.lk_probe.specs.declared.probe.Report.{Report}
+use Rattle.lk_probe.specs.declared.status.Leadership.{Leadership}
+use Rattle.lk_probe_round.specs.Measures.{executed_of}
+use Rattle.lk_probe_round.specs.Rounds.{report_of}
+use Rattle.lk_probe_round.specs.Verdicts.{seeks_votes, count_reporting, one_genesis}
+use Rattle.lk_probe_round.specs.declared.target.Target.{Target}
+
+-- ---- counts
+
+-- the words for a count: these for 1, else the others
+abbrev pub one_or_many : ℕ → List ℕ → List ℕ → List ℕ
+one_or_many count one many = if count == 1 then one else many
+
+abbrev pub ticks_word : ℕ → List ℕ
+ticks_word ticks = one_or_many ticks (codes "tick") (codes "ticks")
+
+-- a count and its words after a front, unless it is 0
+abbrev pub count_text : List ℕ → ℕ → List ℕ → List ℕ → List ℕ
+count_text front count one many =
+    if count == 0 then [] else codes ", " ++ (front ++ (decimal count ++ (32 ∷ one_or_many count one many)))
+
+-- ---- of a node
+
+-- whom it follows, and how many ticks ago it heard of that leader
+abbrev pub heard_text : ℕ → ℕ → List ℕ
+heard_text leader ticks =
+    codes "follows " ++ (decimal leader
+    ++ (codes ", heard " ++ (decimal ticks ++ (32 ∷ (ticks_word ticks ++ codes " ago")))))
+
+-- for how many ticks it knows no leader
+abbrev pub unled_text : ℕ → List ℕ
+unled_text ticks = codes "knows no leader for " ++ (decimal ticks ++ (32 ∷ ticks_word ticks))
+
+-- whom a node follows
+abbrev pub following : Option ℕ → ℕ → List ℕ
+following (Some leader) ticks = heard_text leader ticks
+following None ticks = unled_text ticks
+
+abbrev pub following_text : Leadership → List ℕ
+following_text l = if l.leads then codes "leads" else following l.leader l.silence
+
+abbrev pub leadership_text : Report → List ℕ
+leadership_text r = if seeks_votes r then codes "seeks votes" else following_text r.status.leadership
+
+-- how many positions fewer than these it has executed, if it has
+abbrev pub behind_text : ℕ → ℕ → List ℕ
+behind_text executed most =
+    if nat_lt executed most then codes " (" ++ (decimal (most - executed) ++ codes " behind)") else []
+
+abbrev pub promised_text : BallotValue → List ℕ
+promised_text b = codes ", promised " ++ (decimal b.round ++ (46 ∷ decimal b.node))
+
+abbrev pub executed_text : Report → List ℕ
+executed_text r = codes ", executed " ++ decimal r.status.progress.executed
+
+abbrev pub snapshot_text : Report → List ℕ
+snapshot_text r = codes ", snapshot " ++ decimal r.status.progress.snapshot
+
+abbrev pub progress_text : Report → ℕ → List ℕ
+progress_text r most = executed_text r
+    ++ (behind_text r.status.progress.executed most ++ (promised_text r.status.leadership.promised ++ snapshot_text r))
+
+abbrev pub members_text : List Member → List ℕ
+members_text ms = codes ", members" ++ flat_map (λ (m : Member). 32 ∷ decimal m.node) ms
+
+-- what waits and what failed
+abbrev pub traffic_text : Report → List ℕ
+traffic_text r =
+    count_text (codes "a change takes effect in ") r.status.progress.pending (codes "position") (codes "positions")
+    ++ (count_text [] r.status.traffic.waiting (codes "request waits") (codes "requests wait")
+    ++ count_text [] r.status.traffic.unsent (codes "send failed") (codes "sends failed"))
+
+-- its number and its port
+abbrev pub name_text : ℕ → ℕ → List ℕ
+name_text node port = codes "node " ++ (decimal node ++ (codes ", port " ++ (decimal port ++ codes ": ")))
+
+abbrev pub node_line : ℕ → Report → ℕ → List ℕ
+node_line port r most =
+    name_text r.node port
+    ++ (leadership_text r ++ (progress_text r most ++ (members_text r.status.members ++ (traffic_text r ++ 10 ∷ []))))
+
+-- ---- of all
+
+-- the line of the target at this port, by its report
+abbrev pub target_line : ℕ → Option Report → ℕ → List ℕ
+target_line port (Some r) most = node_line port r most
+target_line port None most = codes "port " ++ (decimal port ++ codes ": no answer\n")
+
+-- a line for each target, the first by the report with this token, and each other by that with the next
+abbrev pub target_lines : ℕ → List Target → List Report → ℕ → List ℕ
+target_lines token [] rs most = []
+target_lines token (t ∷ ts) rs most =
+    target_line t.port (report_of token rs) most ++ target_lines ((token + 1) % (2 ^ 64)) ts rs most
+
+-- a node that names another genesis than the measure
+abbrev pub stranger_word : Report → Report → List ℕ
+stranger_word measure r =
+    if pointwise nat_eq r.status.identity.genesis measure.status.identity.genesis then [] else 32 ∷ decimal r.node
+
+abbrev pub strangers_text : Report → List Report → List ℕ
+strangers_text measure rs =
+    if one_genesis rs then [] else codes "; genesis differs:" ++ flat_map (stranger_word measure) rs
+
+-- whether its table is raised
+abbrev pub raised_text : Report → List ℕ
+raised_text r = if nat_le 2 r.status.identity.table then codes "; raised" else []
+
+-- how many of its members are up
+abbrev pub majority_text : Report → List Report → List ℕ
+majority_text measure rs =
+    codes "majority: " ++ (decimal (count_reporting measure.status.members rs)
+    ++ (codes " of " ++ (decimal (length measure.status.members) ++ codes " up")))
+
+-- the line of the cluster, if any node reports
+abbrev pub cluster_line : Option Report → List Report → List ℕ
+cluster_line None rs = []
+cluster_line (Some measure) rs =
+    majority_text measure rs ++ (raised_text measure ++ (strangers_text measure rs ++ 10 ∷ []))
+
+-- all of them, with the distance to the measure
+abbrev pub status_text : ℕ → List Target → List Report → Option Report → List ℕ
+status_text first targets rs measure = target_lines first targets rs (executed_of measure) ++ cluster_line measure rs

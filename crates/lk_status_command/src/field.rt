@@ -1,0 +1,133 @@
+// The fields of a report that JSON and Prometheus print: the name, kind, help and value of each.
+ghost use Rattle.std.specs.Prelude.{◌≡◌};
+ghost use Rattle.lk_probe.specs.Grammar.{or_zero};
+ghost use Rattle.lk_status_command.specs.Fields.{field_name, field_kind, field_help, field_value};
+
+use lk_probe::Report;
+use lk_types::NodeNo;
+
+/// A number in a node's report, printed by name in JSON and as a metric.
+#[derive(Clone, Copy)]
+pub enum Field {
+    Leads,
+    Leader,
+    Silence,
+    Promised,
+    Executed,
+    Snapshot,
+    Members,
+    Pending,
+    Waiting,
+    Unread,
+    Unsent,
+    Ticks,
+    Format,
+    Table,
+}
+
+/// All of them, in the order in which they are printed.
+pub const FIELDS: [Field; 14] = [
+    Field::Leads,
+    Field::Leader,
+    Field::Silence,
+    Field::Promised,
+    Field::Executed,
+    Field::Snapshot,
+    Field::Members,
+    Field::Pending,
+    Field::Waiting,
+    Field::Unread,
+    Field::Unsent,
+    Field::Ticks,
+    Field::Format,
+    Field::Table,
+];
+
+// The number of a node, or 0.
+fn node_number(node: Option<NodeNo>) -> u64
+    ensures { result ≡ or_zero node }
+{
+    match node {
+        Some(node) => u64::from(node.get()),
+        None => 0,
+    }
+}
+
+impl Field {
+    /// Returns its name in JSON. A metric has `locks_` before it.
+    pub fn name(self) -> &'static str
+        ensures { result.now ≡ field_name self }
+    {
+        match self {
+            Field::Leads => "leads",
+            Field::Leader => "leader",
+            Field::Silence => "leader_silence_ticks",
+            Field::Promised => "promised_round",
+            Field::Executed => "executed_positions",
+            Field::Snapshot => "snapshot_position",
+            Field::Members => "members",
+            Field::Pending => "change_pending_positions",
+            Field::Waiting => "waiting_requests",
+            Field::Unread => "unread_datagrams_total",
+            Field::Unsent => "failed_sends_total",
+            Field::Ticks => "ticks_total",
+            Field::Format => "store_format",
+            Field::Table => "table_version",
+        }
+    }
+
+    /// Its kind, as Prometheus has it: a counter only grows until the node restarts.
+    pub fn kind(self) -> &'static str
+        ensures { result.now ≡ field_kind self }
+    {
+        match self {
+            Field::Unread | Field::Unsent | Field::Ticks => "counter",
+            _ => "gauge",
+        }
+    }
+
+    /// Returns its help text in Prometheus.
+    pub fn help(self) -> &'static str
+        ensures { result.now ≡ field_help self }
+    {
+        match self {
+            Field::Leads => "Whether the node leads.",
+            Field::Leader => "The node that it takes for the leader, or 0.",
+            Field::Silence => "Ticks since it last heard of a leader.",
+            Field::Promised => "Round of the ballot that it has promised.",
+            Field::Executed => "Positions that it has executed.",
+            Field::Snapshot => "Position of its snapshot.",
+            Field::Members => "Members of the next position, as it knows them.",
+            Field::Pending => "Positions before the last join or leave takes effect.",
+            Field::Waiting => "Requests that wait to be proposed.",
+            Field::Unread => "Datagrams that could not be read, since its start.",
+            Field::Unsent => "Sends that failed, since its start.",
+            Field::Ticks => "Ticks since its start.",
+            Field::Format => "Format of its store.",
+            Field::Table => "Version of its lock table: 2 once it is raised.",
+        }
+    }
+
+    /// Its value in a report.
+    pub fn value(self, report: &Report) -> u64
+        ensures { result ≡ field_value self report.now }
+    {
+        let status = &report.status;
+        match self {
+            Field::Leads => u64::from(status.leadership.leads),
+            Field::Leader => node_number(status.leadership.leader),
+            Field::Silence => status.leadership.silence,
+            Field::Promised => status.leadership.promised.round(),
+            Field::Executed => status.progress.executed.get(),
+            Field::Snapshot => status.progress.snapshot.get(),
+            Field::Members => status.members.as_slice().len() as u64,
+            Field::Pending => u64::from(status.progress.pending),
+            Field::Waiting => u64::from(status.traffic.waiting),
+            Field::Unread => status.traffic.unread,
+            Field::Unsent => status.traffic.unsent,
+            Field::Ticks => status.traffic.ticks,
+            Field::Format => u64::from(status.identity.format),
+            Field::Table => u64::from(status.identity.table),
+        }
+    }
+}

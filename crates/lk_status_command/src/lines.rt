@@ -1,0 +1,294 @@
+// The default form of a status: a line for each target, and one for the cluster. `most` is how many positions the
+// measure has executed: the report with which the others are compared.
+ghost use Rattle.std.specs.Io.KnownBytes.{Appends};
+ghost use Rattle.std.specs.Option.{option_copied};
+ghost use Rattle.std.specs.Prelude.{◌≡◌, OnOk};
+ghost use Rattle.lk_status_command.specs.Lines.{one_or_many};
+ghost use Rattle.lk_status_command.specs.Lines.{heard_text, unled_text, following_text, leadership_text, executed_text};
+ghost use Rattle.lk_status_command.specs.Lines.{snapshot_text, behind_text, promised_text, progress_text, members_text};
+ghost use Rattle.lk_status_command.specs.Lines.{count_text, traffic_text, node_line, target_line, target_lines};
+ghost use Rattle.lk_status_command.specs.Lines.{stranger_word};
+ghost use Rattle.lk_status_command.specs.Lines.{strangers_text, raised_text, majority_text, cluster_line, status_text};
+
+use lk_probe::{Leadership, Report};
+use lk_probe_round::measure::executed_of;
+use lk_probe_round::target::{Inquiry, report_with};
+use lk_probe_round::verdict::{count_reporting, has_one_genesis, seeks_votes};
+use lk_types::{Ballot, Member, NodeNo};
+use std::io;
+use std::io::Write;
+
+// The words for a count: `one` for 1, else `many`.
+fn one_or_many<'a>(count: u64, one: &'a str, many: &'a str) -> &'a str
+    ensures { result.now ≡ one_or_many count one.now many.now }
+{
+    if count == 1 { one } else { many }
+}
+
+// Writes whom a node follows and when it heard of that leader: `follows 1, heard 2 ticks ago`.
+fn write_heard<W: Write>(leader: NodeNo, ticks: u64, out: &mut W) -> io::Result<()>
+    ensures { OnOk result (Appends (W.contents out.old) (W.contents out.new) (heard_text leader ticks)) }
+{
+    let (leader, unit) = (leader.get(), one_or_many(ticks, "tick", "ticks"));
+    write!(out, "follows {leader}, heard {ticks} {unit} ago")
+}
+
+// Writes how long a node has known no leader: `knows no leader for 28 ticks`.
+fn write_unled<W: Write>(ticks: u64, out: &mut W) -> io::Result<()>
+    ensures { OnOk result (Appends (W.contents out.old) (W.contents out.new) (unled_text ticks)) }
+{
+    let unit = one_or_many(ticks, "tick", "ticks");
+    write!(out, "knows no leader for {ticks} {unit}")
+}
+
+// Writes that a node leads, whom it follows, or that it knows no leader.
+fn write_following<W: Write>(leadership: &Leadership, out: &mut W) -> io::Result<()>
+    ensures { OnOk result (Appends (W.contents out.old) (W.contents out.new) (following_text leadership.now)) }
+{
+    if leadership.leads {
+        out.write_all(b"leads")?;
+        return Ok(());
+    }
+    match leadership.leader {
+        Some(leader) => write_heard(leader, leadership.silence, out)?,
+        None => write_unled(leadership.silence, out)?,
+    }
+    Ok(())
+}
+
+// Writes that a node `seeks votes`, or whom it follows.
+fn write_leadership<W: Write>(report: &Report, out: &mut W) -> io::Result<()>
+    ensures { OnOk result (Appends (W.contents out.old) (W.contents out.new) (leadership_text report.now)) }
+{
+    if seeks_votes(report) {
+        out.write_all(b"seeks votes")?;
+        return Ok(());
+    }
+    write_following(&report.status.leadership, out)?;
+    Ok(())
+}
+
+// Writes the node numbers of the members.
+fn write_members<W: Write>(members: &[Member], out: &mut W) -> io::Result<()>
+    ensures { OnOk result (Appends (W.contents out.old) (W.contents out.new) (members_text members.now)) }
+{
+    out.write_all(b", members")?;
+    'members: for member in members {
+        write!(out, " {}", member.node.get())?;
+    }
+    Ok(())
+}
+
+// Writes how many positions a node has executed.
+fn write_executed<W: Write>(report: &Report, out: &mut W) -> io::Result<()>
+    ensures { OnOk result (Appends (W.contents out.old) (W.contents out.new) (executed_text report.now)) }
+{
+    write!(out, ", executed {}", report.status.progress.executed.get())
+}
+
+// Writes the position of a node's snapshot.
+fn write_snapshot<W: Write>(report: &Report, out: &mut W) -> io::Result<()>
+    ensures { OnOk result (Appends (W.contents out.old) (W.contents out.new) (snapshot_text report.now)) }
+{
+    write!(out, ", snapshot {}", report.status.progress.snapshot.get())
+}
+
+// Writes how many positions fewer than `most` a node has executed, ` (3 behind)`, or nothing if it is not behind.
+fn write_behind<W: Write>(executed: u64, most: u64, out: &mut W) -> io::Result<()>
+    ensures { OnOk result (Appends (W.contents out.old) (W.contents out.new) (behind_text executed most)) }
+{
+    if executed < most {
+        write!(out, " ({} behind)", most - executed)?;
+    }
+    Ok(())
+}
+
+// Writes the ballot that a node has promised.
+fn write_promised<W: Write>(promised: Ballot, out: &mut W) -> io::Result<()>
+    ensures { OnOk result (Appends (W.contents out.old) (W.contents out.new) (promised_text promised)) }
+{
+    write!(out, ", promised {}.{}", promised.round(), promised.node())
+}
+
+// Writes a node's progress: the positions that it has executed, how far it is behind, the ballot that it has promised,
+// and its snapshot.
+fn write_progress<W: Write>(report: &Report, most: u64, out: &mut W) -> io::Result<()>
+    ensures { OnOk result (Appends (W.contents out.old) (W.contents out.new) (progress_text report.now most)) }
+{
+    write_executed(report, out)?;
+    write_behind(report.status.progress.executed.get(), most, out)?;
+    write_promised(report.status.leadership.promised, out)?;
+    write_snapshot(report, out)?;
+    Ok(())
+}
+
+// Writes a comma, `front`, the count and its words, or nothing for 0: `, 1 request waits`, `, 2 requests wait`.
+fn write_count<W: Write>(
+    front: &str,
+    count: u64,
+    one: &str,
+    many: &str,
+    out: &mut W,
+) -> io::Result<()>
+    ensures { OnOk result (Appends (W.contents out.old) (W.contents out.new)
+        (count_text front.now count one.now many.now)) }
+{
+    if count > 0 {
+        let words = one_or_many(count, one, many);
+        write!(out, ", {front}{count} {words}")?;
+    }
+    Ok(())
+}
+
+// Writes the pending change of the members, the waiting requests and the failed sends, each only if it is not 0.
+fn write_traffic<W: Write>(report: &Report, out: &mut W) -> io::Result<()>
+    ensures { OnOk result (Appends (W.contents out.old) (W.contents out.new) (traffic_text report.now)) }
+{
+    let traffic = &report.status.traffic;
+    let pending = u64::from(report.status.progress.pending);
+    write_count(
+        "a change takes effect in ",
+        pending,
+        "position",
+        "positions",
+        out,
+    )?;
+    write_count(
+        "",
+        u64::from(traffic.waiting),
+        "request waits",
+        "requests wait",
+        out,
+    )?;
+    write_count("", traffic.unsent, "send failed", "sends failed", out)?;
+    Ok(())
+}
+
+// Writes the line of a node.
+fn write_node<W: Write>(port: u16, report: &Report, most: u64, out: &mut W) -> io::Result<()>
+    ensures { OnOk result (Appends (W.contents out.old) (W.contents out.new) (node_line port report.now most)) }
+{
+    write!(out, "node {}, port {port}: ", report.node.get())?;
+    write_leadership(report, out)?;
+    write_progress(report, most, out)?;
+    write_members(report.status.members.as_slice(), out)?;
+    write_traffic(report, out)?;
+    out.write_all(b"\n")?;
+    Ok(())
+}
+
+// Writes the line of the target at that port: that of its node, or `no answer`.
+fn write_target<W: Write>(
+    port: u16,
+    report: Option<&Report>,
+    most: u64,
+    out: &mut W,
+) -> io::Result<()>
+    ensures { OnOk result (Appends (W.contents out.old) (W.contents out.new)
+        (target_line port (option_copied report.entry) most)) }
+{
+    match report {
+        Some(report) => write_node(port, report, most, out)?,
+        None => writeln!(out, "port {port}: no answer")?,
+    }
+    Ok(())
+}
+
+// Writes a line for each target. The report of the first has the token `first`, that of each other the next token.
+fn write_targets<W: Write>(
+    inquiry: &Inquiry,
+    first: u64,
+    reports: &[Report],
+    most: u64,
+    out: &mut W,
+) -> io::Result<()>
+    ensures { OnOk result (Appends (W.contents out.old) (W.contents out.new)
+        (target_lines first inquiry.now.targets.items reports.now most)) }
+{
+    let mut token = first;
+    let targets = inquiry.targets.as_slice();
+    'targets: for target in targets {
+        write_target(target.port.get(), report_with(reports, token), most, out)?;
+        token = token.wrapping_add(1);
+    }
+    Ok(())
+}
+
+// Writes the number of a report's node if it names another genesis than the measure.
+fn write_stranger<W: Write>(measure: &Report, report: &Report, out: &mut W) -> io::Result<()>
+    ensures { OnOk result (Appends (W.contents out.old) (W.contents out.new) (stranger_word measure.now report.now)) }
+{
+    if report.status.identity.genesis != measure.status.identity.genesis {
+        write!(out, " {}", report.node.get())?;
+    }
+    Ok(())
+}
+
+// Writes which nodes name another genesis than the measure, or nothing if all name one.
+fn write_strangers<W: Write>(measure: &Report, reports: &[Report], out: &mut W) -> io::Result<()>
+    ensures { OnOk result (Appends (W.contents out.old) (W.contents out.new) (strangers_text measure.now reports.now)) }
+{
+    if has_one_genesis(reports) {
+        return Ok(());
+    }
+    out.write_all(b"; genesis differs:")?;
+    'all: for report in reports {
+        write_stranger(measure, report, out)?;
+    }
+    Ok(())
+}
+
+// Writes `; raised` if the measure's lock table has version 2.
+fn write_raised<W: Write>(measure: &Report, out: &mut W) -> io::Result<()>
+    ensures { OnOk result (Appends (W.contents out.old) (W.contents out.new) (raised_text measure.now)) }
+{
+    if measure.status.identity.table >= 2 {
+        out.write_all(b"; raised")?;
+    }
+    Ok(())
+}
+
+// Writes how many of the measure's members have reported: `majority: 2 of 3 up`.
+fn write_majority<W: Write>(measure: &Report, reports: &[Report], out: &mut W) -> io::Result<()>
+    ensures { OnOk result (Appends (W.contents out.old) (W.contents out.new) (majority_text measure.now reports.now)) }
+{
+    let members = measure.status.members.as_slice();
+    let (up, count) = (count_reporting(members, reports), members.len());
+    write!(out, "majority: {up} of {count} up")
+}
+
+// Writes the line of the cluster, if any node reports: `majority: 2 of 3 up; raised; genesis differs: 4`.
+fn write_cluster<W: Write>(
+    measure: Option<&Report>,
+    reports: &[Report],
+    out: &mut W,
+) -> io::Result<()>
+    ensures { OnOk result (Appends (W.contents out.old) (W.contents out.new)
+        (cluster_line (option_copied measure.entry) reports.now)) }
+{
+    let Some(measure) = measure else {
+        return Ok(());
+    };
+    write_majority(measure, reports, out)?;
+    write_raised(measure, out)?;
+    write_strangers(measure, reports, out)?;
+    out.write_all(b"\n")?;
+    Ok(())
+}
+
+/// Writes a line for each target, and one for the cluster if any node reports. `first` is the token of the first
+/// target, `measure` the report with which the others are compared.
+pub fn write_lines<W: Write>(
+    inquiry: &Inquiry,
+    first: u64,
+    reports: &[Report],
+    measure: Option<&Report>,
+    out: &mut W,
+) -> io::Result<()>
+    ensures { OnOk result (Appends (W.contents out.old) (W.contents out.new)
+        (status_text first inquiry.now.targets.items reports.now (option_copied measure.entry))) }
+{
+    write_targets(inquiry, first, reports, executed_of(measure), out)?;
+    write_cluster(measure, reports, out)?;
+    Ok(())
+}

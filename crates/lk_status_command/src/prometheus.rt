@@ -1,0 +1,237 @@
+// The form `--prometheus`: metrics in the text format of Prometheus, all named `locks_..`.
+ghost use Rattle.std.specs.Io.KnownBytes.{Appends};
+ghost use Rattle.std.specs.Option.{option_copied};
+ghost use Rattle.std.specs.Prelude.{◌≡◌, flat_map, OnOk};
+ghost use Rattle.lk_probe.specs.Grammar.{flag};
+ghost use Rattle.lk_status_command.specs.Metrics.{head_text, gauge_text, served_text, genesis_text, members_up};
+ghost use Rattle.lk_status_command.specs.Metrics.{members_up_text, verdict_text, up_line, up_lines, up_text};
+ghost use Rattle.lk_status_command.specs.Metrics.{sample_line};
+ghost use Rattle.lk_status_command.specs.Metrics.{field_text, metrics_text};
+
+use crate::field::{FIELDS, Field};
+use lk_probe::Report;
+use lk_probe_round::target::{Inquiry, Target, is_answered};
+use lk_probe_round::verdict::{count_reporting, has_one_genesis, is_served};
+use std::io;
+use std::io::Write;
+
+// Writes the HELP and TYPE lines of a metric.
+fn write_head<W: Write>(name: &str, kind: &str, help: &str, out: &mut W) -> io::Result<()>
+    ensures { OnOk result (Appends (W.contents out.old) (W.contents out.new) (head_text name.now kind.now help.now)) }
+{
+    write!(
+        out,
+        "# HELP locks_{name} {help}\n# TYPE locks_{name} {kind}\n"
+    )
+}
+
+// Writes a gauge of the whole cluster: its HELP and TYPE lines, and its one sample.
+#[tactic(auto, using(crate::proofs::Writing::appends_more))]
+fn write_gauge<W: Write>(
+    cluster: u64,
+    name: &str,
+    help: &str,
+    value: u64,
+    out: &mut W,
+) -> io::Result<()>
+    ensures { OnOk result (Appends (W.contents out.old) (W.contents out.new)
+        (gauge_text cluster name.now help.now value)) }
+{
+    write_head(name, "gauge", help, out)?;
+    writeln!(out, "locks_{name}{{cluster=\"{cluster}\"}} {value}")?;
+    Ok(())
+}
+
+// Writes a gauge of the whole cluster that is 1 for true and 0 for false.
+fn write_flag<W: Write>(
+    cluster: u64,
+    name: &str,
+    help: &str,
+    is: bool,
+    out: &mut W,
+) -> io::Result<()>
+    ensures { OnOk result (Appends (W.contents out.old) (W.contents out.new)
+        (gauge_text cluster name.now help.now (flag is))) }
+{
+    write_gauge(cluster, name, help, u64::from(is), out)?;
+    Ok(())
+}
+
+// Writes whether the cluster is served.
+fn write_served<W: Write>(cluster: u64, reports: &[Report], out: &mut W) -> io::Result<()>
+    ensures { OnOk result (Appends (W.contents out.old) (W.contents out.new) (served_text cluster reports.now)) }
+{
+    let help = "Whether somebody leads with a majority, and nobody tells another genesis.";
+    write_flag(cluster, "served", help, is_served(reports), out)?;
+    Ok(())
+}
+
+// Writes whether all nodes name one genesis.
+fn write_genesis<W: Write>(cluster: u64, reports: &[Report], out: &mut W) -> io::Result<()>
+    ensures { OnOk result (Appends (W.contents out.old) (W.contents out.new) (genesis_text cluster reports.now)) }
+{
+    let help = "Whether all nodes tell one genesis.";
+    write_flag(cluster, "one_genesis", help, has_one_genesis(reports), out)?;
+    Ok(())
+}
+
+// Returns how many of the measure's members have reported, 0 without a measure.
+fn members_up(measure: Option<&Report>, reports: &[Report]) -> u64
+    ensures { result ≡ members_up (option_copied measure.entry) reports.now }
+{
+    match measure {
+        Some(measure) => count_reporting(measure.status.members.as_slice(), reports) as u64,
+        None => 0,
+    }
+}
+
+// Writes how many members have reported.
+fn write_members_up<W: Write>(
+    cluster: u64,
+    measure: Option<&Report>,
+    reports: &[Report],
+    out: &mut W,
+) -> io::Result<()>
+    ensures { OnOk result (Appends (W.contents out.old) (W.contents out.new)
+        (members_up_text cluster (option_copied measure.entry) reports.now)) }
+{
+    let help = "Members that answer.";
+    write_gauge(
+        cluster,
+        "members_up",
+        help,
+        members_up(measure, reports),
+        out,
+    )?;
+    Ok(())
+}
+
+// Writes the gauges of the cluster: whether it is served and has one genesis, and how many members are up.
+#[tactic(auto, using(crate::proofs::Writing::appends_more))]
+fn write_verdict<W: Write>(
+    cluster: u64,
+    measure: Option<&Report>,
+    reports: &[Report],
+    out: &mut W,
+) -> io::Result<()>
+    ensures { OnOk result (Appends (W.contents out.old) (W.contents out.new)
+        (verdict_text cluster (option_copied measure.entry) reports.now)) }
+{
+    write_served(cluster, reports, out)?;
+    write_genesis(cluster, reports, out)?;
+    write_members_up(cluster, measure, reports, out)?;
+    Ok(())
+}
+
+// Writes the sample of `locks_up` for the target at that port.
+fn write_up_line<W: Write>(cluster: u64, port: u16, is_up: bool, out: &mut W) -> io::Result<()>
+    ensures { OnOk result (Appends (W.contents out.old) (W.contents out.new) (up_line cluster port is_up)) }
+{
+    let value = u8::from(is_up);
+    writeln!(
+        out,
+        "locks_up{{cluster=\"{cluster}\",port=\"{port}\"}} {value}"
+    )
+}
+
+// Writes the sample of `locks_up` for each target. The report of the first has the token `first`, that of each other
+// the next token.
+fn write_up_lines<W: Write>(
+    cluster: u64,
+    first: u64,
+    targets: &[Target],
+    reports: &[Report],
+    out: &mut W,
+) -> io::Result<()>
+    ensures { OnOk result (Appends (W.contents out.old) (W.contents out.new)
+        (up_lines cluster first targets.now reports.now)) }
+{
+    let mut token = first;
+    'targets: for target in targets {
+        write_up_line(cluster, target.port.get(), is_answered(reports, token), out)?;
+        token = token.wrapping_add(1);
+    }
+    Ok(())
+}
+
+// Writes the metric `locks_up`: whether each target has reported.
+fn write_up<W: Write>(
+    inquiry: &Inquiry,
+    first: u64,
+    reports: &[Report],
+    out: &mut W,
+) -> io::Result<()>
+    ensures { OnOk result (Appends (W.contents out.old) (W.contents out.new)
+        (up_text inquiry.now.cluster first inquiry.now.targets.items reports.now)) }
+{
+    write_head("up", "gauge", "Whether the node at this port answers.", out)?;
+    write_up_lines(
+        inquiry.cluster,
+        first,
+        inquiry.targets.as_slice(),
+        reports,
+        out,
+    )?;
+    Ok(())
+}
+
+// Writes the sample of a field for the node of a report.
+fn write_sample<W: Write>(field: Field, report: &Report, out: &mut W) -> io::Result<()>
+    ensures { OnOk result (Appends (W.contents out.old) (W.contents out.new) (sample_line field report.now)) }
+{
+    let (name, value) = (field.name(), field.value(report));
+    let (cluster, node) = (report.cluster, report.node.get());
+    writeln!(
+        out,
+        "locks_{name}{{cluster=\"{cluster}\",node=\"{node}\"}} {value}"
+    )
+}
+
+// Writes the sample of a field for each report.
+fn write_samples<W: Write>(field: Field, reports: &[Report], out: &mut W) -> io::Result<()>
+    ensures { OnOk result (Appends (W.contents out.old) (W.contents out.new)
+        (flat_map (sample_line field) reports.now)) }
+{
+    'all: for report in reports {
+        write_sample(field, report, out)?;
+    }
+    Ok(())
+}
+
+// Writes the metric of a field: its HELP and TYPE lines, and a sample for each report.
+fn write_field<W: Write>(field: Field, reports: &[Report], out: &mut W) -> io::Result<()>
+    ensures { OnOk result (Appends (W.contents out.old) (W.contents out.new) (field_text reports.now field)) }
+{
+    write_head(field.name(), field.kind(), field.help(), out)?;
+    write_samples(field, reports, out)?;
+    Ok(())
+}
+
+// Writes the metrics of these fields.
+fn write_fields<W: Write>(fields: &[Field], reports: &[Report], out: &mut W) -> io::Result<()>
+    ensures { OnOk result (Appends (W.contents out.old) (W.contents out.new)
+        (flat_map (field_text reports.now) fields.now)) }
+{
+    'all: for field in fields {
+        write_field(*field, reports, out)?;
+    }
+    Ok(())
+}
+
+/// Writes the gauges of the cluster, `locks_up` of each target, and each field of each report. `first` is the token of
+/// the first target, `measure` the report whose members are counted.
+pub fn write_metrics<W: Write>(
+    inquiry: &Inquiry,
+    first: u64,
+    reports: &[Report],
+    measure: Option<&Report>,
+    out: &mut W,
+) -> io::Result<()>
+    ensures { OnOk result (Appends (W.contents out.old) (W.contents out.new)
+        (metrics_text inquiry.now.cluster first inquiry.now.targets.items reports.now (option_copied measure.entry))) }
+{
+    write_verdict(inquiry.cluster, measure, reports, out)?;
+    write_up(inquiry, first, reports, out)?;
+    write_fields(&FIELDS, reports, out)?;
+    Ok(())
+}

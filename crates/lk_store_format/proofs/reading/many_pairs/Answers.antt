@@ -1,0 +1,15 @@
+use Rattle.lk_fields.specs.FieldReading.{read_pair}
+use Rattle.lk_fields.specs.Parser.{many}
+use Rattle.lk_fields.proofs.Spellings.{goes_on, ends}
+use Rattle.lk_store_format.proofs.reading.many_pairs.Goals as goal
+
+pub returns-in_default : goal.returns-in_default
+returns-in_default c = ends read_pair c.loop.pairs.items c.args.count c.loop.counter c.loop.rest.now
+    (many read_pair c.args.count c.args.bytes.now) c.loop-test.true c.in_default.ensures c.loop.invariant
+
+pub loop-preserved : goal.loop-preserved
+loop-preserved c =
+    rw c.in_ok-push.ensures.items
+    (goes_on read_pair c.loop.pairs.items c.args.count c.loop.counter c.loop.rest.now c.in-Some.pair
+    c.in-Some.after.now (many read_pair c.args.count c.args.bytes.now) c.loop-test.true
+    c.in-Some.ensures c.loop.invariant)

@@ -1,0 +1,2 @@
+pub mod TickTimers
+pub mod Paces
