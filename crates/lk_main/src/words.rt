@@ -125,13 +125,14 @@ fn run_node_words<R: Files<File = File> + Net + Eprint + Clock, E: Write>(
     }
 }
 
-// Returns the address to bind a client's socket to: any of its machine in the family of `--address`, or 127.0.0.1
-// without that option.
+// Returns the address to bind a client's socket to: any of its machine, in the family of `--address`, or of IPv4 with
+// `--hosts` alone, since an answer may name a node elsewhere; 127.0.0.1 with neither.
 fn own_address(options: &NetworkOptions<'_>) -> IpAddr {
     match options.bind {
-        None => IpAddr::V4(Ipv4Addr::LOCALHOST),
-        Some(IpAddr::V4(_)) => IpAddr::V4(Ipv4Addr::UNSPECIFIED),
         Some(IpAddr::V6(_)) => IpAddr::V6(Ipv6Addr::UNSPECIFIED),
+        Some(IpAddr::V4(_)) => IpAddr::V4(Ipv4Addr::UNSPECIFIED),
+        None if options.hosts.is_some() => IpAddr::V4(Ipv4Addr::UNSPECIFIED),
+        None => IpAddr::V4(Ipv4Addr::LOCALHOST),
     }
 }
 

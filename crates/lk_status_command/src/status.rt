@@ -31,6 +31,9 @@ const A_SECOND: u32 = 10;
 // probes.
 const TOKENS: u64 = 256;
 
+// A pause drops at most this many datagrams.
+const LATE: u32 = 64;
+
 /// The form in which the reports are printed.
 #[derive(Clone, Copy)]
 pub enum Form {
@@ -105,10 +108,20 @@ fn print<W: Write>(plan: &Plan, first: u64, reports: &[Report], out: &mut W) -> 
     Ok(is_served(reports))
 }
 
-// Waits for a datagram, 100 ms at most, and drops it. Adds one to `idle` in either case.
-fn pause<S: DatagramSocket>(socket: &mut S, idle: &mut u32) {
+// Waits until a receive of 100 ms brings nothing, and drops what came before that: reports that were late, at most 64.
+fn drop_late_reports<S: DatagramSocket>(socket: &mut S) {
     let mut buffer = ReceiveBuffer::new();
-    buffer.receive(socket);
+    'late: for _ in 0..LATE {
+        buffer.receive(socket);
+        if buffer.latest().is_none() {
+            return;
+        }
+    }
+}
+
+// Pauses between two rounds, and adds one to `idle`.
+fn pause<S: DatagramSocket>(socket: &mut S, idle: &mut u32) {
+    drop_late_reports(socket);
     *idle = idle.saturating_add(1);
 }
 
