@@ -131,6 +131,11 @@ class AskingTest(unittest.TestCase):
                 reply = f"4c4b010a 0000000000000005 00000001 0007 0000000000000001 {answer}"
                 self.assertEqual(self.asks([reply]), ((0, f"{text}\n"), (1, 0)))
 
+    def test_the_help_names_the_operations_in_one_line(self):
+        told = subprocess.run([PROGRAM, "ask", "--help"], capture_output=True, text=True, timeout=60).stdout
+        self.assertIn(" acquire NAME, release NAME FENCE, ask NAME, check NAME FENCE, share NAME, break NAME FENCE,"
+                      " join NODE PORT, leave NODE, raise 2 or raw HEX\n", told)
+
     def test_words_ask_for_bytes(self):
         for words, op in WORDS:
             with self.subTest(words=words), self.started(*words.split(" ")) as process:

@@ -11,8 +11,6 @@ mod faltering;
 #[cfg(test)]
 mod files;
 #[cfg(test)]
-mod memory_cluster;
-#[cfg(test)]
 mod node_dialogues;
 #[cfg(test)]
 mod node_turns;
