@@ -2,6 +2,7 @@
 import os
 import socket
 import subprocess
+import tempfile
 import unittest
 
 HERE = os.path.dirname(os.path.abspath(__file__))
@@ -135,6 +136,26 @@ class AskingTest(unittest.TestCase):
         told = subprocess.run([PROGRAM, "ask", "--help"], capture_output=True, text=True, timeout=60).stdout
         self.assertIn(" acquire NAME, release NAME FENCE, ask NAME, check NAME FENCE, share NAME, break NAME FENCE,"
                       " join NODE PORT, leave NODE, raise 2 or raw HEX\n", told)
+
+    def test_with_hosts_alone_it_sends_from_any_address(self):
+        with tempfile.NamedTemporaryFile("w", suffix=".hosts") as hosts:
+            hosts.write("1 127.0.0.1\n")
+            hosts.flush()
+            self.assertEqual(self.own_address([]), "0100007F")
+            self.assertEqual(self.own_address(["--hosts", hosts.name]), "00000000")
+
+    def own_address(self, words):
+        """The address of the socket of an `ask` with these words, as /proc/net/udp has it."""
+        port = self.first.getsockname()[1]
+        asked = ["--cluster", "5", "--port", str(port), "--client", "7", "--request", "1", *words, "acquire", "db"]
+        quiet = {"stdout": subprocess.DEVNULL, "stderr": subprocess.DEVNULL}
+        with subprocess.Popen([PROGRAM, "ask", *asked], **quiet) as process:
+            self.first.settimeout(10.0)
+            _, (_, own) = self.first.recvfrom(9000)
+            with open(f"/proc/{process.pid}/net/udp") as sockets:
+                [found] = [place for place in (line.split()[1] for line in sockets) if place.endswith(f":{own:04X}")]
+            process.kill()
+        return found.partition(":")[0]
 
     def test_words_ask_for_bytes(self):
         for words, op in WORDS:
