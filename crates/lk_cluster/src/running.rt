@@ -2,7 +2,7 @@
 ghost use Rattle.std.specs.Prelude.{◌≡◌, ◌≤◌, ◌⊎◌, ◌^◌, ℕ};
 ghost use Rattle.lk_types.specs.declared.genesis.Genesis.{Genesis as GenesisValue};
 ghost use Rattle.lk_node.specs.Leavings.{header_of};
-ghost use Rattle.lk_node_process.specs.Turns.{AreSealsOf};
+ghost use Rattle.lk_node_resources.specs.KeysOfNode.{AreSealsOf};
 ghost use Rattle.lk_cluster.specs.Clusters.{Cluster, IsReachable, ForgesNothing};
 ghost use Rattle.lk_cluster.specs.Running.{IsDownOn, ServesIn, EndsIn, EndsInByStranger, RestsIn};
 
@@ -10,8 +10,8 @@ use lk_disk::LogDisk;
 use lk_events::line::Observer;
 use lk_locks::LockTable;
 use lk_node_files::causes::FailureCause;
-use lk_node_process::resources::{NodePlan, Resources};
 use lk_node_process::running::run_node;
+use lk_node_resources::resources::{NodePlan, Resources};
 use lk_replica::Replica;
 use lk_replica_interface::ServedReplica;
 use lk_transport::socket::DatagramSocket;

@@ -12,8 +12,8 @@ ghost use Rattle.lk_server.specs.Servers.{HasReceived, TakesTurn, LastTurn};
 
 use lk_disk::LogDisk;
 use lk_locks::LockTable;
-use lk_node_process::resources::Resources;
 use lk_node_process::running::revive;
+use lk_node_resources::resources::Resources;
 use lk_recovery::ReviveFault;
 use lk_replica::Replica;
 use lk_server::group_fault::GroupFault;

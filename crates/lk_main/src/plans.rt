@@ -8,8 +8,8 @@ use lk_command_line::operation::invalid_operation;
 use lk_command_line::values::{
     address_in, client_in, genesis_in, node_in, number_in, port_in, word,
 };
-use lk_node_process::network::NetworkOptions;
-use lk_node_process::resources::NodePlan;
+use lk_node_resources::network::NetworkOptions;
+use lk_node_resources::resources::NodePlan;
 use lk_parsers::command_line::operation_of;
 use lk_random_schedules::fuzzing::MAX_EVENTS;
 use lk_random_schedules::plan::Plan;

@@ -18,7 +18,7 @@ use Rattle.lk_transport.specs.Inquiring.{IsToldBy}
 use Rattle.lk_transport.specs.Kept.{KeepsFirstOf}
 use Rattle.lk_transport.specs.declared.received_probe.ReceivedProbe.{ReceivedProbe}
 use Rattle.lk_transport.specs.Chains.{Repeats}
-use Rattle.lk_node_process.specs.Digests.{genesis_digest}
+use Rattle.lk_node_resources.specs.KeysOfNode.{AreSealsOf}
 
 -- the server knows whether a call has ended its replica
 abbrev pub TellsFailure : ServerValue ReplicaValue → Type 0
@@ -99,12 +99,6 @@ module _ (Says : ReplicaValue → List (Option (List ℕ)) → List LetterValue 
     pub last : ServerValue ReplicaValue
     pub turns : Repeats TakesTurn count old last
     pub leave : EndsByStranger last new
-
--- they are the seals of the node of this header, in its cluster, for its genesis
-pub record AreSealsOf (header : HeaderValue) (s : Seals) : Type 0 where
-  pub cluster : s.cluster ≡ header.cluster
-  pub genesis : s.genesis ≡ genesis_digest header
-  pub node : s.node ≡ header.node
 
 -- a server has these seals, which are those of the node of this header, in its cluster
 pub record HasSeals (header : HeaderValue) (seals : Seals) (s : ServerValue ReplicaValue) : Type 0 where

@@ -8,9 +8,9 @@ use Rattle.lk_replica_interface.specs.declared.probed_state.ProbedState.{ProbedS
 use Rattle.lk_server.specs.Probes.{Tells}
 use Rattle.lk_server.specs.Servers.{ServerValue}
 use Rattle.lk_transport.specs.Chains.{Repeats}
-use Rattle.lk_node_process.specs.Reminders.{IsDue, Reminds, having_warned}
+use Rattle.lk_node_resources.specs.Reminders.{IsDue, Reminds, having_warned}
+use Rattle.lk_node_resources.specs.declared.port_reminder.PortReminder.{PortReminder}
 use Rattle.lk_node_process.specs.Turns.{TakesTurn, EndsByStranger, EndsTurn}
-use Rattle.lk_node_process.specs.declared.port_reminder.PortReminder.{PortReminder}
 
 -- a server, the reminder of its node, and what was written so far
 pub record Reminded : Type 0 where

@@ -2,11 +2,11 @@
 
 ghost use Rattle.std.specs.Prelude.{◌≤◌};
 
-use crate::resources::Resources;
 use crate::running::revive;
 use lk_client::destination::Destination;
 use lk_client::question::{Heard, Question, datagram, next_reply, write_reply};
 use lk_client::reply::Reply;
+use lk_node_resources::resources::Resources;
 use lk_parsers::operation::read_operation;
 use lk_replica::Replica;
 use lk_server::server::Server;

@@ -4,7 +4,7 @@ use Rattle.std.specs.Fmt.{decimal}
 use Rattle.std.specs.Io.KnownBytes.{Appends}
 use Rattle.lk_probe.specs.declared.status.Leadership.{Leadership}
 use Rattle.lk_probe.specs.declared.status.Status.{Status}
-use Rattle.lk_node_process.specs.declared.port_reminder.PortReminder.{PortReminder}
+use Rattle.lk_node_resources.specs.declared.port_reminder.PortReminder.{PortReminder}
 
 -- the node neither leads nor has heard of a leader since its start
 pub record KnowsNobody (l : Leadership) : Type 0 where

@@ -3,8 +3,8 @@
 ghost use Rattle.std.specs.Prelude.{◌≡◌, List, ℕ, Some, IfOk, OnOk};
 ghost use Rattle.lk_seal.specs.KeyFiles.{key_file};
 ghost use Rattle.lk_seal.specs.Seals.{key_list};
-ghost use Rattle.lk_node_process.specs.Guards.{IsReachedWithKey};
-ghost use Rattle.lk_node_process.specs.Turns.{AreSealsOf};
+ghost use Rattle.lk_node_resources.specs.Guards.{IsReachedWithKey};
+ghost use Rattle.lk_node_resources.specs.KeysOfNode.{AreSealsOf};
 
 use crate::digest::genesis_digest;
 use lk_client::destination::Destination;

@@ -3,9 +3,9 @@
 ghost use Rattle.std.specs.Prelude.{◌≡◌, ◌≢◌, [], Some, None, IfOk, IfSome, OnErr};
 ghost use Rattle.lk_members.specs.Ports.{port_in};
 ghost use Rattle.lk_seal.specs.Seals.{key_list};
-ghost use Rattle.lk_node_process.specs.OwnProbes.{FindsUnheard, socket_value};
-ghost use Rattle.lk_node_process.specs.Ports.{misnamed};
-ghost use Rattle.lk_node_process.specs.Turns.{AreSealsOf};
+ghost use Rattle.lk_node_resources.specs.OwnProbes.{FindsUnheard, socket_value};
+ghost use Rattle.lk_node_resources.specs.Ports.{misnamed};
+ghost use Rattle.lk_node_resources.specs.KeysOfNode.{AreSealsOf};
 
 use crate::network::{NetworkOptions, network_of};
 use crate::own_probe::unheard_port;

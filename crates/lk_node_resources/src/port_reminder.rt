@@ -2,7 +2,8 @@
 
 ghost use Rattle.std.specs.Io.KnownBytes.{Appends};
 ghost use Rattle.std.specs.Prelude.{◌≡◌, ◌↔◌, None, Some, IsTrue, IfSome, IsNone, OnOk, OnErr, ℕ};
-ghost use Rattle.lk_node_process.specs.Reminders.{IsDue, IsNoneDue, KnowsNobody, Reminds, having_warned, reminder_line};
+ghost use Rattle.lk_node_resources.specs.Reminders.{IsDue, IsNoneDue, KnowsNobody, Reminds};
+ghost use Rattle.lk_node_resources.specs.Reminders.{having_warned, reminder_line};
 
 use crate::resources::NodePlan;
 use lk_probe::{Leadership, Status};

@@ -1,7 +1,7 @@
 //! The digest of a genesis.
 
 ghost use Rattle.std.specs.Prelude.{◌≡◌, ◌++◌, OnOk, IfOk};
-ghost use Rattle.lk_node_process.specs.Digests.{genesis_spelling, genesis_digest};
+ghost use Rattle.lk_node_resources.specs.Digests.{genesis_spelling, genesis_digest};
 
 use bytes::BytesMut;
 use lk_fields::{put_u8, put_u64};

@@ -4,7 +4,7 @@ use Rattle.std.proofs.Common.{length, arith, append_assoc, length-append, ap, in
 use Rattle.std.specs.Prelude.{IsTrue}
 use Rattle.std.specs.declared.net.socket_addr.SocketAddr.{SocketAddr}
 use Rattle.lk_transport.specs.ReceiveBuffers.{first_of}
-use Rattle.lk_node_process.specs.OwnProbes.{AreOthers, ComesNext, ComesBack, StaysAway}
+use Rattle.lk_node_resources.specs.OwnProbes.{AreOthers, ComesNext, ComesBack, StaysAway}
 
 abbrev Datagrams : Type 0
 Datagrams = List (SocketAddr × List ℕ)

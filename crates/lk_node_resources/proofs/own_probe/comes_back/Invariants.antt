@@ -1,7 +1,7 @@
 -- None of the receives so far brought it, and nothing is sent.
 use Rattle.std.specs.Prelude.{◌≡◌}
-use Rattle.lk_node_process.specs.OwnProbes.{StaysAway}
-use Rattle.lk_node_process.proofs.own_probe.comes_back.Given as goal
+use Rattle.lk_node_resources.specs.OwnProbes.{StaysAway}
+use Rattle.lk_node_resources.proofs.own_probe.comes_back.Given as goal
 
 abbrev pub invariant-receives : goal.invariant-receives
 invariant-receives g l =

@@ -2,7 +2,7 @@
 //! itself there.
 
 ghost use Rattle.std.specs.Prelude.{◌≡◌, Ok, None, Some, true, false, IfOk, IfErr, OnErr, IfSome};
-ghost use Rattle.lk_node_process.specs.OwnProbes.{ComesNext, FindsUnheard, IsHeard, ProbesItself, socket_value};
+ghost use Rattle.lk_node_resources.specs.OwnProbes.{ComesNext, FindsUnheard, IsHeard, ProbesItself, socket_value};
 
 use lk_probe::neighbours::Origin;
 use lk_probe::reported::question;

@@ -1,7 +1,7 @@
 use Rattle.std.proofs.Common.{◌≡◌, ◌∙◌, ℕ, Bool, arith, subst}
-use Rattle.lk_node_process.specs.OwnProbes.{ComesNext, StaysAway}
-use Rattle.lk_node_process.proofs.OwnProbing.{away_first, away_more, back_now}
-use Rattle.lk_node_process.proofs.own_probe.comes_back.Goals as goal
+use Rattle.lk_node_resources.specs.OwnProbes.{ComesNext, StaysAway}
+use Rattle.lk_node_resources.proofs.OwnProbing.{away_first, away_more, back_now}
+use Rattle.lk_node_resources.proofs.own_probe.comes_back.Goals as goal
 
 pub receives-init : goal.receives-init
 receives-init g c = (

@@ -1,7 +1,7 @@
 //! `locks client-key`: prints the key of a client, for the operator of the nodes.
 
 ghost use Rattle.std.specs.Prelude.{◌≡◌, ◌≤◌, List, ℕ, OnOk};
-ghost use Rattle.lk_node_process.specs.ClientKeys.{Prints};
+ghost use Rattle.lk_node_resources.specs.ClientKeys.{Prints};
 
 use crate::network::keys_of;
 use lk_transport::fault::ServiceFault;

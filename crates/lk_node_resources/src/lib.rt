@@ -1,0 +1,10 @@
+//! What a node of `locks node` runs on: the network and the keys that the options name, its socket and its files, and
+//! whether it is heard at its port; and the keys that `locks client-key` prints.
+#![tactic(auto)]
+
+pub mod client_key;
+pub mod digest;
+pub mod network;
+mod own_probe;
+pub mod port_reminder;
+pub mod resources;
