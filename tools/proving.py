@@ -1,0 +1,164 @@
+#!/usr/bin/env python3
+"""Runs `rt ci` in the current folder, in less time: `./prove` calls it in a copy of the crates.
+
+`rt ci` gives a proof the processors that no other proof waits for, often a single one. Here the crate with the longest
+chain of crates above it gets all processors. Others run beside it with one processor each, at a lower priority. A crate
+that is proved is kept in the folder KEPT, by a hash of its sources and of those below it, and is not proved again. The
+hash of a crate is computed once: `rt ci` computes it for each path through crates.txt, of which there are thousands.
+What has to be proved, and how, is left to `rt ci`.
+
+The kit does not promise the functions that are replaced here. Where it has no such functions, this is plain `rt ci`."""
+import functools
+import importlib.machinery
+import importlib.util
+import os
+import pathlib
+import shutil
+import sys
+from concurrent.futures import FIRST_COMPLETED, ThreadPoolExecutor, wait
+
+from scripting import need, parser
+
+READING = 200  # lines of code that cost as much as reading the libraries of a crate
+MEMORY = 0.85  # the share of the free memory that proofs may take, as in `rt ci`
+EACH_JOB = 0.6  # the memory of one more job of a proof, as a share of that of the first
+NICE = 10
+
+
+def gate():
+    """The module of the command `rt`."""
+    file = os.path.realpath(shutil.which("rt"))
+    loader = importlib.machinery.SourceFileLoader("gate", file)
+    made = importlib.util.module_from_spec(importlib.util.spec_from_loader("gate", loader))
+    loader.exec_module(made)
+    return made
+
+
+def is_known(rt):
+    """Whether the kit has the functions that are replaced, and those that take their place call."""
+    of_crate = ("stamp", "below")
+    has_all = all(hasattr(rt, it) for it in ("in_lanes", "processors", "free", "rtlib"))
+    return has_all and all(hasattr(rt.rtlib.Crate, it) for it in of_crate)
+
+
+def are_known(tasks):
+    """Whether the tasks of `rt ci` have the form that is expected here."""
+    return all(len(key) == 2 and len(task) == 4 for key, task in tasks.items())
+
+
+class Store:
+    """The folder of what was proved."""
+
+    def __init__(self, folder, rt):
+        self.folder = pathlib.Path(folder)
+        self.crates = {it.name: it for it in rt.rtlib.crates_below(os.getcwd())}
+        self.taken = set()
+
+    def place(self, name):
+        """The folder for a crate with its present sources."""
+        return self.folder / f"{name}-{self.crates[name].stamp()[:32]}"
+
+    def take(self, name):
+        """Puts back what the proof of a crate has made, if it is kept, and with it all crates below."""
+        made, crate = self.place(name), self.crates[name]
+        if not made.is_dir() or any(it.name not in self.taken for it in crate.below()):
+            return False
+        shutil.copytree(made, f"{crate.folder}/out", copy_function=linked, dirs_exist_ok=True)
+        self.taken.add(name)
+        return True
+
+    def put(self, name):
+        """Keeps what the proof of a crate has made, in place of what is kept of the crate."""
+        made, new = self.place(name), self.folder / f"new-{name}-{os.getpid()}"
+        shutil.copytree(f"{self.crates[name].folder}/out", new, copy_function=linked)
+        for it in self.folder.glob(f"{name}-*"):
+            shutil.rmtree(it, ignore_errors=True)
+        new.replace(made)
+
+
+def linked(source, to):
+    """Links a file, or copies it to another file system."""
+    try:
+        os.link(source, to)
+    except OSError:
+        shutil.copy2(source, to)
+
+
+def chains(tasks):
+    """The work of each task with the longest chain of tasks that wait for it."""
+    behind = dict.fromkeys(tasks, 0)
+    for key in reversed([*tasks]):  # a task comes after those that it waits for
+        waits, lines, *_ = tasks[key]
+        behind[key] += lines + READING
+        for it in waits:
+            behind[it] = max(behind[it], behind[key])
+    return behind
+
+
+class Lanes:
+    """The tasks of `rt ci`, side by side. A task is what it waits for, its lines, its memory, and a call."""
+
+    def __init__(self, rt, store, tasks):
+        self.store, self.tasks, self.behind = store, tasks, chains(tasks)
+        self.processors, self.memory = rt.processors(), MEMORY * rt.free()
+        self.left = sorted(tasks, key=lambda it: -self.behind[it])
+        self.running, self.given = {}, {}
+
+    def run(self):
+        """Runs all tasks, and returns what each has given."""
+        niced = ThreadPoolExecutor(self.processors, initializer=os.nice, initargs=[NICE])
+        with ThreadPoolExecutor(2) as first, niced as others:
+            while self.left or self.running:
+                for key in self.ready():
+                    self.start(key, first, others)
+                for it in wait(self.running, return_when=FIRST_COMPLETED).done:
+                    self.given[self.running.pop(it)[0]] = it.result()
+        return self.given
+
+    def ready(self):
+        """The tasks whose turn may have come, those with the longest chain first."""
+        return [it for it in self.left if all(below in self.given for below in self.tasks[it][0])]
+
+    def start(self, key, first, others):
+        """Starts a task if it has the longest chain of all, or if a processor and memory are free."""
+        unfinished = [*self.left, *(it for it, *_ in self.running.values())]
+        is_first = self.behind[key] == max(map(self.behind.get, unfinished))
+        beside = [it for it in self.running.values() if not it[2]]
+        jobs = self.processors if is_first else 1
+        memory = self.tasks[key][2] * (1 + EACH_JOB * (jobs - 1))
+        room = self.memory - sum(it[1] for it in self.running.values())
+        if not self.running or is_first or (len(beside) < self.processors and memory <= room):
+            self.left.remove(key)
+            pool = first if is_first else others
+            self.running[pool.submit(self.task, key, jobs)] = key, memory, is_first
+
+    def task(self, key, jobs):
+        """Proves a crate, or takes what is kept of it. Tests are left out."""
+        (name, kind), call = key, self.tasks[key][3]
+        if kind != "proof":
+            return kind == "tests" or call(self.given, jobs)
+        if self.store.take(name):
+            print(f"rt: {name} is kept", flush=True)
+            return True
+        is_proved = call(self.given, jobs)
+        if is_proved:
+            self.store.put(name)
+        return is_proved
+
+
+def main():
+    arguments = parser(__doc__)
+    arguments.add_argument("kept", metavar="KEPT", help="the folder of what was proved")
+    folder = arguments.parse_args().kept
+    need("rt")
+    rt = gate()
+    if not is_known(rt):
+        os.execvp("rt", ["rt", "ci"])
+    in_lanes = rt.in_lanes
+    rt.rtlib.Crate.stamp = functools.cache(rt.rtlib.Crate.stamp)
+    rt.in_lanes = lambda tasks: Lanes(rt, Store(folder, rt), tasks).run() if are_known(tasks) else in_lanes(tasks)
+    sys.exit(rt.main(["ci"]))
+
+
+if __name__ == "__main__":
+    main()
