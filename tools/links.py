@@ -1,9 +1,10 @@
 #!/usr/bin/env python3
-"""Checks the links of the pages, and the files of crates that they name.
+"""Checks the links of the pages, and the files of crates and the names that they cite.
 
 The pages are the files *.md of the repository. Each link to a file has to lead to one, and its anchor to a heading of
 it. Each file in backticks, as `lk_node/specs/Steps.antt`, has to stand below crates/; one without a folder has to stand
-somewhere there.
+somewhere there. Each name in backticks that has an underscore or a capital letter after a small one, as `is_honest` or
+`Node::step`, has to stand in a file that is no page. CHANGELOG.md may cite names that are gone.
 
 The last line is `N passed, M failed`, of pages, and the status is 1 if one failed."""
 import re
@@ -14,6 +15,10 @@ DROPPED = {".git", "out", "target", "__pycache__", "node_modules"}
 FENCE = re.compile(r"(?ms)^(?:```|    ```).*?^\s*```$")
 LINK = re.compile(r"(?<!\\)\]\(([^)\s]+)\)")
 NAMED = re.compile(r"`(?:crates/)?((?:lk_\w+/)?(?:[\w-]+/)*[\w-]+\.(?:rt|antt|edit))\b[^`]*`")
+
+CITED = re.compile(r"`((?:\w+(?:::|\.))*\w+)`")
+NAME = re.compile(r"\w*(?:[a-z]_[a-z]|[a-z][A-Z])\w*")
+WORD = re.compile(r"\w+")
 
 
 def pages():
@@ -46,10 +51,26 @@ def missing(name, files):
     return None if is_there else f"no file {name}"
 
 
-def wrong(page, files):
+def words():
+    """The words of all files that are no pages."""
+    found = set()
+    for path in TOP.rglob("*.*"):
+        if path.suffix != ".md" and not DROPPED & {*path.relative_to(TOP).parts} and path.is_file():
+            found.update([path.stem, *WORD.findall(path.read_text(encoding="utf-8", errors="replace"))])
+    return found
+
+
+def unknown(cited, known):
+    """What is wrong with a name that a page cites, if anything."""
+    strange = [it for it in WORD.findall(cited) if NAME.fullmatch(it) and it not in known]
+    return f"nothing has the name {strange[0]}" if strange else None
+
+
+def wrong(page, files, known):
     """What is wrong with a page: the first thing."""
     text = FENCE.sub("", page.read_text(encoding="utf-8"))
     found = [broken(page, it) for it in LINK.findall(text)] + [missing(it, files) for it in NAMED.findall(text)]
+    found += [unknown(it, known) for it in CITED.findall(text) if page.name != "CHANGELOG.md"]
     return next(filter(None, found), None)
 
 
@@ -57,8 +78,9 @@ def main():
     parser(__doc__).parse_args()
     tally = Tally()
     files = [str(it.relative_to(TOP / "crates")) for it in (TOP / "crates").rglob("*.*")]
+    known = words()
     for page in pages():
-        tally.row(page.relative_to(TOP), wrong(page, files))
+        tally.row(page.relative_to(TOP), wrong(page, files, known))
     tally.end()
 
 

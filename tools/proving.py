@@ -9,12 +9,14 @@ What has to be proved, and how, is left to `rt ci`.
 
 The kit does not promise the functions that are replaced here. Where it has no such functions, this is plain `rt ci`."""
 import functools
+import hashlib
 import importlib.machinery
 import importlib.util
 import os
 import pathlib
 import shutil
 import sys
+import uuid
 from concurrent.futures import FIRST_COMPLETED, ThreadPoolExecutor, wait
 
 from scripting import need, parser
@@ -23,6 +25,7 @@ READING = 200  # lines of code that cost as much as reading the libraries of a c
 MEMORY = 0.85  # the share of the free memory that proofs may take, as in `rt ci`
 EACH_JOB = 0.6  # the memory of one more job of a proof, as a share of that of the first
 NICE = 10
+NAME = "name"  # a file with the name of what a proof has made
 
 
 def gate():
@@ -47,33 +50,46 @@ def are_known(tasks):
 
 
 class Store:
-    """The folder of what was proved."""
+    """The folder of what was proved. A proof fits only the very libraries that it was made over, so each has a name of
+    its own, and what is kept of a crate is found by its sources and the names of the libraries below it."""
 
     def __init__(self, folder, rt):
         self.folder = pathlib.Path(folder)
         self.crates = {it.name: it for it in rt.rtlib.crates_below(os.getcwd())}
-        self.taken = set()
+        self.made = {}
 
     def place(self, name):
-        """The folder for a crate with its present sources."""
-        return self.folder / f"{name}-{self.crates[name].stamp()[:32]}"
+        """The folder for a crate with its present sources, over the libraries of this run."""
+        crate = self.crates[name]
+        over = [crate.stamp(), *(self.made[it.name] for it in crate.below())]
+        return self.folder / f"{name}-{hashlib.sha256(repr(over).encode()).hexdigest()[:32]}"
+
+    def find(self, name):
+        """The folder of what the proof of a crate has made, if it is kept, and with it all libraries below."""
+        if any(it.name not in self.made for it in self.crates[name].below()):
+            return None
+        kept = self.place(name)
+        if not kept.is_dir():
+            return None
+        self.made[name] = (kept / NAME).read_text()
+        return kept
 
     def take(self, name):
-        """Puts back what the proof of a crate has made, if it is kept, and with it all crates below."""
-        made, crate = self.place(name), self.crates[name]
-        if not made.is_dir() or any(it.name not in self.taken for it in crate.below()):
-            return False
-        shutil.copytree(made, f"{crate.folder}/out", copy_function=linked, dirs_exist_ok=True)
-        self.taken.add(name)
-        return True
+        """Puts back what the proof of a crate has made, if it is kept."""
+        kept = self.find(name)
+        if kept:
+            shutil.copytree(kept, f"{self.crates[name].folder}/out", copy_function=linked, dirs_exist_ok=True)
+        return bool(kept)
 
     def put(self, name):
         """Keeps what the proof of a crate has made, in place of what is kept of the crate."""
-        made, new = self.place(name), self.folder / f"new-{name}-{os.getpid()}"
-        shutil.copytree(f"{self.crates[name].folder}/out", new, copy_function=linked)
+        out, new = pathlib.Path(self.crates[name].folder, "out"), self.folder / f"new-{uuid.uuid4()}"
+        self.made[name] = new.name
+        (out / NAME).write_text(new.name)
+        shutil.copytree(out, new, copy_function=linked)
         for it in self.folder.glob(f"{name}-*"):
             shutil.rmtree(it, ignore_errors=True)
-        new.replace(made)
+        new.replace(self.place(name))
 
 
 def linked(source, to):

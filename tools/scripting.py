@@ -1,5 +1,6 @@
 """What the scripts share: how they read their arguments, the commands that they need, and how they end."""
 import argparse
+import os
 import pathlib
 import shutil
 import subprocess
@@ -7,6 +8,7 @@ import sys
 
 TOP = pathlib.Path(__file__).resolve().parent.parent
 PROVED = TOP / "crates/lk_main/out/lk_main"
+KEPT = pathlib.Path(os.environ.get("XDG_CACHE_HOME") or "~/.cache").expanduser() / "locks/proofs"  # what ./prove keeps
 LABEL = b"rattle logic="  # the compiler writes it into each program that it has proved
 HINTS = {
     "rt": "it is the command of the Rattle kit",

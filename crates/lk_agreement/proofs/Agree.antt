@@ -8,7 +8,7 @@ use Rattle.lk_members.specs.Majorities.{IsMajority}
 use Rattle.lk_agreement.specs.Ballots.{BallotValue, IsBelow, IsAtMost}
 use Rattle.lk_agreement.specs.Datagrams.{Vote, Datagram, Accept, Accepted, HasSent, WasSent}
 use Rattle.lk_agreement.specs.Chosen.{Command, command_at, IsAcceptedIn, Chosen, ChosenAt, IsBeginning}
-use Rattle.lk_agreement.specs.Soundness.{Report, Justified, Sound}
+use Rattle.lk_agreement.specs.Soundness.{ReceivedPromise, Justified, Sound}
 use Rattle.lk_members.proofs.Memberships.{majorities_meet}
 use Rattle.lk_agreement.proofs.Lists.{entry_at, take_next}
 use Rattle.lk_agreement.proofs.BallotOrder.{cases_ballot, at_most_trans, ballot_induction}
@@ -78,7 +78,7 @@ module _ (genesis : Genesis) (sent : List Datagram) (sound : Sound genesis sent)
 
     -- by a node that voted in b and then promised c
     by_report : (c : BallotValue) → Earlier c → (w : Command) → IsBelow b c → (j : Justified genesis sent c i w)
-        → (r : Report) → Contains j.reports r
+        → (r : ReceivedPromise) → Contains j.reports r
         → HasSent genesis sent r.node (Accepted (vote i b v)) → w ≡ v
     by_report c earlier w lt j r h voted =
         let p = j.promised r h in

@@ -13,7 +13,7 @@ use Rattle.lk_agreement.specs.Ballots.{BallotValue}
 use Rattle.lk_agreement.specs.Datagrams.{Genesis, Vote, NodeMessage, Datagram, said_by, Promise, Accept, Accepted}
 use Rattle.lk_agreement.specs.Datagrams.{HasSent, WasSent}
 use Rattle.lk_agreement.specs.Chosen.{Command, IsAcceptedIn, Chosen, ChosenAt}
-use Rattle.lk_agreement.specs.Soundness.{Report, IsReported, IsReporter}
+use Rattle.lk_agreement.specs.Soundness.{ReceivedPromise, IsReported, IsReporter}
 use Rattle.lk_agreement.specs.Acceptors.{AcceptorState, TakesVote}
 use Rattle.lk_agreement.specs.Nodes.{Pair, Term, new_term, View, MayPromise, MaySend, MayPost, MayPostAll}
 use Rattle.lk_agreement.specs.Changes.{MayPropose, AreAmong, promises, accepts, begins, hears, proposes, learns}
@@ -49,7 +49,7 @@ second_vote = record { position = 2; ballot = ballot; command = Noop }
 abbrev promise_from : ℕ → PromiseValue
 promise_from first = record { ballot = ballot; first = first; votes = [] }
 
-abbrev report : ℕ → ℕ → Report
+abbrev report : ℕ → ℕ → ReceivedPromise
 report n first = record { node = n; first = first; votes = [] }
 
 abbrev say : ℕ → NodeMessage → Datagram
@@ -133,7 +133,8 @@ takes old x = record {
   only = λ y h. elim (Contains-push_cases old.votes x y h) [ inl before ↦ inr before | inr e ↦ inl (sym e) ];
 }
 
-none_reported : (reports : List Report) → ((r : Report) → Contains reports r → r.votes ≡ []) → (x : Vote)
+none_reported : (reports : List ReceivedPromise) → ((r : ReceivedPromise) → Contains reports r → r.votes ≡ [])
+    → (x : Vote)
     → IsReported reports x → ⊥
 none_reported reports none x told =
     let no : Contains {X = Vote} [] x = subst (λ l. Contains l x) (none told.0 told.1) told.2 in
@@ -148,18 +149,20 @@ first_choice = record {
   new = λ w h. omega (arith, h.1);
   reaches = omega arith;
   reports = report 1 1 ∷ [];
-  among = λ r h. (h, subst (λ (q : Report). q.first ≤ 1) (only (report 1 1) r h) (omega arith));
+  among = λ r h. (h, subst (λ (q : ReceivedPromise). q.first ≤ 1) (only (report 1 1) r h) (omega arith));
   nodes = 1 ∷ [];
   majority = record { within = refl; more_than_half = omega arith };
   reporters = λ n h. (report 1 1, (0, omega arith, refl), only 1 n h);
   highest = λ x told at. absurd
-      (none_reported (report 1 1 ∷ []) (λ r h. ap (λ (q : Report). q.votes) (sym (only (report 1 1) r h))) x told);
+      (none_reported (report 1 1 ∷ []) (λ r h. ap (λ (q : ReceivedPromise). q.votes)
+      (sym (only (report 1 1) r h))) x told);
 }
 
-abbrev both_reports : List Report
+abbrev both_reports : List ReceivedPromise
 both_reports = report 1 1 ∷ report 2 2 ∷ []
 
-each_report : (P : Report → Type 0) → P (report 1 1) → P (report 2 2) → (r : Report) → Contains both_reports r → P r
+each_report : (P : ReceivedPromise → Type 0) → P (report 1 1) → P (report 2 2) → (r : ReceivedPromise)
+    → Contains both_reports r → P r
 each_report P one two r h =
     elim (cons_cases (report 1 1) (report 2 2 ∷ []) r h)
     [ inl e ↦ subst P e one | inr more ↦ subst P (only (report 2 2) r more) two ]

@@ -9,7 +9,7 @@ use Rattle.lk_agreement.specs.Ballots.{BallotValue, IsBelow, IsAtMost}
 use Rattle.lk_agreement.specs.Datagrams.{Genesis, Vote, NodeMessage, Datagram, Prepare, Promise, Accept, Accepted}
 use Rattle.lk_agreement.specs.Datagrams.{HasSent, WasSent}
 use Rattle.lk_agreement.specs.Chosen.{Command, Chosen, ChosenAt}
-use Rattle.lk_agreement.specs.Soundness.{Report, WasPromised, IsReported, Justified, Sound}
+use Rattle.lk_agreement.specs.Soundness.{ReceivedPromise, WasPromised, IsReported, Justified, Sound}
 use Rattle.lk_agreement.specs.Acceptors.{AcceptorState, CoversVote, Covers, CoversSent, AreProposed, TakesVote}
 use Rattle.lk_agreement.specs.Acceptors.{TakesSnapshot}
 use Rattle.lk_agreement.specs.Nodes.{Pair, Acceptance, Term, new_term, View, TermFits, Stems, ViewFits}
@@ -156,7 +156,7 @@ module _ (genesis : Genesis) (sent : List Datagram) (sound : Sound genesis sent)
       justified = λ i v h. absurd (omega (arith, h.1));
     }
 
-    report_fits : (s : AcceptorState) (t : Term) (r : Report) → WasPromised genesis sent t.ballot r
+    report_fits : (s : AcceptorState) (t : Term) (r : ReceivedPromise) → WasPromised genesis sent t.ballot r
         → TermFits genesis sent n s t → TermFits genesis sent n s (with_report t r)
     report_fits s t r h f = record {
       own = f.own;

@@ -5,7 +5,7 @@ use Rattle.lk_members.specs.Majorities.{IsMajority}
 use Rattle.lk_agreement.specs.Ballots.{BallotValue, IsBelow, IsAtMost}
 use Rattle.lk_agreement.specs.Datagrams.{Genesis, Vote, Datagram, Accept, Accepted, HasSent, WasSent}
 use Rattle.lk_agreement.specs.Chosen.{Command, Chosen, ChosenAt}
-use Rattle.lk_agreement.specs.Soundness.{Report, WasPromised, IsReported, IsReporter}
+use Rattle.lk_agreement.specs.Soundness.{ReceivedPromise, WasPromised, IsReported, IsReporter}
 use Rattle.lk_agreement.specs.Acceptors.{AcceptorState, CoversSent, TakesVote, TakesSnapshot}
 use Rattle.lk_agreement.specs.Nodes.{Pair, Acceptance, Term, new_term, View, Stems}
 
@@ -14,8 +14,8 @@ use Rattle.lk_agreement.specs.Nodes.{Pair, Acceptance, Term, new_term, View, Ste
 pub record MayPropose (genesis : Genesis) (done : List Command) (t : Term) (i : ℕ) (v : Command) : Type 0 where
   pub new : (w : Command) → Contains t.proposals (i, w) → ⊥
   pub reaches : i ≤ length done + genesis.alpha
-  pub reports : List Report
-  pub among : (r : Report) → Contains reports r → Contains t.reports r × (r.first ≤ i)
+  pub reports : List ReceivedPromise
+  pub among : (r : ReceivedPromise) → Contains reports r → Contains t.reports r × (r.first ≤ i)
   pub nodes : List ℕ
   pub majority : IsMajority nodes (members genesis done i)
   pub reporters : (n : ℕ) → Contains nodes n → IsReporter reports n
@@ -38,7 +38,7 @@ view_in w t = record { acceptor = w.acceptor; done = w.done; pairs = w.pairs; te
 abbrev pub with_done : View → List Command → List Pair → View
 with_done w done pairs = record { acceptor = w.acceptor; done = done; pairs = pairs; term = w.term }
 
-abbrev pub with_report : Term → Report → Term
+abbrev pub with_report : Term → ReceivedPromise → Term
 with_report t r =
     record { ballot = t.ballot; reports = t.reports ++ r ∷ []; proposals = t.proposals; accepted = t.accepted }
 
@@ -66,7 +66,7 @@ pub data Changes (genesis : Genesis) (sent : List Datagram) (n : ℕ) : View →
   begins : {old : View} (b : BallotValue) → b.node ≡ n → IsBelow old.acceptor.promised b
       → Changes genesis sent n old (view_in (view_with old (with_promise old.acceptor b)) (Some (new_term b)))
   -- it hears a promise of its ballot
-  hears : {old : View} (t : Term) (r : Report) → old.term ≡ Some t → WasPromised genesis sent t.ballot r
+  hears : {old : View} (t : Term) (r : ReceivedPromise) → old.term ≡ Some t → WasPromised genesis sent t.ballot r
       → Changes genesis sent n old (view_in old (Some (with_report t r)))
   -- it proposes
   proposes : {old : View} (t : Term) (i : ℕ) (v : Command) → old.term ≡ Some t → MayPropose genesis old.done t i v

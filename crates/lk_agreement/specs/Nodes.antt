@@ -8,7 +8,7 @@ use Rattle.lk_agreement.specs.Ballots.{BallotValue, IsAtMost}
 use Rattle.lk_agreement.specs.Datagrams.{Genesis, Vote, NodeMessage, Datagram, said_by, Prepare, Promise, Accept}
 use Rattle.lk_agreement.specs.Datagrams.{Accepted, Decided, HasSent, WasSent}
 use Rattle.lk_agreement.specs.Chosen.{Command, Chosen, ChosenAt, AreChosenFrom}
-use Rattle.lk_agreement.specs.Soundness.{Report, WasPromised, Justified}
+use Rattle.lk_agreement.specs.Soundness.{ReceivedPromise, WasPromised, Justified}
 use Rattle.lk_agreement.specs.Acceptors.{AcceptorState, CoversSent, AreProposed}
 
 -- a position and its command
@@ -24,7 +24,7 @@ pub record Acceptance : Type 0 where
 -- a ballot in progress: the promises that were heard, what was proposed, and who was heard to accept it
 pub record Term : Type 0 where
   pub ballot : BallotValue
-  pub reports : List Report
+  pub reports : List ReceivedPromise
   pub proposals : List Pair
   pub accepted : List Acceptance
 
@@ -52,7 +52,7 @@ fresh = record {
 pub record TermFits (genesis : Genesis) (sent : List Datagram) (n : ℕ) (s : AcceptorState) (t : Term) : Type 0 where
   pub own : t.ballot.node ≡ n
   pub promised : IsAtMost t.ballot s.promised
-  pub reports : (r : Report) → Contains t.reports r → WasPromised genesis sent t.ballot r
+  pub reports : (r : ReceivedPromise) → Contains t.reports r → WasPromised genesis sent t.ballot r
   pub accepted : (a : Acceptance) → Contains t.accepted a
       → HasSent genesis sent a.node
       (Accepted (record { position = a.position; ballot = t.ballot; command = a.command }))

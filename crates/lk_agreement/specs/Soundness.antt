@@ -11,23 +11,23 @@ use Rattle.lk_agreement.specs.Datagrams.{Decided, HasSent, WasSent}
 use Rattle.lk_agreement.specs.Chosen.{Command, Chosen, AreChosenFrom}
 
 -- a promise that was heard: who gave it, and the votes that it reports from a position on
-pub record Report : Type 0 where
+pub record ReceivedPromise : Type 0 where
   pub node : ℕ
   pub first : ℕ
   pub votes : List Vote
 
 -- its node has sent it, as a promise of this ballot
-abbrev pub WasPromised : Genesis → List Datagram → BallotValue → Report → Type 0
+abbrev pub WasPromised : Genesis → List Datagram → BallotValue → ReceivedPromise → Type 0
 WasPromised genesis sent b r =
     HasSent genesis sent r.node (Promise (record { ballot = b; first = r.first; votes = r.votes }))
 
 -- one of the promises reports the vote
-abbrev pub IsReported : List Report → Vote → Type 0
-IsReported reports x = (r : Report) × Contains reports r × Contains r.votes x
+abbrev pub IsReported : List ReceivedPromise → Vote → Type 0
+IsReported reports x = (r : ReceivedPromise) × Contains reports r × Contains r.votes x
 
 -- one of them is of this node
-abbrev pub IsReporter : List Report → ℕ → Type 0
-IsReporter reports n = (r : Report) × Contains reports r × (r.node ≡ n)
+abbrev pub IsReporter : List ReceivedPromise → ℕ → Type 0
+IsReporter reports n = (r : ReceivedPromise) × Contains reports r × (r.node ≡ n)
 
 -- one of the votes is for the position, in this ballot or a greater one
 abbrev pub ReportsFrom : List Vote → ℕ → BallotValue → Type 0
@@ -40,11 +40,11 @@ pub record Justified (genesis : Genesis) (sent : List Datagram) (b : BallotValue
   pub chosen : Chosen genesis sent under
   pub reaches : i ≤ length under + genesis.alpha
   -- a majority of them has promised the ballot, from the position or one before it on
-  pub reports : List Report
+  pub reports : List ReceivedPromise
   pub nodes : List ℕ
   pub majority : IsMajority nodes (members genesis under i)
   pub reporters : (n : ℕ) → Contains nodes n → IsReporter reports n
-  pub promised : (r : Report) → Contains reports r → (r.first ≤ i) × WasPromised genesis sent b r
+  pub promised : (r : ReceivedPromise) → Contains reports r → (r.first ≤ i) × WasPromised genesis sent b r
   -- each vote that they report at the position is matched by one for this command, in a ballot at least as great, and
   -- below the one of the proposal. So none is reported, or the command is that of the greatest
   pub highest : (x : Vote) → IsReported reports x → x.position ≡ i

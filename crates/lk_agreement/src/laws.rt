@@ -120,9 +120,9 @@ pub fn restarts_keep_the_world()
         → WorldFits genesis (with_view w n image) }
 {}
 
-/// An image that covers what its node has sent, and covers what it sends now, covers the union: so if each call syncs
-/// before it sends, every image continues to cover. Those of other nodes do in any case, and what an image holds
-/// continues to stem from what was sent.
+/// An image that covers what its node has sent, and what it sends next, covers both together. So if each call syncs
+/// before it sends, every image still covers its node's messages. What other nodes send changes nothing for an image
+/// (`others`), and what an image holds still stems from what was sent.
 pub fn images_go_on_covering()
     ensures own { (genesis : Genesis) (sent batch : List Datagram) (n : ℕ) (image : View)
         → CoversSent genesis sent n image.acceptor → CoversSent genesis batch n image.acceptor

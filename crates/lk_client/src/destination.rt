@@ -3,7 +3,7 @@
 ghost use Rattle.std.specs.Prelude.{◌≡◌};
 ghost use Rattle.lk_client.specs.Questions.{destination_address};
 
-use lk_seal::{AskerSeals, Keys};
+use lk_auth::{AskerSeals, Keys};
 use lk_transport::hosts::Hosts;
 use lk_types::Member;
 use std::net::{IpAddr, Ipv4Addr};

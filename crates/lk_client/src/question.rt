@@ -75,7 +75,7 @@ pub fn next_reply<S: DatagramSocket>(
     socket: &mut S,
     question: &Question,
 ) -> Heard
-    ensures heard { S.is_telling → Hears question.now (next_of S.coming socket.old) result }
+    ensures heard { S.is_observable → Hears question.now (next_of S.incoming socket.old) result }
     ensures unchanged { S.sent socket.new ≡ S.sent socket.old }
     ensures spares { S.failures socket.new ≡ S.failures socket.old }
 {
@@ -89,7 +89,7 @@ pub fn next_reply<S: DatagramSocket>(
         question
             .destination
             .seals
-            .heard(question.request.client.get(), bytes),
+            .unseal(question.request.client.get(), bytes),
     ) {
         Some(reply) => Heard::Reply(reply),
         None => Heard::Other,
@@ -114,7 +114,7 @@ fn bytes_to_send(alloc: Global, question: &Question) -> Result<Vec<u8>, ServiceF
 
 // Sends bytes to a port of an address. A failed send is ignored, as if the datagram were lost.
 fn send<S: DatagramSocket>(socket: &mut S, address: IpAddr, port: Port, bytes: &[u8])
-    ensures { S.is_telling → SendsOnce (address, port) bytes.now (S.sent socket.old) (S.failures socket.old)
+    ensures { S.is_observable → SendsOnce (address, port) bytes.now (S.sent socket.old) (S.failures socket.old)
         (S.sent socket.new) (S.failures socket.new) }
 {
     let place = SocketAddr::from((address, port.get()));
@@ -131,7 +131,7 @@ fn take_next<S: DatagramSocket>(
     followed: &mut u32,
 ) -> Option<Reply>
     // It receives what arrives next, which either ends the exchange or is followed to the member that it names.
-    ensures heard { S.is_telling → Receives S.sent S.failures (next_of S.coming) question.now bytes.now result
+    ensures heard { S.is_observable → Receives S.sent S.failures (next_of S.incoming) question.now bytes.now result
         (record { socket = socket.old; followed = followed.old })
         (record { socket = socket.new; followed = followed.new }) }
     ensures told { IfSome result IsTold }
@@ -165,8 +165,8 @@ fn ask_port<S: DatagramSocket>(
 ) -> Option<Reply>
     requires { followed.old ≤ 20 }
     // The bytes go to the port, and of what comes next it hears at most that many, until it is told something.
-    ensures tries { S.is_telling
-        → Tries S.sent S.failures (next_of S.coming) question.now patience port bytes.now result
+    ensures tries { S.is_observable
+        → Tries S.sent S.failures (next_of S.incoming) question.now patience port bytes.now result
         (record { socket = socket.old; followed = followed.old })
         (record { socket = socket.new; followed = followed.new }) }
     ensures told { IfSome result IsTold }
@@ -193,9 +193,9 @@ fn exchange_in_turn<S: DatagramSocket>(
 ) -> Result<Option<Reply>, ServiceFault>
     // The bytes of the question go to each port in turn until it is told something, and further only to the members of
     // Elsewhere that it hears.
-    ensures tries { S.is_telling
+    ensures tries { S.is_observable
         → IfOk result (λ told. Exchanges S.sent S.failures
-        (next_of S.coming) question.now patience ports.now told socket.old socket.new) }
+        (next_of S.incoming) question.now patience ports.now told socket.old socket.new) }
     ensures told { IfOk result (λ reply. IfSome reply IsTold) }
     ensures unchanged { OnErr result (socket.new ≡ socket.old) }
     ensures only { IfErr result (λ f. f ≡ ServiceFault.NoMemory) }
@@ -228,11 +228,11 @@ pub fn exchange<S: DatagramSocket>(
     turns: &[Port],
 ) -> Result<Option<Reply>, ServiceFault>
     // Whether it fails or not, it has sent nothing but that request.
-    ensures same { S.is_telling → SendsOnly question.now (S.sent socket.old) (S.sent socket.new) }
+    ensures same { S.is_observable → SendsOnly question.now (S.sent socket.old) (S.sent socket.new) }
     // It keeps the rule of a client that asks one request.
-    ensures rule { S.is_telling
+    ensures rule { S.is_observable
         → IfOk result (λ told. Asks S.sent S.failures
-        (next_of S.coming) question.now turns.now told socket.old socket.new) }
+        (next_of S.incoming) question.now turns.now told socket.old socket.new) }
     ensures told { IfOk result (λ reply. IfSome reply IsTold) }
     ensures unchanged { OnErr result (socket.new ≡ socket.old) }
     ensures only { IfErr result (λ f. f ≡ ServiceFault.NoMemory) }
@@ -280,11 +280,11 @@ fn ask_and_write<S: DatagramSocket, W: Write>(
     out: &mut W,
 ) -> Result<bool, ServiceFault>
     // Whether it fails or not, it has sent nothing but that request.
-    ensures same { S.is_telling → SendsOnly question.now (S.sent socket.old) (S.sent socket.new) }
+    ensures same { S.is_observable → SendsOnly question.now (S.sent socket.old) (S.sent socket.new) }
     // It learned the fate exactly if the exchange got a reply.
-    ensures told { S.is_telling
+    ensures told { S.is_observable
         → IfOk result (λ is_told. Comes S.sent S.failures
-        (next_of S.coming) question.now turns.now is_told socket.old socket.new) }
+        (next_of S.incoming) question.now turns.now is_told socket.old socket.new) }
     ensures only { IfErr result (λ f. (f ≡ ServiceFault.NoMemory) ⊎ (f ≡ ServiceFault.Write)) }
 {
     let reply = exchange(alloc, socket, question, turns)?;
@@ -306,10 +306,10 @@ pub fn ask<S: DatagramSocket, W: Write, E: Write>(
 ) -> u8
     ensures status { result ≤ 1 }
     // Whatever the status, it has sent nothing but that request.
-    ensures same { S.is_telling → SendsOnly question.now (S.sent socket.old) (S.sent socket.new) }
+    ensures same { S.is_observable → SendsOnly question.now (S.sent socket.old) (S.sent socket.new) }
     // Status 0 only if it has sent the request and learned its fate.
-    ensures asked { S.is_telling → result ≡ 0
-        → (reply : ReplyValue) × Asks S.sent S.failures (next_of S.coming) question.now turns.now
+    ensures asked { S.is_observable → result ≡ 0
+        → (reply : ReplyValue) × Asks S.sent S.failures (next_of S.incoming) question.now turns.now
         (Some reply) socket.old socket.new }
 {
     match ask_and_write(alloc, socket, question, turns, out) {

@@ -5,10 +5,10 @@ use Rattle.std.proofs.lemmas.List.Elements.{Contains-append_cases, Contains-appe
 use Rattle.std.specs.List.{AllByRecursion}
 use Rattle.std.specs.declared.net.socket_addr.SocketAddr.{SocketAddr}
 use Rattle.lk_types.specs.declared.command.Request.{Request}
-use Rattle.lk_seal.specs.Seals.{key_list, framed_by}
-use Rattle.lk_seal.specs.Seals as seals
-use Rattle.lk_seal.specs.declared.frame.Scope.{Scope}
-use Rattle.lk_seal.proofs.FrameLaws.{drop-sealed}
+use Rattle.lk_auth.specs.Seals.{key_list, framed_by}
+use Rattle.lk_auth.specs.Seals as seals
+use Rattle.lk_auth.specs.declared.frame.Scope.{Scope}
+use Rattle.lk_auth.proofs.FrameLaws.{drop-sealed}
 use Rattle.lk_messages.specs.Grammar.{Spells}
 use Rattle.lk_messages.specs.declared.message.Content.TheVariants as content
 use Rattle.lk_messages.specs.declared.message.Message.{Message}

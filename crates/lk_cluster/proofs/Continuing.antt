@@ -20,9 +20,9 @@ use Rattle.lk_transport.specs.Chains.{Chain}
 use Rattle.lk_node_process.specs.Turns.{TakesTurn as ServerTurn, TakesTurnWith, HasFollowedNoStranger, TellsFailure}
 use Rattle.lk_node_process.specs.Turns.{letters_in}
 use Rattle.lk_sim.specs.Networks.{Rests, RestsBy, Stops, nothing}
-use Rattle.lk_world_nodes.specs.Seats.{At}
-use Rattle.lk_world_nodes.specs.declared.seat.Life.{Life}
-use Rattle.lk_world_nodes.specs.declared.seat.Life.TheVariants.{Up, Down}
+use Rattle.lk_sim_nodes.specs.Seats.{At}
+use Rattle.lk_sim_nodes.specs.declared.seat.Life.{Life}
+use Rattle.lk_sim_nodes.specs.declared.seat.Life.TheVariants.{Up, Down}
 use Rattle.lk_sim.proofs.Networks.{at_set_here, set_twice}
 use Rattle.lk_cluster.specs.Clusters.{Node, Cluster, Network, Says, steps_of, IsBegun, server_disks, Starts, TakesTurn}
 use Rattle.lk_cluster.specs.Clusters.{Idles, EndsByTurn, Happens, HappenAll, IsReachable}
@@ -351,7 +351,7 @@ module _ (May : Network) (Metered tells : Type 0) where
             addresses = next.addresses;
             sent = next.sent;
             socket_failures = next.socket_failures;
-            coming = next.coming;
+            incoming = next.incoming;
           } = acts.same in
           sym (ap (λ (s : ServerValue ReplicaValue). s.failed) as_was) ∙ failure
           ∙ ap (λ (s : ServerValue ReplicaValue). s.replica.failed) as_was

@@ -18,8 +18,8 @@ use Rattle.lk_log.proofs.StoreLaws.{empty_image, first_stands, not_both, one_sta
 use Rattle.lk_agreement.specs.Datagrams.{HasSent}
 use Rattle.lk_replica.specs.ReplicaValue.{ReplicaValue}
 use Rattle.lk_server.specs.Servers.{ServerValue}
-use Rattle.lk_world_nodes.specs.declared.seat.Life.{Life}
-use Rattle.lk_world_nodes.specs.declared.seat.Life.TheVariants.{Up, Down}
+use Rattle.lk_sim_nodes.specs.declared.seat.Life.{Life}
+use Rattle.lk_sim_nodes.specs.declared.seat.Life.TheVariants.{Up, Down}
 use Rattle.lk_guarantees.specs.Promise.{KeepsPromise, MayRemain, MayRemainOf, Remembers, IsCovered, Says}
 use Rattle.lk_cluster.specs.Clusters.{Node, Cluster, life_of, seat_of, scene_of}
 use Rattle.lk_cluster.specs.Forgetting.{HasEmptyDisks, MustBeRemembered}

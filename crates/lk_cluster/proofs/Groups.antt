@@ -18,26 +18,26 @@ use Rattle.lk_node_io.specs.Letters.{LetterValue, batch_of, datagram_of}
 use Rattle.lk_node_io.specs.declared.input.Input.{Input}
 use Rattle.lk_node_io.specs.declared.input.Input.TheVariants.{Tick, Datagram as Heard}
 use Rattle.lk_node_io.specs.declared.note.Note.{Note}
-use Rattle.lk_node.specs.Calls.{heard_by, InputFits, NodeFits, Goes}
+use Rattle.lk_node.specs.Calls.{heard_by, InputFits, NodeFits, LeavesFit}
 use Rattle.lk_node.specs.Histories.{History, Genesis, Datagram, RequestValue, IsLawful, later, text}
-use Rattle.lk_node.specs.Keeping.{Stands}
+use Rattle.lk_node.specs.Keeping.{ReplicaHolds}
 use Rattle.lk_node.specs.Leavings.{DisksFit}
 use Rattle.lk_replica.specs.Groups.{StepSaid, letters_of, GoesThrough}
 use Rattle.lk_replica.specs.Posts.{AreOf}
-use Rattle.lk_recovery.specs.Remembering.{Remembers}
+use Rattle.lk_recovery.specs.Remembering.{ReplicaRemembers}
 use Rattle.lk_replica.specs.ReplicaValue.{ReplicaValue, device_of}
 use Rattle.lk_recovery.specs.Rooms.{max_after}
 use Rattle.lk_replica_interface.specs.Sayings.{SaysByGroup, IsSilenced, SaysOf}
 use Rattle.lk_server.specs.Servers.{ServerValue}
 use Rattle.lk_sim.specs.Events.{Turns}
 use Rattle.lk_sim.specs.Networks.{MayCome, AreAsking, MayHear, TellsOf, GoesBy, GoesOn}
-use Rattle.lk_world_nodes.specs.Rooms.{AreShort}
+use Rattle.lk_sim_nodes.specs.Rooms.{AreShort}
 use Rattle.lk_sim.specs.Scenes.{Scene}
-use Rattle.lk_world_nodes.specs.Seats.{At}
+use Rattle.lk_sim_nodes.specs.Seats.{At}
 use Rattle.lk_sim.specs.Traces.{asked_by, asked_in, asked_note, happened}
-use Rattle.lk_sim.specs.Worlds.{Holds}
-use Rattle.lk_world_nodes.specs.declared.seat.Life.{Life}
-use Rattle.lk_world_nodes.specs.declared.seat.Life.TheVariants.{Up, Down}
+use Rattle.lk_sim.specs.Worlds.{WorldInvariant}
+use Rattle.lk_sim_nodes.specs.declared.seat.Life.{Life}
+use Rattle.lk_sim_nodes.specs.declared.seat.Life.TheVariants.{Up, Down}
 use Rattle.lk_sim.proofs.Networks.{step_holds, heard, asked_maybe, at_set_here, set_twice, went_down}
 use Rattle.lk_cluster.specs.Clusters.{Node, ServerStands, server_disks, JoinsByStep, Joins, steps_of}
 use Rattle.lk_cluster.proofs.Mapped.{on_device}
@@ -105,7 +105,7 @@ all_hear genesis n sent trace (i ∷ is) more joins may =
 
 -- what holds of a cluster makes its history lawful
 lawful : (genesis : Genesis) (seats : List Node) (sent : List Datagram) (trace : List Note)
-    → Holds ServerStands server_disks table_meaning genesis seats sent trace
+    → WorldInvariant ServerStands server_disks table_meaning genesis seats sent trace
     → IsLawful table_meaning (happened genesis sent trace)
 lawful genesis seats sent trace w = record {
   sound = w.world.sound;
@@ -119,8 +119,8 @@ lawful genesis seats sent trace w = record {
 
 -- where no history is left to fit, nothing more is done by it
 nothing_goes : (h : History) (n : ℕ) (q : ReplicaValue)
-    → NodeFits table_meaning h n (Stands table_meaning q.node q.store h.genesis n) (disks q.store)
-    → Goes table_meaning h n (Stands table_meaning q.node q.store h.genesis n) (disks q.store) [] []
+    → NodeFits table_meaning h n (ReplicaHolds table_meaning q.node q.store h.genesis n) (disks q.store)
+    → LeavesFit table_meaning h n (ReplicaHolds table_meaning q.node q.store h.genesis n) (disks q.store) [] []
 nothing_goes h n q f = record {
   holding = f.holding;
   shown = f.shown;
@@ -144,7 +144,7 @@ same_down d e p = cc p
 module _ (genesis : Genesis) (n : ℕ) (seats : List Node) (place : ℕ) (node : Node) (at : At seats place node)
     (s : ServerValue ReplicaValue) where
   abbrev HoldsAt : List Node → List Datagram → List Note → Type 0
-  HoldsAt nodes sent trace = Holds ServerStands server_disks table_meaning genesis nodes sent trace
+  HoldsAt nodes sent trace = WorldInvariant ServerStands server_disks table_meaning genesis nodes sent trace
 
   abbrev seat : Life (ServerValue ReplicaValue) → Node
   seat life = record { number = n; life = life }
@@ -173,7 +173,7 @@ module _ (genesis : Genesis) (n : ℕ) (seats : List Node) (place : ℕ) (node :
   -- what the node holds fits to all that has happened
   pub fits : (r : ReplicaValue) (sent : List Datagram) (trace : List Note) → IsUpWith r sent trace
       → NodeFits table_meaning (happened genesis sent trace) n
-      (Stands table_meaning r.node r.store genesis n) (disks r.store)
+      (ReplicaHolds table_meaning r.node r.store genesis n) (disks r.store)
   fits r sent trace w =
       let f = (w.seated place (seat (Up (serving r))) (at_set_here seats place (seat (Up (serving r))) at.0)).up
       (serving r) refl in
@@ -191,7 +191,7 @@ module _ (genesis : Genesis) (n : ℕ) (seats : List Node) (place : ℕ) (node :
       (at_set_here seats place (seat (Up (serving r))) at.0)).up (serving r) refl).room
 
   pub remembers : (r : ReplicaValue) (sent : List Datagram) (trace : List Note) → IsUpWith r sent trace
-      → Remembers r.node r.store genesis n
+      → ReplicaRemembers r.node r.store genesis n
   remembers r sent trace w = let f = fits r sent trace w in record { whose = f.shown.whose; keeps = f.shown.keeps }
 
   -- ---- a step
@@ -236,9 +236,10 @@ module _ (genesis : Genesis) (n : ℕ) (seats : List Node) (place : ℕ) (node :
   -- what a step of a group promises
   abbrev pub StepGoes : ReplicaValue → Input → ReplicaValue → StepSaid → Type 0
   StepGoes r i mid step =
-      ((h : History) → NodeFits table_meaning h n (Stands table_meaning r.node r.store h.genesis n) (disks r.store)
+      ((h : History) → NodeFits table_meaning h n (ReplicaHolds table_meaning r.node r.store h.genesis n)
+      (disks r.store)
       → InputFits h i → (sent : List LetterValue) → AreOf sent step.1
-      → Goes table_meaning h n (Stands table_meaning mid.node mid.store h.genesis n)
+      → LeavesFit table_meaning h n (ReplicaHolds table_meaning mid.node mid.store h.genesis n)
       (disks mid.store) step.0 (batch_of n sent))
       × StaysWithin max_after (disks r.store) (disks mid.store)
 
@@ -257,8 +258,9 @@ module _ (genesis : Genesis) (n : ℕ) (seats : List Node) (place : ℕ) (node :
 
   -- the end of a group
   settled : (r q : ReplicaValue)
-      → ((h : History) → NodeFits table_meaning h n (Stands table_meaning r.node r.store h.genesis n) (disks r.store)
-      → NodeFits table_meaning h n (Stands table_meaning q.node q.store h.genesis n) (disks q.store))
+      → ((h : History) → NodeFits table_meaning h n (ReplicaHolds table_meaning r.node r.store h.genesis n)
+      (disks r.store)
+      → NodeFits table_meaning h n (ReplicaHolds table_meaning q.node q.store h.genesis n) (disks q.store))
       → StaysWithin max_after (disks r.store) (disks q.store) → (sent : List Datagram) (trace : List Note)
       → IsUpWith r sent trace → IsUpWith q sent trace
   settled r q fit stays sent trace w =

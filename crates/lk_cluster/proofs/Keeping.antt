@@ -30,11 +30,11 @@ use Rattle.lk_timing.specs.declared.pace.Pace.{Pace}
 use Rattle.lk_timing.specs.declared.pace.Pace.TheVariants.{Datagrams, Clock}
 use Rattle.lk_sim.specs.Events.{Turns, Adds}
 use Rattle.lk_sim.specs.Networks.{MayCome, Steps, Appears, Rests, Stops, nothing}
-use Rattle.lk_world_nodes.specs.Rooms.{AreShort}
-use Rattle.lk_world_nodes.specs.Seats.{At, UpFits}
+use Rattle.lk_sim_nodes.specs.Rooms.{AreShort}
+use Rattle.lk_sim_nodes.specs.Seats.{At, UpFits}
 use Rattle.lk_sim.specs.Traces.{happened}
-use Rattle.lk_sim.specs.Worlds.{Holds}
-use Rattle.lk_world_nodes.specs.declared.seat.Life.TheVariants.{Up, Down}
+use Rattle.lk_sim.specs.Worlds.{WorldInvariant}
+use Rattle.lk_sim_nodes.specs.declared.seat.Life.TheVariants.{Up, Down}
 use Rattle.lk_sim.proofs.Networks.{step_holds, at_set, at_set_here, at_push, nothing_holds, set_twice, went_down}
 use Rattle.lk_cluster.specs.Clusters.{Node, Cluster, Network, ForgesNothing, ServerStands, server_disks, Says, Starts}
 use Rattle.lk_cluster.specs.Clusters.{TakesTurn, Idles, EndsByTurn, Happens, HappenAll, IsReachable}
@@ -199,7 +199,7 @@ module _ (genesis : Genesis) (sent : List Datagram) where
 -- ---- what holds of a cluster
 
 pub record IsSound (c : Cluster) : Type 0 where
-  pub holds : Holds ServerStands server_disks table_meaning c.genesis c.seats c.sent c.trace
+  pub holds : WorldInvariant ServerStands server_disks table_meaning c.genesis c.seats c.sent c.trace
   pub own : OwnOf c.seats c.sent
 
 -- nothing has happened yet
@@ -224,7 +224,7 @@ module _ (old : Cluster) (w : IsSound old) where
   -- a server with another one's replica, in its place
   pub with_replica : (place : ℕ) (node : Node) → At old.seats place node
       → (server other : ServerValue ReplicaValue) → node.life ≡ Up server
-      → Holds ServerStands server_disks table_meaning old.genesis
+      → WorldInvariant ServerStands server_disks table_meaning old.genesis
       (set old.seats place (record { number = node.number; life = Up (record other { replica = server.replica }) }))
       old.sent old.trace
   with_replica place node at server other was =
@@ -246,7 +246,7 @@ module _ (old : Cluster) (w : IsSound old) where
 abbrev at_rest : ServerValue ReplicaValue → ServerValue ReplicaValue → ServerValue ReplicaValue
 at_rest server after = record after {
   addresses = server.addresses;
-  coming = server.coming;
+  incoming = server.incoming;
   sent = server.sent;
   socket_failures = server.socket_failures;
 }
@@ -267,7 +267,7 @@ at_rest_by server after (inr a) = ap (λ (s : ServerValue ReplicaValue). at_rest
 module _ (May : Network) (Metered tells : Type 0) (unforged : Unforged May) where
   module _ (old new : Cluster) (w : IsSound old) where
     by_step : Steps ServerStands server_disks table_meaning old new
-        → Holds ServerStands server_disks table_meaning new.genesis new.seats new.sent new.trace
+        → WorldInvariant ServerStands server_disks table_meaning new.genesis new.seats new.sent new.trace
     by_step s = step_holds ServerStands server_disks table_meaning old new w.holds s
 
     among_more : (more : List Datagram) → new.sent ≡ old.sent ++ more → (d : Datagram)
@@ -324,12 +324,14 @@ module _ (May : Network) (Metered tells : Type 0) (unforged : Unforged May) wher
 
     moved : (seats : List Node) (notes : List Note) (batch : List Datagram) → new.seats ≡ seats
         → Adds old new notes batch
-        → Holds ServerStands server_disks table_meaning old.genesis seats (old.sent ++ batch) (old.trace ++ notes)
-        → Holds ServerStands server_disks table_meaning new.genesis new.seats new.sent new.trace
+        → WorldInvariant ServerStands server_disks table_meaning old.genesis seats (old.sent ++ batch) (old.trace
+        ++ notes)
+        → WorldInvariant ServerStands server_disks table_meaning new.genesis new.seats new.sent new.trace
     moved seats notes batch same a h =
-        subst (λ g. Holds ServerStands server_disks table_meaning g new.seats new.sent new.trace) (sym a.genesis)
-        (subst (λ z. Holds ServerStands server_disks table_meaning old.genesis z new.sent new.trace) (sym same)
-        (subst₂ (λ x y. Holds ServerStands server_disks table_meaning old.genesis seats x y)
+        subst (λ g. WorldInvariant ServerStands server_disks table_meaning g new.seats new.sent new.trace)
+        (sym a.genesis)
+        (subst (λ z. WorldInvariant ServerStands server_disks table_meaning old.genesis z new.sent new.trace) (sym same)
+        (subst₂ (λ x y. WorldInvariant ServerStands server_disks table_meaning old.genesis seats x y)
         (sym a.sent) (sym a.trace) h))
 
     -- what a server takes in a turn of what waits and comes
@@ -352,7 +354,7 @@ module _ (May : Network) (Metered tells : Type 0) (unforged : Unforged May) wher
         (with_replica old w a.turns.place a.node a.turns.at a.server a.after a.was) a.joins in
         record {
           holds = moved (set old.seats a.turns.place a.next) a.trace (batch_of n letters) a.turns.seats a.adds
-              (subst (λ (z : Node). Holds ServerStands server_disks table_meaning old.genesis
+              (subst (λ (z : Node). WorldInvariant ServerStands server_disks table_meaning old.genesis
               (set old.seats a.turns.place z) (old.sent ++ batch_of n letters) (old.trace ++ a.trace))
               (λ i. record { number = sym a.turns.number i; life = sym a.up i }) (left.up a.alive));
           own = own_moved a.node a.next a.turns (batch_of n letters) a.adds.sent (λ q up.
@@ -380,9 +382,10 @@ module _ (May : Network) (Metered tells : Type 0) (unforged : Unforged May) wher
         } in
         record {
           holds = moved (set old.seats a.turns.place a.next) [] [] a.turns.seats a.adds
-              (subst₂ (λ (x : List Datagram) (y : List Note). Holds ServerStands server_disks table_meaning old.genesis
+              (subst₂ (λ (x : List Datagram) (y : List Note). WorldInvariant ServerStands server_disks table_meaning
+              old.genesis
               (set old.seats a.turns.place a.next) x y) (sym (append-nil old.sent)) (sym (append-nil old.trace))
-              (subst (λ (z : Node). Holds ServerStands server_disks table_meaning old.genesis
+              (subst (λ (z : Node). WorldInvariant ServerStands server_disks table_meaning old.genesis
               (set old.seats a.turns.place z) old.sent old.trace)
               (λ i. record { number = sym a.turns.number i; life = (ap Up mine ∙ sym a.up) i })
               (with_replica old w a.turns.place a.node a.turns.at a.server a.after a.was)));
@@ -453,7 +456,7 @@ module _ (May : Network) (Metered tells : Type 0) (unforged : Unforged May) wher
         (inr (inr (inl rests))) in
         record {
           holds = moved (set old.seats a.turns.place a.next) a.trace batch a.turns.seats a.adds
-              (subst (λ (z : Node). Holds ServerStands server_disks table_meaning old.genesis
+              (subst (λ (z : Node). WorldInvariant ServerStands server_disks table_meaning old.genesis
               (set old.seats a.turns.place z) (old.sent ++ batch) (old.trace ++ a.trace))
               (λ i. record { number = sym a.turns.number i; life = sym a.down i }) then_holds);
           own = own_moved a.node a.next a.turns batch a.adds.sent (no_up a.next a.left a.down);

@@ -11,17 +11,17 @@ use Rattle.lk_agreement.specs.Nodes.{View}
 use Rattle.lk_node_io.specs.declared.note.Note.{Note}
 use Rattle.lk_node.specs.Histories.{History, Genesis, Datagram}
 use Rattle.lk_node.specs.Holdings.{Holding}
-use Rattle.lk_node.specs.Keeping.{Stands}
+use Rattle.lk_node.specs.Keeping.{ReplicaHolds}
 use Rattle.lk_node.specs.Leavings.{DisksFit}
 use Rattle.lk_replica.specs.ReplicaValue.{ReplicaValue, device_of}
 use Rattle.lk_server.specs.Servers.{ServerValue}
-use Rattle.lk_world_nodes.specs.Rooms.{AreShort}
-use Rattle.lk_world_nodes.specs.Seats.{At, UpFits, SeatFits}
+use Rattle.lk_sim_nodes.specs.Rooms.{AreShort}
+use Rattle.lk_sim_nodes.specs.Seats.{At, UpFits, SeatFits}
 use Rattle.lk_sim.specs.Traces.{happened}
-use Rattle.lk_sim.specs.Worlds.{Holds}
-use Rattle.lk_world_nodes.specs.declared.seat.Life.{Life}
-use Rattle.lk_world_nodes.specs.declared.seat.Life.TheVariants.{Up, Down}
-use Rattle.lk_world_nodes.specs.declared.seat.Seat.{Seat}
+use Rattle.lk_sim.specs.Worlds.{WorldInvariant}
+use Rattle.lk_sim_nodes.specs.declared.seat.Life.{Life}
+use Rattle.lk_sim_nodes.specs.declared.seat.Life.TheVariants.{Up, Down}
+use Rattle.lk_sim_nodes.specs.declared.seat.Seat.{Seat}
 use Rattle.lk_cluster.specs.Clusters.{Node, seat_of, life_of, ServerStands, server_disks}
 
 -- ---- lists
@@ -50,7 +50,7 @@ on_device P s p = subst P (λ i side. device_disks s side i) p
 -- ---- nodes
 
 abbrev pub ReplicaStands : ReplicaValue → Genesis → ℕ → Holding → Type 0
-ReplicaStands r genesis n x = Stands table_meaning r.node r.store genesis n x
+ReplicaStands r genesis n x = ReplicaHolds table_meaning r.node r.store genesis n x
 
 abbrev pub replica_disks : ReplicaValue → Side → Disk
 replica_disks r = disk_of (device_of r.store)
@@ -95,8 +95,8 @@ module _ (h : History) (v : View) where
 
 -- so with all of it
 pub mapped : (genesis : Genesis) (seats : List Node) (sent : List Datagram) (trace : List Note)
-    → Holds ServerStands server_disks table_meaning genesis seats sent trace
-    → Holds ReplicaStands replica_disks table_meaning genesis (map seat_of seats) sent trace
+    → WorldInvariant ServerStands server_disks table_meaning genesis seats sent trace
+    → WorldInvariant ReplicaStands replica_disks table_meaning genesis (map seat_of seats) sent trace
 mapped genesis seats sent trace w = record {
   views = w.views;
   world = w.world;

@@ -5,10 +5,10 @@ use Rattle.std.proofs.lemmas.Bool.{cases_lt, cases_eq}
 use Rattle.lk_types.specs.Commands.{IsOp, IsRequest}
 use Rattle.lk_types.specs.declared.command.Op.{Op}
 use Rattle.lk_types.specs.declared.command.Op.TheVariants.{Table, Join, Leave, Raise}
-use Rattle.lk_fields.specs.Fields.{four, eight, request}
-use Rattle.lk_fields.specs.FieldReading.{read_four, read_eight, read_request}
-use Rattle.lk_fields.specs.Parser.{both, whole}
-use Rattle.lk_fields.proofs.Spellings.{Reads, both_reads, whole_again, four_reads, eight_reads, request_reads}
+use Rattle.lk_codec.specs.Fields.{four, eight, request}
+use Rattle.lk_codec.specs.FieldReading.{read_four, read_eight, read_request}
+use Rattle.lk_codec.specs.Parser.{both, whole}
+use Rattle.lk_codec.proofs.Spellings.{Reads, both_reads, whole_again, four_reads, eight_reads, request_reads}
 use Rattle.lk_messages.specs.Grammar.{Spells, spelling}
 use Rattle.lk_messages.specs.declared.message.Content.TheVariants as content
 use Rattle.lk_messages.specs.declared.message.Message.{Message}
@@ -17,7 +17,7 @@ use Rattle.lk_agreement.proofs.Histories.{contains_more}
 use Rattle.lk_node_io.specs.declared.note.Note.{Note}
 use Rattle.lk_node.specs.Histories.{Datagram, RequestValue}
 use Rattle.lk_sim.specs.Networks.{IsRequestIn, AreAsking, TellsOf}
-use Rattle.lk_world_nodes.specs.Told.{told_by}
+use Rattle.lk_sim_nodes.specs.Told.{told_by}
 
 -- ---- what can be decided
 

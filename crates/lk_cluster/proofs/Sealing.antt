@@ -12,8 +12,8 @@ use Rattle.lk_agreement.proofs.Histories.{heard_was_sent}
 use Rattle.lk_node_io.specs.Letters.{LetterValue, batch_of}
 use Rattle.lk_node.specs.Histories.{Genesis, Datagram}
 use Rattle.lk_replica.specs.ReplicaValue.{ReplicaValue}
-use Rattle.lk_seal.specs.Seals.{key_list, heard}
-use Rattle.lk_seal.specs.declared.seals.Seals.{Seals}
+use Rattle.lk_auth.specs.Seals.{key_list, heard}
+use Rattle.lk_auth.specs.declared.seals.Seals.{Seals}
 use Rattle.lk_transport.specs.Addresses.{Filter, filter_of}
 use Rattle.lk_transport.specs.Posts.{all_filtered, is_filtered_out}
 use Rattle.lk_server.specs.Premises.{IsToldByANode}

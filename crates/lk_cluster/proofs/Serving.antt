@@ -11,7 +11,7 @@ use Rattle.lk_node_io.specs.Letters.{LetterValue, batch_of}
 use Rattle.lk_node.specs.Histories.{Genesis, Datagram}
 use Rattle.lk_node.specs.Leavings.{header_of}
 use Rattle.lk_replica.specs.ReplicaValue.{ReplicaValue}
-use Rattle.lk_seal.specs.declared.seals.Seals.{Seals}
+use Rattle.lk_auth.specs.declared.seals.Seals.{Seals}
 use Rattle.lk_server.specs.Servers.{ServerValue, LastTurn}
 use Rattle.lk_transport.specs.declared.fault.ServiceFault.{ServiceFault}
 use Rattle.lk_transport.specs.Chains.{Chain}
@@ -19,7 +19,7 @@ use Rattle.lk_node_process.specs.Revivals.{IsServerStarted, IsRefusedWith, Stays
 use Rattle.lk_node_process.specs.Turns.{TakesTurn, HasFollowedStranger, Serves, EndsEarly, EndsEarlyByStranger}
 use Rattle.lk_node_process.specs.Turns.{letters_in}
 use Rattle.lk_sim.specs.Networks.{RestsBy}
-use Rattle.lk_world_nodes.specs.declared.seat.Life.TheVariants.{Up, Down}
+use Rattle.lk_sim_nodes.specs.declared.seat.Life.TheVariants.{Up, Down}
 use Rattle.lk_sim.proofs.Networks.{at_set_here}
 use Rattle.lk_cluster.specs.Clusters.{Cluster, Network, Says, IsBegun, server_disks, IsReachable}
 use Rattle.lk_cluster.specs.Continuing.{node_of, HasNode, Continues, letters_of, MayAllCome}

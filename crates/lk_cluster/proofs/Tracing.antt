@@ -14,7 +14,7 @@ use Rattle.lk_replica.specs.ReplicaValue.{ReplicaValue}
 use Rattle.lk_replica_interface.specs.Sayings.{SaysByGroup, IsSilenced, SaysOf}
 use Rattle.lk_server.specs.Servers.{ServerValue}
 use Rattle.lk_sim.specs.Networks.{MayCome, TellsOf}
-use Rattle.lk_world_nodes.specs.Seats.{At}
+use Rattle.lk_sim_nodes.specs.Seats.{At}
 use Rattle.lk_sim.specs.Traces.{asked_note, happened}
 use Rattle.lk_sim.proofs.Networks.{heard, asked_maybe}
 use Rattle.lk_cluster.specs.Clusters.{Node, ServerStands, server_disks, JoinsByStep, Joins, steps_of}

@@ -16,7 +16,7 @@ use Rattle.lk_node_io.specs.Letters.{LetterValue, batch_of}
 use Rattle.lk_node_io.specs.declared.note.Note.{Note}
 use Rattle.lk_node.specs.Histories.{Datagram, RequestValue}
 use Rattle.lk_node.specs.Holdings.{Holding}
-use Rattle.lk_node.specs.Keeping.{Stands}
+use Rattle.lk_node.specs.Keeping.{ReplicaHolds}
 use Rattle.lk_replica.specs.Groups.{StepSaid}
 use Rattle.lk_replica.specs.ReplicaValue.{ReplicaValue}
 use Rattle.lk_replica_interface.specs.Sayings.{SaysByGroup, IsSilenced, SaysOf}
@@ -29,9 +29,9 @@ use Rattle.lk_sim.specs.Events.{Turns, Adds}
 use Rattle.lk_sim.specs.Networks.{MayCome, AreAsking, TellsOf, RestartsBy, Appears, Restarts, Rests, Stops, nothing}
 use Rattle.lk_sim.specs.Scenes.{Scene}
 use Rattle.lk_sim.specs.Traces.{asked_note}
-use Rattle.lk_world_nodes.specs.declared.seat.Life.{Life}
-use Rattle.lk_world_nodes.specs.declared.seat.Life.TheVariants.{Up, Down}
-use Rattle.lk_world_nodes.specs.declared.seat.Seat.{Seat}
+use Rattle.lk_sim_nodes.specs.declared.seat.Life.{Life}
+use Rattle.lk_sim_nodes.specs.declared.seat.Life.TheVariants.{Up, Down}
+use Rattle.lk_sim_nodes.specs.declared.seat.Seat.{Seat}
 
 -- a node: its number, and that it is up as a server, or down with its disks
 abbrev pub Node : Type 0
@@ -55,7 +55,7 @@ scene_of c = record { genesis = c.genesis; seats = map seat_of c.seats; sent = c
 
 -- what a server holds, and what its disks hold
 abbrev pub ServerStands : ServerValue ReplicaValue → Genesis → ℕ → Holding → Type 0
-ServerStands s genesis n x = Stands table_meaning s.replica.node s.replica.store genesis n x
+ServerStands s genesis n x = ReplicaHolds table_meaning s.replica.node s.replica.store genesis n x
 
 abbrev pub server_disks : ServerValue ReplicaValue → Side → Disk
 server_disks s = disks s.replica.store

@@ -6,8 +6,8 @@ use Rattle.lk_replica.specs.ReplicaValue.{ReplicaValue}
 use Rattle.lk_server.specs.Servers.{ServerValue}
 use Rattle.lk_transport.specs.Chains.{Chain}
 use Rattle.lk_node_process.specs.Turns.{TakesTurn as ServerTurn, letters_in}
-use Rattle.lk_world_nodes.specs.Seats.{At}
-use Rattle.lk_world_nodes.specs.declared.seat.Life.{Life}
+use Rattle.lk_sim_nodes.specs.Seats.{At}
+use Rattle.lk_sim_nodes.specs.declared.seat.Life.{Life}
 use Rattle.lk_node_io.specs.Letters.{LetterValue, batch_of}
 use Rattle.lk_cluster.specs.Clusters.{Node, Cluster, Network, IsReachable}
 

@@ -9,11 +9,11 @@ use Rattle.lk_locks.specs.Packed.{IsTableText}
 use Rattle.lk_node_io.specs.Letters.{LetterValue, batch_of}
 use Rattle.lk_node.specs.Leavings.{header_of}
 use Rattle.lk_replica.specs.ReplicaValue.{ReplicaValue}
-use Rattle.lk_seal.specs.declared.seals.Seals.{Seals}
+use Rattle.lk_auth.specs.declared.seals.Seals.{Seals}
 use Rattle.lk_transport.specs.declared.fault.ServiceFault.{ServiceFault}
 use Rattle.lk_node_process.specs.Revivals.{IsServerStarted, IsRefusedWith}
 use Rattle.lk_node_process.specs.Turns.{Serves, EndsEarly, EndsEarlyByStranger, letters_in}
-use Rattle.lk_world_nodes.specs.declared.seat.Life.TheVariants.{Up, Down}
+use Rattle.lk_sim_nodes.specs.declared.seat.Life.TheVariants.{Up, Down}
 use Rattle.lk_cluster.specs.Clusters.{Cluster, ForgesNothing, server_disks}
 use Rattle.lk_cluster.specs.Continuing.{HasNode, Continues, MayAllCome, letters_of}
 

@@ -11,11 +11,11 @@ use Rattle.lk_node_io.specs.Letters.{LetterValue, batch_of}
 use Rattle.lk_node.specs.Histories.{Datagram}
 use Rattle.lk_node.specs.Leavings.{header_of}
 use Rattle.lk_replica.specs.ReplicaValue.{ReplicaValue}
-use Rattle.lk_seal.specs.declared.seals.Seals.{Seals}
+use Rattle.lk_auth.specs.declared.seals.Seals.{Seals}
 use Rattle.lk_server.specs.Servers.{ServerValue}
 use Rattle.lk_node_process.specs.Revivals.{IsServerStarted}
 use Rattle.lk_node_process.specs.Turns.{Serves, EndsEarly}
-use Rattle.lk_world_nodes.specs.declared.seat.Life.TheVariants.{Up, Down}
+use Rattle.lk_sim_nodes.specs.declared.seat.Life.TheVariants.{Up, Down}
 use Rattle.lk_cluster.specs.Clusters.{Cluster, Network, IsReachable}
 use Rattle.lk_cluster.specs.Continuing.{HasNode, MayAllCome, letters_of}
 use Rattle.lk_cluster.specs.Sealing.{OnlyNodesSealAll}

@@ -11,8 +11,8 @@ ghost use Rattle.lk_locks.specs.Meaning.{table_meaning};
 ghost use Rattle.lk_locks.specs.Packed.{IsTableText};
 ghost use Rattle.lk_agreement.specs.Datagrams.{HasSent};
 ghost use Rattle.lk_node.specs.Leavings.{header_of};
-ghost use Rattle.lk_seal.specs.Seals.{key_list, heard};
-ghost use Rattle.lk_seal.specs.declared.seals.Seals.{Seals};
+ghost use Rattle.lk_auth.specs.Seals.{key_list, heard};
+ghost use Rattle.lk_auth.specs.declared.seals.Seals.{Seals};
 ghost use Rattle.lk_replica.specs.ReplicaValue.{ReplicaValue};
 ghost use Rattle.lk_transport.specs.Addresses.{filter_of};
 ghost use Rattle.lk_transport.specs.Posts.{all_filtered};
@@ -22,7 +22,7 @@ ghost use Rattle.lk_transport.specs.Chains.{Repeats};
 ghost use Rattle.lk_node_process.specs.Revivals.{IsRestartRefused, IsRefusedWith};
 ghost use Rattle.lk_node_process.specs.Turns.{TakesTurn};
 ghost use Rattle.lk_sim.specs.Networks.{MayCome};
-ghost use Rattle.lk_world_nodes.specs.declared.seat.Life.TheVariants.{Up, Down};
+ghost use Rattle.lk_sim_nodes.specs.declared.seat.Life.TheVariants.{Up, Down};
 ghost use Rattle.lk_guarantees.specs.ComingBack.{IsExcused};
 ghost use Rattle.lk_guarantees.specs.Converging.{Converges};
 ghost use Rattle.lk_guarantees.specs.ExactlyOnce.{AreServedOnce};
@@ -52,13 +52,13 @@ use lk_transport::socket::DatagramSocket;
 /// processes that people run keep the promise of a world of replicas (after IronFleet: Hawblitzel et al., 2015).
 pub fn a_cluster_keeps_the_promise<D: LogDisk, S: DatagramSocket>()
     ensures { (genesis : GenesisValue) (cluster : Cluster)
-        → IsReachable ForgesNothing D.is_metered S.is_telling genesis cluster → KeepsPromise (scene_of cluster) }
+        → IsReachable ForgesNothing D.is_metered S.is_observable genesis cluster → KeepsPromise (scene_of cluster) }
 {}
 
 /// The history that clients of such a cluster see is linearizable (Herlihy and Wing, 1990).
 pub fn a_cluster_is_linearizable<D: LogDisk, S: DatagramSocket>()
     ensures { (genesis : GenesisValue) (cluster : Cluster)
-        → IsReachable ForgesNothing D.is_metered S.is_telling genesis cluster
+        → IsReachable ForgesNothing D.is_metered S.is_observable genesis cluster
         → IsLinearizable cluster.genesis cluster.trace }
 {
     a_cluster_keeps_the_promise::<D, S>();
@@ -68,7 +68,7 @@ pub fn a_cluster_is_linearizable<D: LogDisk, S: DatagramSocket>()
 /// Each operation of a client that follows the rule takes effect exactly once in such a cluster, in the client's order.
 pub fn a_cluster_serves_exactly_once<D: LogDisk, S: DatagramSocket>()
     ensures { (genesis : GenesisValue) (cluster : Cluster)
-        → IsReachable ForgesNothing D.is_metered S.is_telling genesis cluster
+        → IsReachable ForgesNothing D.is_metered S.is_observable genesis cluster
         → AreServedOnce cluster.genesis cluster.sent cluster.trace }
 {
     a_cluster_keeps_the_promise::<D, S>();
@@ -78,7 +78,7 @@ pub fn a_cluster_serves_exactly_once<D: LogDisk, S: DatagramSocket>()
 /// Nodes of such a cluster that have executed as many commands keep the same, to the byte.
 pub fn a_cluster_converges<D: LogDisk, S: DatagramSocket>()
     ensures { (genesis : GenesisValue) (cluster : Cluster)
-        → IsReachable ForgesNothing D.is_metered S.is_telling genesis cluster → Converges (scene_of cluster) }
+        → IsReachable ForgesNothing D.is_metered S.is_observable genesis cluster → Converges (scene_of cluster) }
 {
     a_cluster_keeps_the_promise::<D, S>();
     nodes_converge();
@@ -89,7 +89,7 @@ pub fn a_cluster_converges<D: LogDisk, S: DatagramSocket>()
 /// frame (HMAC-SHA-256, RFC 2104).
 pub fn a_sealed_datagram_is_not_forged<D: LogDisk, S: DatagramSocket>()
     ensures { (genesis : GenesisValue) (cluster : Cluster)
-        → IsReachable ForgesNothing D.is_metered S.is_telling genesis cluster
+        → IsReachable ForgesNothing D.is_metered S.is_observable genesis cluster
         → (seals : Seals) → key_list seals.nodes ≢ [] → (frame : List ℕ) → OnlyNodesSeal cluster.sent seals frame
         → MayCome cluster.genesis cluster.sent (Some (heard seals frame)) }
 {
@@ -100,8 +100,8 @@ pub fn a_sealed_datagram_is_not_forged<D: LogDisk, S: DatagramSocket>()
 /// forged.
 pub fn a_sealed_cluster_forges_nothing<D: LogDisk, S: DatagramSocket>()
     ensures { (genesis : GenesisValue) (cluster : Cluster)
-        → IsReachable IsSealed D.is_metered S.is_telling genesis cluster
-        → IsReachable ForgesNothing D.is_metered S.is_telling genesis cluster }
+        → IsReachable IsSealed D.is_metered S.is_observable genesis cluster
+        → IsReachable ForgesNothing D.is_metered S.is_observable genesis cluster }
 {
     is_told_by_a_node();
 }
@@ -109,7 +109,7 @@ pub fn a_sealed_cluster_forges_nothing<D: LogDisk, S: DatagramSocket>()
 /// So a cluster whose nodes share such a key keeps the promise.
 pub fn a_sealed_cluster_keeps_the_promise<D: LogDisk, S: DatagramSocket>()
     ensures { (genesis : GenesisValue) (cluster : Cluster)
-        → IsReachable IsSealed D.is_metered S.is_telling genesis cluster → KeepsPromise (scene_of cluster) }
+        → IsReachable IsSealed D.is_metered S.is_observable genesis cluster → KeepsPromise (scene_of cluster) }
 {
     a_sealed_cluster_forges_nothing::<D, S>();
     a_cluster_keeps_the_promise::<D, S>();
@@ -118,112 +118,115 @@ pub fn a_sealed_cluster_keeps_the_promise<D: LogDisk, S: DatagramSocket>()
 /// A server that starts from the disks of a node continues its cluster: the cluster in which that node is up is
 /// reachable too.
 pub fn a_start_continues_a_cluster<D: LogDisk, S: DatagramSocket>()
-    ensures { ForEachDown ForgesNothing D.is_metered S.is_telling
+    ensures { ForEachDown ForgesNothing D.is_metered S.is_observable
         (λ genesis cluster place n disks. (server : ServerValue ReplicaValue) → IsBegun cluster.genesis n disks server
-        → Continues ForgesNothing D.is_metered S.is_telling genesis cluster place n (Up server) []) }
+        → Continues ForgesNothing D.is_metered S.is_observable genesis cluster place n (Up server) []) }
 {}
 
 /// A rejected start continues its cluster: the node stays down, with the disks that the rejection has left. The
 /// contract of the program ensures such a rejection.
 pub fn a_refused_start_continues_a_cluster<D: LogDisk, S: DatagramSocket>()
-    ensures { D.is_honest → ForEachDown ForgesNothing D.is_metered S.is_telling
+    ensures { D.is_honest → ForEachDown ForgesNothing D.is_metered S.is_observable
         (λ genesis cluster place n disks. (told : ServiceFault)
         (refused : IsRefusedWith table_meaning IsTableText D.is_honest disks (header_of cluster.genesis n) told)
         → (left : Memory) → ((s : Side) → disk_of left s ≡ refused.left s)
-        → Continues ForgesNothing D.is_metered S.is_telling genesis cluster place n (Down left) []) }
+        → Continues ForgesNothing D.is_metered S.is_observable genesis cluster place n (Down left) []) }
 {}
 
 /// A turn of a server continues its cluster if what arrived in it is not forged. What the turn adds to the trace
 /// follows from what its replica says.
 pub fn a_turn_continues_a_cluster<D: LogDisk, S: DatagramSocket>()
-    ensures { ForEachUp ForgesNothing D.is_metered S.is_telling
+    ensures { ForEachUp ForgesNothing D.is_metered S.is_observable
         (λ genesis cluster place n server. (after : ServerValue ReplicaValue) (came : List (SocketAddr × List ℕ))
         → ForgesNothing cluster.genesis cluster.sent server came
-        → (turn : Turn (Says D.is_metered) S.is_telling came server after) → after.replica.failed ≡ false
-        → Continues ForgesNothing D.is_metered S.is_telling genesis cluster place n (Up after) turn.hands_on.letters) }
+        → (turn : Turn (Says D.is_metered) S.is_observable came server after) → after.replica.failed ≡ false
+        → Continues ForgesNothing D.is_metered S.is_observable genesis cluster place n
+        (Up after) turn.hands_on.letters) }
 {}
 
 /// A turn of a server that has the key of the nodes continues its cluster whatever frames came in it.
 /// `turning::serve_turn` ensures such a turn, or an idle one.
 pub fn a_sealed_turn_continues_a_cluster<D: LogDisk, S: DatagramSocket>()
-    ensures { ForEachUp IsSealed D.is_metered S.is_telling
+    ensures { ForEachUp IsSealed D.is_metered S.is_observable
         (λ genesis cluster place n server. (after : ServerValue ReplicaValue)
         → key_list server.addresses.seals.nodes ≢ [] → (frames : List (SocketAddr × List ℕ))
         → OnlyNodesSealWhatComes cluster.sent server.addresses.seals frames
-        → (turn : Turn (Says D.is_metered) S.is_telling (all_filtered (filter_of server.addresses) frames) server after)
+        → (turn : Turn (Says D.is_metered) S.is_observable
+        (all_filtered (filter_of server.addresses) frames) server after)
         → after.replica.failed ≡ false
-        → Continues IsSealed D.is_metered S.is_telling genesis cluster place n (Up after) turn.hands_on.letters) }
+        → Continues IsSealed D.is_metered S.is_observable genesis cluster place n (Up after) turn.hands_on.letters) }
 {
     is_told_by_a_node();
 }
 
 /// An idle turn of a server continues its cluster, and gives nothing to be sent.
 pub fn an_idle_turn_continues_a_cluster<D: LogDisk, S: DatagramSocket>()
-    ensures { ForEachUp ForgesNothing D.is_metered S.is_telling
+    ensures { ForEachUp ForgesNothing D.is_metered S.is_observable
         (λ genesis cluster place n server. (after : ServerValue ReplicaValue) (frames : List (SocketAddr × List ℕ))
-        → IsIdle S.is_telling frames server after
-        → Continues ForgesNothing D.is_metered S.is_telling genesis cluster place n (Up after) []) }
+        → IsIdle S.is_observable frames server after
+        → Continues ForgesNothing D.is_metered S.is_observable genesis cluster place n (Up after) []) }
 {}
 
 /// A turn that ends a server continues its cluster: the node is then down, with the disks that its replica has left.
 pub fn a_last_turn_continues_a_cluster<D: LogDisk, S: DatagramSocket>()
-    ensures { ForEachUp ForgesNothing D.is_metered S.is_telling
+    ensures { ForEachUp ForgesNothing D.is_metered S.is_observable
         (λ genesis cluster place n server. (after : ServerValue ReplicaValue) (came : List (SocketAddr × List ℕ))
         → ForgesNothing cluster.genesis cluster.sent server came
-        → (turn : LastTurn (Says D.is_metered) S.is_telling came server after) → after.replica.failed ≡ true
+        → (turn : LastTurn (Says D.is_metered) S.is_observable came server after) → after.replica.failed ≡ true
         → (left : Memory) → ((s : Side) → disk_of left s ≡ server_disks after s)
-        → Continues ForgesNothing D.is_metered S.is_telling genesis cluster place n (Down left) turn.hands_on.letters) }
+        → Continues ForgesNothing D.is_metered S.is_observable genesis cluster place n
+        (Down left) turn.hands_on.letters) }
 {}
 
 /// The turns of a process on an honest device continue its cluster, one after another, if nothing that arrived in any
 /// of them is forged.
 pub fn turns_continue_a_cluster<D: LogDisk + Drop, S: DatagramSocket>()
-    ensures { D.is_honest → ForEachUp ForgesNothing D.is_metered S.is_telling
+    ensures { D.is_honest → ForEachUp ForgesNothing D.is_metered S.is_observable
         (λ genesis cluster place n server. (count : ℕ) (last : ServerValue ReplicaValue)
-        (turns : Repeats (TakesTurn ⟦<Replica<LockTable, D> as ServedReplica>⟧.Says S.is_telling) count server last)
-        → MayAllCome ⟦<Replica<LockTable, D> as ServedReplica>⟧.Says S.is_telling ForgesNothing cluster.genesis n
+        (turns : Repeats (TakesTurn ⟦<Replica<LockTable, D> as ServedReplica>⟧.Says S.is_observable) count server last)
+        → MayAllCome ⟦<Replica<LockTable, D> as ServedReplica>⟧.Says S.is_observable ForgesNothing cluster.genesis n
         cluster.sent server turns.states last turns.chain
-        → Continues ForgesNothing D.is_metered S.is_telling genesis cluster place n (Up last)
-        (letters_of ⟦<Replica<LockTable, D> as ServedReplica>⟧.Says S.is_telling server turns.states last
+        → Continues ForgesNothing D.is_metered S.is_observable genesis cluster place n (Up last)
+        (letters_of ⟦<Replica<LockTable, D> as ServedReplica>⟧.Says S.is_observable server turns.states last
         turns.chain)) }
 {}
 
 /// A node that serves continues its cluster, from its start to its last turn. The contract of the program ensures such
 /// a service.
 pub fn a_service_continues_a_cluster<D: LogDisk + Drop, S: DatagramSocket>()
-    ensures { D.is_honest → ForEachDown ForgesNothing D.is_metered S.is_telling
+    ensures { D.is_honest → ForEachDown ForgesNothing D.is_metered S.is_observable
         (λ genesis cluster place n disks. (count : ℕ) (seals : Seals)
-        (served : Service ⟦<Replica<LockTable, D> as ServedReplica>⟧.Says S.is_telling D.is_honest cluster n disks
+        (served : Service ⟦<Replica<LockTable, D> as ServedReplica>⟧.Says S.is_observable D.is_honest cluster n disks
         seals count)
         → MayComeInService ForgesNothing cluster n served
-        → Continues ForgesNothing D.is_metered S.is_telling genesis cluster place n (Up served.ended)
+        → Continues ForgesNothing D.is_metered S.is_observable genesis cluster place n (Up served.ended)
         (letters_in_service served)) }
 {}
 
 /// A node whose service breaks off continues its cluster: its last turn ends it, and it is down with the disks that
 /// its replica has left.
 pub fn a_service_that_breaks_off_continues_a_cluster<D: LogDisk + Drop, S: DatagramSocket>()
-    ensures { D.is_honest → ForEachDown ForgesNothing D.is_metered S.is_telling
+    ensures { D.is_honest → ForEachDown ForgesNothing D.is_metered S.is_observable
         (λ genesis cluster place n disks. (most : ℕ) (seals : Seals)
-        (served : BrokenService ⟦<Replica<LockTable, D> as ServedReplica>⟧.Says S.is_telling D.is_honest cluster n
+        (served : BrokenService ⟦<Replica<LockTable, D> as ServedReplica>⟧.Says S.is_observable D.is_honest cluster n
         disks seals most)
         → MayComeBeforeEnd ForgesNothing cluster n served
         → ForgesNothing cluster.genesis (sent_before_end n cluster.sent served) served.breaks.last
         served.breaks.ends.came
         → (left : Memory) → ((s : Side) → disk_of left s ≡ server_disks served.ended s)
-        → Continues ForgesNothing D.is_metered S.is_telling genesis cluster place n (Down left)
+        → Continues ForgesNothing D.is_metered S.is_observable genesis cluster place n (Down left)
         (letters_to_end served)) }
 {}
 
 /// A node that serves with the nodes' key continues its cluster whatever frames arrive. The contract of the program
 /// ensures such a service.
 pub fn a_sealed_service_continues_a_cluster<D: LogDisk + Drop, S: DatagramSocket>()
-    ensures { D.is_honest → ForEachDown IsSealed D.is_metered S.is_telling
+    ensures { D.is_honest → ForEachDown IsSealed D.is_metered S.is_observable
         (λ genesis cluster place n disks. (count : ℕ) (seals : Seals)
-        (served : Service ⟦<Replica<LockTable, D> as ServedReplica>⟧.Says S.is_telling D.is_honest cluster n disks
+        (served : Service ⟦<Replica<LockTable, D> as ServedReplica>⟧.Says S.is_observable D.is_honest cluster n disks
         seals count)
         → key_list seals.nodes ≢ [] → OnlyNodesSealInService cluster n served
-        → Continues IsSealed D.is_metered S.is_telling genesis cluster place n (Up served.ended)
+        → Continues IsSealed D.is_metered S.is_observable genesis cluster place n (Up served.ended)
         (letters_in_service served)) }
 {
     is_told_by_a_node();
@@ -232,14 +235,14 @@ pub fn a_sealed_service_continues_a_cluster<D: LogDisk + Drop, S: DatagramSocket
 /// A node that serves with the nodes' key, and whose last turn ends it, continues its cluster whatever frames arrive:
 /// it is down then, with the disks that its replica has left.
 pub fn a_sealed_service_that_breaks_off_continues_a_cluster<D: LogDisk + Drop, S: DatagramSocket>()
-    ensures { D.is_honest → ForEachDown IsSealed D.is_metered S.is_telling
+    ensures { D.is_honest → ForEachDown IsSealed D.is_metered S.is_observable
         (λ genesis cluster place n disks. (most : ℕ) (seals : Seals)
-        (served : BrokenService ⟦<Replica<LockTable, D> as ServedReplica>⟧.Says S.is_telling D.is_honest cluster n
+        (served : BrokenService ⟦<Replica<LockTable, D> as ServedReplica>⟧.Says S.is_observable D.is_honest cluster n
         disks seals most)
         → key_list seals.nodes ≢ [] → OnlyNodesSealBeforeEnd cluster n served
         → OnlyNodesSealWhatComes (sent_before_end n cluster.sent served) seals served.breaks.ends.frames
         → (left : Memory) → ((s : Side) → disk_of left s ≡ server_disks served.ended s)
-        → Continues IsSealed D.is_metered S.is_telling genesis cluster place n (Down left)
+        → Continues IsSealed D.is_metered S.is_observable genesis cluster place n (Down left)
         (letters_to_end served)) }
 {
     is_told_by_a_node();
@@ -249,7 +252,7 @@ pub fn a_sealed_service_that_breaks_off_continues_a_cluster<D: LogDisk + Drop, S
 /// its files, a restart is refused for nothing but memory or a call of the device that failed, or because a file of
 /// format 1 has no generation left. What a crash may leave is what recovery takes (Chen et al., FSCQ, 2015).
 pub fn a_restart_comes_back<D: LogDisk, S: DatagramSocket>()
-    ensures { D.is_honest → ForEachDown ForgesNothing D.is_metered S.is_telling
+    ensures { D.is_honest → ForEachDown ForgesNothing D.is_metered S.is_observable
         (λ genesis cluster place n disks. (number : ℕ) (left : Side → Disk)
         → IsRestartRefused table_meaning IsTableText D.is_honest disks (header_of cluster.genesis n) number left
         → IsExcused disks number) }
@@ -260,7 +263,7 @@ pub fn a_restart_comes_back<D: LogDisk, S: DatagramSocket>()
 /// 2001, section 2.2).
 pub fn no_node_forgets<D: LogDisk, S: DatagramSocket>()
     ensures { (genesis : GenesisValue) (cluster : Cluster)
-        → IsReachable ForgesNothing D.is_metered S.is_telling genesis cluster
+        → IsReachable ForgesNothing D.is_metered S.is_observable genesis cluster
         → (node : Node) → Contains cluster.seats node
         → (m : NodeMessage) → MustBeRemembered m → HasSent cluster.genesis cluster.sent node.number m
         → HasEmptyDisks node.life → ⊥ }

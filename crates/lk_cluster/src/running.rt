@@ -40,20 +40,23 @@ pub fn run<
 ) -> u8
     requires { AreSealsOf plan.now.header resources.network.seals }
     ensures served { D.is_honest → result ≡ 0 → (genesis : GenesisValue) (cluster : Cluster)
-        → IsReachable ForgesNothing D.is_metered S.is_telling genesis cluster
+        → IsReachable ForgesNothing D.is_metered S.is_observable genesis cluster
         → (place n : ℕ) → plan.now.header ≡ header_of cluster.genesis n
         → IsDownOn cluster place n (D.disk resources.device)
-        → ServesIn D.is_metered S.is_telling D.is_honest ⟦<Replica<LockTable, D> as ServedReplica>⟧.Says genesis
+        → ServesIn D.is_metered S.is_observable D.is_honest ⟦<Replica<LockTable, D> as ServedReplica>⟧.Says genesis
         cluster place n (D.disk resources.device) resources.network.seals (2 ^ 48) }
     ensures broken { D.is_honest → result ≡ 1 → (genesis : GenesisValue) (cluster : Cluster)
-        → IsReachable ForgesNothing D.is_metered S.is_telling genesis cluster
+        → IsReachable ForgesNothing D.is_metered S.is_observable genesis cluster
         → (place n : ℕ) → plan.now.header ≡ header_of cluster.genesis n
         → IsDownOn cluster place n (D.disk resources.device)
-        → RestsIn D.is_metered S.is_telling D.is_honest ⟦<Replica<LockTable, D> as ServedReplica>⟧.Says genesis cluster
+        → RestsIn D.is_metered S.is_observable D.is_honest ⟦<Replica<LockTable, D> as ServedReplica>⟧.Says genesis
+        cluster
         place n (D.disk resources.device) resources.network.seals
-        ⊎ EndsIn D.is_metered S.is_telling D.is_honest ⟦<Replica<LockTable, D> as ServedReplica>⟧.Says genesis cluster
+        ⊎ EndsIn D.is_metered S.is_observable D.is_honest ⟦<Replica<LockTable, D> as ServedReplica>⟧.Says genesis
+        cluster
         place n (D.disk resources.device) resources.network.seals (2 ^ 48)
-        ⊎ EndsInByStranger D.is_metered S.is_telling D.is_honest ⟦<Replica<LockTable, D> as ServedReplica>⟧.Says genesis
+        ⊎ EndsInByStranger D.is_metered S.is_observable D.is_honest ⟦<Replica<LockTable, D> as ServedReplica>⟧.Says
+        genesis
         cluster place n (D.disk resources.device) resources.network.seals (2 ^ 48) }
     ensures status { result ≤ 1 }
 {

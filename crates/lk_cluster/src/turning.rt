@@ -35,12 +35,12 @@ pub fn serve_turn<D: LogDisk + Drop, S: DatagramSocket + Drop, C: Clock, L: Log>
     log: &L,
 ) -> Result<(), GroupFault>
     ensures turn { D.is_honest
-        → OnOk result ((frames : List (Address × List ℕ)) × HasReceived S.is_telling frames server.old server.new
-        × TakesTurn (Says D.is_metered) S.is_telling frames server.old server.new
+        → OnOk result ((frames : List (Address × List ℕ)) × HasReceived S.is_observable frames server.old server.new
+        × TakesTurn (Says D.is_metered) S.is_observable frames server.old server.new
         × KeepsOf server.old.node server.old.addresses.seals frames buffer.old buffer.new) }
     ensures ends { D.is_honest
-        → OnErr result ((frames : List (Address × List ℕ)) × HasReceived S.is_telling frames server.old server.new
-        × LastTurn (Says D.is_metered) S.is_telling
+        → OnErr result ((frames : List (Address × List ℕ)) × HasReceived S.is_observable frames server.old server.new
+        × LastTurn (Says D.is_metered) S.is_observable
         (all_filtered (filter_of server.old.addresses) frames) server.old server.new) }
     ensures failed { server.new.failed ≡ server.new.replica.failed }
 {

@@ -5,7 +5,7 @@ use Rattle.std.specs.Fmt.{decimal}
 use Rattle.lk_types.specs.Ranges.{IsClient}
 use Rattle.clap.specs.Matches.{found_of, first_value}
 use Rattle.clap.specs.declared.parser.matches.ArgMatches.{ArgMatches}
-use Rattle.lk_probe_round.specs.declared.target.Target.{Target}
+use Rattle.lk_status.specs.declared.target.Target.{Target}
 use Rattle.lk_status_command.specs.declared.status.Plan.{Plan}
 use Rattle.lk_command_line.specs.Arguments.{word_of, words_of}
 use Rattle.lk_command_line.specs.Spellings.{IsNumber, Spells}

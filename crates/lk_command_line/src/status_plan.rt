@@ -14,7 +14,7 @@ use crate::values::{number_in, read_client, read_number_up_to};
 use clap::ArgMatches;
 use lk_client::destination::Destination;
 use lk_parsers::number::read_number;
-use lk_probe_round::target::{Inquiry, Target, targets_of};
+use lk_status::target::{Inquiry, Target, targets_of};
 use lk_status_command::status::{Form, Plan};
 use lk_transport::fault::ServiceFault;
 use lk_types::ClientNo;

@@ -6,11 +6,11 @@ use Rattle.lk_types.specs.declared.genesis.Genesis.{Genesis}
 use Rattle.lk_simulated_disk.specs.Memory.{Memory}
 use Rattle.lk_replica.specs.ReplicaValue.{ReplicaValue}
 use Rattle.lk_sim.specs.Scenes.{Scene}
-use Rattle.lk_world_nodes.specs.Seats.{At}
+use Rattle.lk_sim_nodes.specs.Seats.{At}
 use Rattle.lk_sim.specs.declared.event.Event.{Event}
-use Rattle.lk_world_nodes.specs.declared.refused.Refused.{Refused}
-use Rattle.lk_world_nodes.specs.declared.seat.Seat.{Seat}
-use Rattle.lk_world_nodes.specs.declared.seat.Life.TheVariants.{Up, Down}
+use Rattle.lk_sim_nodes.specs.declared.refused.Refused.{Refused}
+use Rattle.lk_sim_nodes.specs.declared.seat.Seat.{Seat}
+use Rattle.lk_sim_nodes.specs.declared.seat.Life.TheVariants.{Up, Down}
 use Rattle.lk_sim.proofs.Networks.{at_set, at_push}
 use Rattle.lk_guarantees.specs.Events.{IsStarted, IsUp, ChangesOnly, FallsDown, IsDone, IsRefused, Happens, HappenAll}
 use Rattle.lk_guarantees.specs.Events.{IsReachable, nothing}

@@ -26,13 +26,13 @@ use Rattle.lk_sim.specs.Packed.{LeavesPacked}
 use Rattle.lk_sim.specs.Promises.{Promises}
 use Rattle.lk_sim.specs.Runs.{Runs}
 use Rattle.lk_sim.specs.Scenes.{Scene}
-use Rattle.lk_world_nodes.specs.Seats.{At}
+use Rattle.lk_sim_nodes.specs.Seats.{At}
 use Rattle.lk_sim.specs.States.{SumsUpChosen}
 use Rattle.lk_sim.specs.declared.end.RunEnd.{RunEnd}
 use Rattle.lk_sim.specs.declared.event.Event.{Event}
 use Rattle.lk_sim.specs.declared.event.Event.TheVariants as event
-use Rattle.lk_world_nodes.specs.declared.refused.Refused.{Refused}
-use Rattle.lk_world_nodes.specs.declared.seat.Seat.{Seat}
+use Rattle.lk_sim_nodes.specs.declared.refused.Refused.{Refused}
+use Rattle.lk_sim_nodes.specs.declared.seat.Seat.{Seat}
 use Rattle.lk_guarantees.proofs.Doing.{is_done, refused, runs}
 use Rattle.lk_guarantees.proofs.Executing.{has_executed, is_part}
 use Rattle.lk_guarantees.proofs.Keeping.{has_snapshots, compacted, kept, covered, short}

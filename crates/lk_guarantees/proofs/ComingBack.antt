@@ -15,14 +15,14 @@ use Rattle.lk_node_io.specs.Faults.{RefusedAfter}
 use Rattle.lk_recovery.specs.Revivals.{IsLastOld}
 use Rattle.lk_replica.specs.ReplicaValue.{ReplicaValue}
 use Rattle.lk_sim.specs.Scenes.{Scene}
-use Rattle.lk_world_nodes.specs.declared.end.End.TheVariants.{Fault}
+use Rattle.lk_sim_nodes.specs.declared.end.End.TheVariants.{Fault}
 use Rattle.lk_sim.specs.declared.event.Event.TheVariants as event
-use Rattle.lk_world_nodes.specs.declared.refused.Refused.{Refused}
-use Rattle.lk_world_nodes.specs.declared.refused.Refused.TheVariants.{NoSuchNode, NotUp, AlreadyUp, NoSuchDatagram}
-use Rattle.lk_world_nodes.specs.declared.refused.Refused.TheVariants.{Forged, WorldFull, WorldMemory}
-use Rattle.lk_world_nodes.specs.declared.seat.Seat.{Seat}
-use Rattle.lk_world_nodes.specs.declared.seat.Life.{Life}
-use Rattle.lk_world_nodes.specs.declared.seat.Life.TheVariants.{Down}
+use Rattle.lk_sim_nodes.specs.declared.refused.Refused.{Refused}
+use Rattle.lk_sim_nodes.specs.declared.refused.Refused.TheVariants.{NoSuchNode, NotUp, AlreadyUp, NoSuchDatagram}
+use Rattle.lk_sim_nodes.specs.declared.refused.Refused.TheVariants.{Forged, WorldFull, WorldMemory}
+use Rattle.lk_sim_nodes.specs.declared.seat.Seat.{Seat}
+use Rattle.lk_sim_nodes.specs.declared.seat.Life.{Life}
+use Rattle.lk_sim_nodes.specs.declared.seat.Life.TheVariants.{Down}
 use Rattle.lk_guarantees.specs.ComingBack.{IsQuiet, IsBack, ComesBack}
 use Rattle.lk_guarantees.specs.Events.{HasCause, IsUp, EndsOn, IsRestarted, IsNotRestarted, IsDone, IsReachable}
 use Rattle.lk_guarantees.proofs.Apart.{Apart, one_seat, read_there, not_up, reachable_apart}

@@ -14,7 +14,7 @@ use Rattle.lk_state.specs.declared.session.Session.{Session}
 use Rattle.lk_guarantees.specs.Converging.{Converges}
 use Rattle.lk_guarantees.specs.Disks.{kept_text}
 use Rattle.lk_guarantees.specs.Plain.{after, at, serve, IsAnswered, Kept, IsKeptOf}
-use Rattle.lk_guarantees.specs.Promise.{IsChosen, Begins, after_stop, KeepsPromise}
+use Rattle.lk_guarantees.specs.Promise.{IsChosen, IsPrefix, after_stop, KeepsPromise}
 use Rattle.lk_guarantees.proofs.Once.{once}
 use Rattle.lk_guarantees.proofs.Placing.{placed}
 use Rattle.lk_guarantees.proofs.Rising.{Rise}
@@ -25,7 +25,7 @@ no_more : {X : Type 0} (rest : List X) (n : ℕ) → n ≡ n + length rest → r
 no_more [] n e = refl
 no_more (x ∷ rest) n e = absurd (omega (arith, e))
 
-same_length : (L K : List Command) → Begins L K → length L ≡ length K → L ≡ K
+same_length : (L K : List Command) → IsPrefix L K → length L ≡ length K → L ≡ K
 same_length L K b e = sym (append-nil L)
     ∙ ap (λ (l : List Command). L ++ l) (sym (no_more b.0 (length L) (e ∙ ap length b.1 ∙ length-append L b.0)))
     ∙ sym b.1
@@ -145,10 +145,10 @@ module _ (genesis : Genesis) (L : List Command) where
       subst (λ (z : Session). Contains j.sessions z) same t.1
 
   abbrev kept : ℕ → List (List Member) → ℕ → ℕ → List Session → List ℕ → Kept
-  kept executed coming greatest changed sessions locks =
+  kept executed incoming greatest changed sessions locks =
       record {
         executed = executed;
-        coming = coming;
+        incoming = incoming;
         greatest = greatest;
         changed = changed;
         sessions = sessions;
@@ -158,19 +158,20 @@ module _ (genesis : Genesis) (L : List Command) where
   one_kept : (k j : Kept) → IsKeptOf genesis L k → IsKeptOf genesis L j → k ≡ j
   one_kept k j x y =
       let executed : k.executed ≡ j.executed = x.executed ∙ sym y.executed in
-      let coming : k.coming ≡ j.coming =
-      same_items genesis.alpha k.coming j.coming x.as_many y.as_many (λ n lt. x.coming n lt ∙ sym (y.coming n lt)) in
+      let incoming : k.incoming ≡ j.incoming =
+      same_items genesis.alpha k.incoming j.incoming x.as_many y.as_many
+      (λ n lt. x.incoming n lt ∙ sym (y.incoming n lt)) in
       let greatest : k.greatest ≡ j.greatest = x.greatest ∙ sym y.greatest in
       let changed : k.changed ≡ j.changed = x.changed ∙ sym y.changed in
       let sessions : k.sessions ≡ j.sessions =
       same_sessions k.sessions j.sessions x.rise y.rise (among k j x y) (among j k y x) in
       let locks : k.locks ≡ j.locks = x.locks ∙ sym y.locks in
-      ap (λ n. kept n k.coming k.greatest k.changed k.sessions k.locks) executed
-      ∙ ap (λ l. kept j.executed l k.greatest k.changed k.sessions k.locks) coming
-      ∙ ap (λ n. kept j.executed j.coming n k.changed k.sessions k.locks) greatest
-      ∙ ap (λ n. kept j.executed j.coming j.greatest n k.sessions k.locks) changed
-      ∙ ap (λ l. kept j.executed j.coming j.greatest j.changed l k.locks) sessions
-      ∙ ap (λ l. kept j.executed j.coming j.greatest j.changed j.sessions l) locks
+      ap (λ n. kept n k.incoming k.greatest k.changed k.sessions k.locks) executed
+      ∙ ap (λ l. kept j.executed l k.greatest k.changed k.sessions k.locks) incoming
+      ∙ ap (λ n. kept j.executed j.incoming n k.changed k.sessions k.locks) greatest
+      ∙ ap (λ n. kept j.executed j.incoming j.greatest n k.sessions k.locks) changed
+      ∙ ap (λ l. kept j.executed j.incoming j.greatest j.changed l k.locks) sessions
+      ∙ ap (λ l. kept j.executed j.incoming j.greatest j.changed j.sessions l) locks
 
 -- chosen lists of one length are one
 module _ (world : Scene ReplicaValue) (p : KeepsPromise world) where

@@ -25,23 +25,23 @@ use Rattle.lk_sim.specs.Events.{HasEffect}
 use Rattle.lk_sim.specs.Events.{IsExecuted, IsHalted, LeftBy, LeftByGroup, LeftByRevival, LeftByCompacting, Wants}
 use Rattle.lk_sim.specs.Events.{IsRefused}
 use Rattle.lk_replica.specs.Together.{Said, sent_of, ComesToAll}
-use Rattle.lk_world_nodes.specs.Sends.{cut_short, left_over}
+use Rattle.lk_sim_nodes.specs.Sends.{cut_short, left_over}
 use Rattle.lk_sim.specs.Groups.{AreNotesOf, given_by}
 use Rattle.lk_sim.specs.Heard.{Asks}
 use Rattle.lk_sim.specs.Refusals.{datagram_at, IsPermitted}
 use Rattle.lk_sim.specs.Scenes.{Scene}
-use Rattle.lk_world_nodes.specs.Told.{told_by, Tells}
+use Rattle.lk_sim_nodes.specs.Told.{told_by, Tells}
 use Rattle.lk_sim.specs.Traces.{asked_note}
 use Rattle.lk_sim.specs.declared.event.Event.{Event}
 use Rattle.lk_sim.specs.declared.event.Event.TheVariants as event
-use Rattle.lk_world_nodes.specs.declared.refused.Refused.{Refused}
+use Rattle.lk_sim_nodes.specs.declared.refused.Refused.{Refused}
 use Rattle.lk_sim.specs.Events.{GoesDown}
 use Rattle.lk_sim.specs.Runs.{Passes, StopsAt, Runs}
-use Rattle.lk_world_nodes.specs.Seats.{stopped_on}
+use Rattle.lk_sim_nodes.specs.Seats.{stopped_on}
 use Rattle.lk_sim.specs.declared.end.RunEnd.{RunEnd}
-use Rattle.lk_world_nodes.specs.declared.seat.Seat.{Seat}
-use Rattle.lk_world_nodes.specs.declared.seat.Life.{Life}
-use Rattle.lk_world_nodes.specs.declared.seat.Life.TheVariants.{Up, Down}
+use Rattle.lk_sim_nodes.specs.declared.seat.Seat.{Seat}
+use Rattle.lk_sim_nodes.specs.declared.seat.Life.{Life}
+use Rattle.lk_sim_nodes.specs.declared.seat.Life.TheVariants.{Up, Down}
 use Rattle.lk_guarantees.proofs.Falling.{leaves_down}
 use Rattle.lk_guarantees.proofs.Refusing.{none_started, has_cause, leaves_up, takes_as_told}
 use Rattle.lk_guarantees.proofs.Reviving.{same_seat, stands_at, restarts_as_told}

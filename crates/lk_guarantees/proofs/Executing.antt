@@ -119,7 +119,7 @@ changed_of_roster genesis L v e = ap (λ (x : RosterValue). x.changed) e
 abbrev pub kept_in : WholeValue → Kept
 kept_in w = record {
   executed = w.roster.executed;
-  coming = w.roster.sets;
+  incoming = w.roster.sets;
   greatest = w.roster.greatest;
   changed = w.roster.changed;
   sessions = w.sessions;
@@ -138,7 +138,7 @@ is_kept genesis L w fit sums =
     record {
       executed = executed_of genesis L w.roster roster;
       as_many = length_of_window genesis L w.roster roster;
-      coming = λ k lt. set_of_window genesis L w.roster k roster lt
+      incoming = λ k lt. set_of_window genesis L w.roster k roster lt
           ∙ ap Some (sym (members_are genesis L (length L + 1 + k)));
       greatest = greatest_of_roster genesis L w.roster roster ∙ ap (λ (x : PlainRoster). x.greatest) now.roster;
       changed = changed_of_roster genesis L w.roster roster ∙ now.changed;

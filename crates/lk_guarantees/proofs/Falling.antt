@@ -7,17 +7,17 @@ use Rattle.lk_disk.specs.Meters.{stopping}
 use Rattle.lk_node_io.specs.declared.note.Note.{Note}
 use Rattle.lk_replica.specs.Behaviours.{Behaviour}
 use Rattle.lk_replica.specs.ReplicaValue.{ReplicaValue}
-use Rattle.lk_world_nodes.specs.Ends.{IsToldEnd, end_by}
+use Rattle.lk_sim_nodes.specs.Ends.{IsToldEnd, end_by}
 use Rattle.lk_sim.specs.Events.{Turns, EndsByFault, IsGiven, IsGivenTogether, HasEffect}
 use Rattle.lk_sim.specs.Groups.{given_by}
 use Rattle.lk_sim.specs.Scenes.{Scene}
 use Rattle.lk_sim.specs.Traces.{asked_note}
-use Rattle.lk_world_nodes.specs.declared.end.End.{End}
-use Rattle.lk_world_nodes.specs.declared.end.End.TheVariants.{Fault, Stopped}
+use Rattle.lk_sim_nodes.specs.declared.end.End.{End}
+use Rattle.lk_sim_nodes.specs.declared.end.End.TheVariants.{Fault, Stopped}
 use Rattle.lk_sim.specs.declared.event.Event.{Event}
 use Rattle.lk_sim.specs.declared.event.Event.TheVariants as event
-use Rattle.lk_world_nodes.specs.declared.seat.Seat.{Seat}
-use Rattle.lk_world_nodes.specs.declared.seat.Life.TheVariants.{Down}
+use Rattle.lk_sim_nodes.specs.declared.seat.Seat.{Seat}
+use Rattle.lk_sim_nodes.specs.declared.seat.Life.TheVariants.{Down}
 use Rattle.lk_sim.proofs.Networks.{at_set_here}
 use Rattle.lk_guarantees.specs.Events.{IsFor, IsDown, ended_node, IsEnding, LeavesDown}
 use Rattle.lk_guarantees.proofs.Refusing.{is_for}

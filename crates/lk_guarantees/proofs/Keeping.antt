@@ -16,19 +16,19 @@ use Rattle.lk_locks.specs.Meaning.{table_meaning}
 use Rattle.lk_node.specs.Leavings.{header_of, acceptor_of, StandsAs}
 use Rattle.lk_node.specs.Served.{text}
 use Rattle.lk_replica.specs.ReplicaValue.{ReplicaValue, device_of}
-use Rattle.lk_world_nodes.specs.Seats.{disks_of, At}
+use Rattle.lk_sim_nodes.specs.Seats.{disks_of, At}
 use Rattle.lk_sim.specs.Kept.{EveryStanding, CoversAll, KeepsCommand, IsKeptBy}
 use Rattle.lk_sim.specs.Packed.{StandsPacked}
-use Rattle.lk_world_nodes.specs.Rooms as lengths
+use Rattle.lk_sim_nodes.specs.Rooms as lengths
 use Rattle.lk_sim.specs.Scenes.{Scene}
 use Rattle.lk_sim.specs.States.{IsPackedList, KeepsPacked, SumsUpChosen}
-use Rattle.lk_world_nodes.specs.declared.seat.Seat.{Seat}
-use Rattle.lk_world_nodes.specs.declared.seat.Life.{Life}
-use Rattle.lk_world_nodes.specs.declared.seat.Life.TheVariants.{Up, Down}
+use Rattle.lk_sim_nodes.specs.declared.seat.Seat.{Seat}
+use Rattle.lk_sim_nodes.specs.declared.seat.Life.{Life}
+use Rattle.lk_sim_nodes.specs.declared.seat.Life.TheVariants.{Up, Down}
 use Rattle.lk_guarantees.specs.Promise as promise
 use Rattle.lk_guarantees.specs.Disks.{IsSnapshot}
 use Rattle.lk_guarantees.specs.Promise.{device_in, IsShort, MayRemainOf, Remembers, EachImage, HasSnapshot, IsCovered}
-use Rattle.lk_guarantees.specs.Promise.{IsRemembered, Says, Begins}
+use Rattle.lk_guarantees.specs.Promise.{IsRemembered, Says, IsPrefix}
 use Rattle.lk_guarantees.proofs.Executing.{is_snapshot}
 use Rattle.lk_guarantees.proofs.Explaining.{all_fit}
 use Rattle.lk_guarantees.proofs.Quorums.{at_is, members_are, has_sent, is_chosen, chosen_is, stands_in, stood, begins}

@@ -14,7 +14,7 @@ use Rattle.lk_agreement.proofs.Histories.{cons_cases, contains_more, filter_from
 use Rattle.lk_guarantees.specs.Promise as promise
 use Rattle.lk_guarantees.specs.Plain as plainly
 use Rattle.lk_guarantees.specs.Plain.{after, at}
-use Rattle.lk_guarantees.specs.Chosen.{Says, IsAcceptedBy, IsChosen, Begins}
+use Rattle.lk_guarantees.specs.Chosen.{Says, IsAcceptedBy, IsChosen, IsPrefix}
 use Rattle.lk_guarantees.proofs.Effects.{leaves}
 
 -- ---- positions
@@ -181,7 +181,7 @@ chosen_is genesis sent L chosen i v e =
           (accepted_in genesis sent (plainly.members genesis L i) c.0 i v c.1),
     )
 
-pub begins : (L K : List Command) → IsBeginning L K → Begins L K
+pub begins : (L K : List Command) → IsBeginning L K → IsPrefix L K
 begins L K b = (b.0, sym b.1)
 
 pub agreed : (genesis : Genesis) (sent : List Datagram)

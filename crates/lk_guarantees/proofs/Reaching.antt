@@ -5,7 +5,7 @@ use Rattle.lk_replica.specs.ReplicaValue.{ReplicaValue}
 use Rattle.lk_sim.specs.Scenes.{Scene}
 use Rattle.lk_sim.specs.declared.end.RunEnd.{RunEnd}
 use Rattle.lk_sim.specs.declared.event.Event.{Event}
-use Rattle.lk_world_nodes.specs.declared.refused.Refused.{Refused}
+use Rattle.lk_sim_nodes.specs.declared.refused.Refused.{Refused}
 use Rattle.lk_guarantees.specs.Events.{nothing, AreDone, EndsSo, IsRun, Happens, HappenAll, IsReachable}
 
 one_more : (worlds : List (Scene ReplicaValue)) (first old new : Scene ReplicaValue) → HappenAll first worlds old

@@ -23,26 +23,26 @@ use Rattle.lk_replica.specs.ReplicaValue.{ReplicaValue}
 use Rattle.lk_replica.specs.Taking.{ComesTo}
 use Rattle.lk_replica.specs.Together.{Said, sent_of, ComesToAll}
 use Rattle.lk_sim.specs.Events.{Turns, IsGiven, IsGivenTogether, ComesUp, HasEffect, Wants}
-use Rattle.lk_world_nodes.specs.Sends as sending
+use Rattle.lk_sim_nodes.specs.Sends as sending
 use Rattle.lk_sim.specs.Events as doing
 use Rattle.lk_sim.specs.Groups.{bytes_of, given_by}
-use Rattle.lk_world_nodes.specs.Refusals.{NoneUp, NoRestart}
+use Rattle.lk_sim_nodes.specs.Refusals.{NoneUp, NoRestart}
 use Rattle.lk_sim.specs.Refusals.{datagram_at, AreFor, NotStarted, NoTurn, NoStart, NoClient, NoneBound, NoDelivery}
 use Rattle.lk_sim.specs.Refusals.{NoInjection, NoGroup, IsPermitted, IsRejectedFor}
 use Rattle.lk_sim.specs.Scenes.{Scene}
-use Rattle.lk_world_nodes.specs.Seats.{HasNo}
-use Rattle.lk_world_nodes.specs.Seats as seats
+use Rattle.lk_sim_nodes.specs.Seats.{HasNo}
+use Rattle.lk_sim_nodes.specs.Seats as seats
 use Rattle.lk_sim.specs.Traces.{asked_note}
-use Rattle.lk_world_nodes.specs.declared.end.End.{End}
+use Rattle.lk_sim_nodes.specs.declared.end.End.{End}
 use Rattle.lk_sim.specs.declared.event.Event.{Event}
 use Rattle.lk_sim.specs.declared.event.Event.TheVariants as event
 use Rattle.lk_sim.specs.declared.event.Turn.{Turn}
 use Rattle.lk_sim.specs.declared.event.Turn.TheVariants as turn
-use Rattle.lk_world_nodes.specs.declared.refused.Refused.{Refused}
-use Rattle.lk_world_nodes.specs.declared.refused.Refused.TheVariants.{NoSuchNode, NotUp, AlreadyUp, NoSuchDatagram}
-use Rattle.lk_world_nodes.specs.declared.refused.Refused.TheVariants.{Forged, WorldFull, WorldMemory}
-use Rattle.lk_world_nodes.specs.declared.seat.Seat.{Seat}
-use Rattle.lk_world_nodes.specs.declared.seat.Life.TheVariants.{Up}
+use Rattle.lk_sim_nodes.specs.declared.refused.Refused.{Refused}
+use Rattle.lk_sim_nodes.specs.declared.refused.Refused.TheVariants.{NoSuchNode, NotUp, AlreadyUp, NoSuchDatagram}
+use Rattle.lk_sim_nodes.specs.declared.refused.Refused.TheVariants.{Forged, WorldFull, WorldMemory}
+use Rattle.lk_sim_nodes.specs.declared.seat.Seat.{Seat}
+use Rattle.lk_sim_nodes.specs.declared.seat.Life.TheVariants.{Up}
 use Rattle.lk_sim.proofs.Networks.{at_set_here}
 use Rattle.lk_guarantees.specs.Events.{IsFor, IsStarted, IsUp, IsDown, HasCause, LeavesUp, IsTaken, AreGiven, AreTaken}
 use Rattle.lk_guarantees.specs.Events.{TakesAsTold}

@@ -13,7 +13,7 @@ use Rattle.lk_agreement.specs.Datagrams.{Datagram}
 use Rattle.lk_agreement.proofs.Histories.{cons_cases, contains_more}
 use Rattle.lk_node_io.specs.declared.note.Note.{Note}
 use Rattle.lk_node_io.specs.declared.note.Note.TheVariants as note
-use Rattle.lk_world_nodes.specs.Told.{told_by}
+use Rattle.lk_sim_nodes.specs.Told.{told_by}
 use Rattle.lk_guarantees.specs.Promise.{is_reply, AreReplies, nothing_more, an_answer, a_pass, no_reply, is_told}
 use Rattle.lk_guarantees.specs.Promise.{AreTold}
 use Rattle.lk_guarantees.specs.Promise.{Explains}

@@ -15,7 +15,7 @@ use Rattle.lk_locks.specs.Meaning.{table_meaning}
 use Rattle.lk_locks.specs.Packed.{IsTableText}
 use Rattle.lk_log.specs.Images.{Image, MayLeaveBoth, IsLive, seen}
 use Rattle.lk_log.specs.StoreValue.{StoreValue, disks}
-use Rattle.lk_log.specs.Stores.{Found, Holds}
+use Rattle.lk_log.specs.Stores.{Found, HoldsEntries}
 use Rattle.lk_log.proofs.StoreLaws.{found_live, found_sound, one_standing, synced_live}
 use Rattle.lk_node.specs.Served.{text}
 use Rattle.lk_replica.specs.ReplicaValue.{ReplicaValue}
@@ -67,7 +67,7 @@ module _ (header : HeaderValue) where
       let o = r.takes.opens in
       let same = r.renews.rests (o.format_is ∙ is_format) in
       let whose : StoreValue = record r.store { header = header } in
-      let holds : Holds whose o.entries [] =
+      let holds : HoldsEntries whose o.entries [] =
       record { on = o.holds; generation_is = o.generation_is; format_is = o.format_is; header_is = o.header } in
       record {
         entries = o.entries;

@@ -12,16 +12,16 @@ use Rattle.lk_node.specs.Leavings.{header_of}
 use Rattle.lk_replica.specs.Behaviours.{Behaviour}
 use Rattle.lk_replica.specs.ReplicaValue.{ReplicaValue}
 use Rattle.lk_replica.specs.Revived.{RevivesTo}
-use Rattle.lk_world_nodes.specs.Ends.{StaysDown, end_by}
+use Rattle.lk_sim_nodes.specs.Ends.{StaysDown, end_by}
 use Rattle.lk_sim.specs.Events.{Turns, EndsByFault, IsRevived, IsBack, HasEffect}
 use Rattle.lk_sim.specs.Scenes.{Scene}
-use Rattle.lk_world_nodes.specs.Seats.{rested_on}
-use Rattle.lk_world_nodes.specs.declared.end.End.{End}
+use Rattle.lk_sim_nodes.specs.Seats.{rested_on}
+use Rattle.lk_sim_nodes.specs.declared.end.End.{End}
 use Rattle.lk_sim.specs.declared.event.Event.{Event}
 use Rattle.lk_sim.specs.declared.event.Event.TheVariants as event
-use Rattle.lk_world_nodes.specs.declared.seat.Seat.{Seat}
-use Rattle.lk_world_nodes.specs.declared.seat.Life.{Life}
-use Rattle.lk_world_nodes.specs.declared.seat.Life.TheVariants.{Up, Down}
+use Rattle.lk_sim_nodes.specs.declared.seat.Seat.{Seat}
+use Rattle.lk_sim_nodes.specs.declared.seat.Life.{Life}
+use Rattle.lk_sim_nodes.specs.declared.seat.Life.TheVariants.{Up, Down}
 use Rattle.lk_guarantees.specs.Events.{IsRestarted, EndsOn, IsNotRestarted, RestartsAsTold}
 
 pub same_seat : (s : Seat ReplicaValue) (n : ℕ) (life : Life ReplicaValue) → s.number ≡ n → s.life ≡ life

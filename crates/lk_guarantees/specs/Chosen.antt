@@ -35,10 +35,11 @@ IsChosen genesis sent L =
     → (ballot : Ballot) × IsAcceptedBy genesis sent (members genesis L i) i v ballot
 
 -- the first list is a prefix of the second
-abbrev pub Begins : List Command → List Command → Type 0
-Begins L K = (rest : List Command) × (K ≡ L ++ rest)
+abbrev pub IsPrefix : List Command → List Command → Type 0
+IsPrefix L K = (rest : List Command) × (K ≡ L ++ rest)
 
 -- chosen lists agree: of two of them one is a prefix of the other. (The safety of consensus, for a whole list:
 -- Lamport, Paxos Made Simple, 2001, section 2.1)
 abbrev pub Agree : Genesis → List Datagram → Type 0
-Agree genesis sent = (L K : List Command) → IsChosen genesis sent L → IsChosen genesis sent K → Begins L K ⊎ Begins K L
+Agree genesis sent = (L K : List Command) → IsChosen genesis sent L → IsChosen genesis sent K → IsPrefix L K
+    ⊎ IsPrefix K L

@@ -14,11 +14,11 @@ use Rattle.lk_log.specs.Images.{seen}
 use Rattle.lk_recovery.specs.Revivals.{IsLastOld}
 use Rattle.lk_replica.specs.ReplicaValue.{ReplicaValue}
 use Rattle.lk_sim.specs.Scenes.{Scene}
-use Rattle.lk_world_nodes.specs.declared.end.End.TheVariants.{Fault, Stopped}
+use Rattle.lk_sim_nodes.specs.declared.end.End.TheVariants.{Fault, Stopped}
 use Rattle.lk_sim.specs.declared.event.Event.TheVariants as event
-use Rattle.lk_world_nodes.specs.declared.refused.Refused.{Refused}
-use Rattle.lk_world_nodes.specs.declared.refused.Refused.TheVariants.{WorldMemory}
-use Rattle.lk_world_nodes.specs.declared.seat.Life.TheVariants.{Down}
+use Rattle.lk_sim_nodes.specs.declared.refused.Refused.{Refused}
+use Rattle.lk_sim_nodes.specs.declared.refused.Refused.TheVariants.{WorldMemory}
+use Rattle.lk_sim_nodes.specs.declared.seat.Life.TheVariants.{Down}
 use Rattle.lk_guarantees.specs.Events.{IsDone, IsRefused, IsUp}
 
 -- a refusal with the fault of this number, of a restart from these disks, is excused

@@ -5,8 +5,8 @@ use Rattle.std.specs.Prelude.{◌≡◌, ℕ, List, length, Contains}
 use Rattle.lk_types.specs.declared.command.Command.{Command}
 use Rattle.lk_replica.specs.ReplicaValue.{ReplicaValue}
 use Rattle.lk_sim.specs.Scenes.{Scene}
-use Rattle.lk_world_nodes.specs.declared.seat.Life.TheVariants.{Up}
-use Rattle.lk_world_nodes.specs.declared.seat.Seat.{Seat}
+use Rattle.lk_sim_nodes.specs.declared.seat.Life.TheVariants.{Up}
+use Rattle.lk_sim_nodes.specs.declared.seat.Seat.{Seat}
 use Rattle.lk_guarantees.specs.Disks.{kept_text, IsSnapshot}
 use Rattle.lk_guarantees.specs.Promise.{IsChosen, after_stop}
 

@@ -22,12 +22,12 @@ use Rattle.lk_log.specs.Images.{IsLive, IsEmpty}
 use Rattle.lk_log.specs.Stores.{first_base}
 use Rattle.lk_agreement.specs.Datagrams.{Datagram}
 use Rattle.lk_replica.specs.ReplicaValue.{ReplicaValue, device_of}
-use Rattle.lk_world_nodes.specs.declared.seat.Life.{Life}
-use Rattle.lk_world_nodes.specs.declared.seat.Life.TheVariants.{Up, Down}
-use Rattle.lk_world_nodes.specs.declared.seat.Seat.{Seat}
-use Rattle.lk_fields.specs.Fields as field
+use Rattle.lk_sim_nodes.specs.declared.seat.Life.{Life}
+use Rattle.lk_sim_nodes.specs.declared.seat.Life.TheVariants.{Up, Down}
+use Rattle.lk_sim_nodes.specs.declared.seat.Seat.{Seat}
+use Rattle.lk_codec.specs.Fields as field
 use Rattle.lk_state.specs.declared.session.Session.{Session}
-use Rattle.lk_guarantees.specs.Chosen.{Says, IsChosen, Begins}
+use Rattle.lk_guarantees.specs.Chosen.{Says, IsChosen, IsPrefix}
 use Rattle.lk_guarantees.specs.Plain.{at, members, Kept, IsKeptOf}
 
 -- ---- the bytes of a snapshot
@@ -43,7 +43,7 @@ session_text s = field.two s.client ++ (field.eight s.number ++ field.answer s.a
 abbrev pub kept_text : Kept → List ℕ
 kept_text kept =
     ((field.eight kept.executed
-    ++ ((field.one (length kept.coming) ++ flat_map members_text kept.coming)
+    ++ ((field.one (length kept.incoming) ++ flat_map members_text kept.incoming)
     ++ (field.four kept.greatest ++ field.eight kept.changed)))
     ++ (field.two (length kept.sessions) ++ flat_map session_text kept.sessions))
     ++ kept.locks
@@ -124,7 +124,7 @@ abbrev pub IsRemembered : Genesis → List Datagram → List Command → ℕ →
 IsRemembered genesis sent L i v memory =
     ((i ≤ memory.position)
     × ((K : List Command) × IsChosen genesis sent K × (length K ≡ memory.position)
-    × IsSnapshot genesis K memory.snapshot × (Begins K L ⊎ Begins L K)))
+    × IsSnapshot genesis K memory.snapshot × (IsPrefix K L ⊎ IsPrefix L K)))
     ⊎ ((y : Vote) × Contains memory.votes y × (y.position ≡ i) × (y.command ≡ v))
 
 -- more than half of the members of position i remember its command, whatever a stop may leave of them

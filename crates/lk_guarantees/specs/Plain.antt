@@ -191,7 +191,7 @@ begin genesis = record {
   locks = map.empty;
 }
 
--- a node whose number was never a member's becomes a member, while there are fewer than seven
+-- a node whose number is above those of all members so far becomes a member, while there are fewer than seven
 abbrev pub join : ℕ → ℕ → State → Answer × State
 join node port s =
     if nat_le node s.greatest then (Used, s)
@@ -304,7 +304,7 @@ HasFixedMembers genesis L = list_any asks_change L ≡ false → (i : ℕ) → m
 -- answer, and the text of the lock table
 pub record Kept : Type 0 where
   pub executed : ℕ
-  pub coming : List (List Member)
+  pub incoming : List (List Member)
   pub greatest : ℕ
   pub changed : ℕ
   pub sessions : List Session
@@ -314,8 +314,8 @@ pub record Kept : Type 0 where
 pub record IsKeptOf (genesis : Genesis) (L : List Command) (kept : Kept) : Type 0 where
   pub executed : kept.executed ≡ length L
   -- the members of the next alpha positions
-  pub as_many : length kept.coming ≡ genesis.alpha
-  pub coming : (k : ℕ) → k < genesis.alpha → slice_get kept.coming k ≡ Some (members genesis L (length L + 1 + k))
+  pub as_many : length kept.incoming ≡ genesis.alpha
+  pub incoming : (k : ℕ) → k < genesis.alpha → slice_get kept.incoming k ≡ Some (members genesis L (length L + 1 + k))
   pub greatest : kept.greatest ≡ (after genesis L).greatest
   pub changed : kept.changed ≡ (after genesis L).changed
   -- for each client that has asked, in rising order, its request of greatest number, and the answer to that

@@ -7,7 +7,7 @@
 -- All of that is stated here a second time, in words of its own. Of the crates below, these files import the values,
 -- the order of ballots, the grammar of bytes, bodies and files, the packed text of a lock table, and what a world
 -- shows (its genesis, its nodes, its datagrams, its trace). Of the definitions of lk_members, lk_agreement, lk_state,
--- lk_world_nodes and lk_sim they import none but such values: so a definition that is weakened there breaks a proof of
+-- lk_sim_nodes and lk_sim they import none but such values: so a definition that is weakened there breaks a proof of
 -- this crate.
 --
 -- Not restated: what is named above, the contract of a replica (`ComesTo`), what a revival revives, and what a trap
@@ -32,10 +32,10 @@ use Rattle.lk_node_io.specs.declared.note.Note.{Note}
 use Rattle.lk_node_io.specs.declared.note.Note.TheVariants as note
 use Rattle.lk_replica.specs.ReplicaValue.{ReplicaValue}
 use Rattle.lk_sim.specs.Scenes.{Scene}
-use Rattle.lk_world_nodes.specs.declared.seat.Life.TheVariants.{Up}
-use Rattle.lk_world_nodes.specs.declared.seat.Seat.{Seat}
+use Rattle.lk_sim_nodes.specs.declared.seat.Life.TheVariants.{Up}
+use Rattle.lk_sim_nodes.specs.declared.seat.Seat.{Seat}
 use Rattle.lk_guarantees.specs.Plain.{at, members, IsAnswered, TakesEffectAt, Kept, IsKeptOf}
-pub use Rattle.lk_guarantees.specs.Chosen.{Says, IsAcceptedBy, IsChosen, Begins, Agree}
+pub use Rattle.lk_guarantees.specs.Chosen.{Says, IsAcceptedBy, IsChosen, IsPrefix, Agree}
 pub use Rattle.lk_guarantees.specs.Disks.{members_text, session_text, kept_text, IsSnapshot, device_in, MayRemain}
 pub use Rattle.lk_guarantees.specs.Disks.{MayRemainOf, Remembers, EachImage, HasSnapshot, HaveSnapshots, HasVote}
 pub use Rattle.lk_guarantees.specs.Disks.{IsCovered, AreCovered, IsRemembered, IsKeptBy, AreKept, IsShort, AreShort}
@@ -144,7 +144,7 @@ AreToldInTime trace =
 abbrev pub after_stop : ReplicaValue → Kept
 after_stop replica = record {
   executed = replica.node.learner.whole.roster.executed;
-  coming = replica.node.learner.whole.roster.sets;
+  incoming = replica.node.learner.whole.roster.sets;
   greatest = replica.node.learner.whole.roster.greatest;
   changed = replica.node.learner.whole.roster.changed;
   sessions = replica.node.learner.whole.sessions;

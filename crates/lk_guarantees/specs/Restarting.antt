@@ -15,7 +15,7 @@ use Rattle.lk_replica.specs.Revived.{RevivesTo}
 use Rattle.lk_sim.specs.Scenes.{Scene}
 use Rattle.lk_sim.specs.declared.event.Event.{Event}
 use Rattle.lk_sim.specs.declared.event.Event.TheVariants as event
-use Rattle.lk_world_nodes.specs.declared.seat.Life.TheVariants.{Up, Down}
+use Rattle.lk_sim_nodes.specs.declared.seat.Life.TheVariants.{Up, Down}
 use Rattle.lk_node_io.specs.declared.note.Note.{Note}
 use Rattle.lk_guarantees.specs.Events.{remaining}
 

@@ -7,7 +7,7 @@ use Rattle.lk_types.specs.BallotValue.{BallotValue}
 use Rattle.lk_types.specs.Ballots.{IsBelow}
 use Rattle.lk_types.specs.declared.member.Member.{Member}
 use Rattle.lk_types.specs.declared.vote.Vote.{Vote}
-use Rattle.lk_leader.specs.Terms.{Report}
+use Rattle.lk_leader.specs.Terms.{ReceivedPromise}
 use Rattle.lk_leader.specs.Values.{ReportedVote, IsNotAbove, IsBest, told_by, told_at, speaks_at, reports_at}
 use Rattle.lk_leader.proofs.MemberLaws.{map-push, filter-more, filter-same}
 
@@ -52,10 +52,10 @@ module _ (ts : List ReportedVote) (x : ReportedVote) where
   }
 
 -- the promise with these votes
-abbrev pub telling : Report → List Vote → Report
+abbrev pub telling : ReceivedPromise → List Vote → ReceivedPromise
 telling r votes = record { node = r.node; first = r.first; votes = votes }
 
-module _ (i : ℕ) (r : Report) (k : ℕ) (x : Vote) (in' : k < length r.votes) (is : x ≡ get_or r.votes k x) where
+module _ (i : ℕ) (r : ReceivedPromise) (k : ℕ) (x : Vote) (in' : k < length r.votes) (is : x ≡ get_or r.votes k x) where
   -- one vote more, where it is for the position
   pub told-more : eqb x.position i ≡ true
       → told_by i (telling r (take (k + 1) r.votes)) ≡ told_by i (telling r (take k r.votes))
@@ -71,10 +71,10 @@ module _ (i : ℕ) (r : Report) (k : ℕ) (x : Vote) (in' : k < length r.votes) 
       let make : Vote → ReportedVote = λ (y : Vote). record { node = r.node; vote = y } in
       ap (map make) (filter-same (λ (y : Vote). eqb y.position i) r.votes k x in' is f)
 
-told-single : (i : ℕ) (r : Report) → told_at i (r ∷ []) ≡ told_by i r
+told-single : (i : ℕ) (r : ReceivedPromise) → told_at i (r ∷ []) ≡ told_by i r
 told-single i r = simp append-nil
 
-module _ (set : List Member) (i : ℕ) (rs : List Report) (k : ℕ) (r : Report) (in' : k < length rs)
+module _ (set : List Member) (i : ℕ) (rs : List ReceivedPromise) (k : ℕ) (r : ReceivedPromise) (in' : k < length rs)
     (is : r ≡ get_or rs k r) where
   -- one promise more, where it counts
   pub told_at-more : speaks_at set i r ≡ true

@@ -19,7 +19,8 @@ use Rattle.lk_agreement.specs.Soundness.{IsReported, IsReporter}
 use Rattle.lk_agreement.specs.Nodes.{Term, new_term, Acceptance}
 use Rattle.lk_agreement.specs.Changes.{MayPropose, with_report, with_proposal, with_acceptance}
 use Rattle.lk_leader.specs.Terms as terms
-use Rattle.lk_leader.specs.Terms.{Report, ProposalValue, TermValue, proposal_at, in_window, with_proposals, begun}
+use Rattle.lk_leader.specs.Terms.{ReceivedPromise, ProposalValue, TermValue, proposal_at, in_window, with_proposals}
+use Rattle.lk_leader.specs.Terms.{begun}
 use Rattle.lk_leader.specs.Values.{ReportedVote, IsNotAbove, told_by, told_at, speaks_at, reports_at, IsLeadersValue}
 use Rattle.lk_leader.specs.Values.{highest, first_new, fills}
 use Rattle.lk_leader.specs.Proposing.{promisers, IsNext, AreMembersAt, Proposes, proposed}
@@ -30,20 +31,22 @@ use Rattle.lk_leader.proofs.Elements.{map_from, any_from, find_from, find_none}
 
 -- ---- what is told
 
-told_has : (i : ℕ) (rs : List Report) (r : Report) (x : Vote) → Contains rs r → Contains r.votes x → x.position ≡ i
+told_has : (i : ℕ) (rs : List ReceivedPromise) (r : ReceivedPromise) (x : Vote) → Contains rs r → Contains r.votes x
+    → x.position ≡ i
     → Contains (told_at i rs) (record { node = r.node; vote = x })
 told_has i [] r x h k at = absurd (omega (arith, h.1))
 told_has i (q ∷ rs) r x h k at =
-    let make : Report → Vote → ReportedVote = λ (p : Report) (y : Vote). record { node = p.node; vote = y } in
+    let make : ReceivedPromise → Vote → ReportedVote = λ (p : ReceivedPromise)
+    (y : Vote). record { node = p.node; vote = y } in
     elim (cons_cases q rs r h) [
       | inl is ↦ Contains-append_left (told_by i q) (told_at i rs) (make r x)
-          (subst (λ (p : Report). Contains (told_by i p) (make r x)) (sym is)
+          (subst (λ (p : ReceivedPromise). Contains (told_by i p) (make r x)) (sym is)
           (map_has (make r) (filter (λ (y : Vote). y.position == i) r.votes) x
           (filter_has (λ (y : Vote). y.position == i) r.votes x k (eq-eqb x.position i at))))
       | inr in' ↦ Contains-append_right (told_by i q) (told_at i rs) (make r x) (told_has i rs r x in' k at)
     ]
 
-told_from : (i : ℕ) (rs : List Report) (h : ReportedVote) → Contains (told_at i rs) h
+told_from : (i : ℕ) (rs : List ReceivedPromise) (h : ReportedVote) → Contains (told_at i rs) h
     → IsReported rs h.vote × (h.vote.position ≡ i)
 told_from i [] h in' = absurd (omega (arith, in'.1))
 told_from i (q ∷ rs) h in' =
@@ -87,17 +90,18 @@ matches t waiting roster set i v (fills none new gap) x told at =
 
 -- ---- members
 
-promisers_report : (set : List Member) (i : ℕ) (reports : List Report) (n : ℕ) → Contains (promisers set i reports) n
+promisers_report : (set : List Member) (i : ℕ) (reports : List ReceivedPromise) (n : ℕ)
+    → Contains (promisers set i reports) n
     → IsReporter (reports_at set i reports) n
 promisers_report set i reports n h =
     let promised : Member → Bool =
-    λ (m : Member). list_any (λ (r : Report). r.node == m.node && nat_le r.first i) reports in
+    λ (m : Member). list_any (λ (r : ReceivedPromise). r.node == m.node && nat_le r.first i) reports in
     let from = map_from (λ (m : Member). m.node) (filter promised set) n h in
     let m : Member = from.0 in
     let listed : Contains set m = filter_from promised set m from.1 in
-    let found = any_from (λ (r : Report). r.node == m.node && nat_le r.first i) reports
+    let found = any_from (λ (r : ReceivedPromise). r.node == m.node && nat_le r.first i) reports
     (filter_passes_at promised set m from.1) in
-    let r : Report = found.0 in
+    let r : ReceivedPromise = found.0 in
     let parts = and_parts (r.node == m.node) (nat_le r.first i) found.2 in
     let same : r.node ≡ m.node = eqb-true r.node m.node parts.0 in
     let is : is_member r.node set ≡ true = member_of r.node set m listed (sym same) in (
@@ -167,7 +171,7 @@ pub proposes_asked : (executed alpha : ℕ) (t : Term) (k : TermValue) (waiting 
     ⊎ (((q : RequestValue) × Contains waiting q × (v ≡ Request q)) ⊎ (v ≡ Noop))
 proposes_asked executed alpha t k waiting roster set i v stands (highest h best) =
     let from = told_from i (reports_at set i k.reports) h best.among in
-    let r : Report = from.0.0 in
+    let r : ReceivedPromise = from.0.0 in
     inl (h.vote, (r, stands.reports r (filter_from (speaks_at set i) k.reports r from.0.1), from.0.2), refl)
 proposes_asked executed alpha t k waiting roster set i v stands (first_new q none first) =
     inr (inl (
@@ -260,7 +264,8 @@ later_leads executed later alpha t k le h = record {
   accepted = h.accepted;
 }
 
-pub heard_leads : (executed alpha : ℕ) (t : Term) (k : TermValue) (r : Report) → AgreesWithTerm executed alpha t k
+pub heard_leads : (executed alpha : ℕ) (t : Term) (k : TermValue) (r : ReceivedPromise)
+    → AgreesWithTerm executed alpha t k
     → AgreesWithTerm executed alpha (with_report t r) (terms.with_report r k)
 heard_leads executed alpha t k r h = record {
   ballot = h.ballot;

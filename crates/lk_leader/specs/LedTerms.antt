@@ -1,14 +1,14 @@
 -- When a leader's state agrees with a term of the history.
 use Rattle.std.specs.Prelude.{◌≡◌, ℕ, ◌+◌, ◌<◌, ◌≤◌, Contains}
 use Rattle.lk_agreement.specs.Nodes.{Term}
-use Rattle.lk_leader.specs.Terms.{Command, Report, ProposalValue, TermValue}
+use Rattle.lk_leader.specs.Terms.{Command, ReceivedPromise, ProposalValue, TermValue}
 
 -- a leader that keeps this much leads the term, with this many executed positions and a window of this size. The
 -- term lists everything that was ever proposed and heard; what is kept is among these, with each proposal that is not
 -- executed
 pub record AgreesWithTerm (executed alpha : ℕ) (t : Term) (k : TermValue) : Type 0 where
   pub ballot : t.ballot ≡ k.ballot
-  pub reports : (r : Report) → Contains k.reports r → Contains t.reports r
+  pub reports : (r : ReceivedPromise) → Contains k.reports r → Contains t.reports r
   pub proposals : (p : ProposalValue) → Contains k.proposals p → Contains t.proposals (p.position, p.command)
   pub kept : (i : ℕ) (v : Command) → Contains t.proposals (i, v) → executed < i
       → (p : ProposalValue) × Contains k.proposals p × (p.position ≡ i) × (p.command ≡ v)

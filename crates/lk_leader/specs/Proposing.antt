@@ -6,11 +6,12 @@ use Rattle.lk_types.specs.declared.member.Member.{Member}
 use Rattle.lk_members.specs.Effects.{Command, RequestValue}
 use Rattle.lk_members.specs.Majorities.{IsMajority}
 use Rattle.lk_members.specs.Windows.{RosterValue}
-use Rattle.lk_leader.specs.Terms.{Report, ProposalValue, TermValue, LeaderValue, proposal_at, in_window, with_proposals}
+use Rattle.lk_leader.specs.Terms.{ReceivedPromise, ProposalValue, TermValue, LeaderValue, proposal_at, in_window}
+use Rattle.lk_leader.specs.Terms.{with_proposals}
 use Rattle.lk_leader.specs.Values.{IsLeadersValue}
 
 -- the members of the set that promised from the position or one before it on
-abbrev pub promisers : List Member → ℕ → List Report → List ℕ
+abbrev pub promisers : List Member → ℕ → List ReceivedPromise → List ℕ
 promisers set i reports =
     map (λ m. m.node) (filter (λ m. list_any (λ r. r.node == m.node && nat_le r.first i) reports) set)
 

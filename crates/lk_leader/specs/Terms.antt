@@ -1,7 +1,7 @@
 -- What a contract sees of a leader.
 pub use Rattle.lk_types.specs.BallotValue.{BallotValue}
 pub use Rattle.lk_members.specs.Effects.{Command, RequestValue}
-pub use Rattle.lk_agreement.specs.Soundness.{Report}
+pub use Rattle.lk_agreement.specs.Soundness.{ReceivedPromise}
 use Rattle.std.specs.List.{list_any}
 use Rattle.lk_members.specs.Ports.{is_named}
 use Rattle.lk_members.specs.Windows.{RosterValue}
@@ -17,7 +17,7 @@ pub record ProposalValue : Type 0 where
 -- a ballot in progress: the first promise of each node, in order, and what was proposed, as far as it is kept
 pub record TermValue : Type 0 where
   pub ballot : BallotValue
-  pub reports : List Report
+  pub reports : List ReceivedPromise
   pub proposals : List ProposalValue
 
 -- the term, if any, and the requests that wait
@@ -33,7 +33,7 @@ idle = record { term = None; waiting = [] }
 abbrev pub begun : BallotValue → TermValue
 begun b = record { ballot = b; reports = []; proposals = [] }
 
-abbrev pub with_report : Report → TermValue → TermValue
+abbrev pub with_report : ReceivedPromise → TermValue → TermValue
 with_report r t = record { ballot = t.ballot; reports = t.reports ++ r ∷ []; proposals = t.proposals }
 
 abbrev pub with_proposals : List ProposalValue → TermValue → TermValue
@@ -52,7 +52,7 @@ abbrev pub with_term : TermValue → LeaderValue → LeaderValue
 with_term t l = record { term = Some t; waiting = l.waiting }
 
 -- one of the promises is the node's
-abbrev pub is_promiser : ℕ → List Report → Bool
+abbrev pub is_promiser : ℕ → List ReceivedPromise → Bool
 is_promiser node reports = list_any (λ r. r.node == node) reports
 
 abbrev pub has_term : Option TermValue → Bool

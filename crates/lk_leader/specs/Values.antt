@@ -7,23 +7,23 @@ use Rattle.lk_types.specs.declared.member.Member.{Member}
 use Rattle.lk_members.specs.Effects.{Command, RequestValue, Noop, Request}
 use Rattle.lk_members.specs.Rosters.{is_member}
 use Rattle.lk_members.specs.Windows.{RosterValue}
-use Rattle.lk_leader.specs.Terms.{Report, ProposalValue, TermValue}
+use Rattle.lk_leader.specs.Terms.{ReceivedPromise, ProposalValue, TermValue}
 pub use Rattle.lk_leader.specs.declared.reported_vote.ReportedVote.{ReportedVote}
 
 -- a promise speaks for a position of this set: a member gave it, from the position or one before it on
-abbrev pub speaks_at : List Member → ℕ → Report → Bool
+abbrev pub speaks_at : List Member → ℕ → ReceivedPromise → Bool
 speaks_at set i r = is_member r.node set && nat_le r.first i
 
 -- those of the promises that do
-abbrev pub reports_at : List Member → ℕ → List Report → List Report
+abbrev pub reports_at : List Member → ℕ → List ReceivedPromise → List ReceivedPromise
 reports_at set i reports = filter (speaks_at set i) reports
 
 -- what a promise reports of the position
-abbrev pub told_by : ℕ → Report → List ReportedVote
+abbrev pub told_by : ℕ → ReceivedPromise → List ReportedVote
 told_by i r = map (λ x. record { node = r.node; vote = x }) (filter (λ x. x.position == i) r.votes)
 
 -- what these promises report of it
-abbrev pub told_at : ℕ → List Report → List ReportedVote
+abbrev pub told_at : ℕ → List ReceivedPromise → List ReportedVote
 told_at i reports = flat_map (told_by i) reports
 
 -- the second counts at least as much: a greater ballot, or the same one reported by a node that is not greater
@@ -58,7 +58,7 @@ abbrev pub NoneIsNew : ℕ → List ProposalValue → List RequestValue → Type
 NoneIsNew executed ps waiting = (r : RequestValue) → Contains waiting r → IsUnderWay executed ps (Request r)
 
 -- some promise reports a vote at the position or after it
-abbrev pub is_reached : List Report → ℕ → Bool
+abbrev pub is_reached : List ReceivedPromise → ℕ → Bool
 is_reached reports i = list_any (λ r. list_any (λ x. nat_le i x.position) r.votes) reports
 
 -- the last change is not in effect before the position

@@ -10,7 +10,7 @@ ghost use Rattle.lk_members.specs.Windows.{RosterValue, RosterSumsUp};
 ghost use Rattle.lk_agreement.specs.Soundness.{IsReported};
 ghost use Rattle.lk_agreement.specs.Nodes.{Term, new_term};
 ghost use Rattle.lk_agreement.specs.Changes.{MayPropose, with_report, with_proposal, with_acceptance};
-ghost use Rattle.lk_leader.specs.Terms.{Report, ProposalValue, TermValue, begun, with_proposals};
+ghost use Rattle.lk_leader.specs.Terms.{ReceivedPromise, ProposalValue, TermValue, begun, with_proposals};
 ghost use Rattle.lk_leader.specs.Terms as terms;
 ghost use Rattle.lk_leader.specs.Values.{IsLeadersValue};
 ghost use Rattle.lk_leader.specs.Proposing.{IsNext, Proposes, proposed};
@@ -53,7 +53,8 @@ pub fn a_leader_keeps_its_term()
     ensures begins { (executed alpha : ℕ) (b : BallotValue) → AgreesWithTerm executed alpha (new_term b) (begun b) }
     ensures later { (executed later alpha : ℕ) (t : Term) (k : TermValue) → executed ≤ later
         → AgreesWithTerm executed alpha t k → AgreesWithTerm later alpha t k }
-    ensures hears { (executed alpha : ℕ) (t : Term) (k : TermValue) (r : Report) → AgreesWithTerm executed alpha t k
+    ensures hears { (executed alpha : ℕ) (t : Term) (k : TermValue) (r : ReceivedPromise)
+        → AgreesWithTerm executed alpha t k
         → AgreesWithTerm executed alpha (with_report t r) (terms.with_report r k) }
     ensures proposes { (t : Term) (k : TermValue) (roster : RosterValue) (i : ℕ) (v : Command)
         → IsNext roster k.proposals i → AgreesWithTerm roster.executed (length roster.sets) t k

@@ -10,7 +10,7 @@ ghost use Rattle.lk_leader.specs.Terms.{keeps_promise, silent_among};
 ghost use Rattle.lk_leader.specs.Proposing.{Leads, LeaderProposes, proposed};
 ghost use Rattle.lk_leader.specs.Acceptances.{IsVoteFor, heard_at, GainsMajority, IsOpen};
 
-use crate::report::Report;
+use crate::received_promise::ReceivedPromise;
 use crate::term::Term;
 use crate::waiting::Waiting;
 use lk_members::Roster;
@@ -99,7 +99,7 @@ impl Leader {
         if !self.is_first(node, ballot, roster) {
             return Ok(());
         }
-        let report = Report::of(self.alloc, node, first, votes)?;
+        let report = ReceivedPromise::of(self.alloc, node, first, votes)?;
         if let Some(term) = &mut self.term {
             term.keep(report)?;
         }

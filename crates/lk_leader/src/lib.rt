@@ -6,7 +6,7 @@
 pub mod laws;
 mod leader;
 mod proposal;
-mod report;
+mod received_promise;
 mod reported_vote;
 mod term;
 mod waiting;

@@ -11,7 +11,7 @@ ghost use Rattle.lk_leader.specs.Acceptances.{heard_at, GainsMajority};
 ghost use Rattle.lk_members.specs.Majorities.{IsMajority};
 
 use crate::proposal::Proposal;
-use crate::report::Report;
+use crate::received_promise::ReceivedPromise;
 use crate::reported_vote::ReportedVote;
 use crate::waiting::Waiting;
 use arrayvec::ArrayVec;
@@ -25,7 +25,7 @@ use std::marker::Model;
 #[derive(Drop)]
 pub(crate) struct Term {
     ballot: RealBallot,
-    reports: Vec<Report>,
+    reports: Vec<ReceivedPromise>,
     proposals: ArrayVec<Proposal, 16>,
 }
 
@@ -68,7 +68,7 @@ impl Term {
     }
 
     // Appends a promise. A failed call changes nothing.
-    pub(crate) fn keep(&mut self, report: Report) -> Result<(), NoMemory>
+    pub(crate) fn keep(&mut self, report: ReceivedPromise) -> Result<(), NoMemory>
         ensures ok { OnOk result (self.new ≡ with_report report self.old) }
         ensures err { OnErr result (self.new ≡ self.old) }
     {
@@ -239,7 +239,7 @@ impl Term {
 }
 
 // Returns the members of the set that have promised with a `first` that is at most the position.
-fn promisers(reports: &[Report], position: Position, set: &Members) -> ArrayVec<NodeNo, 7>
+fn promisers(reports: &[ReceivedPromise], position: Position, set: &Members) -> ArrayVec<NodeNo, 7>
     ensures { result.items ≡ those_who_promised set.now position reports.now }
 {
     let members = set.as_slice();
@@ -253,7 +253,7 @@ fn promisers(reports: &[Report], position: Position, set: &Members) -> ArrayVec<
 }
 
 // Whether the node has promised with a `first` that is at most the position.
-fn is_promiser_of(reports: &[Report], node: NodeNo, position: Position) -> bool
+fn is_promiser_of(reports: &[ReceivedPromise], node: NodeNo, position: Position) -> bool
     ensures { result ≡ list_any (λ r. r.node == node && nat_le r.first position) reports.now }
 {
     reports.iter().any(|report| report.is_from(node, position))

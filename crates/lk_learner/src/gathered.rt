@@ -94,7 +94,7 @@ impl Gathered {
     }
 
     // Appends the part if it continues these bytes. It needs memory for its bytes; a failed call changes nothing.
-    pub(crate) fn join(&mut self, part: &PartRef<'_>) -> Result<(), NoMemory>
+    pub(crate) fn append(&mut self, part: &PartRef<'_>) -> Result<(), NoMemory>
         ensures ok { OnOk result (self.new ≡ joined self.old part.now) }
         ensures err { OnErr result (self.new ≡ self.old) }
         ensures memory { OnErr result (IsTrue (goes_on self.old part.now)) }

@@ -17,7 +17,7 @@ fn begins(gathered: &Option<Gathered>, part: &PartRef<'_>) -> bool
 }
 
 // Appends the part if it continues what is gathered, and drops it otherwise. A failed call changes nothing.
-fn join(gathered: &mut Option<Gathered>, part: &PartRef<'_>) -> Result<(), NoMemory>
+fn append_part(gathered: &mut Option<Gathered>, part: &PartRef<'_>) -> Result<(), NoMemory>
     ensures ok { OnOk result (gathered.new ≡ joined_any gathered.old part.now) }
     ensures err { OnErr result (gathered.new ≡ gathered.old) }
     ensures memory { OnErr result (IsTrue (goes_on_any gathered.old part.now)) }
@@ -25,7 +25,7 @@ fn join(gathered: &mut Option<Gathered>, part: &PartRef<'_>) -> Result<(), NoMem
     let Some(gathered) = gathered else {
         return Ok(());
     };
-    gathered.join(part)?;
+    gathered.append(part)?;
     Ok(())
 }
 
@@ -50,6 +50,6 @@ pub fn add_part(
         *gathered = Some(Gathered::begun_by(alloc, part)?);
         return Ok(());
     }
-    join(gathered, part)?;
+    append_part(gathered, part)?;
     Ok(())
 }

@@ -2,11 +2,11 @@
 use Rattle.std.proofs.Common.{◌≡◌, ℕ, List, ◌++◌, Option, Some, None, refl, ap, ◌∙◌}
 use Rattle.std.specs.Prelude.{IfSome}
 use Rattle.lk_types.specs.Ranges.{IsCount}
-use Rattle.lk_fields.specs.Fields.{eight}
-use Rattle.lk_fields.specs.Parser.{tagged, whole}
-use Rattle.lk_fields.specs.FieldReading.{read_count}
-use Rattle.lk_fields.proofs.Spellings.{IsBytes, Reads, both_reads, whole_takes, whole_again, TakesKinds, no_kind_takes}
-use Rattle.lk_fields.proofs.Spellings.{kind_takes, tagged_reads, count_reads}
+use Rattle.lk_codec.specs.Fields.{eight}
+use Rattle.lk_codec.specs.Parser.{tagged, whole}
+use Rattle.lk_codec.specs.FieldReading.{read_count}
+use Rattle.lk_codec.proofs.Spellings.{IsBytes, Reads, both_reads, whole_takes, whole_again, TakesKinds, no_kind_takes}
+use Rattle.lk_codec.proofs.Spellings.{kind_takes, tagged_reads, count_reads}
 use Rattle.lk_locks.specs.Names.{IsName}
 use Rattle.lk_locks.specs.NameLaws.{name_reads}
 use Rattle.lk_locks.specs.Bodies.{lock_name, name_and_fence, body_tag, body_fields, spelling, IsBody, SpellsBody}

@@ -14,10 +14,10 @@ use Rattle.lk_locks.specs.Plain.{Names, Table}
 use Rattle.lk_locks.specs.Packed.{Entry, entry, entries, read_entry, read_size, read_entries, read_table, table_text}
 use Rattle.lk_locks.specs.Packed.{rise, DoNotRise}
 use Rattle.lk_locks.specs.declared.slot.Slot.{Slot}
-use Rattle.lk_fields.specs.Fields.{two}
-use Rattle.lk_fields.specs.FieldReading.{read_two}
-use Rattle.lk_fields.specs.Parser.{◌>>=◌, many, made, whole}
-use Rattle.lk_fields.proofs.Spellings.{with_front}
+use Rattle.lk_codec.specs.Fields.{two}
+use Rattle.lk_codec.specs.FieldReading.{read_two}
+use Rattle.lk_codec.specs.Parser.{◌>>=◌, many, made, whole}
+use Rattle.lk_codec.proofs.Spellings.{with_front}
 use Rattle.lk_locks.specs.PackedLaws.{decided, entries_rise, empty_entries}
 
 two_hold : (a b : Bool) → (a && b) ≡ true → (a ≡ true) × (b ≡ true)

@@ -1,9 +1,9 @@
 -- The bodies of requests to the lock table, as bytes.
 use Rattle.std.specs.Prelude.{◌≡◌, ℕ, Bool, true, List, ◌∷◌, ◌++◌, length, Option, Some, None, if◌then◌else◌}
 use Rattle.lk_types.specs.Ranges.{IsCount}
-use Rattle.lk_fields.specs.Fields.{eight}
-use Rattle.lk_fields.specs.FieldReading.{read_count}
-use Rattle.lk_fields.specs.Parser.{read_byte, sized, both, made, tested, tagged, kind, no_kind, whole}
+use Rattle.lk_codec.specs.Fields.{eight}
+use Rattle.lk_codec.specs.FieldReading.{read_count}
+use Rattle.lk_codec.specs.Parser.{read_byte, sized, both, made, tested, tagged, kind, no_kind, whole}
 use Rattle.lk_locks.specs.Names.{IsName, is_name}
 use Rattle.lk_locks.specs.declared.body.Body.{Body}
 use Rattle.lk_locks.specs.declared.body.Body.TheVariants.{Acquire, Release, Ask, Check, Share, Break}

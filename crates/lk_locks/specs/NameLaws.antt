@@ -1,8 +1,8 @@
 -- Laws: a name that was written is read back.
 use Rattle.std.proofs.Common.{◌≡◌, ℕ, ◌<◌, ◌≤◌, Bool, true, false, leb, ◌&&◌, List, [], ◌∷◌, length, refl, arith}
 use Rattle.std.proofs.lemmas.Bool.{leb-true}
-use Rattle.lk_fields.specs.Parser.{read_byte, sized}
-use Rattle.lk_fields.proofs.Spellings.{Reads, byte_reads, fitting, tested_reads, sized_reads}
+use Rattle.lk_codec.specs.Parser.{read_byte, sized}
+use Rattle.lk_codec.proofs.Spellings.{Reads, byte_reads, fitting, tested_reads, sized_reads}
 use Rattle.lk_locks.specs.Names.{IsName, is_name}
 use Rattle.lk_locks.specs.Bodies.{lock_name, read_name}
 

@@ -9,9 +9,9 @@ use Rattle.std.proofs.lemmas.Bool.{eqb-true, ltb-true}
 use Rattle.std.specs.Prelude.{IfOk}
 use Rattle.lk_types.specs.Ranges.{IsClient, IsCount}
 use Rattle.lk_types.specs.Answers.{IsAnswer}
-use Rattle.lk_fields.specs.Parser.{◌>>=◌, read_byte, sized, both, made}
-use Rattle.lk_fields.specs.FieldReading.{read_count}
-use Rattle.lk_fields.proofs.Spellings.{bind_ok, chosen, some_is}
+use Rattle.lk_codec.specs.Parser.{◌>>=◌, read_byte, sized, both, made}
+use Rattle.lk_codec.specs.FieldReading.{read_count}
+use Rattle.lk_codec.proofs.Spellings.{bind_ok, chosen, some_is}
 use Rattle.lk_locks.specs.Names.{IsName, is_name}
 use Rattle.lk_locks.specs.Bodies.{read_name, read_name_and_fence, fields_of, body_of, name_of, is_known, known}
 use Rattle.lk_locks.specs.Holders.{is_held, held_by, left_by, is_kept, IsHolders}

@@ -7,9 +7,9 @@ use Rattle.std.specs.Cmp.Lexicographic.{slice_cmp}
 use Rattle.std.specs.FinMap as map
 use Rattle.lk_types.specs.Limits.{max_client, max_sharers}
 use Rattle.lk_types.specs.Ranges.{IsCount}
-use Rattle.lk_fields.specs.Fields.{one, two, eight}
-use Rattle.lk_fields.specs.FieldReading.{is_from_1_to, read_two, read_client, read_count}
-use Rattle.lk_fields.specs.Parser.{◌>>=◌, read_byte, both, made, tested, tagged, kind, bare, no_kind, counted, whole}
+use Rattle.lk_codec.specs.Fields.{one, two, eight}
+use Rattle.lk_codec.specs.FieldReading.{is_from_1_to, read_two, read_client, read_count}
+use Rattle.lk_codec.specs.Parser.{◌>>=◌, read_byte, both, made, tested, tagged, kind, bare, no_kind, counted, whole}
 use Rattle.lk_locks.specs.Names.{IsName}
 use Rattle.lk_locks.specs.Bodies.{lock_name, read_name}
 use Rattle.lk_locks.specs.Holders.{IsHolders, is_kept}

@@ -14,13 +14,13 @@ use Rattle.std.proofs.lemmas.Bool.{eqb-true, eqb-false, ne_eqb, le-leb}
 use Rattle.std.proofs.lemmas.List.{length-append, nil_from_length}
 use Rattle.std.proofs.lemmas.List.Concat.{flat_map-cons}
 use Rattle.lk_types.specs.Ranges.{IsCount, IsClient}
-use Rattle.lk_fields.specs.Fields.{one, two, eight}
-use Rattle.lk_fields.specs.FieldReading.{is_from_1_to, read_two, read_count, read_client}
-use Rattle.lk_fields.specs.Parser.{read_byte, tested, counted, tagged, whole}
-use Rattle.lk_fields.proofs.Spellings.{IsBytes, Took, Reads, both_reads, made_reads, made_as, tested_reads, fitting}
-use Rattle.lk_fields.proofs.Spellings.{byte_reads, bind_ok, whole_takes, whole_again, two_reads, client_reads}
-use Rattle.lk_fields.proofs.Spellings.{count_reads, limited_reads, ranged_reads, counted_reads, TakesKinds, kind_takes}
-use Rattle.lk_fields.proofs.Spellings.{no_kind_takes, bare_takes, tagged_reads}
+use Rattle.lk_codec.specs.Fields.{one, two, eight}
+use Rattle.lk_codec.specs.FieldReading.{is_from_1_to, read_two, read_count, read_client}
+use Rattle.lk_codec.specs.Parser.{read_byte, tested, counted, tagged, whole}
+use Rattle.lk_codec.proofs.Spellings.{IsBytes, Took, Reads, both_reads, made_reads, made_as, tested_reads, fitting}
+use Rattle.lk_codec.proofs.Spellings.{byte_reads, bind_ok, whole_takes, whole_again, two_reads, client_reads}
+use Rattle.lk_codec.proofs.Spellings.{count_reads, limited_reads, ranged_reads, counted_reads, TakesKinds, kind_takes}
+use Rattle.lk_codec.proofs.Spellings.{no_kind_takes, bare_takes, tagged_reads}
 use Rattle.lk_locks.specs.Names.{IsName}
 use Rattle.lk_locks.specs.Bodies.{lock_name, read_name}
 use Rattle.lk_locks.specs.Holders.{IsHolders, is_kept}

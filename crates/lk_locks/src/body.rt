@@ -1,12 +1,12 @@
 ghost use Rattle.std.specs.Prelude.{◌≡◌, ◌≤◌, ◌∷◌, ◌++◌, List, ℕ, length, Some, IfSome};
-ghost use Rattle.lk_fields.specs.Parser.{Finds};
+ghost use Rattle.lk_codec.specs.Parser.{Finds};
 ghost use Rattle.lk_locks.specs.declared.body.Body.{Body};
 ghost use Rattle.lk_locks.specs.Bodies.{SpellsBody, lock_name, spelling, read_name, read_name_and_fence, fields_of};
 ghost use Rattle.lk_locks.specs.Bodies.{body_of, name_of, is_known};
 
 use crate::name::Name;
 use arrayvec::ArrayVec;
-use lk_fields::{read_fence, read_u8};
+use lk_codec::{read_fence, read_u8};
 use lk_types::{Fence, Payload};
 
 /// What a client asks of the table.
@@ -112,7 +112,7 @@ impl Body {
     }
 
     /// The bytes of the body: 3 to 42. Takes no memory.
-    #[tactic(auto, unfolding(lk_fields::specs::Fields::eight))]
+    #[tactic(auto, unfolding(lk_codec::specs::Fields::eight))]
     pub fn write(&self) -> Payload
         ensures value { result ≡ spelling self.now }
     {

@@ -1,10 +1,10 @@
 //! A name and its slot as bytes, read and written: one format for a raised table, another for one that is not.
 ghost use Rattle.std.specs.Prelude.{◌≡◌, ◌<◌, ◌≤◌, [], ◌∷◌, ◌++◌, true, false, length, OnOk, OnErr, IfSome};
 ghost use Rattle.lk_types.specs.Limits.{max_sharers};
-ghost use Rattle.lk_fields.specs.Fields.{two};
-ghost use Rattle.lk_fields.specs.FieldReading.{read_client};
-ghost use Rattle.lk_fields.specs.Parser.{Finds, many, tagged};
-ghost use Rattle.lk_fields.specs.Fronts.{Keeps};
+ghost use Rattle.lk_codec.specs.Fields.{two};
+ghost use Rattle.lk_codec.specs.FieldReading.{read_client};
+ghost use Rattle.lk_codec.specs.Parser.{Finds, many, tagged};
+ghost use Rattle.lk_codec.specs.Fronts.{KeepsFront};
 ghost use Rattle.lk_locks.specs.Bodies.{lock_name};
 ghost use Rattle.lk_locks.specs.Holders.{is_kept};
 ghost use Rattle.lk_locks.specs.Packed.{holder_number, sharers, holders, slot, entry, read_holder, read_sharers};
@@ -16,7 +16,7 @@ use crate::sharers::Sharers;
 use crate::slot::{Holders, Slot};
 use arrayvec::ArrayVec;
 use bytes::{BufMut, BytesMut};
-use lk_fields::{
+use lk_codec::{
     put_client, put_fence, put_u8, put_u16, read_client, read_fence, read_u8, read_u16,
 };
 use lk_types::ClientNo;
@@ -151,10 +151,10 @@ pub fn read_entry(raised: bool, bytes: &[u8]) -> Option<(Name, Slot, &[u8])>
 }
 
 // Appends the length of a name in a byte, and its bytes. Out of memory, each `put_` of this file may leave a prefix.
-#[tactic(auto, using(lk_fields::proofs::Spellings::keeps_same, lk_fields::proofs::Spellings::keeps_behind))]
+#[tactic(auto, using(lk_codec::proofs::Spellings::keeps_same, lk_codec::proofs::Spellings::keeps_behind))]
 fn put_name(out: &mut BytesMut, name: &Name) -> Result<(), AllocError>
     ensures ok { OnOk result (out.new.items ≡ out.old.items ++ lock_name name.now) }
-    ensures err { OnErr result (Keeps out.old.items out.new.items) }
+    ensures err { OnErr result (KeepsFront out.old.items out.new.items) }
 {
     let bytes = name.as_slice();
     put_u8(out, bytes.len() as u8)?;
@@ -164,10 +164,10 @@ fn put_name(out: &mut BytesMut, name: &Name) -> Result<(), AllocError>
 
 // Appends who holds a name, in a table that was not raised: a client in two bytes, 0 for nobody. Such a table has no
 // sharers.
-#[tactic(auto, using(lk_fields::proofs::Spellings::keeps_same))]
+#[tactic(auto, using(lk_codec::proofs::Spellings::keeps_same))]
 fn put_holder(out: &mut BytesMut, value: &Holders) -> Result<(), AllocError>
     ensures ok { OnOk result (out.new.items ≡ out.old.items ++ two (holder_number value.now)) }
-    ensures err { OnErr result (Keeps out.old.items out.new.items) }
+    ensures err { OnErr result (KeepsFront out.old.items out.new.items) }
 {
     let number = match value {
         Holders::Alone(client) => client.get(),
@@ -178,10 +178,10 @@ fn put_holder(out: &mut BytesMut, value: &Holders) -> Result<(), AllocError>
 }
 
 // Appends how many sharers there are in a byte, and then each.
-#[tactic(auto, using(lk_fields::proofs::Spellings::keeps_same, lk_fields::proofs::Spellings::keeps_behind))]
+#[tactic(auto, using(lk_codec::proofs::Spellings::keeps_same, lk_codec::proofs::Spellings::keeps_behind))]
 fn put_sharers(out: &mut BytesMut, value: &Sharers) -> Result<(), AllocError>
     ensures ok { OnOk result (out.new.items ≡ out.old.items ++ sharers value.now) }
-    ensures err { OnErr result (Keeps out.old.items out.new.items) }
+    ensures err { OnErr result (KeepsFront out.old.items out.new.items) }
 {
     let clients = value.as_slice();
     put_u8(out, clients.len() as u8)?;
@@ -192,10 +192,10 @@ fn put_sharers(out: &mut BytesMut, value: &Sharers) -> Result<(), AllocError>
 }
 
 // Appends who holds a name, in a raised table: a mode, and then the client or the sharers.
-#[tactic(auto, using(lk_fields::proofs::Spellings::keeps_same, lk_fields::proofs::Spellings::keeps_behind))]
+#[tactic(auto, using(lk_codec::proofs::Spellings::keeps_same, lk_codec::proofs::Spellings::keeps_behind))]
 fn put_mode(out: &mut BytesMut, value: &Holders) -> Result<(), AllocError>
     ensures ok { OnOk result (out.new.items ≡ out.old.items ++ holders true value.now) }
-    ensures err { OnErr result (Keeps out.old.items out.new.items) }
+    ensures err { OnErr result (KeepsFront out.old.items out.new.items) }
 {
     match value {
         Holders::Nobody => put_u8(out, 0)?,
@@ -214,7 +214,7 @@ fn put_mode(out: &mut BytesMut, value: &Holders) -> Result<(), AllocError>
 // Appends who holds a name, in the format of a raised table or of one that is not.
 fn put_holders(out: &mut BytesMut, raised: bool, value: &Holders) -> Result<(), AllocError>
     ensures ok { OnOk result (out.new.items ≡ out.old.items ++ holders raised value.now) }
-    ensures err { OnErr result (Keeps out.old.items out.new.items) }
+    ensures err { OnErr result (KeepsFront out.old.items out.new.items) }
 {
     if raised {
         put_mode(out, value)
@@ -224,10 +224,10 @@ fn put_holders(out: &mut BytesMut, raised: bool, value: &Holders) -> Result<(), 
 }
 
 // Appends the last fence of a name, and who holds it.
-#[tactic(auto, using(lk_fields::proofs::Spellings::keeps_same, lk_fields::proofs::Spellings::keeps_behind))]
+#[tactic(auto, using(lk_codec::proofs::Spellings::keeps_same, lk_codec::proofs::Spellings::keeps_behind))]
 fn put_slot(out: &mut BytesMut, raised: bool, value: &Slot) -> Result<(), AllocError>
     ensures ok { OnOk result (out.new.items ≡ out.old.items ++ slot raised value.now) }
-    ensures err { OnErr result (Keeps out.old.items out.new.items) }
+    ensures err { OnErr result (KeepsFront out.old.items out.new.items) }
 {
     put_fence(out, value.fence)?;
     put_holders(out, raised, &value.holders)?;
@@ -236,7 +236,7 @@ fn put_slot(out: &mut BytesMut, raised: bool, value: &Slot) -> Result<(), AllocE
 
 /// Appends a name and its slot, in the format of a raised table or of one that is not. Out of memory it may leave a
 /// prefix of the two.
-#[tactic(auto, using(lk_fields::proofs::Spellings::keeps_same, lk_fields::proofs::Spellings::keeps_behind))]
+#[tactic(auto, using(lk_codec::proofs::Spellings::keeps_same, lk_codec::proofs::Spellings::keeps_behind))]
 pub fn put_entry(
     out: &mut BytesMut,
     raised: bool,
@@ -244,7 +244,7 @@ pub fn put_entry(
     value: &Slot,
 ) -> Result<(), AllocError>
     ensures ok { OnOk result (out.new.items ≡ out.old.items ++ entry raised (name.now, value.now)) }
-    ensures err { OnErr result (Keeps out.old.items out.new.items) }
+    ensures err { OnErr result (KeepsFront out.old.items out.new.items) }
 {
     put_name(out, name)?;
     put_slot(out, raised, value)?;

@@ -2,14 +2,14 @@
 ghost use Rattle.std.specs.Prelude.{◌≡◌, ◌≤◌, ◌++◌, ℕ, List, length, Some, None, OnOk, OnErr, IfOk, IsErrOf};
 ghost use Rattle.std.specs.FinMap as map;
 ghost use Rattle.lk_types.specs.Limits.{max_names};
-ghost use Rattle.lk_fields.specs.Parser.{many, whole};
+ghost use Rattle.lk_codec.specs.Parser.{many, whole};
 ghost use Rattle.lk_locks.specs.Packed.{read_entry, read_entries, read_table, DoNotRise};
 ghost use Rattle.lk_locks.specs.PackedLaws.{parts_of};
 
 use crate::entry::read_entry;
 use crate::table::{LockTable, RAISED_MARK};
 use bytes::BytesMut;
-use lk_fields::read_u16;
+use lk_codec::read_u16;
 use lk_state::{Machine, UnpackFault};
 use lk_types::limits::MAX_NAMES;
 use lk_types::{Answer, ClientNo, NoMemory};

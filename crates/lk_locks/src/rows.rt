@@ -66,7 +66,7 @@ fn acquire(client: ClientNo, slot: Option<Slot>, names: usize) -> Row
 
 // The result when a client shares a name that is shared: a sharer gets its fence again, a new one joins at the same
 // fence, or gets `Busy` if there are eight.
-fn join(client: ClientNo, fence: Fence, clients: Sharers) -> Row
+fn add_sharer(client: ClientNo, fence: Fence, clients: Sharers) -> Row
     ensures { result ≡ joined client fence clients }
 {
     if clients.has(client) {
@@ -80,7 +80,7 @@ fn join(client: ClientNo, fence: Fence, clients: Sharers) -> Row
 }
 
 // The result when a client shares a name that nobody holds, given the fence for it or why there is none.
-fn begin(client: ClientNo, fence: Result<Fence, Answer>) -> Row
+fn begin_sharing(client: ClientNo, fence: Result<Fence, Answer>) -> Row
     ensures { result ≡ given Shared (Together (client ∷ [])) fence }
 {
     match fence {
@@ -98,11 +98,11 @@ fn share(client: ClientNo, slot: Option<Slot>, names: usize) -> Row
     ensures { result ≡ shared client slot names }
 {
     match slot {
-        None => begin(client, first_fence(names)),
+        None => begin_sharing(client, first_fence(names)),
         Some(Slot { fence, holders }) => match holders {
-            Holders::Nobody => begin(client, fence_after(fence)),
+            Holders::Nobody => begin_sharing(client, fence_after(fence)),
             Holders::Alone(holder) => unchanged(Answer::Busy(holder, fence)),
-            Holders::Together(clients) => join(client, fence, clients),
+            Holders::Together(clients) => add_sharer(client, fence, clients),
         },
     }
 }

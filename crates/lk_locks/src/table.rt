@@ -9,7 +9,7 @@ ghost use Rattle.lk_locks.specs.Holders.{is_kept};
 ghost use Rattle.lk_locks.specs.Held.{held_in};
 ghost use Rattle.lk_locks.specs.Packed.{IsTable, rise, entries, table_text};
 ghost use Rattle.lk_locks.specs.declared.slot.Slot.{Slot};
-ghost use Rattle.lk_fields.specs.Fronts.{Keeps};
+ghost use Rattle.lk_codec.specs.Fronts.{KeepsFront};
 ghost use Rattle.lk_locks.specs.Plain.{row_in, next_by, answer, next, raise_answer, raised, IsNewName};
 
 use crate::body::Body;
@@ -19,7 +19,7 @@ use crate::row::Row;
 use crate::rows::row;
 use crate::slot::Slot;
 use bytes::BytesMut;
-use lk_fields::put_u16;
+use lk_codec::put_u16;
 use lk_state::UnpackFault;
 use lk_types::{Answer, ClientNo, NoMemory};
 use std::alloc::{AllocError, Global};
@@ -134,11 +134,11 @@ impl LockTable {
     }
 
     // Appends how many names there are, and then each with its slot. Out of memory it may leave a prefix of that.
-    #[tactic(auto, using(lk_fields::proofs::Spellings::keeps_same, lk_fields::proofs::Spellings::keeps_behind))]
+    #[tactic(auto, using(lk_codec::proofs::Spellings::keeps_same, lk_codec::proofs::Spellings::keeps_behind))]
     fn put_names(&self, out: &mut BytesMut) -> Result<(), AllocError>
         ensures ok { OnOk result
             (out.new.items ≡ out.old.items ++ entries self.now.raised (map.entries self.now.names)) }
-        ensures err { OnErr result (Keeps out.old.items out.new.items) }
+        ensures err { OnErr result (KeepsFront out.old.items out.new.items) }
     {
         put_u16(out, self.len() as u16)?;
         for (name, slot) in self.slots.iter() {
@@ -148,10 +148,10 @@ impl LockTable {
     }
 
     // Appends the packed text. Out of memory it may leave a prefix of it.
-    #[tactic(auto, using(lk_fields::proofs::Spellings::keeps_same, lk_fields::proofs::Spellings::keeps_behind))]
+    #[tactic(auto, using(lk_codec::proofs::Spellings::keeps_same, lk_codec::proofs::Spellings::keeps_behind))]
     pub(crate) fn put(&self, out: &mut BytesMut) -> Result<(), AllocError>
         ensures ok { OnOk result (out.new.items ≡ out.old.items ++ table_text self.now) }
-        ensures err { OnErr result (Keeps out.old.items out.new.items) }
+        ensures err { OnErr result (KeepsFront out.old.items out.new.items) }
     {
         if self.raised {
             put_u16(out, RAISED_MARK)?;

@@ -10,7 +10,7 @@ use Rattle.lk_types.specs.Ranges.{IsCount, IsTotal}
 use Rattle.lk_types.specs.Votes.{IsVote}
 use Rattle.lk_types.specs.declared.command.Command.{Command}
 use Rattle.lk_types.specs.declared.vote.Vote.{Vote as VoteValue}
-use Rattle.lk_fields.specs.Fields.{two, four, eight, member, vote, pair}
+use Rattle.lk_codec.specs.Fields.{two, four, eight, member, vote, pair}
 use Rattle.lk_disk.specs.Disk.{Disk, other, contents, CutShort, MayLeave}
 use Rattle.lk_disk.specs.declared.device.Side.{Side}
 use Rattle.lk_disk.specs.declared.device.Side.TheVariants.{A, B}

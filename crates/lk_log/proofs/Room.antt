@@ -6,7 +6,7 @@ use Rattle.std.proofs.Math.Seq.{take-length}
 use Rattle.std.proofs.lemmas.List.{length-take}
 use Rattle.lk_types.specs.declared.entry.Entry.{Entry}
 use Rattle.lk_types.specs.declared.entry.Entry.TheVariants.{Promise, Vote, Decided}
-use Rattle.lk_fields.specs.Fields.{four, eight}
+use Rattle.lk_codec.specs.Fields.{four, eight}
 use Rattle.lk_disk.specs.Disk.{Disk, other, contents, appended, fully_synced, cut_to, AppendsSome, CutShort}
 use Rattle.lk_disk.specs.declared.device.Side.{Side}
 use Rattle.lk_disk.specs.declared.device.Side.TheVariants.{A, B}

@@ -24,7 +24,8 @@ use Rattle.lk_log.specs.EveryImage.{AllMean, EveryFound, NarrowsOrBeganSome}
 use Rattle.lk_log.specs.Images.{Image, MayLeaveBoth, Means, IsLive, IsEmpty, IsDamaged, SameMeaning, seen}
 use Rattle.lk_log.specs.StoreValue.{StoreValue, pick, disks}
 use Rattle.lk_log.specs.Rooms.{StaysWithin}
-use Rattle.lk_log.specs.Stores.{Holds, KeepsAtLeast, KeepsAtLeastOn, KeepsBothDisks, KeepsOrIs, first_base, Found}
+use Rattle.lk_log.specs.Stores.{HoldsEntries, KeepsAtLeast, KeepsAtLeastOn, KeepsBothDisks, KeepsOrIs, first_base}
+use Rattle.lk_log.specs.Stores.{Found}
 use Rattle.lk_log.specs.Stores.{NarrowsOrBegins, Opens}
 use Rattle.lk_log.specs.declared.verdict.Verdict.{Verdict}
 use Rattle.lk_log.specs.declared.verdict.Verdict.TheVariants.{Live, Empty, Damaged}
@@ -81,7 +82,8 @@ plain_behind (Base b ∷ ks) ls some placed = no_base_plain ls (no_base_right ks
 plain_behind (Plain x ∷ ks) ls some placed = absurd (omega arith)
 
 -- what a store holds unsynced is plain
-pub holds_plain : (s : StoreValue) (ks ls : List Stored) → Holds s ks ls → (more : List Entry) × (ls ≡ plain more)
+pub holds_plain : (s : StoreValue) (ks ls : List Stored) → HoldsEntries s ks ls → (more : List Entry)
+    × (ls ≡ plain more)
 holds_plain s ks ls h = plain_behind ks ls (omega (arith, h.on.older.less)) h.on.placed
 
 pub plain_append : (xs ys : List Entry) → plain (xs ++ ys) ≡ plain xs ++ plain ys
@@ -234,13 +236,13 @@ take_nothing zero = refl
 take_nothing (suc k) = refl
 
 -- an open store keeps at least what it holds
-pub holds_keeps : (s : StoreValue) (ks ls : List Stored) → Holds s ks ls → KeepsAtLeast s ks ls
+pub holds_keeps : (s : StoreValue) (ks ls : List Stored) → HoldsEntries s ks ls → KeepsAtLeast s ks ls
 holds_keeps s ks ls h =
     subst (KeepsAtLeast s ks) (append-nil ls) (keeps_at s.live s.live_disk s.other_disk ks ls [] h.on)
 
 -- and so does one with the same files
 pub same_keeps : (old new : StoreValue) → KeepsBothDisks old new → new.live ≡ old.live → (ks ls : List Stored)
-    → Holds old ks ls → KeepsAtLeast new ks ls
+    → HoldsEntries old ks ls → KeepsAtLeast new ks ls
 same_keeps old new same live ks ls h =
     subst (λ (s : Side). KeepsAtLeastOn s new.live_disk new.other_disk ks ls) (sym live)
     (subst (λ (d : Disk). KeepsAtLeastOn old.live d new.other_disk ks ls) (sym same.0)
@@ -259,7 +261,7 @@ keeps_live s ks keeps image left =
     subst (IsLive image) (ap (λ (l : List Stored). ks ++ l) (take_nothing at.0) ∙ append-nil ks) at.1
 
 -- where all is synced each image has just that
-pub synced_live : (s : StoreValue) (ks : List Stored) → Holds s ks [] → (image : Image)
+pub synced_live : (s : StoreValue) (ks : List Stored) → HoldsEntries s ks [] → (image : Image)
     → MayLeaveBoth (disks s) image → IsLive image ks
 synced_live s ks h = keeps_live s ks (holds_keeps s ks [] h)
 
@@ -290,13 +292,13 @@ bare : Disk → Disk
 bare d = record { synced = d.synced; unsynced = [] }
 
 -- the synced entries alone are what some image has
-pub synced_image : (s : StoreValue) (ks ls : List Stored) → Holds s ks ls
+pub synced_image : (s : StoreValue) (ks ls : List Stored) → HoldsEntries s ks ls
     → (image : Image) × MayLeaveBoth (disks s) image × IsLive image ks
 unfolding bare
 synced_image s ks ls h =
     let only : StoreValue = record s { live_disk = bare s.live_disk } in
     let nothing = sym (append-nil ks) in
-    let alone : Holds only ks [] = record {
+    let alone : HoldsEntries only ks [] = record {
       on = record {
         synced = h.on.synced;
         unsynced = refl;
@@ -324,14 +326,14 @@ synced_image s ks ls h =
     left_bare B B = (0, refl)
 
 -- what is synced stands for something
-pub holds_stands : (s : StoreValue) (ks ls : List Stored) → Holds s ks ls → (t : StandingValue) × StandsFor ks t
+pub holds_stands : (s : StoreValue) (ks ls : List Stored) → HoldsEntries s ks ls → (t : StandingValue) × StandsFor ks t
 holds_stands s ks ls h = let i = synced_image s ks ls h in live_stands i.0 ks i.2
 
 -- ---- what every image has
 
 -- what every image has, the synced entries have
 pub of_every : (P : List Stored → Type 0) (s : StoreValue) (ks ls : List Stored) (whose : HeaderValue) (text : List ℕ)
-    → Holds s ks ls → EveryFound (disks s) whose text P → P ks
+    → HoldsEntries s ks ls → EveryFound (disks s) whose text P → P ks
 of_every P s ks ls whose text h every =
     let i = synced_image s ks ls h in
     let e = every i.0 i.1 in
@@ -347,7 +349,7 @@ keeps_every P s ks more whose text keeps p image left =
 
 -- where all is synced, what the entries have every image has
 pub to_every : (P : List Stored → Type 0) (s : StoreValue) (ks : List Stored) (whose : HeaderValue) (text : List ℕ)
-    → Holds s ks [] → P ks → EveryFound (disks s) whose text P
+    → HoldsEntries s ks [] → P ks → EveryFound (disks s) whose text P
 to_every P s ks whose text h p image left = (ks, inl (synced_live s ks h image left), p)
 
 -- what the synced entries have, with and without one more, every image has after any exit of its put
@@ -373,7 +375,7 @@ grown P Q ks (e ∷ more) grows all p (suc k) =
 -- put.
 pub put_keeps_every : (P : List Stored → Type 0) (Q : Entry → Type 0) (old new : StoreValue) (ks ls : List Stored)
     (tail given : List Entry) (whose : HeaderValue) (text : List ℕ)
-    → Holds old ks ls → ls ≡ plain tail → KeepsAtLeast new ks (ls ++ plain given)
+    → HoldsEntries old ks ls → ls ≡ plain tail → KeepsAtLeast new ks (ls ++ plain given)
     → ((es : List Stored) (e : Entry) → Q e → P es → P (es ++ Plain e ∷ []))
     → AllByRecursion Q (tail ++ given) → EveryFound (disks old) whose text P → EveryFound (disks new) whose text P
 put_keeps_every P Q old new ks ls tail given whose text h is keeps grows all every =
@@ -394,7 +396,7 @@ one_header (Plain x ∷ es) h k a b = absurd a
 -- of a rebase.
 pub rebase_every : (P : List Stored → Type 0) (Q : Entry → Type 0) (old new : StoreValue) (ks ls : List Stored)
     (tail : List Entry) (b : BaseValue) (whose : HeaderValue) (text : List ℕ)
-    → Holds old ks ls → ls ≡ plain tail → KeepsOrIs (disks new) ks ls b
+    → HoldsEntries old ks ls → ls ≡ plain tail → KeepsOrIs (disks new) ks ls b
     → ((es : List Stored) (e : Entry) → Q e → P es → P (es ++ Plain e ∷ []))
     → AllByRecursion Q tail → P (Base b ∷ []) → EveryFound (disks old) whose text P
     → EveryFound (disks new) whose text P
@@ -411,7 +413,7 @@ rebase_every P Q old new ks ls tail b whose text h is keeps grows all base every
 
 -- what an opened store of this header holds
 pub opens_holds : (before : Image) (whose : HeaderValue) (text : List ℕ) (store : StoreValue) (s : StandingValue)
-    (o : Opens before whose text store s) → store.header ≡ whose → Holds store o.entries []
+    (o : Opens before whose text store s) → store.header ≡ whose → HoldsEntries store o.entries []
 opens_holds before whose text store s o same =
     record {
       on = o.holds;

@@ -39,7 +39,7 @@ pub record HoldsOn (live_disk other_disk : Disk) (synced_entries unsynced_entrie
   pub older : IsOlder other_disk (generation synced_entries)
 
 -- a store holds these entries, the first of them synced, after a Base of its generation, its format and its header
-pub record Holds (s : StoreValue) (synced_entries unsynced_entries : List Stored) : Type 0 where
+pub record HoldsEntries (s : StoreValue) (synced_entries unsynced_entries : List Stored) : Type 0 where
   pub on : HoldsOn s.live_disk s.other_disk synced_entries unsynced_entries
   pub generation_is : s.generation ≡ generation synced_entries
   pub format_is : s.format ≡ format synced_entries

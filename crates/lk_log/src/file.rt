@@ -9,8 +9,8 @@ ghost use Rattle.lk_store_format.specs.Bases.{generation, is_misplaced, has_base
 ghost use Rattle.lk_log.specs.OpenCauses.{IsCaused, IsMetered};
 
 use crate::fault::OpenFault;
+use lk_codec::read_u32;
 use lk_disk::{LogDisk, Side};
-use lk_fields::read_u32;
 use lk_store_format::{EntryFault, Stored, first_entry, is_mixed};
 use lk_types::NoMemory;
 use lk_types::limits::MAX_TORN;
@@ -31,7 +31,7 @@ pub struct File {
 
 // Returns whether a stop may have left these bytes after whole entries: none, a cut length field, or a length from 1 to
 // `MAX_TORN` with fewer bytes after it.
-#[tactic(auto, unfolding(lk_store_format::specs::Files::told_length, lk_fields::specs::FieldReading::read_four))]
+#[tactic(auto, unfolding(lk_store_format::specs::Files::told_length, lk_codec::specs::FieldReading::read_four))]
 fn is_torn(rest: &[u8]) -> bool
     ensures { result ≡ is_torn rest.now }
 {

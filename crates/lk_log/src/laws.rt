@@ -12,7 +12,7 @@ ghost use Rattle.lk_store_format.specs.declared.stored.Stored.TheVariants.{Plain
 ghost use Rattle.lk_log.specs.EveryImage.{EveryFound, AllMean, NarrowsOrBeganSome};
 ghost use Rattle.lk_log.specs.Images.{Image, MayLeaveBoth, Means, IsLive, IsEmpty, seen};
 ghost use Rattle.lk_log.specs.StoreValue.{StoreValue, disks};
-ghost use Rattle.lk_log.specs.Stores.{Holds, KeepsAtLeast, NarrowsOrBegins};
+ghost use Rattle.lk_log.specs.Stores.{HoldsEntries, KeepsAtLeast, NarrowsOrBegins};
 ghost use Rattle.lk_log.specs.declared.verdict.Verdict.{Verdict};
 
 /// Two files have only one verdict (damaged, empty, or one of them is live), and only one list of whole entries each.
@@ -34,11 +34,12 @@ pub fn one_standing()
 /// Each image of an open store has everything that it holds synced and a prefix of the rest, which are plain entries,
 /// and some image has only what is synced. If everything is synced, each image has exactly that.
 pub fn what_a_stop_leaves()
-    ensures keeps { (s : StoreValue) (ks ls : List Stored) → Holds s ks ls → KeepsAtLeast s ks ls }
-    ensures plain { (s : StoreValue) (ks ls : List Stored) → Holds s ks ls → (more : List Entry) × (ls ≡ plain more) }
-    ensures least { (s : StoreValue) (ks ls : List Stored) → Holds s ks ls
+    ensures keeps { (s : StoreValue) (ks ls : List Stored) → HoldsEntries s ks ls → KeepsAtLeast s ks ls }
+    ensures plain { (s : StoreValue) (ks ls : List Stored) → HoldsEntries s ks ls → (more : List Entry)
+        × (ls ≡ plain more) }
+    ensures least { (s : StoreValue) (ks ls : List Stored) → HoldsEntries s ks ls
         → (image : Image) × MayLeaveBoth (disks s) image × IsLive image ks }
-    ensures synced { (s : StoreValue) (ks : List Stored) → Holds s ks [] → (image : Image)
+    ensures synced { (s : StoreValue) (ks : List Stored) → HoldsEntries s ks [] → (image : Image)
         → MayLeaveBoth (disks s) image → IsLive image ks }
 {}
 

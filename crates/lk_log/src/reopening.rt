@@ -90,7 +90,7 @@ fn first_base(alloc: Global, header: &Header, zero: &[u8]) -> Result<Base, Alloc
 }
 
 // Begins a new store: writes its Base over file A, and syncs it.
-fn begin<D: LogDisk>(
+fn begin_store<D: LogDisk>(
     alloc: Global,
     device: &mut D,
     header: &Header,
@@ -214,7 +214,7 @@ fn recover<D: LogDisk>(
             }
             open(alloc, device, live, file)
         }
-        None => begin(alloc, device, header, zero),
+        None => begin_store(alloc, device, header, zero),
     }
 }
 

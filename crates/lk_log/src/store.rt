@@ -12,7 +12,8 @@ ghost use Rattle.lk_log.specs.Causes.{FailuresRise, IsOfDevice, IsOfDeviceOrMemo
 ghost use Rattle.lk_log.specs.Causes.{FailsByRefusing, FailsUnlessLast, IsMetered, put_calls, rebase_calls};
 ghost use Rattle.lk_log.specs.Rooms.{StaysWithin};
 ghost use Rattle.lk_log.specs.StoreValue.{disks};
-ghost use Rattle.lk_log.specs.Stores.{Holds, KeepsAtLeast, KeepsItsFile, KeepsBothDisks, KeepsOtherDisk, MayBegin};
+ghost use Rattle.lk_log.specs.Stores.{HoldsEntries, KeepsAtLeast, KeepsItsFile, KeepsBothDisks, KeepsOtherDisk};
+ghost use Rattle.lk_log.specs.Stores.{MayBegin};
 ghost use Rattle.lk_log.specs.Stores.{next_base, SwitchesFiles, LeavesEmpty, KeepsOrIs};
 
 use crate::adding::add;
@@ -64,12 +65,12 @@ impl<D: LogDisk + Drop> Store<D> {
     pub fn put(&mut self, entries: &[Entry], sync: bool) -> Result<(), StoreFault>
         requires { self.old.format ≡ 2 }
         // At Ok the entries are there, synced if asked to.
-        ensures added { D.is_honest → sync ≡ false → (ks ls : List Stored) → Holds self.old ks ls
-            → OnOk result (Holds self.new ks (ls ++ plain entries.now)) }
-        ensures synced { D.is_honest → sync ≡ true → (ks ls : List Stored) → Holds self.old ks ls
-            → OnOk result (Holds self.new (ks ++ (ls ++ plain entries.now)) []) }
+        ensures added { D.is_honest → sync ≡ false → (ks ls : List Stored) → HoldsEntries self.old ks ls
+            → OnOk result (HoldsEntries self.new ks (ls ++ plain entries.now)) }
+        ensures synced { D.is_honest → sync ≡ true → (ks ls : List Stored) → HoldsEntries self.old ks ls
+            → OnOk result (HoldsEntries self.new (ks ++ (ls ++ plain entries.now)) []) }
         // However it ends, each image that a stop may leave has all synced entries, and a prefix of the rest.
-        ensures any { D.is_honest → (ks ls : List Stored) → Holds self.old ks ls
+        ensures any { D.is_honest → (ks ls : List Stored) → HoldsEntries self.old ks ls
             → KeepsAtLeast self.new ks (ls ++ plain entries.now) }
         // The other file is unchanged, and out of memory the live one is too.
         ensures beside { D.is_honest → KeepsOtherDisk self.old self.new result }
@@ -121,10 +122,10 @@ impl<D: LogDisk + Drop> Store<D> {
     /// It takes no memory, and fails with `Device` (7) only; after that every call fails with `Failed` (11).
     pub fn sync(&mut self) -> Result<(), StoreFault>
         // At Ok all entries are synced.
-        ensures synced { D.is_honest → (ks ls : List Stored) → Holds self.old ks ls
-            → OnOk result (Holds self.new (ks ++ ls) []) }
+        ensures synced { D.is_honest → (ks ls : List Stored) → HoldsEntries self.old ks ls
+            → OnOk result (HoldsEntries self.new (ks ++ ls) []) }
         // However it ends, each image that a stop may leave has all synced entries, and a prefix of the rest.
-        ensures any { D.is_honest → (ks ls : List Stored) → Holds self.old ks ls
+        ensures any { D.is_honest → (ks ls : List Stored) → HoldsEntries self.old ks ls
             → KeepsAtLeast self.new ks ls }
         // Neither file is longer, however it ends.
         ensures room { D.is_honest → StaysWithin 0 (disks self.old) (disks self.new) }
@@ -153,11 +154,11 @@ impl<D: LogDisk + Drop> Store<D> {
     pub fn rebase(&mut self, standing: &Standing) -> Result<(), StoreFault>
         requires { MayBegin standing.now }
         // At Ok the Base alone is there, synced, and the old file is empty.
-        ensures base { D.is_honest → (ks ls : List Stored) → Holds self.old ks ls
-            → OnOk result (Holds self.new (Base (next_base self.old standing.now) ∷ []) []) }
+        ensures base { D.is_honest → (ks ls : List Stored) → HoldsEntries self.old ks ls
+            → OnOk result (HoldsEntries self.new (Base (next_base self.old standing.now) ∷ []) []) }
         ensures left { D.is_honest → OnOk result (LeavesEmpty self.new) }
         // However it ends, each image that a stop may leave has what it had before, or that Base alone.
-        ensures any { D.is_honest → (ks ls : List Stored) → Holds self.old ks ls
+        ensures any { D.is_honest → (ks ls : List Stored) → HoldsEntries self.old ks ls
             → KeepsOrIs (disks self.new) ks ls (next_base self.old standing.now) }
         ensures no_memory { D.is_honest → IsErrOf result StoreFault.NoMemory → (s : Side)
             → disks self.new s ≡ disks self.old s }

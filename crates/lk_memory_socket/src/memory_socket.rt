@@ -24,7 +24,7 @@ pub struct MemoryDatagram {
 pub struct MemorySocket {
     alloc: Global,
     port: u16,
-    coming: VecDeque<MemoryDatagram>,
+    incoming: VecDeque<MemoryDatagram>,
     sent: Vec<MemoryDatagram>,
     failures: u64,
 }
@@ -39,13 +39,13 @@ fn cut_length(length: usize) -> usize
 impl MemorySocket {
     /// The socket of a port, with nothing to receive and nothing sent.
     pub fn new(alloc: Global, port: u16) -> MemorySocket
-        ensures coming { coming_in result.coming.items ≡ [] }
+        ensures incoming { coming_in result.incoming.items ≡ [] }
         ensures sent { result.sent.items ≡ [] }
     {
         MemorySocket {
             alloc,
             port,
-            coming: VecDeque::new(alloc),
+            incoming: VecDeque::new(alloc),
             sent: Vec::new(alloc),
             failures: 0,
         }
@@ -54,12 +54,13 @@ impl MemorySocket {
     /// Appends a datagram to those that will arrive. A receive returns its first 8,229 bytes only.
     pub fn add_incoming(&mut self, from: SocketAddr, bytes: &[u8]) -> Result<(), NoMemory>
         ensures ok { OnOk result
-            (coming_in self.new.coming.items ≡ coming_in self.old.coming.items ++ (from, take 8229 bytes.now) ∷ []) }
-        ensures err { OnErr result (coming_in self.new.coming.items ≡ coming_in self.old.coming.items) }
-        ensures others { self.new ≡ record self.old { coming = self.new.coming } }
+            (coming_in self.new.incoming.items ≡ coming_in self.old.incoming.items ++ (from, take 8229 bytes.now)
+            ∷ []) }
+        ensures err { OnErr result (coming_in self.new.incoming.items ≡ coming_in self.old.incoming.items) }
+        ensures others { self.new ≡ record self.old { incoming = self.new.incoming } }
     {
         let kept = bytes.to_vec(self.alloc)?;
-        self.coming.push_back(MemoryDatagram {
+        self.incoming.push_back(MemoryDatagram {
             place: from,
             bytes: kept,
         })?;
@@ -80,7 +81,7 @@ impl MemorySocket {
         ensures ok { OnOk result (sent_in self.new.sent.items ≡ sent_in self.old.sent.items ++ (to, bytes.now) ∷ []) }
         ensures err { OnErr result (sent_in self.new.sent.items ≡ sent_in self.old.sent.items) }
         ensures failures { self.new.failures ≡ self.old.failures }
-        ensures coming { self.new.coming ≡ self.old.coming }
+        ensures incoming { self.new.incoming ≡ self.old.incoming }
     {
         let kept = bytes.to_vec(self.alloc)?;
         self.sent.push(MemoryDatagram {
@@ -96,11 +97,11 @@ impl DatagramSocket for MemorySocket {
 
     ghost sent = { λ s. sent_in s.sent.items };
 
-    ghost coming = { λ s. coming_in s.coming.items };
+    ghost incoming = { λ s. coming_in s.incoming.items };
 
     ghost failures = { λ s. s.failures };
 
-    ghost is_telling = { ⊤ };
+    ghost is_observable = { ⊤ };
 
     fn send_to(&mut self, to: SocketAddr, bytes: &[u8]) -> Result<(), SendFault> {
         match self.keep_sent(to, bytes) {
@@ -116,7 +117,7 @@ impl DatagramSocket for MemorySocket {
     fn set_timeout(&mut self, _time: Duration) {}
 
     fn receive(&mut self, buffer: &mut [u8]) -> Option<(usize, SocketAddr)> {
-        let Some(told) = self.coming.pop_front() else {
+        let Some(told) = self.incoming.pop_front() else {
             return None;
         };
         let MemoryDatagram { place, bytes } = told;

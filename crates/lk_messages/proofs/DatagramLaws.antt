@@ -9,14 +9,14 @@ use Rattle.lk_types.specs.Commands.{IsRequest}
 use Rattle.lk_messages.specs.declared.message.Content.{Content}
 use Rattle.lk_messages.specs.declared.message.Content.TheVariants as content
 use Rattle.lk_messages.specs.declared.message.Message.{Message}
-use Rattle.lk_fields.specs.Fields.{one, four, eight, request}
+use Rattle.lk_codec.specs.Fields.{one, four, eight, request}
 use Rattle.lk_messages.specs.Grammar.{kind, sender, fields, header, spelling, IsContent, IsMessage, Spells}
-use Rattle.lk_fields.specs.Parser.{◌>>=◌, read_byte, both, made}
-use Rattle.lk_fields.specs.FieldReading.{is_from_1_to, read_four, read_eight, read_request}
+use Rattle.lk_codec.specs.Parser.{◌>>=◌, read_byte, both, made}
+use Rattle.lk_codec.specs.FieldReading.{is_from_1_to, read_four, read_eight, read_request}
 use Rattle.lk_messages.specs.Reading.{node_of, read_asked, content_of, read_header, read_message, all_of}
-use Rattle.lk_fields.proofs.Spellings.{IsBytes, bind_ok, chosen, some_is, Took, Reads, both_reads, made_as, byte_reads}
-use Rattle.lk_fields.proofs.Spellings.{one_front, whole_takes, whole_again, four_reads, eight_reads, is_in, passes}
-use Rattle.lk_fields.proofs.Spellings.{request_reads}
+use Rattle.lk_codec.proofs.Spellings.{IsBytes, bind_ok, chosen, some_is, Took, Reads, both_reads, made_as, byte_reads}
+use Rattle.lk_codec.proofs.Spellings.{one_front, whole_takes, whole_again, four_reads, eight_reads, is_in, passes}
+use Rattle.lk_codec.proofs.Spellings.{request_reads}
 use Rattle.lk_messages.proofs.MessageLaws.{node_takes, node_again, kind_fits, kind_other}
 
 -- ---- after the header

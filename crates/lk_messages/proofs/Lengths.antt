@@ -22,8 +22,8 @@ use Rattle.lk_messages.specs.declared.message.NodeMessage.TheVariants as kinds
 use Rattle.lk_messages.specs.declared.message.Content.{Content}
 use Rattle.lk_messages.specs.declared.message.Content.TheVariants as content
 use Rattle.lk_messages.specs.declared.message.Message.{Message}
-use Rattle.lk_fields.specs.Fields.{ballot, member, op, request, command, vote, pair, answer}
-use Rattle.lk_fields.proofs.Spellings.{length-two, length-four, length-eight}
+use Rattle.lk_codec.specs.Fields.{ballot, member, op, request, command, vote, pair, answer}
+use Rattle.lk_codec.proofs.Spellings.{length-two, length-four, length-eight}
 use Rattle.lk_messages.specs.Grammar.{node_fields, fields, header, spelling, kind, sender, IsNodeMessage, IsContent}
 use Rattle.lk_messages.specs.Grammar.{IsMessage}
 

@@ -22,19 +22,19 @@ use Rattle.lk_messages.specs.declared.message.Answered.{Answered}
 use Rattle.lk_messages.specs.declared.message.Elsewhere.{Elsewhere}
 use Rattle.lk_messages.specs.declared.message.NodeMessage.{NodeMessage}
 use Rattle.lk_messages.specs.declared.message.NodeMessage.TheVariants as kinds
-use Rattle.lk_fields.specs.Fields.{one, two, four, eight, ballot, member, command, vote, answer}
+use Rattle.lk_codec.specs.Fields.{one, two, four, eight, ballot, member, command, vote, answer}
 use Rattle.lk_messages.specs.Grammar.{votes, promise, proposal, nack, IsNack, commands, decided, want, part, answered}
 use Rattle.lk_messages.specs.Grammar.{IsAnswered, elsewhere, IsElsewhere, passed, node_kind, node_fields, IsNodeMessage}
-use Rattle.lk_fields.specs.Parser.{read_byte, both, made, kind}
-use Rattle.lk_fields.specs.FieldReading.{read_two, read_four, read_client, read_count, read_total, read_ballot}
-use Rattle.lk_fields.specs.FieldReading.{read_any_ballot, read_member, read_command, read_vote, read_answer}
+use Rattle.lk_codec.specs.Parser.{read_byte, both, made, kind}
+use Rattle.lk_codec.specs.FieldReading.{read_two, read_four, read_client, read_count, read_total, read_ballot}
+use Rattle.lk_codec.specs.FieldReading.{read_any_ballot, read_member, read_command, read_vote, read_answer}
 use Rattle.lk_messages.specs.Reading.{read_prepare, read_votes, read_promise, read_proposal, read_nack, read_commands}
 use Rattle.lk_messages.specs.Reading.{read_decided, read_want, is_within, read_part, read_answered, read_elsewhere}
 use Rattle.lk_messages.specs.Reading.{read_passed, read_lead, small_of, node_of}
-use Rattle.lk_fields.proofs.Spellings.{Reads, fitting, both_reads, made_reads, tested_reads, byte_reads, counted_reads}
-use Rattle.lk_fields.proofs.Spellings.{two_reads, four_reads, sized_reads, TakesKinds, no_kind_takes, kind_takes}
-use Rattle.lk_fields.proofs.Spellings.{at_most, is_at_most, client_reads, count_reads, total_reads, ballot_reads}
-use Rattle.lk_fields.proofs.Spellings.{mark_reads, member_reads, command_reads, vote_reads, answer_reads}
+use Rattle.lk_codec.proofs.Spellings.{Reads, fitting, both_reads, made_reads, tested_reads, byte_reads, counted_reads}
+use Rattle.lk_codec.proofs.Spellings.{two_reads, four_reads, sized_reads, TakesKinds, no_kind_takes, kind_takes}
+use Rattle.lk_codec.proofs.Spellings.{at_most, is_at_most, client_reads, count_reads, total_reads, ballot_reads}
+use Rattle.lk_codec.proofs.Spellings.{mark_reads, member_reads, command_reads, vote_reads, answer_reads}
 use Rattle.lk_messages.proofs.Lengths.{few_votes, few_commands}
 
 -- ---- the fields of each kind

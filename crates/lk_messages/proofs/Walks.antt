@@ -8,13 +8,13 @@ use Rattle.lk_types.specs.Votes.{IsVote, are_votes_above}
 use Rattle.lk_types.specs.Commands.{IsCommand}
 use Rattle.lk_types.specs.declared.command.Command.{Command}
 use Rattle.lk_types.specs.declared.vote.Vote.{Vote}
-use Rattle.lk_fields.specs.Fields.{vote, command}
-use Rattle.lk_fields.specs.FieldReading.{read_command, read_vote}
-use Rattle.lk_fields.specs.Parser.{many, made}
-use Rattle.lk_fields.specs.Parser.{past}
+use Rattle.lk_codec.specs.Fields.{vote, command}
+use Rattle.lk_codec.specs.FieldReading.{read_command, read_vote}
+use Rattle.lk_codec.specs.Parser.{many, made}
+use Rattle.lk_codec.specs.Parser.{past}
 use Rattle.lk_messages.specs.Views.{IsAll, value_or}
-use Rattle.lk_fields.proofs.Spellings.{IsBytes, Reads, bind_ok, some_is, command_reads, vote_reads, with_front, goes_on}
-use Rattle.lk_fields.proofs.Spellings.{many_takes, many_again}
+use Rattle.lk_codec.proofs.Spellings.{IsBytes, Reads, bind_ok, some_is, command_reads, vote_reads, with_front, goes_on}
+use Rattle.lk_codec.proofs.Spellings.{many_takes, many_again}
 
 module _ {X : Type 0} where
   -- what a reader took from the front is read alone as the same

@@ -10,7 +10,7 @@ use Rattle.lk_types.specs.Answers.{IsAnswer}
 use Rattle.lk_types.specs.Rosters.{IsMember}
 use Rattle.lk_types.specs.declared.command.Command.{Command}
 use Rattle.lk_types.specs.declared.vote.Vote.{Vote}
-use Rattle.lk_fields.specs.Fields.{one, two, four, eight, ballot, member, request, command, vote, answer}
+use Rattle.lk_codec.specs.Fields.{one, two, four, eight, ballot, member, request, command, vote, answer}
 use Rattle.lk_messages.specs.Values.{PromiseValue, IsPromise, DecidedValue, IsDecided, WantValue, IsWant, PartValue}
 use Rattle.lk_messages.specs.Values.{IsPart, PassedValue, IsPassed}
 use Rattle.lk_messages.specs.declared.message.Nack.{Nack}

@@ -14,11 +14,11 @@ use Rattle.lk_messages.specs.declared.message.NodeMessage.TheVariants as kinds
 use Rattle.lk_messages.specs.declared.message.Content.{Content}
 use Rattle.lk_messages.specs.declared.message.Content.TheVariants as content
 use Rattle.lk_messages.specs.declared.message.Message.{Message}
-use Rattle.lk_fields.specs.Parser.{◌>>=◌, read_byte, both, made, tested, counted, sized, kind, no_kind, whole}
-use Rattle.lk_fields.specs.FieldReading.{is_from_1_to, read_two, read_four, read_eight, read_client, read_count}
-use Rattle.lk_fields.specs.FieldReading.{read_total, read_ballot, read_any_ballot, read_member, read_request}
-use Rattle.lk_fields.specs.FieldReading.{read_command}
-use Rattle.lk_fields.specs.FieldReading.{read_vote, read_answer}
+use Rattle.lk_codec.specs.Parser.{◌>>=◌, read_byte, both, made, tested, counted, sized, kind, no_kind, whole}
+use Rattle.lk_codec.specs.FieldReading.{is_from_1_to, read_two, read_four, read_eight, read_client, read_count}
+use Rattle.lk_codec.specs.FieldReading.{read_total, read_ballot, read_any_ballot, read_member, read_request}
+use Rattle.lk_codec.specs.FieldReading.{read_command}
+use Rattle.lk_codec.specs.FieldReading.{read_vote, read_answer}
 
 -- ---- the fields of each kind
 

@@ -1,8 +1,8 @@
 -- What a contract sees of votes that are read in place.
 use Rattle.std.specs.Prelude.{◌≡◌, ℕ, List, [], Option, Some, None}
 use Rattle.lk_types.specs.declared.vote.Vote.{Vote}
-use Rattle.lk_fields.specs.Parser.{many}
-use Rattle.lk_fields.specs.FieldReading.{read_vote}
+use Rattle.lk_codec.specs.Parser.{many}
+use Rattle.lk_codec.specs.FieldReading.{read_vote}
 
 -- the bytes spell exactly this value
 abbrev pub IsAll : {X : Type 0} → (List ℕ → Option (X × List ℕ)) → X → List ℕ → Type 0

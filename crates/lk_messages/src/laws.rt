@@ -7,7 +7,7 @@ ghost use Rattle.lk_types.specs.declared.answer.Answer.{Answer};
 ghost use Rattle.lk_types.specs.declared.command.Command.{Command};
 ghost use Rattle.lk_types.specs.declared.command.Request.{Request};
 ghost use Rattle.lk_types.specs.declared.vote.Vote.{Vote};
-ghost use Rattle.lk_fields.specs.Fields.{request, command, vote, pair, answer};
+ghost use Rattle.lk_codec.specs.Fields.{request, command, vote, pair, answer};
 ghost use Rattle.lk_messages.specs.declared.message.Message.{Message};
 ghost use Rattle.lk_messages.specs.Grammar.{Spells, spelling, IsMessage};
 

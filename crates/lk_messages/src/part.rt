@@ -1,10 +1,10 @@
 ghost use Rattle.std.specs.Prelude.{◌≡◌, ◌↔◌, IsSome, IfSome, IfOk, IsTrue};
-ghost use Rattle.lk_fields.specs.FieldReading.{read_two};
-ghost use Rattle.lk_fields.specs.Parser.{Finds, sized};
+ghost use Rattle.lk_codec.specs.FieldReading.{read_two};
+ghost use Rattle.lk_codec.specs.Parser.{Finds, sized};
 ghost use Rattle.lk_messages.specs.Reading.{read_part};
 ghost use Rattle.lk_messages.specs.Values.{IsPart, IsWithin, LieWithin};
 
-use lk_fields::{read_position, read_u16, read_u32};
+use lk_codec::{read_position, read_u16, read_u32};
 use lk_types::limits::{MAX_BASE, MAX_PART};
 use lk_types::{NoMemory, Position};
 use std::alloc::Global;

@@ -1,13 +1,13 @@
 ghost use Rattle.std.specs.Prelude.{◌≡◌, ◌≤◌, ◌-◌, ◌↔◌, length, IsSome, IfSome, IfOk, IsTrue};
 ghost use Rattle.std.specs.List.{AllByRecursion};
 ghost use Rattle.lk_types.specs.Votes.{IsVote, are_votes_above};
-ghost use Rattle.lk_fields.specs.FieldReading.{read_vote};
-ghost use Rattle.lk_fields.specs.Parser.{Finds, made, many};
+ghost use Rattle.lk_codec.specs.FieldReading.{read_vote};
+ghost use Rattle.lk_codec.specs.Parser.{Finds, made, many};
 ghost use Rattle.lk_messages.specs.Reading.{read_promise};
 ghost use Rattle.lk_messages.specs.Values.{IsPromise, are_votes_from};
 ghost use Rattle.lk_messages.specs.Views.{votes_in, AreVotes};
 
-use lk_fields::{front_of, read_ballot, read_position, read_u8, read_vote, skip_vote};
+use lk_codec::{front_of, read_ballot, read_position, read_u8, read_vote, skip_vote};
 use lk_types::limits::MAX_VOTES;
 use lk_types::{NoMemory, Position, RealBallot, Vote};
 use std::alloc::Global;

@@ -19,7 +19,7 @@ use Rattle.lk_leader.specs.LedTerms.{AgreesWithTerm}
 use Rattle.lk_learner.specs.Learners.{executed}
 use Rattle.lk_node_io.specs.Outboxes.{OutboxValue, nothing, with_entry}
 use Rattle.lk_node_io.specs.Saying.{saying}
-use Rattle.lk_node.specs.Beginning.{beginning, Begins}
+use Rattle.lk_node.specs.Beginning.{beginning, BeginsBallot}
 use Rattle.lk_node.specs.Histories.{History}
 use Rattle.lk_node.specs.NodeValue.{NodeValue}
 use Rattle.lk_node.specs.Serving.{ActsSafely}
@@ -100,7 +100,7 @@ asks_goes_on m Heard node b first nodes own below fits =
     )))
 
 pub starts_goes_on : (m : Meaning) (Heard : History → Type 0) (old new : NodeValue) (b : BallotValue)
-    (out : OutboxValue) → b.node ≡ old.header.node → IsBelow old.acceptor.state.promised b → Begins b old new out
+    (out : OutboxValue) → b.node ≡ old.header.node → IsBelow old.acceptor.state.promised b → BeginsBallot b old new out
     → ActsSafely m Heard old new nothing out
 starts_goes_on m Heard old new b out own below k =
     subst (λ (node : NodeValue). ActsSafely m Heard old node nothing out) (sym k.becomes)

@@ -31,7 +31,7 @@ use Rattle.lk_learner.proofs.Learnerships.{filter_has, executed_is, heard_front,
 use Rattle.lk_node_io.specs.Outboxes.{OutboxValue}
 use Rattle.lk_node.specs.Histories.{History, Genesis, Datagram, text}
 use Rattle.lk_node.specs.Holdings.{Holding, HoldingFits}
-use Rattle.lk_node.specs.Installing.{Gathers}
+use Rattle.lk_node.specs.Installing.{GathersPart}
 use Rattle.lk_node.specs.Keeping.{IsKnown, IsHeld}
 use Rattle.lk_node.specs.Learning.{with_learner}
 use Rattle.lk_node.specs.Leavings.{header_of}
@@ -241,7 +241,7 @@ installs_goes_on m Heard IsText keeps w node out began may =
 
 pub gathers_goes_on : (m : Meaning) (from : ℕ) (IsText : List ℕ → Type 0) → KeepsTexts IsText m
     → (went : Bool) (p : PartValue) (old new : NodeValue) (out : OutboxValue) → BeganWell old
-    → Gathers IsText went p old new
+    → GathersPart IsText went p old new
     → ActsSafely m (Told from p) old new out out
 gathers_goes_on m from IsText keeps went p old new out began k =
     let heard : NodeValue = with_learner old (hearing p old.learner) in

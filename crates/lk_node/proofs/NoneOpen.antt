@@ -10,7 +10,7 @@ use Rattle.lk_state.specs.Meanings.{Meaning}
 use Rattle.lk_node_io.specs.Outboxes.{OutboxValue}
 use Rattle.lk_node_io.specs.declared.input.Input.{Input}
 use Rattle.lk_node_io.specs.declared.input.Input.TheVariants as input
-use Rattle.lk_node.specs.Leading.{having_proposed, NothingOpen, ProposesAll}
+use Rattle.lk_node.specs.Leading.{having_proposed, NothingToPropose, ProposesAll}
 use Rattle.lk_node.specs.NodeValue.{NodeValue}
 use Rattle.lk_node.specs.Reminding.{Ticks}
 use Rattle.lk_node.specs.Steps.{Steps}
@@ -19,12 +19,12 @@ use Rattle.lk_node.specs.Beginning.{next_ballot, beginning}
 
 -- after the last of them nothing is
 last_open : (xs : List Vote) (old new : NodeValue) (before out : OutboxValue)
-    → ProposesAll xs old new before out → NothingOpen new
-last_open [] old new before out p = subst NothingOpen (sym p.1) p.0
+    → ProposesAll xs old new before out → NothingToPropose new
+last_open [] old new before out p = subst NothingToPropose (sym p.1) p.0
 last_open (x ∷ xs) old new before out p = last_open xs (having_proposed old x p.0) new _ out p.1
 
 -- without a term nothing is
-idle_open : (node : NodeValue) → node.leader.term ≡ None → NothingOpen node
+idle_open : (node : NodeValue) → node.leader.term ≡ None → NothingToPropose node
 idle_open node none i v p = absurd (cc (none, p.1))
 
 -- nobody has promised, and nobody is no majority
@@ -36,7 +36,7 @@ no_majority : (set : List Member) → IsMajority [] set → ⊥
 no_majority set m = let n = majorities_meet set [] [] m m in absurd (omega (arith, n.1.1))
 
 -- so nothing is in a term that is begun
-begun_open : (node : NodeValue) (t : TermValue) → node.leader.term ≡ Some t → t.reports ≡ [] → NothingOpen node
+begun_open : (node : NodeValue) (t : TermValue) → node.leader.term ≡ Some t → t.reports ≡ [] → NothingToPropose node
 begun_open node t now none i v p =
     let same : p.0 ≡ t = cc (now, p.1) in
     let empty : promisers p.2.set i p.0.reports ≡ [] = ap (λ (k : TermValue). promisers p.2.set i k.reports) same
@@ -44,18 +44,18 @@ begun_open node t now none i v p =
     no_majority p.2.set (subst (λ (ns : List ℕ). IsMajority ns p.2.set) empty p.2.promised)
 
 due_open : (old new : NodeValue) (out : OutboxValue) → old.leader.term ≡ None
-    → BeginsWhereDue old new out → NothingOpen new
+    → BeginsWhereDue old new out → NothingToPropose new
 due_open old new out none (inl begins) =
-    subst NothingOpen (sym begins.1.becomes)
+    subst NothingToPropose (sym begins.1.becomes)
     (begun_open (beginning (next_ballot old) old) (begun (next_ballot old)) refl refl)
-due_open old new out none (inr waits) = subst NothingOpen (sym waits.1) (idle_open old none)
+due_open old new out none (inr waits) = subst NothingToPropose (sym waits.1) (idle_open old none)
 
-tick_open : (old new : NodeValue) (out : OutboxValue) → Ticks old new out → NothingOpen new
+tick_open : (old new : NodeValue) (out : OutboxValue) → Ticks old new out → NothingToPropose new
 tick_open old new out (inl reminds) =
     last_open reminds.2.proposes.0 old new reminds.2.offered reminds.2.proposed reminds.2.proposes.1
 tick_open old new out (inr waits) = due_open (ticked old) new out waits.0 waits.1
 
 pub step_open : (m : Meaning) (IsText : List ℕ → Type 0) (old : NodeValue) (i : Input) (new : NodeValue)
-    (out : OutboxValue) → Steps m IsText old i new out → NothingOpen new
+    (out : OutboxValue) → Steps m IsText old i new out → NothingToPropose new
 step_open m IsText old input.Tick new out k = tick_open old new out k
 step_open m IsText old (input.Datagram bytes) new out k = last_open k.proposes.0 k.mid new k.first out k.proposes.1

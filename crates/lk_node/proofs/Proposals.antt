@@ -36,7 +36,8 @@ use Rattle.lk_node_io.specs.Saying.{saying}
 use Rattle.lk_node.specs.Histories.{History, IsLawful, WasAsked}
 use Rattle.lk_node.specs.Holdings.{Holding, HoldingFits}
 use Rattle.lk_node.specs.Keeping.{IsHeld}
-use Rattle.lk_node.specs.Leading.{with_leader, ProposesVote, having_proposed, NothingOpen, ProposesAll, ProposesOpen}
+use Rattle.lk_node.specs.Leading.{with_leader, ProposesVote, having_proposed, NothingToPropose, ProposesAll}
+use Rattle.lk_node.specs.Leading.{ProposesOpen}
 use Rattle.lk_node.specs.Leading.{ProposesNext}
 use Rattle.lk_node.specs.NodeValue.{NodeValue}
 use Rattle.lk_node.specs.Promised.{HasPromised}
@@ -289,9 +290,9 @@ vote_is_next old node new roster ballot i v e e1 own may term =
 pub none_is_next : (old node : NodeValue) (new : LeaderValue) (roster : RosterValue) → node ≡ old
     → roster ≡ node.learner.whole.roster
     → (new ≡ node.leader) × ((i : ℕ) (v : Command) → LeaderProposes node.leader roster i v → ⊥)
-    → NothingOpen old × (with_leader node new ≡ old)
+    → NothingToPropose old × (with_leader node new ≡ old)
 none_is_next old node new roster e e1 none =
-    subst (λ (k : NodeValue). NothingOpen k × (with_leader node new ≡ k)) e (
+    subst (λ (k : NodeValue). NothingToPropose k × (with_leader node new ≡ k)) e (
       subst (λ (r : RosterValue). (i : ℕ) (v : Command) → LeaderProposes node.leader r i v → ⊥) e1 none.1,
       ap (with_leader node) none.0,
     )
@@ -345,6 +346,6 @@ next_continues b first old new before so_far more is f next =
     continues_more first old new before so_far more f (next_so b true old new so_far more is next)
 
 pub next_done : (b : Bool) (old new : NodeValue) (before more : OutboxValue) → b ≡ false
-    → ProposesNext b old new before more → NothingOpen new
+    → ProposesNext b old new before more → NothingToPropose new
 next_done b old new before more is next = let x = next_so b false old new before more is next in
-    subst NothingOpen (sym x.1) x.0
+    subst NothingToPropose (sym x.1) x.0

@@ -21,7 +21,8 @@ use Rattle.lk_agreement.specs.Nodes.{Pair, Term, View}
 use Rattle.lk_agreement.proofs.Histories.{change_fits}
 use Rattle.lk_acceptor.specs.AcceptorValue.{AcceptorValue}
 use Rattle.lk_leader.specs.LedTerms.{AgreesWithTerm}
-use Rattle.lk_leader.specs.Terms.{Report, TermValue, LeaderValue, with_term, with_report, is_promiser, IsFirstOf}
+use Rattle.lk_leader.specs.Terms.{ReceivedPromise, TermValue, LeaderValue, with_term, with_report, is_promiser}
+use Rattle.lk_leader.specs.Terms.{IsFirstOf}
 use Rattle.lk_leader.proofs.Leaderships.{heard_leads}
 use Rattle.lk_node_io.specs.Outboxes.{OutboxValue, nothing}
 use Rattle.lk_node.specs.Histories.{History, IsLawful, WasAsked}
@@ -154,7 +155,7 @@ kept_or_dropped old node new roster from p b first votes Same e e1 e2 e3 e4 kept
     ])
 
 pub report_promised : (a : AcceptorValue) (l new : LeaderValue) (roster : RosterValue) (from : ℕ) (b : BallotValue)
-    (r : Report) (Same : Type 0) → HasPromised a l
+    (r : ReceivedPromise) (Same : Type 0) → HasPromised a l
     → ((t : TermValue) → IsFirstOf l roster from b t → new ≡ with_term (with_report r t) l)
     → (((t : TermValue) → IsFirstOf l roster from b t → ⊥) → (new ≡ l) × Same) → HasPromised a new
 report_promised a l new roster from b r Same promised kept other k at = elim (first_or_not l roster from b) [

@@ -42,7 +42,7 @@ AsksPromises b nodes old out =
 
 -- The node begins the ballot: its promise is written, and the nodes of the window are asked for theirs from the next
 -- position on, if there is one.
-pub record Begins (b : BallotValue) (old new : NodeValue) (out : OutboxValue) : Type 0 where
+pub record BeginsBallot (b : BallotValue) (old new : NodeValue) (out : OutboxValue) : Type 0 where
   pub becomes : new ≡ beginning b old
   pub nodes : List ℕ
   pub all : AreWindowNodes old nodes

@@ -46,7 +46,7 @@ pub record NodeFits (m : Meaning) (h : History) (n : ℕ) (Shows : Holding → T
 
 -- What a successful call leaves: a holding that fits, datagrams that the node may send in its present state, notes
 -- that a chosen list bears out, and disks whose images fit with any prefix of these datagrams sent.
-pub record Goes (m : Meaning) (h : History) (n : ℕ) (Shows : Holding → Type 0) (disks : Side → Disk)
+pub record LeavesFit (m : Meaning) (h : History) (n : ℕ) (Shows : Holding → Type 0) (disks : Side → Disk)
     (notes : List Note) (batch : List Datagram) : Type 0 where
   pub holding : Holding
   pub shown : Shows holding

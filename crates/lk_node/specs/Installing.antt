@@ -11,8 +11,8 @@ use Rattle.lk_node.specs.Learning.{with_learner}
 use Rattle.lk_node.specs.NodeValue.{NodeValue}
 
 -- the learner gathers the part, and if that completes a text, the text is installed, or else thrown away
-abbrev pub Gathers : (List ℕ → Type 0) → Bool → PartValue → NodeValue → NodeValue → Type 0
-Gathers IsText went p old new =
+abbrev pub GathersPart : (List ℕ → Type 0) → Bool → PartValue → NodeValue → NodeValue → Type 0
+GathersPart IsText went p old new =
     (l : LearnerValue) × Installs IsText went (hearing p old.learner) l × (new ≡ with_learner old l)
 
 -- this many of the sessions are settled, one after another
@@ -39,5 +39,5 @@ pub record InstallsGathered (m : Meaning) (old new : NodeValue) (out : OutboxVal
 -- a part is heard: if that installs a state, the node adopts it, and otherwise nothing follows
 abbrev pub HearsPart : Meaning → (List ℕ → Type 0) → NodeValue → PartValue → NodeValue → OutboxValue → Type 0
 HearsPart m IsText old p new out =
-    ((mid : NodeValue) × Gathers IsText true p old mid × InstallsGathered m mid new out)
-    ⊎ (Gathers IsText false p old new × (out ≡ nothing))
+    ((mid : NodeValue) × GathersPart IsText true p old mid × InstallsGathered m mid new out)
+    ⊎ (GathersPart IsText false p old new × (out ≡ nothing))

@@ -8,7 +8,7 @@ use Rattle.lk_store_format.specs.Entries.{plain}
 use Rattle.lk_store_format.specs.Values.{HeaderValue, StandingValue}
 use Rattle.lk_store_format.specs.declared.stored.Stored.{Stored}
 use Rattle.lk_log.specs.StoreValue.{StoreValue}
-use Rattle.lk_log.specs.Stores.{Holds}
+use Rattle.lk_log.specs.Stores.{HoldsEntries}
 use Rattle.lk_state.specs.Meanings.{Meaning}
 use Rattle.lk_agreement.specs.Acceptors.{AcceptorState}
 use Rattle.lk_agreement.specs.Chosen.{command_at}
@@ -37,10 +37,10 @@ IsKnown w (Decided i c) = Contains w.pairs (i, c) ⊎ (command_at w.done i ≡ S
 
 -- the store is that of this header, all its entries except decided commands are synced, and they stand for what the
 -- acceptor holds
-pub record Keeps (whose : HeaderValue) (store : StoreValue) (acceptor : AcceptorState) : Type 0 where
+pub record StoreKeeps (whose : HeaderValue) (store : StoreValue) (acceptor : AcceptorState) : Type 0 where
   pub entries : List Stored
   pub loose : List Entry
-  pub holds : Holds store entries (plain loose)
+  pub holds : HoldsEntries store entries (plain loose)
   pub decided : AllByRecursion TellsDecided loose
   pub header : HasHeader entries whose
   pub standing : StandingValue
@@ -63,19 +63,19 @@ pub record IsHeld (m : Meaning) (node : NodeValue) (genesis : Genesis) (x : Hold
 
 -- the replica, by its parts, is that of the node in the cluster with this genesis, and holds this; its store tells what
 -- the node has executed, and what it holds lies near that
-pub record Stands (m : Meaning) (node : NodeValue) (store : StoreValue) (genesis : Genesis) (n : ℕ)
+pub record ReplicaHolds (m : Meaning) (node : NodeValue) (store : StoreValue) (genesis : Genesis) (n : ℕ)
     (x : Holding) : Type 0 where
   pub whose : node.header ≡ header_of genesis n
-  pub keeps : Keeps (header_of genesis n) store node.acceptor.state
+  pub keeps : StoreKeeps (header_of genesis n) store node.acceptor.state
   pub known : AllByRecursion (IsKnown x.view) keeps.loose
   pub held : IsHeld m node genesis x
   pub told : IsTold genesis.alpha keeps.standing keeps.loose node
 
 -- The same in the middle of a step that has installed a snapshot: the store does not tell of that yet.
-pub record StandsBefore (m : Meaning) (node : NodeValue) (store : StoreValue) (genesis : Genesis) (n : ℕ)
+pub record HoldsBeforeRebase (m : Meaning) (node : NodeValue) (store : StoreValue) (genesis : Genesis) (n : ℕ)
     (x : Holding) : Type 0 where
   pub whose : node.header ≡ header_of genesis n
-  pub keeps : Keeps (header_of genesis n) store node.acceptor.state
+  pub keeps : StoreKeeps (header_of genesis n) store node.acceptor.state
   pub known : AllByRecursion (IsKnown x.view) keeps.loose
   pub held : IsHeld m node genesis x
   pub some : 1 ≤ genesis.alpha

@@ -4,7 +4,7 @@ use Rattle.lk_types.specs.declared.vote.Vote.{Vote}
 use Rattle.lk_messages.specs.Values.{PromiseValue}
 use Rattle.lk_messages.specs.declared.message.NodeMessage.TheVariants as kinds
 use Rattle.lk_leader.specs.Proposing.{Proposes, LeaderProposes, proposed}
-use Rattle.lk_leader.specs.Terms.{Command, Report, TermValue, LeaderValue, with_term, with_report, IsFirstOf}
+use Rattle.lk_leader.specs.Terms.{Command, ReceivedPromise, TermValue, LeaderValue, with_term, with_report, IsFirstOf}
 use Rattle.lk_members.specs.Nodes.{nodes_of}
 use Rattle.lk_node_io.specs.Outboxes.{OutboxValue, nothing}
 use Rattle.lk_node.specs.NodeValue.{NodeValue}
@@ -16,7 +16,7 @@ with_leader node l = record node { leader = l }
 -- ---- a promise
 
 -- what the promise of the node reports
-abbrev pub report_of : ℕ → PromiseValue → Report
+abbrev pub report_of : ℕ → PromiseValue → ReceivedPromise
 report_of from p = record { node = from; first = p.first; votes = p.votes }
 
 -- it is kept if it is of the term's ballot, of a node of the window, and that node's first
@@ -49,12 +49,12 @@ having_proposed old x p =
     with_leader old (with_term (proposed old.learner.whole.roster x.position x.command p.term) old.leader)
 
 -- nothing is left to propose
-abbrev pub NothingOpen : NodeValue → Type 0
-NothingOpen node = (i : ℕ) (v : Command) → LeaderProposes node.leader node.learner.whole.roster i v → ⊥
+abbrev pub NothingToPropose : NodeValue → Type 0
+NothingToPropose node = (i : ℕ) (v : Command) → LeaderProposes node.leader node.learner.whole.roster i v → ⊥
 
 -- the node proposes these, one after another, until nothing is open, and tells each to the members of its position
 abbrev pub ProposesAll : List Vote → NodeValue → NodeValue → OutboxValue → OutboxValue → Type 0
-ProposesAll [] old new before out = NothingOpen old × (new ≡ old) × (out ≡ before)
+ProposesAll [] old new before out = NothingToPropose old × (new ≡ old) × (out ≡ before)
 ProposesAll (x ∷ xs) old new before out =
     (p : ProposesVote old x)
     × ProposesAll xs (having_proposed old x p) new (telling old (nodes_of p.proposes.set) (kinds.Accept x) before) out
@@ -68,4 +68,4 @@ abbrev pub ProposesNext : Bool → NodeValue → NodeValue → OutboxValue → O
 ProposesNext true old new before out =
     (x : Vote) × (p : ProposesVote old x) × (new ≡ having_proposed old x p)
     × (out ≡ telling old (nodes_of p.proposes.set) (kinds.Accept x) before)
-ProposesNext false old new before out = NothingOpen old × (new ≡ old) × (out ≡ before)
+ProposesNext false old new before out = NothingToPropose old × (new ≡ old) × (out ≡ before)

@@ -4,7 +4,7 @@ use Rattle.lk_types.specs.Limits.{max_count}
 use Rattle.lk_node_io.specs.Outboxes.{OutboxValue, nothing}
 use Rattle.lk_node_io.specs.Recipients.{place_in}
 use Rattle.lk_node_io.specs.Ticks.{max_ticks, is_enough}
-use Rattle.lk_node.specs.Beginning.{greatest_round, next_ballot, Begins}
+use Rattle.lk_node.specs.Beginning.{greatest_round, next_ballot, BeginsBallot}
 use Rattle.lk_node.specs.NodeValue.{NodeValue}
 
 -- the place of the node among the members of the next position, from 0
@@ -18,6 +18,6 @@ ticked node = record node { ticks = min (node.ticks + 1) max_ticks }
 -- If it has waited long enough, and the round can be raised, the node begins its next ballot.
 abbrev pub BeginsWhereDue : NodeValue → NodeValue → OutboxValue → Type 0
 BeginsWhereDue old new out =
-    ((is_enough old.ticks (place_of old) ≡ true) × Begins (next_ballot old) old new out)
+    ((is_enough old.ticks (place_of old) ≡ true) × BeginsBallot (next_ballot old) old new out)
     ⊎ (((is_enough old.ticks (place_of old) ≡ false) ⊎ (max_count ≤ greatest_round old))
     × (new ≡ old) × (out ≡ nothing))

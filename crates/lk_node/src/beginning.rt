@@ -2,7 +2,7 @@
 ghost use Rattle.std.specs.Prelude.{◌≡◌, IfOk};
 ghost use Rattle.lk_types.specs.Ballots.{IsBelow};
 ghost use Rattle.lk_node_io.specs.Outboxes.{nothing};
-ghost use Rattle.lk_node.specs.Beginning.{Begins};
+ghost use Rattle.lk_node.specs.Beginning.{BeginsBallot};
 ghost use Rattle.lk_node.specs.Serving.{ActsSafely};
 
 use crate::node::Node;
@@ -17,7 +17,7 @@ impl<M: Machine> Node<M> {
     pub(crate) fn begin(&mut self, ballot: RealBallot) -> Result<Outbox, NoMemory>
         requires below { IsBelow self.old.acceptor.state.promised ballot }
         requires own { ballot.node ≡ self.old.header.node }
-        ensures exact { IfOk result (λ o. Begins ballot self.old self.new o) }
+        ensures exact { IfOk result (λ o. BeginsBallot ballot self.old self.new o) }
         ensures goes_on { IfOk result (λ o. ActsSafely M.meaning (λ h. Unit {0}) self.old self.new nothing o) }
     {
         let nodes = self.window_nodes()?;

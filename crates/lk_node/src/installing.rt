@@ -3,7 +3,7 @@ ghost use Rattle.std.specs.Prelude.{◌≡◌, ℕ, IfOk, OnOk};
 ghost use Rattle.lk_messages.specs.declared.message.NodeMessage.TheVariants as kinds;
 ghost use Rattle.lk_agreement.specs.Datagrams.{HasSent};
 ghost use Rattle.lk_node_io.specs.Outboxes.{nothing};
-ghost use Rattle.lk_node.specs.Installing.{Gathers, SettlesAll, InstallsGathered, HearsPart};
+ghost use Rattle.lk_node.specs.Installing.{GathersPart, SettlesAll, InstallsGathered, HearsPart};
 ghost use Rattle.lk_node.specs.Serving.{ActsSafely};
 
 use crate::node::Node;
@@ -16,7 +16,7 @@ impl<M: Machine> Node<M> {
     // Adds the part to the gathered text, and installs the text if it is complete and a state's. Returns whether it
     // installed one.
     fn add_part(&mut self, part: &PartRef<'_>) -> Result<bool, NoMemory>
-        ensures { IfOk result (λ went. Gathers M.IsText went part.now self.old self.new) }
+        ensures { IfOk result (λ went. GathersPart M.IsText went part.now self.old self.new) }
     {
         self.learner.add_part(part)?;
         let went = self.learner.install()?;

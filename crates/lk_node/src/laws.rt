@@ -13,24 +13,24 @@ ghost use Rattle.lk_node.specs.Steps.{Steps};
 
 use lk_state::Machine;
 
-/// The entries of a step that does not rebase keep the store up to date: if a restart from it executes at least as much
-/// as the node before, a restart with them executes at least as much as the node after. None of them is of a position
-/// more than 2 alpha above what a restart from the entries before it executes.
+/// A restart never executes less than its node had: if that holds of the store and the node before a step that does
+/// not rebase, it holds of the store with the step's entries and the node after. No entry is of a position more than 2
+/// alpha above what a restart from the entries before it executes.
 pub fn a_step_tells_of_its_node<M: Machine>()
     ensures { (old new : NodeValue) (i : Input) (out : OutboxValue) → Steps M.meaning M.IsText old i new out
         → out.rebase ≡ false → TellsOn old new out.entries }
 {}
 
-/// The same of the Base that a node writes: nothing in it is of a position farther above, and a restart from it
-/// executes at least as much as the node.
+/// A restart from the Base that a node writes executes at least as much as the node, and nothing in the Base is of a
+/// position more than 2 alpha above what that restart executes.
 pub fn a_base_tells_of_its_node()
     ensures near { (node : NodeValue) → HoldsNear node → AllLieNear (alpha node.learner) (standing_of node) }
     ensures tells { (node : NodeValue) → HoldsNear node → 1 ≤ alpha node.learner
         → TellsOf (alpha node.learner) (standing_of node) (with_snapshot node) }
 {}
 
-/// Whatever prefix of such entries a stop leaves, no vote or pair is farther above, so a restart does not fail for
-/// that.
+/// A stop leaves a prefix of the entries. In none of them is a vote or a pair too far above what a restart executes, so
+/// no restart fails for that.
 pub fn what_a_stop_leaves_lies_near()
     ensures { (ahead : ℕ) (s : StandingValue) (es : List Entry) (k : ℕ) → AllLieNear ahead s
         → EntriesLieNear ahead s es → AllLieNear ahead (with_all (take k es) s) }

@@ -9,7 +9,7 @@ ghost use Rattle.lk_members.specs.Nodes.{nodes_of};
 ghost use Rattle.lk_node_io.specs.Outboxes.{nothing};
 ghost use Rattle.lk_node_io.specs.Saying.{saying};
 ghost use Rattle.lk_node.specs.Leading.{KeepsPromise, DropsPromise, HearsPromise, ProposesVote, having_proposed};
-ghost use Rattle.lk_node.specs.Leading.{NothingOpen, ProposesNext, ProposesOpen};
+ghost use Rattle.lk_node.specs.Leading.{NothingToPropose, ProposesNext, ProposesOpen};
 ghost use Rattle.lk_node.specs.Promised.{HasPromised};
 ghost use Rattle.lk_node.specs.Serving.{ActsSafely};
 ghost use Rattle.lk_node.specs.Telling.{telling};
@@ -62,7 +62,7 @@ impl<M: Machine> Node<M> {
     // Records the term's next proposal, and returns it as the vote to ask for. `None`, without a change, if there is
     // none.
     fn next_vote(&mut self) -> Option<Vote>
-        ensures { MatchOption result (NothingOpen self.old × (self.new ≡ self.old))
+        ensures { MatchOption result (NothingToPropose self.old × (self.new ≡ self.old))
             (λ x. (p : ProposesVote self.old x) × (self.new ≡ having_proposed self.old x p)) }
     {
         let Some(ballot) = self.leader.ballot() else {
@@ -110,7 +110,7 @@ impl<M: Machine> Node<M> {
     // Proposes whatever it can, at rising positions, each to the members of its position.
     pub(crate) fn propose(&mut self, out: &mut Outbox) -> Result<(), NoMemory>
         ensures exact { OnOk result (ProposesOpen self.old self.new out.old out.new) }
-        ensures done { OnOk result (NothingOpen self.new) }
+        ensures done { OnOk result (NothingToPropose self.new) }
         ensures goes_on { OnOk result (ActsSafely M.meaning (λ h. Unit {0}) self.old self.new out.old out.new) }
     {
         'votes: while self.propose_next(out)? {}

@@ -1,7 +1,7 @@
 // What a node with a term resends at a tick, as datagrams may be lost.
 ghost use Rattle.std.specs.Prelude.{◌≡◌, ◌+◌, IfOk, OnOk};
 ghost use Rattle.lk_node_io.specs.Outboxes.{nothing};
-ghost use Rattle.lk_node.specs.Leading.{NothingOpen};
+ghost use Rattle.lk_node.specs.Leading.{NothingToPropose};
 ghost use Rattle.lk_node.specs.Reminding.{IsTermOf, AsksAgain, OffersAgain, OffersAll, TellsLead, Reminds};
 ghost use Rattle.lk_node.specs.Serving.{ActsSafely};
 
@@ -108,7 +108,7 @@ impl<M: Machine> Node<M> {
     pub(crate) fn remind(&mut self, ballot: RealBallot) -> Result<Outbox, NoMemory>
         requires { IsTermOf ballot self.old.leader }
         ensures exact { IfOk result (λ o. Reminds ballot self.old self.new o) }
-        ensures done { OnOk result (NothingOpen self.new) }
+        ensures done { OnOk result (NothingToPropose self.new) }
         ensures goes_on { IfOk result (λ o. ActsSafely M.meaning (λ h. Unit {0}) self.old self.new nothing o) }
     {
         let mut out = Outbox::new(self.alloc);

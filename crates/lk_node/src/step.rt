@@ -7,7 +7,7 @@ ghost use Rattle.lk_node_io.specs.Outboxes.{nothing};
 ghost use Rattle.lk_node.specs.Calls.{InputFits};
 ghost use Rattle.lk_node.specs.Executing.{NothingToRun};
 ghost use Rattle.lk_node.specs.Histories.{IsHeard};
-ghost use Rattle.lk_node.specs.Leading.{NothingOpen};
+ghost use Rattle.lk_node.specs.Leading.{NothingToPropose};
 ghost use Rattle.lk_node.specs.Serving.{ActsSafely};
 ghost use Rattle.lk_node.specs.Steps.{Hears, HearsNode, TakesBytes, TakesDatagram, Steps, WasHeard};
 
@@ -78,7 +78,7 @@ impl<M: Machine> Node<M> {
     // Handles a datagram, and then proposes whatever it can.
     fn take_datagram(&mut self, datagram: &Datagram<'_>) -> Result<Outbox, NoMemory>
         ensures exact { IfOk result (λ o. TakesDatagram M.meaning M.IsText self.old datagram.now self.new o) }
-        ensures done { OnOk result (NothingOpen self.new) }
+        ensures done { OnOk result (NothingToPropose self.new) }
         ensures goes_on { IfOk result
             (λ o. ActsSafely M.meaning (λ h. IsHeard h datagram.now) self.old self.new nothing o) }
     {
@@ -110,7 +110,7 @@ impl<M: Machine> Node<M> {
         ensures goes_on { IfOk result
             (λ o. ActsSafely M.meaning (λ h. InputFits h input.entry) self.old self.new nothing o) }
         ensures runs { NothingToRun self.old → OnOk result (NothingToRun self.new) }
-        ensures done { OnOk result (NothingOpen self.new) }
+        ensures done { OnOk result (NothingToPropose self.new) }
         ensures halts { OnErr result (self.new.halted ≡ true) }
         ensures awake { OnOk result (self.new.halted ≡ false) }
         ensures stays_halted { self.old.halted ≡ true → IsErr result × (self.new ≡ self.old) }

@@ -8,9 +8,9 @@ use Rattle.lk_log.specs.Rooms.{StaysWithin}
 use Rattle.lk_log.specs.StoreValue.{disks}
 use Rattle.lk_state.specs.Meanings.{Meaning}
 use Rattle.lk_node_io.specs.declared.note.Note.{Note}
-use Rattle.lk_node.specs.Calls.{Goes}
+use Rattle.lk_node.specs.Calls.{LeavesFit}
 use Rattle.lk_node.specs.Histories.{History, IsLawful}
-use Rattle.lk_node.specs.Keeping.{Stands}
+use Rattle.lk_node.specs.Keeping.{ReplicaHolds}
 use Rattle.lk_node.specs.Leavings.{header_of, DisksFit}
 use Rattle.lk_node_io.specs.Faults.{fault_number, IsNumberOfRevival}
 use Rattle.lk_replica.specs.ReplicaValue.{ReplicaValue}
@@ -26,7 +26,7 @@ use Rattle.lk_transport.specs.declared.fault.ServiceFault.{ServiceFault}
 pub record ComesUp (m : Meaning) (header : HeaderValue) (old : Side → Disk) (r : ReplicaValue) : Type 0 where
   pub notes : List Note
   pub goes : (h : History) (n : ℕ) → header ≡ header_of h.genesis n → IsLawful m h → DisksFit m h n old
-      → Goes m h n (Stands m r.node r.store h.genesis n) (disks r.store) notes []
+      → LeavesFit m h n (ReplicaHolds m r.node r.store h.genesis n) (disks r.store) notes []
   pub room : StaysWithin max_base old (disks r.store)
 
 -- no replica restarts from what these disks had, and they are left like this: whatever a stop may leave of them fits

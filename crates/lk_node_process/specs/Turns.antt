@@ -7,7 +7,7 @@ use Rattle.lk_node_io.specs.Letters.{LetterValue}
 use Rattle.lk_replica.specs.ReplicaValue.{ReplicaValue}
 use Rattle.lk_probe.specs.Neighbours.{bound_in}
 use Rattle.lk_probe.specs.declared.reported.Reported.{Reported}
-use Rattle.lk_seal.specs.declared.seals.Seals.{Seals}
+use Rattle.lk_auth.specs.declared.seals.Seals.{Seals}
 use Rattle.lk_transport.specs.Addresses.{IsSameNetwork, filter_of}
 use Rattle.lk_transport.specs.Posts.{all_filtered}
 use Rattle.lk_server.specs.ProbeHandling.{HandlesProbes}

@@ -139,7 +139,7 @@ fn question_of(row: (u16, u64, &[u8]), port: Port) -> Option<Question> {
 
 impl<M: Machine, S: DatagramSocket + Drop> Cluster<M, S> {
     // Starts a new cluster on these sockets.
-    fn begin(alloc: Global, sockets: Sockets<S>) -> Result<Cluster<M, S>, ServiceFault> {
+    fn start(alloc: Global, sockets: Sockets<S>) -> Result<Cluster<M, S>, ServiceFault> {
         let Sockets { nodes, client } = sockets;
         let genesis = genesis_at(alloc, &nodes)?;
         let port = genesis.members.as_slice()[0].port;
@@ -239,7 +239,7 @@ pub fn run_demo<M: Machine, S: DatagramSocket + Drop, W: Write>(
     sockets: Sockets<S>,
     out: &mut W,
 ) -> Result<bool, ServiceFault> {
-    let mut cluster: Cluster<M, S> = Cluster::begin(alloc, sockets)?;
+    let mut cluster: Cluster<M, S> = Cluster::start(alloc, sockets)?;
     for row in STORY {
         if !cluster.play_row(alloc, row, out)? {
             return Ok(false);

@@ -47,7 +47,7 @@ const TURNS: u64 = 1 << 48;
 type NodeServer<M, D, S> = Server<Replica<M, D>, S>;
 
 // Restarts the replica from a device. Logs how it started and what it executed. An error returns the device too.
-fn take_up<M: Machine, D: LogDisk + Drop, L: Log>(
+fn restart_replica<M: Machine, D: LogDisk + Drop, L: Log>(
     alloc: Global,
     header: &Header,
     device: D,
@@ -82,7 +82,7 @@ pub fn revive<M: Machine, D: LogDisk + Drop, S: DatagramSocket + Drop, L: Log>(
     ensures begun { IfOk result (IsServerStarted M.meaning D.is_honest (D.disk resources.device) header.now) }
     ensures serves { IfOk result (ServesAs header.now.cluster header.now.node resources.pace resources.network) }
     ensures socket { IfOk result
-        (ServesOn (S.sent resources.socket) (S.failures resources.socket) (S.coming resources.socket)) }
+        (ServesOn (S.sent resources.socket) (S.failures resources.socket) (S.incoming resources.socket)) }
     // It fails with a fault of 7 to 11, each for its own cause. The disks then fit each history that they fitted
     // before.
     ensures refused { IfErr result
@@ -96,7 +96,7 @@ pub fn revive<M: Machine, D: LogDisk + Drop, S: DatagramSocket + Drop, L: Log>(
         pace,
         unheard: _,
     } = resources;
-    let replica = take_up::<M, D, L>(alloc, header, device, log)?;
+    let replica = restart_replica::<M, D, L>(alloc, header, device, log)?;
     let cluster = header.genesis().cluster;
     Ok(Server::new(
         alloc,
@@ -148,7 +148,7 @@ fn end_turn<M: Machine, D: LogDisk + Drop, S: DatagramSocket + Drop, L: Log, O: 
     observer: &mut O,
     err: &mut E,
 ) -> Result<(), ServiceFault>
-    ensures acts { HandlesProbes IsShown S.is_telling buffer.old.asked buffer.old.reported server.old server.new }
+    ensures acts { HandlesProbes IsShown S.is_observable buffer.old.asked buffer.old.reported server.old server.new }
     ensures goes_on { OnOk result (HasFollowedNoStranger server.new) }
     ensures leaves { OnErr result (HasFollowedStranger server.new) }
     ensures spent { (buffer.new.asked ≡ None) × (buffer.new.reported ≡ None) }
@@ -189,7 +189,7 @@ fn take_turn<
     // ones that wait. Then probes are handled: the probe and the report that were kept before, or else the first that
     // came. No node of another genesis has led the node.
     ensures turn { OnOk result
-        (TakesTurnWith ⟦<Replica<M, D> as ServedReplica>⟧.Says S.is_telling buffer.old.asked buffer.old.reported
+        (TakesTurnWith ⟦<Replica<M, D> as ServedReplica>⟧.Says S.is_observable buffer.old.asked buffer.old.reported
         HasFollowedNoStranger server.old server.new) }
     ensures spent { OnOk result ((buffer.new.asked ≡ None) × (buffer.new.reported ≡ None)) }
     // While the node goes on nothing is written.
@@ -197,8 +197,8 @@ fn take_turn<
     // The turn ended the replica, and after that nothing is sent and no probe is answered; or it is such a turn, and a
     // node of another genesis has led the node.
     ensures ends { OnErr result
-        (EndsTurn ⟦<Replica<M, D> as ServedReplica>⟧.Says S.is_telling server.old server.new
-        ⊎ TakesTurnWith ⟦<Replica<M, D> as ServedReplica>⟧.Says S.is_telling buffer.old.asked buffer.old.reported
+        (EndsTurn ⟦<Replica<M, D> as ServedReplica>⟧.Says S.is_observable server.old server.new
+        ⊎ TakesTurnWith ⟦<Replica<M, D> as ServedReplica>⟧.Says S.is_observable buffer.old.asked buffer.old.reported
         HasFollowedStranger server.old server.new) }
 {
     match node_turn(server, buffer, tick_timer, log) {
@@ -244,20 +244,20 @@ fn take_turns<
 ) -> Result<(), ServiceFault>
     // At Ok it has taken exactly this many turns, one after another.
     ensures ok { OnOk result
-        (Repeats (TakesTurn ⟦<Replica<M, D> as ServedReplica>⟧.Says S.is_telling) (2 ^ 48) server.old server.new) }
+        (Repeats (TakesTurn ⟦<Replica<M, D> as ServedReplica>⟧.Says S.is_observable) (2 ^ 48) server.old server.new) }
     // At an error it has taken fewer, and then one that ended the replica, or after which a node of another genesis had
     // led the node.
     ensures err { OnErr result
-        (BreaksOff ⟦<Replica<M, D> as ServedReplica>⟧.Says S.is_telling (2 ^ 48) server.old server.new
-        ⊎ BreaksOffByStranger ⟦<Replica<M, D> as ServedReplica>⟧.Says S.is_telling (2 ^ 48) server.old server.new) }
+        (BreaksOff ⟦<Replica<M, D> as ServedReplica>⟧.Says S.is_observable (2 ^ 48) server.old server.new
+        ⊎ BreaksOffByStranger ⟦<Replica<M, D> as ServedReplica>⟧.Says S.is_observable (2 ^ 48) server.old server.new) }
     // After each of its turns, but the last at an error, it warns by the server's own status if that is due, and
     // nothing else is written.
     ensures warns { OnOk result
         ((last : PortReminder) × Repeats
-        (TakesTurnAndWarns ⟦<Replica<M, D> as ServedReplica>⟧.Says S.is_telling plan.now.header.node plan.now.port)
+        (TakesTurnAndWarns ⟦<Replica<M, D> as ServedReplica>⟧.Says S.is_observable plan.now.header.node plan.now.port)
         (2 ^ 48) (reminded server.old reminder (E.contents err.old)) (reminded server.new last (E.contents err.new))) }
     ensures warned { OnErr result
-        (WarnsUntil ⟦<Replica<M, D> as ServedReplica>⟧.Says S.is_telling plan.now.header.node plan.now.port (2 ^ 48)
+        (WarnsUntil ⟦<Replica<M, D> as ServedReplica>⟧.Says S.is_observable plan.now.header.node plan.now.port (2 ^ 48)
         (reminded server.old reminder (E.contents err.old)) server.new) }
 {
     let mut buffer = ReceiveBuffer::new();
@@ -298,11 +298,11 @@ fn serve_turns<
 ) -> Result<(), ServiceFault>
     ensures ok { OnOk result
         ((ended : ServerValue ReplicaValue)
-        × Repeats (TakesTurn ⟦<Replica<M, D> as ServedReplica>⟧.Says S.is_telling) (2 ^ 48) server ended) }
+        × Repeats (TakesTurn ⟦<Replica<M, D> as ServedReplica>⟧.Says S.is_observable) (2 ^ 48) server ended) }
     ensures err { OnErr result
         ((ended : ServerValue ReplicaValue)
-        × (BreaksOff ⟦<Replica<M, D> as ServedReplica>⟧.Says S.is_telling (2 ^ 48) server ended
-        ⊎ BreaksOffByStranger ⟦<Replica<M, D> as ServedReplica>⟧.Says S.is_telling (2 ^ 48) server ended)) }
+        × (BreaksOff ⟦<Replica<M, D> as ServedReplica>⟧.Says S.is_observable (2 ^ 48) server ended
+        ⊎ BreaksOffByStranger ⟦<Replica<M, D> as ServedReplica>⟧.Says S.is_observable (2 ^ 48) server ended)) }
 {
     let mut server = server;
     log_port(log, plan.port);
@@ -331,14 +331,14 @@ fn serve<
     requires { AreSealsOf plan.now.header resources.network.seals }
     ensures ok { OnOk result
         (Serves (IsServerStarted M.meaning D.is_honest (D.disk resources.device) plan.now.header) plan.now.header
-        resources.network.seals ⟦<Replica<M, D> as ServedReplica>⟧.Says S.is_telling (2 ^ 48)) }
+        resources.network.seals ⟦<Replica<M, D> as ServedReplica>⟧.Says S.is_observable (2 ^ 48)) }
     ensures err { IfErr result
         (λ f. IsRefusedWith M.meaning M.IsText D.is_honest (D.disk resources.device) plan.now.header f
         ⊎ EndsEarly (IsServerStarted M.meaning D.is_honest (D.disk resources.device) plan.now.header) plan.now.header
-        resources.network.seals ⟦<Replica<M, D> as ServedReplica>⟧.Says S.is_telling (2 ^ 48)
+        resources.network.seals ⟦<Replica<M, D> as ServedReplica>⟧.Says S.is_observable (2 ^ 48)
         ⊎ EndsEarlyByStranger (IsServerStarted M.meaning D.is_honest
         (D.disk resources.device) plan.now.header) plan.now.header
-        resources.network.seals ⟦<Replica<M, D> as ServedReplica>⟧.Says S.is_telling (2 ^ 48)) }
+        resources.network.seals ⟦<Replica<M, D> as ServedReplica>⟧.Says S.is_observable (2 ^ 48)) }
 {
     let reminder = PortReminder::of(resources.unheard);
     let server = revive_plan::<M, D, S, L, E>(alloc, plan, resources, log, err)?;
@@ -370,17 +370,17 @@ pub fn run_node<
     // many turns.
     ensures served { result ≡ 0
         → Serves (IsServerStarted M.meaning D.is_honest (D.disk resources.device) plan.now.header) plan.now.header
-        resources.network.seals ⟦<Replica<M, D> as ServedReplica>⟧.Says S.is_telling (2 ^ 48) }
+        resources.network.seals ⟦<Replica<M, D> as ServedReplica>⟧.Says S.is_observable (2 ^ 48) }
     // At status 1 it did not start, or it has taken fewer turns, and then one that ended its replica, or after which a
     // node of another genesis had led it.
     ensures broken { result ≡ 1
         → ((f : ServiceFault) × IsRefusedWith M.meaning M.IsText D.is_honest
         (D.disk resources.device) plan.now.header f)
         ⊎ EndsEarly (IsServerStarted M.meaning D.is_honest (D.disk resources.device) plan.now.header) plan.now.header
-        resources.network.seals ⟦<Replica<M, D> as ServedReplica>⟧.Says S.is_telling (2 ^ 48)
+        resources.network.seals ⟦<Replica<M, D> as ServedReplica>⟧.Says S.is_observable (2 ^ 48)
         ⊎ EndsEarlyByStranger (IsServerStarted M.meaning D.is_honest
         (D.disk resources.device) plan.now.header) plan.now.header
-        resources.network.seals ⟦<Replica<M, D> as ServedReplica>⟧.Says S.is_telling (2 ^ 48) }
+        resources.network.seals ⟦<Replica<M, D> as ServedReplica>⟧.Says S.is_observable (2 ^ 48) }
 {
     match serve::<M, D, S, C, L, O, E>(clock, alloc, plan, resources, log, observer, err) {
         Ok(()) => 0,

@@ -1,8 +1,8 @@
 -- The key file that `locks client-key` prints for a client.
 use Rattle.std.specs.Prelude.{◌≡◌, ℕ, List, Option, Some}
 use Rattle.std.specs.Io.KnownBytes.{Appends}
-use Rattle.lk_seal.specs.Clients.{client_keys}
-use Rattle.lk_seal.specs.KeyFiles.{key_file, key_lines}
+use Rattle.lk_auth.specs.Clients.{client_keys}
+use Rattle.lk_auth.specs.KeyFiles.{key_file, key_lines}
 
 -- the text is a key file of masters, and a key file with the keys that these make for the client is what the output
 -- grows by

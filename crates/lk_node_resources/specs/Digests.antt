@@ -1,7 +1,7 @@
 -- The digest of a genesis.
 use Rattle.std.specs.Prelude.{ℕ, List, ◌++◌}
 use Rattle.sha2.specs.Sha256.{sha256}
-use Rattle.lk_fields.specs.Fields.{one, eight}
+use Rattle.lk_codec.specs.Fields.{one, eight}
 use Rattle.lk_store_format.specs.Entries.{members}
 use Rattle.lk_store_format.specs.Values.{HeaderValue}
 

@@ -4,8 +4,8 @@ use Rattle.std.specs.Net.Addr.{MatchIp, IsLoopbackV4, IsLoopbackV6}
 use Rattle.std.specs.Net.Socket.{socket_ip}
 use Rattle.std.specs.declared.net.ip_addr.IpAddr.{IpAddr}
 use Rattle.std.specs.declared.net.socket_addr.SocketAddr.{SocketAddr}
-use Rattle.lk_seal.specs.Seals.{key_list}
-use Rattle.lk_seal.specs.declared.seals.Seals.{Seals}
+use Rattle.lk_auth.specs.Seals.{key_list}
+use Rattle.lk_auth.specs.declared.seals.Seals.{Seals}
 
 -- a loopback address, which no other machine can reach
 abbrev pub IsOfThisMachine : IpAddr → Type 0

@@ -1,7 +1,7 @@
 -- Whose keys the seals of a node are.
 use Rattle.std.specs.Prelude.{◌≡◌}
 use Rattle.lk_store_format.specs.Values.{HeaderValue}
-use Rattle.lk_seal.specs.declared.seals.Seals.{Seals}
+use Rattle.lk_auth.specs.declared.seals.Seals.{Seals}
 use Rattle.lk_node_resources.specs.Digests.{genesis_digest}
 
 -- they are the seals of the node of this header, in its cluster, for its genesis

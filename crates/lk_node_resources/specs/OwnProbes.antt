@@ -9,8 +9,8 @@ use Rattle.lk_disk.specs.Disk.{one_more}
 use Rattle.lk_store_format.specs.Values.{HeaderValue}
 use Rattle.lk_probe.specs.Grammar.{SpellsProbe}
 use Rattle.lk_probe.specs.Questions.{question}
-use Rattle.lk_seal.specs.Seals.{key_list, framed_by, to_node}
-use Rattle.lk_seal.specs.declared.seals.Seals.{Seals}
+use Rattle.lk_auth.specs.Seals.{key_list, framed_by, to_node}
+use Rattle.lk_auth.specs.declared.seals.Seals.{Seals}
 use Rattle.lk_transport.specs.Hosts.{host_of}
 use Rattle.lk_transport.specs.declared.network.Network.{Network}
 
@@ -18,12 +18,12 @@ use Rattle.lk_transport.specs.declared.network.Network.{Network}
 pub record SocketValue : Type 0 where
   pub sent : List (SocketAddr × List ℕ)
   pub failures : ℕ
-  pub coming : List (SocketAddr × List ℕ)
+  pub incoming : List (SocketAddr × List ℕ)
 
 -- these values of a socket, by the ghost functions of its type
 abbrev pub socket_value : {S : Type 0} → (S → List (SocketAddr × List ℕ)) → (S → ℕ)
     → (S → List (SocketAddr × List ℕ)) → S → SocketValue
-socket_value sent failures coming s = record { sent = sent s; failures = failures s; coming = coming s }
+socket_value sent failures incoming s = record { sent = sent s; failures = failures s; incoming = incoming s }
 
 -- ---- what comes
 
@@ -63,7 +63,7 @@ IsHeard frame most false old new = StaysAway frame most old new
 pub record SendsAndHears (place : SocketAddr) (frame : List ℕ) (is_back : Bool) (old new : SocketValue) : Type 0 where
   pub sent : new.sent ≡ old.sent ++ (place, frame) ∷ []
   pub failures : new.failures ≡ old.failures
-  pub heard : IsHeard frame 30 is_back old.coming new.coming
+  pub heard : IsHeard frame 30 is_back old.incoming new.incoming
 
 -- they could not be sent, and nothing is heard
 pub record CannotSend (is_back : Bool) (old new : SocketValue) : Type 0 where

@@ -4,8 +4,8 @@ ghost use Rattle.std.specs.Prelude.{◌≡◌, ◌++◌, OnOk, IfOk};
 ghost use Rattle.lk_node_resources.specs.Digests.{genesis_spelling, genesis_digest};
 
 use bytes::BytesMut;
-use lk_fields::{put_u8, put_u64};
-use lk_seal::DIGEST;
+use lk_auth::DIGEST;
+use lk_codec::{put_u8, put_u64};
 use lk_store_format::{Header, put_members};
 use sha2::{Digest, Sha256};
 use std::alloc::{AllocError, Global};

@@ -1,17 +1,17 @@
 //! Reads, from the files that a command line names, where the nodes of a cluster live and which keys they use.
 
 ghost use Rattle.std.specs.Prelude.{◌≡◌, List, ℕ, Some, IfOk, OnOk};
-ghost use Rattle.lk_seal.specs.KeyFiles.{key_file};
-ghost use Rattle.lk_seal.specs.Seals.{key_list};
+ghost use Rattle.lk_auth.specs.KeyFiles.{key_file};
+ghost use Rattle.lk_auth.specs.Seals.{key_list};
 ghost use Rattle.lk_node_resources.specs.Guards.{IsReachedWithKey};
 ghost use Rattle.lk_node_resources.specs.KeysOfNode.{AreSealsOf};
 
 use crate::digest::genesis_digest;
+use lk_auth::{AskerSeals, Keys, Masters, Seals};
 use lk_client::destination::Destination;
 use lk_node_files::causes::write_cause;
 use lk_parsers::operation::node_of;
 use lk_parsers::word::split_word;
-use lk_seal::{AskerSeals, Keys, Masters, Seals};
 use lk_store_format::Header;
 use lk_transport::fault::ServiceFault;
 use lk_transport::hosts::Hosts;

@@ -4,9 +4,9 @@
 ghost use Rattle.std.specs.Prelude.{◌≡◌, Ok, None, Some, true, false, IfOk, IfErr, OnErr, IfSome};
 ghost use Rattle.lk_node_resources.specs.OwnProbes.{ComesNext, FindsUnheard, IsHeard, ProbesItself, socket_value};
 
+use lk_auth::Seals;
 use lk_probe::neighbours::Origin;
 use lk_probe::reported::question;
-use lk_seal::Seals;
 use lk_store_format::Header;
 use lk_transport::fault::ServiceFault;
 use lk_transport::network::Network;
@@ -24,7 +24,7 @@ const WAIT: u64 = 10;
 
 // Receives the next datagram, and drops it. Returns whether it has these bytes.
 fn comes_next<S: DatagramSocket>(buffer: &mut ReceiveBuffer, socket: &mut S, frame: &[u8]) -> bool
-    ensures comes { S.is_telling → ComesNext frame.now result (S.coming socket.old) (S.coming socket.new) }
+    ensures comes { S.is_observable → ComesNext frame.now result (S.incoming socket.old) (S.incoming socket.new) }
     ensures unchanged { S.sent socket.new ≡ S.sent socket.old }
     ensures spares { S.failures socket.new ≡ S.failures socket.old }
 {
@@ -38,7 +38,7 @@ fn comes_next<S: DatagramSocket>(buffer: &mut ReceiveBuffer, socket: &mut S, fra
 // Receives datagrams and drops them, up to one of these bytes: at most 30, each within about 10 ms. Returns whether it
 // came.
 fn comes_back<S: DatagramSocket>(socket: &mut S, frame: &[u8]) -> bool
-    ensures heard { S.is_telling → IsHeard frame.now 30 result (S.coming socket.old) (S.coming socket.new) }
+    ensures heard { S.is_observable → IsHeard frame.now 30 result (S.incoming socket.old) (S.incoming socket.new) }
     ensures unchanged { S.sent socket.new ≡ S.sent socket.old }
     ensures spares { S.failures socket.new ≡ S.failures socket.old }
 {
@@ -60,8 +60,8 @@ fn probe_itself<S: DatagramSocket>(
     seals: &Seals,
     place: SocketAddr,
 ) -> Result<bool, ServiceFault>
-    ensures probes { S.is_telling → IfOk result (λ is_back. ProbesItself header.now seals.now place is_back
-        (socket_value S.sent S.failures S.coming socket.old) (socket_value S.sent S.failures S.coming socket.new)) }
+    ensures probes { S.is_observable → IfOk result (λ is_back. ProbesItself header.now seals.now place is_back
+        (socket_value S.sent S.failures S.incoming socket.old) (socket_value S.sent S.failures S.incoming socket.new)) }
     ensures err { OnErr result (socket.new ≡ socket.old) }
     ensures only { IfErr result (λ f. f ≡ ServiceFault.NoMemory) }
 {
@@ -87,8 +87,8 @@ pub fn unheard_port<S: DatagramSocket>(
     network: &Network,
     named: Option<Port>,
 ) -> Result<Option<Port>, ServiceFault>
-    ensures finds { S.is_telling → IfOk result (λ unheard. FindsUnheard header.now network.now named unheard
-        (socket_value S.sent S.failures S.coming socket.old) (socket_value S.sent S.failures S.coming socket.new)) }
+    ensures finds { S.is_observable → IfOk result (λ unheard. FindsUnheard header.now network.now named unheard
+        (socket_value S.sent S.failures S.incoming socket.old) (socket_value S.sent S.failures S.incoming socket.new)) }
     // Where the ports agree nothing is sent and nothing received.
     ensures alike { named ≡ None → (result ≡ Ok None) × (socket.new ≡ socket.old) }
     ensures some { IfOk result (λ unheard. IfSome unheard (λ port. named ≡ Some port)) }

@@ -2,17 +2,17 @@
 
 ghost use Rattle.std.specs.Prelude.{◌≡◌, ◌≢◌, [], Some, None, IfOk, IfSome, OnErr};
 ghost use Rattle.lk_members.specs.Ports.{port_in};
-ghost use Rattle.lk_seal.specs.Seals.{key_list};
+ghost use Rattle.lk_auth.specs.Seals.{key_list};
 ghost use Rattle.lk_node_resources.specs.OwnProbes.{FindsUnheard, socket_value};
 ghost use Rattle.lk_node_resources.specs.Ports.{misnamed};
 ghost use Rattle.lk_node_resources.specs.KeysOfNode.{AreSealsOf};
 
 use crate::network::{NetworkOptions, network_of};
 use crate::own_probe::unheard_port;
+use lk_auth::{Keys, Seals};
 use lk_disk::SystemDisk;
 use lk_node_files::causes::open_socket_at;
 use lk_node_files::folder::{FolderLock, open_device};
-use lk_seal::{Keys, Seals};
 use lk_store_format::Header;
 use lk_timing::pace::Pace;
 use lk_transport::fault::ServiceFault;
@@ -91,10 +91,10 @@ fn warn_of_port<S: DatagramSocket, E: Write>(
     socket: &mut S,
     err: &mut E,
 ) -> Result<Option<Port>, ServiceFault>
-    ensures finds { S.is_telling
+    ensures finds { S.is_observable
         → IfOk result (λ unheard. FindsUnheard plan.now.header network.now
         (misnamed plan.now.header plan.now.port) unheard
-        (socket_value S.sent S.failures S.coming socket.old) (socket_value S.sent S.failures S.coming socket.new)) }
+        (socket_value S.sent S.failures S.incoming socket.old) (socket_value S.sent S.failures S.incoming socket.new)) }
     // Where the ports agree nothing is sent and nothing received.
     ensures alike { misnamed plan.now.header plan.now.port ≡ None → socket.new ≡ socket.old }
     ensures some { IfOk result

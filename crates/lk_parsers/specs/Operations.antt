@@ -6,7 +6,7 @@ use Rattle.lk_types.specs.Ranges.{IsNode, IsPort, IsTotal}
 use Rattle.lk_types.specs.Payloads.{IsPayload}
 use Rattle.lk_types.specs.declared.command.Op.{Op}
 use Rattle.lk_types.specs.declared.command.Op.TheVariants.{Table, Join, Leave, Raise}
-use Rattle.lk_fields.specs.Fields.{eight}
+use Rattle.lk_codec.specs.Fields.{eight}
 use Rattle.lk_parsers.specs.Words.{HasNoSpace}
 use Rattle.lk_parsers.specs.Verbs.{word_of}
 use Rattle.lk_parsers.specs.declared.verb.Verb.{Verb}

@@ -47,7 +47,7 @@ fn read_name_op(kind: u8, words: &[u8]) -> Option<Op>
 }
 
 // Reads `NAME FENCE` as an operation whose body has this first byte, and the fence in eight bytes at its end.
-#[tactic(auto, unfolding(lk_fields::specs::Fields::eight))]
+#[tactic(auto, unfolding(lk_codec::specs::Fields::eight))]
 fn read_fence_op(kind: u8, words: &[u8]) -> Option<Op>
     ensures some { IfSome result (AsksOfFence kind words.now) }
     ensures none { IsNone result → (o : OpValue) → AsksOfFence kind words.now o → ⊥ }

@@ -4,8 +4,8 @@ use Rattle.std.proofs.Common.{replicate, Option, Some, None, refl, ap, subst, �
 use Rattle.std.proofs.lemmas.Bool.{eqb-true}
 use Rattle.std.proofs.lemmas.Bool.Decides.{nat_tests}
 use Rattle.std.proofs.lemmas.List.{length-append, length-replicate}
-use Rattle.lk_fields.specs.Parser.{◌>>=◌, made}
-use Rattle.lk_fields.proofs.Spellings.{IsBytes, bind_ok, chosen, some_is, Took, Reads, made_as}
+use Rattle.lk_codec.specs.Parser.{◌>>=◌, made}
+use Rattle.lk_codec.proofs.Spellings.{IsBytes, bind_ok, chosen, some_is, Took, Reads, made_as}
 use Rattle.lk_probe.specs.Grammar.{front, padded}
 use Rattle.lk_probe.specs.Reading.{are_zeros, fronted, filled}
 

@@ -4,13 +4,13 @@ use Rattle.std.proofs.Common.{arith}
 use Rattle.std.specs.Prelude.{IfSome, IsSomeAnd}
 use Rattle.std.proofs.lemmas.Nat.{from_be_bytes-to_be_bytes_2}
 use Rattle.lk_types.specs.Ranges.{IsClient}
-use Rattle.lk_seal.specs.Clients.{client_in}
-use Rattle.lk_seal.specs.Seals.{only_request}
-use Rattle.lk_fields.specs.Fields.{two, four, eight}
+use Rattle.lk_auth.specs.Clients.{client_in}
+use Rattle.lk_auth.specs.Seals.{only_request}
+use Rattle.lk_codec.specs.Fields.{two, four, eight}
 use Rattle.lk_messages.specs.declared.message.Message.{Message}
 use Rattle.lk_messages.specs.Grammar.{Spells}
-use Rattle.lk_fields.specs.Parser.{Finds}
-use Rattle.lk_fields.proofs.Spellings.{IsBytes, some_is, Reads}
+use Rattle.lk_codec.specs.Parser.{Finds}
+use Rattle.lk_codec.proofs.Spellings.{IsBytes, some_is, Reads}
 use Rattle.lk_probe.specs.Grammar.{or_zero, front, probe, report, padded, IsProbe, IsReport, SpellsProbe, SpellsReport}
 use Rattle.lk_probe.specs.Reading.{fronted, read_probe_fields, read_report_fields, probe_of, report_of}
 use Rattle.lk_probe.specs.declared.probe.Probe.{Probe}

@@ -5,8 +5,8 @@ use Rattle.std.specs.List.{flat_map}
 use Rattle.std.proofs.lemmas.List.{length-append}
 use Rattle.std.proofs.lemmas.List.Concat.{flat_map-cons}
 use Rattle.lk_types.specs.declared.member.Member.{Member}
-use Rattle.lk_fields.specs.Fields.{member}
-use Rattle.lk_fields.proofs.Spellings.{length-two, length-four, length-eight}
+use Rattle.lk_codec.specs.Fields.{member}
+use Rattle.lk_codec.proofs.Spellings.{length-two, length-four, length-eight}
 use Rattle.lk_probe.specs.Grammar.{identity, status, front, genesis_in, probe, report, IsOrigin, IsProbe, IsStatus}
 use Rattle.lk_probe.specs.Grammar.{IsReport}
 use Rattle.lk_probe.specs.declared.neighbours.Origin.{Origin}

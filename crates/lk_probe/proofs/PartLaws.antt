@@ -11,14 +11,14 @@ use Rattle.lk_types.specs.BallotValue.{BallotValue}
 use Rattle.lk_types.specs.Ballots.{IsBallot}
 use Rattle.lk_types.specs.Rosters.{IsMember, AreMembers}
 use Rattle.lk_types.specs.declared.member.Member.{Member}
-use Rattle.lk_fields.specs.Fields.{one, two, four, eight, ballot, members}
-use Rattle.lk_fields.specs.Parser.{read_byte, both, tested}
-use Rattle.lk_fields.specs.FieldReading.{read_two, read_four, read_eight, read_node, read_total, read_any_ballot}
-use Rattle.lk_fields.specs.FieldReading.{read_members}
-use Rattle.lk_fields.proofs.Spellings.{IsBytes, IsBytes-drop, chosen, some_is, Took, Reads, fitting, both_reads}
-use Rattle.lk_fields.proofs.Spellings.{made_reads, byte_reads, two_reads, four_reads, eight_reads, limited_reads}
-use Rattle.lk_fields.proofs.Spellings.{tested_reads, node_reads, total_reads, mark_reads, members_reads}
-use Rattle.lk_seal.specs.Seals.{no_genesis}
+use Rattle.lk_codec.specs.Fields.{one, two, four, eight, ballot, members}
+use Rattle.lk_codec.specs.Parser.{read_byte, both, tested}
+use Rattle.lk_codec.specs.FieldReading.{read_two, read_four, read_eight, read_node, read_total, read_any_ballot}
+use Rattle.lk_codec.specs.FieldReading.{read_members}
+use Rattle.lk_codec.proofs.Spellings.{IsBytes, IsBytes-drop, chosen, some_is, Took, Reads, fitting, both_reads}
+use Rattle.lk_codec.proofs.Spellings.{made_reads, byte_reads, two_reads, four_reads, eight_reads, limited_reads}
+use Rattle.lk_codec.proofs.Spellings.{tested_reads, node_reads, total_reads, mark_reads, members_reads}
+use Rattle.lk_auth.specs.Seals.{no_genesis}
 use Rattle.lk_probe.specs.Grammar.{or_zero, node_in, genesis_in, flag, version, identity, leadership, progress, traffic}
 use Rattle.lk_probe.specs.Grammar.{status, probe, report, IsByte, IsVersion, IsIdentity, IsLeadership, IsProgress}
 use Rattle.lk_probe.specs.Grammar.{IsTraffic, IsStatus, IsProbe, IsReport}

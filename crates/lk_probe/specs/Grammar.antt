@@ -5,8 +5,8 @@ use Rattle.std.specs.List.{AllByRecursion}
 use Rattle.lk_types.specs.Ranges.{IsNode, IsClient, IsTotal}
 use Rattle.lk_types.specs.Ballots.{IsBallot}
 use Rattle.lk_types.specs.Rosters.{IsMember, AreMembers}
-use Rattle.lk_fields.specs.Fields.{one, two, four, eight, ballot, members}
-use Rattle.lk_seal.specs.Seals.{no_genesis}
+use Rattle.lk_codec.specs.Fields.{one, two, four, eight, ballot, members}
+use Rattle.lk_auth.specs.Seals.{no_genesis}
 use Rattle.lk_probe.specs.declared.neighbours.Origin.{Origin}
 use Rattle.lk_probe.specs.declared.status.Version.{Version}
 use Rattle.lk_probe.specs.declared.status.Identity.{Identity}

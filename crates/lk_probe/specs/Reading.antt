@@ -2,9 +2,9 @@
 use Rattle.std.specs.Prelude.{ℕ, Bool, true, Option, Some, None, List, [], ◌∷◌, length, take, drop, nat_le, nat_lt}
 use Rattle.std.specs.Prelude.{◌==◌, ◌&&◌, if◌then◌else◌}
 use Rattle.lk_types.specs.Limits.{max_node, max_client}
-use Rattle.lk_fields.specs.Parser.{◌>>=◌, read_byte, both, made, tested}
-use Rattle.lk_fields.specs.FieldReading.{read_two, read_four, read_eight, read_node, read_total, read_any_ballot}
-use Rattle.lk_fields.specs.FieldReading.{read_members}
+use Rattle.lk_codec.specs.Parser.{◌>>=◌, read_byte, both, made, tested}
+use Rattle.lk_codec.specs.FieldReading.{read_two, read_four, read_eight, read_node, read_total, read_any_ballot}
+use Rattle.lk_codec.specs.FieldReading.{read_members}
 use Rattle.lk_probe.specs.Grammar.{probe_length}
 use Rattle.lk_probe.specs.declared.neighbours.Origin.{Origin}
 use Rattle.lk_probe.specs.declared.status.Version.{Version}

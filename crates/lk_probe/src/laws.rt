@@ -3,8 +3,8 @@
 ghost use Rattle.std.specs.Prelude.{◌≡◌, List, ℕ, length};
 ghost use Rattle.lk_messages.specs.declared.message.Message.{Message};
 ghost use Rattle.lk_messages.specs.Grammar.{Spells};
-ghost use Rattle.lk_seal.specs.Clients.{client_in};
-ghost use Rattle.lk_seal.specs.Seals.{only_request};
+ghost use Rattle.lk_auth.specs.Clients.{client_in};
+ghost use Rattle.lk_auth.specs.Seals.{only_request};
 ghost use Rattle.lk_probe.specs.declared.probe.Probe.{Probe};
 ghost use Rattle.lk_probe.specs.declared.probe.Report.{Report};
 ghost use Rattle.lk_probe.specs.Grammar.{SpellsProbe, SpellsReport, or_zero};

@@ -1,7 +1,7 @@
 // Reads probes and reports. Each `read_..` returns a part and the bytes after it, or `None` if the bytes do not begin
 // with one.
 ghost use Rattle.std.specs.Prelude.{◌≡◌, IfSome, IsSomeAnd};
-ghost use Rattle.lk_fields.specs.Parser.{Finds};
+ghost use Rattle.lk_codec.specs.Parser.{Finds};
 ghost use Rattle.lk_probe.specs.Grammar.{SpellsProbe, SpellsReport};
 ghost use Rattle.lk_probe.specs.Reading.{are_zeros, read_origin, read_maybe_node, read_maybe_client, read_flag};
 ghost use Rattle.lk_probe.specs.Reading.{read_digest, read_version, read_identity, read_leadership, read_progress};
@@ -13,7 +13,7 @@ ghost use Rattle.lk_probe.specs.declared.probe.Report.{Report as ReportValue};
 use crate::neighbours::Origin;
 use crate::probe::{Probe, Report};
 use crate::status::{DIGEST, Identity, LENGTH, Leadership, Progress, Status, Traffic, Version};
-use lk_fields::{
+use lk_codec::{
     read_any_ballot, read_executed, read_members, read_node, read_u8, read_u16, read_u32, read_u64,
 };
 use lk_types::{ClientNo, NodeNo};

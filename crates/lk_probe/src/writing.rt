@@ -2,7 +2,7 @@
 ghost use Rattle.std.specs.Prelude.{◌≡◌, ◌≤◌, ◌+◌, ◌*◌, ◌++◌, [], length};
 ghost use Rattle.arrayvec.specs.ArrayVec.{array_vec_len};
 ghost use Rattle.lk_types.specs.Limits.{max_members};
-ghost use Rattle.lk_fields.specs.Fields.{one, two, four, eight, ballot, member, members};
+ghost use Rattle.lk_codec.specs.Fields.{one, two, four, eight, ballot, member, members};
 ghost use Rattle.lk_probe.specs.Grammar.{probe_length, flag, genesis_in, or_zero, version, identity, leadership};
 ghost use Rattle.lk_probe.specs.Grammar.{progress, traffic, status, front, probe, report, padded, probe_spelling};
 ghost use Rattle.lk_probe.specs.Grammar.{report_spelling};
@@ -32,7 +32,7 @@ fn put_u8(out: &mut Bytes, value: u8)
     put(out, &[value]);
 }
 
-#[tactic(auto, unfolding(lk_fields::specs::Fields::two))]
+#[tactic(auto, unfolding(lk_codec::specs::Fields::two))]
 fn put_u16(out: &mut Bytes, value: u16)
     requires { array_vec_len out.old + 2 ≤ probe_length }
     ensures items { out.new.items ≡ out.old.items ++ two value }
@@ -41,7 +41,7 @@ fn put_u16(out: &mut Bytes, value: u16)
     put(out, &value.to_be_bytes());
 }
 
-#[tactic(auto, unfolding(lk_fields::specs::Fields::four))]
+#[tactic(auto, unfolding(lk_codec::specs::Fields::four))]
 fn put_u32(out: &mut Bytes, value: u32)
     requires { array_vec_len out.old + 4 ≤ probe_length }
     ensures items { out.new.items ≡ out.old.items ++ four value }
@@ -50,7 +50,7 @@ fn put_u32(out: &mut Bytes, value: u32)
     put(out, &value.to_be_bytes());
 }
 
-#[tactic(auto, unfolding(lk_fields::specs::Fields::eight))]
+#[tactic(auto, unfolding(lk_codec::specs::Fields::eight))]
 fn put_u64(out: &mut Bytes, value: u64)
     requires { array_vec_len out.old + 8 ≤ probe_length }
     ensures items { out.new.items ≡ out.old.items ++ eight value }

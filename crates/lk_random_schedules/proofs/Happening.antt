@@ -6,8 +6,8 @@ use Rattle.lk_sim.specs.Refusals.{IsRejectedFor}
 use Rattle.lk_sim.specs.Scenes.{Scene}
 use Rattle.lk_sim.specs.declared.event.Event.{Event}
 use Rattle.lk_sim.specs.declared.event.Event.TheVariants.{Tick, Restart}
-use Rattle.lk_world_nodes.specs.declared.refused.Refused.{Refused}
-use Rattle.lk_world_nodes.specs.declared.refused.Refused.TheVariants.{NotUp}
+use Rattle.lk_sim_nodes.specs.declared.refused.Refused.{Refused}
+use Rattle.lk_sim_nodes.specs.declared.refused.Refused.TheVariants.{NotUp}
 use Rattle.lk_random_schedules.specs.Schedules.{IsPassedBy, PassesBy, Happens}
 
 -- a refusal that is passed by has changed nothing

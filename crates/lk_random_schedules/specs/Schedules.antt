@@ -7,8 +7,8 @@ use Rattle.lk_sim.specs.Refusals.{IsRejectedFor}
 use Rattle.lk_sim.specs.Scenes.{Scene}
 use Rattle.lk_sim.specs.declared.event.Event.{Event}
 use Rattle.lk_sim.specs.declared.event.Event.TheVariants.{Start, Restart, Tick}
-use Rattle.lk_world_nodes.specs.declared.refused.Refused.{Refused}
-use Rattle.lk_world_nodes.specs.declared.refused.Refused.TheVariants.{NotUp, WorldFull, WorldMemory}
+use Rattle.lk_sim_nodes.specs.declared.refused.Refused.{Refused}
+use Rattle.lk_sim_nodes.specs.declared.refused.Refused.TheVariants.{NotUp, WorldFull, WorldMemory}
 use Rattle.lk_random_schedules.specs.Drawn.{IsDrawn}
 use Rattle.lk_random_schedules.specs.declared.plan.Plan.{Plan}
 

@@ -3,7 +3,7 @@
 ghost use Rattle.std.specs.Prelude.{◌≡◌, ◌++◌, ◌∷◌, [], Err, OnOk};
 ghost use Rattle.lk_sim.specs.Events.{IsExecuted};
 ghost use Rattle.lk_sim.specs.Refusals.{IsRejectedFor};
-ghost use Rattle.lk_world_nodes.specs.declared.refused.Refused.{Refused as RefusedValue};
+ghost use Rattle.lk_sim_nodes.specs.declared.refused.Refused.{Refused as RefusedValue};
 ghost use Rattle.lk_random_schedules.specs.Schedules.{IsPassedBy};
 ghost use Rattle.lk_random_schedules.specs.Transcripts.{Adds, kept_lines};
 

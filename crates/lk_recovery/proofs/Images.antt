@@ -13,7 +13,7 @@ use Rattle.lk_store_format.specs.declared.stored.Stored.{Stored}
 use Rattle.lk_store_format.specs.declared.stored.Stored.TheVariants.{Plain}
 use Rattle.lk_log.specs.EveryImage.{EveryFound}
 use Rattle.lk_log.specs.StoreValue.{StoreValue, disks}
-use Rattle.lk_log.specs.Stores.{Holds, KeepsAtLeast, NarrowsOrBegins}
+use Rattle.lk_log.specs.Stores.{HoldsEntries, KeepsAtLeast, NarrowsOrBegins}
 use Rattle.lk_log.proofs.StoreLaws.{plain_stands, plain_append, header_more, holds_keeps, one_standing, of_every}
 use Rattle.lk_log.proofs.StoreLaws.{keeps_every, put_keeps_every, opening_every}
 use Rattle.lk_state.specs.Meanings.{Meaning}
@@ -125,14 +125,14 @@ grown_fit m h n ks s (e ∷ more) stands f rests near (suc k) =
     (adds m h n ks e rests.0 f (subst (λ (t : StandingValue). EntryLiesNear h.genesis.alpha t e) same near.0)) rests.1
     near.1 k)
 
-pub held_fit : (m : Meaning) (h : History) (n : ℕ) (store : StoreValue) (ks ls : List Stored) → Holds store ks ls
+pub held_fit : (m : Meaning) (h : History) (n : ℕ) (store : StoreValue) (ks ls : List Stored) → HoldsEntries store ks ls
     → DisksFit m h n (disks store) → EntriesFit m h n ks
 held_fit m h n store ks ls holds f =
     of_every (EntriesFit m h n) store ks ls (header_of h.genesis n) (text m h.genesis []) holds
     (fit_entries m h n (disks store) f)
 
 pub fit_disks : (m : Meaning) (h : History) (n : ℕ) (store : StoreValue) (ks : List Stored) (s : StandingValue)
-    (loose : List Entry) → Holds store ks (plain loose) → StandsFor ks s → AllByRecursion (Rests h) loose
+    (loose : List Entry) → HoldsEntries store ks (plain loose) → StandsFor ks s → AllByRecursion (Rests h) loose
     → EntriesLieNear h.genesis.alpha s loose → EntriesFit m h n ks
     → DisksFit m h n (disks store)
 fit_disks m h n store ks s loose holds stands rests near f =
@@ -153,7 +153,7 @@ cover_more genesis n x es e none c = (
 )
 
 pub cover_disks : (m : Meaning) (genesis : Genesis) (n : ℕ) (store : StoreValue) (ks : List Stored)
-    (loose : List Entry) (x : NodeMessage) → Holds store ks (plain loose) → EntriesCover genesis n x ks
+    (loose : List Entry) (x : NodeMessage) → HoldsEntries store ks (plain loose) → EntriesCover genesis n x ks
     → AllCover m genesis n (disks store) x
 cover_disks m genesis n store ks loose x holds c =
     entries_cover m genesis n (disks store) x
@@ -164,7 +164,7 @@ cover_disks m genesis n store ks loose x holds c =
 -- ---- after any exit of a put
 
 pub put_fits : (m : Meaning) (h : History) (n : ℕ) (old new : StoreValue) (ks : List Stored) (s : StandingValue)
-    (loose given : List Entry) → Holds old ks (plain loose) → StandsFor ks s
+    (loose given : List Entry) → HoldsEntries old ks (plain loose) → StandsFor ks s
     → KeepsAtLeast new ks (plain loose ++ plain given)
     → AllByRecursion (Rests h) (loose ++ given) → EntriesLieNear h.genesis.alpha s (loose ++ given)
     → DisksFit m h n (disks old) → DisksFit m h n (disks new)
@@ -176,7 +176,7 @@ put_fits m h n old new ks s loose given holds stands keeps rests near f =
     (grown_fit m h n ks s (loose ++ given) stands k rests near))
 
 pub put_covers : (m : Meaning) (genesis : Genesis) (n : ℕ) (old new : StoreValue) (ks : List Stored)
-    (loose given : List Entry) (x : NodeMessage) → Holds old ks (plain loose)
+    (loose given : List Entry) (x : NodeMessage) → HoldsEntries old ks (plain loose)
     → KeepsAtLeast new ks (plain loose ++ plain given)
     → AllCover m genesis n (disks old) x → AllCover m genesis n (disks new) x
 put_covers m genesis n old new ks loose given x holds keeps c =

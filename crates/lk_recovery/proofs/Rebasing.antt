@@ -19,7 +19,7 @@ use Rattle.lk_store_format.specs.declared.stored.Stored.TheVariants.{Base}
 use Rattle.lk_log.specs.Causes.{rebase_calls}
 use Rattle.lk_log.specs.Images.{IsLive}
 use Rattle.lk_log.specs.StoreValue.{StoreValue, pick, disks}
-use Rattle.lk_log.specs.Stores.{HoldsOn, Holds, MayBegin, next_base, KeepsOrIs}
+use Rattle.lk_log.specs.Stores.{HoldsOn, HoldsEntries, MayBegin, next_base, KeepsOrIs}
 use Rattle.lk_log.specs.Rooms.{StaysWithin}
 use Rattle.lk_log.proofs.Room.{within_same, within_first}
 use Rattle.lk_log.proofs.StoreLaws.{rising_stands, one_standing, one_header, of_every, plain_take, synced_live}
@@ -33,11 +33,11 @@ use Rattle.lk_acceptor.specs.States.{IsOrdered, without_votes_to}
 use Rattle.lk_acceptor.proofs.Acceptors.{takes_snapshot}
 use Rattle.lk_learner.specs.Learners.{executed}
 use Rattle.lk_learner.proofs.Learnerships.{executed_is, here_follows}
-use Rattle.lk_node.specs.Calls.{NodeFits, Goes}
+use Rattle.lk_node.specs.Calls.{NodeFits, LeavesFit}
 use Rattle.lk_node.specs.Entries.{EntriesFit}
 use Rattle.lk_node.specs.Histories.{History, Genesis, IsLawful}
 use Rattle.lk_node.specs.Holdings.{Holding, HoldingFits}
-use Rattle.lk_node.specs.Keeping.{Keeps, Stands, StandsBefore}
+use Rattle.lk_node.specs.Keeping.{StoreKeeps, ReplicaHolds, HoldsBeforeRebase}
 use Rattle.lk_node.specs.Leavings.{header_of, acceptor_of, DisksFit, AllCover}
 use Rattle.lk_node.specs.NodeValue.{NodeValue}
 use Rattle.lk_node.specs.Packing.{standing_of, with_snapshot}
@@ -47,7 +47,7 @@ use Rattle.lk_node.proofs.Nodes.{contains_more, window_is}
 use Rattle.lk_recovery.proofs.Growing.{grown_base}
 use Rattle.lk_recovery.specs.Compacting.{AllStandAt, IsDue, IsSameStore}
 use Rattle.lk_recovery.specs.Rebased.{HasSwitchedFiles, StaysSafe, IsReadyToStep, LeavesDisks}
-use Rattle.lk_recovery.specs.Remembering.{Remembers}
+use Rattle.lk_recovery.specs.Remembering.{ReplicaRemembers}
 use Rattle.lk_recovery.proofs.Images.{known_rest, grown_fit, held_fit, EntriesCover, entries_fit, cover_entries}
 use Rattle.lk_recovery.proofs.Images.{entries_cover, cover_disks, none_asked, cover_more}
 use Rattle.lk_recovery.proofs.Ordered.{standing_ordered}
@@ -102,7 +102,7 @@ snapshot_covers old new i t (kinds.Lead b k) c = c
 -- ---- the new Base
 
 module _ (m : Meaning) (genesis : Genesis) (n : ℕ) (node : NodeValue) (old new : StoreValue)
-    (keeps : Keeps (header_of genesis n) old node.acceptor.state)
+    (keeps : StoreKeeps (header_of genesis n) old node.acceptor.state)
     (may : MayBegin (standing_of node)) (within : node.acceptor.state.snapshot_position ≤ executed node.learner) where
   abbrev base : BaseValue
   base = next_base old (standing_of node)
@@ -151,13 +151,13 @@ module _ (m : Meaning) (genesis : Genesis) (n : ℕ) (node : NodeValue) (old new
       (base_covers y (subst (λ (a : AcceptorState). Covers a y) same ks.1.2)) every)
 
   -- where it was made every image covers what the node does
-  pub rebase_syncs : Holds new (Base base ∷ []) [] → (y : NodeMessage) → Covers node.acceptor.state y
+  pub rebase_syncs : HoldsEntries new (Base base ∷ []) [] → (y : NodeMessage) → Covers node.acceptor.state y
       → AllCover m genesis n (disks new) y
   rebase_syncs holds y c = cover_disks m genesis n new (Base base ∷ []) [] y holds (base_covers y c)
 
   -- and the store keeps what the acceptor then holds
-  pub rebase_keeps : node.header ≡ header_of genesis n → Holds new (Base base ∷ []) []
-      → Remembers (with_snapshot node) new genesis n
+  pub rebase_keeps : node.header ≡ header_of genesis n → HoldsEntries new (Base base ∷ []) []
+      → ReplicaRemembers (with_snapshot node) new genesis n
   rebase_keeps whose holds = record {
     whose = whose;
     keeps = record {
@@ -174,7 +174,7 @@ module _ (m : Meaning) (genesis : Genesis) (n : ℕ) (node : NodeValue) (old new
 
 -- a node that stands, stands in the middle of a step
 abbrev pub before_step : (m : Meaning) (node : NodeValue) (store : StoreValue) (genesis : Genesis) (n : ℕ)
-    (x : Holding) → Stands m node store genesis n x → StandsBefore m node store genesis n x
+    (x : Holding) → ReplicaHolds m node store genesis n x → HoldsBeforeRebase m node store genesis n x
 before_step m node store genesis n x s =
     record {
       whose = s.whose;
@@ -186,8 +186,8 @@ before_step m node store genesis n x s =
     }
 
 abbrev pub before_fits : (m : Meaning) (h : History) (n : ℕ) (node : NodeValue) (store : StoreValue)
-    → NodeFits m h n (Stands m node store h.genesis n) (disks store)
-    → NodeFits m h n (StandsBefore m node store h.genesis n) (disks store)
+    → NodeFits m h n (ReplicaHolds m node store h.genesis n) (disks store)
+    → NodeFits m h n (HoldsBeforeRebase m node store h.genesis n) (disks store)
 before_fits m h n node store f =
     record {
       lawful = f.lawful;
@@ -198,7 +198,7 @@ before_fits m h n node store f =
     }
 
 module _ (m : Meaning) (genesis : Genesis) (n : ℕ) (node : NodeValue) (old new : StoreValue) (x : Holding)
-    (shown : StandsBefore m node old genesis n x)
+    (shown : HoldsBeforeRebase m node old genesis n x)
     (may : MayBegin (standing_of node)) (close : HoldsNear node) where
   window : length node.learner.whole.roster.sets ≡ genesis.alpha
   window = window_is m genesis x.view.done node.learner.whole shown.held.follows.sums
@@ -211,8 +211,8 @@ module _ (m : Meaning) (genesis : Genesis) (n : ℕ) (node : NodeValue) (old new
     gathered = x.gathered;
   }
 
-  pub rebase_stands : Holds new (Base (next_base old (standing_of node)) ∷ []) []
-      → Stands m (with_snapshot node) new genesis n here
+  pub rebase_stands : HoldsEntries new (Base (next_base old (standing_of node)) ∷ []) []
+      → ReplicaHolds m (with_snapshot node) new genesis n here
   unfolding rebase_keeps
   rebase_stands holds = record {
     whose = shown.whose;
@@ -241,7 +241,7 @@ module _ (m : Meaning) (genesis : Genesis) (n : ℕ) (node : NodeValue) (old new
 -- ---- in a history
 
 module _ (m : Meaning) (h : History) (n : ℕ) (node : NodeValue) (old new : StoreValue) (x : Holding)
-    (shown : StandsBefore m node old h.genesis n x)
+    (shown : HoldsBeforeRebase m node old h.genesis n x)
     (may : MayBegin (standing_of node)) (close : HoldsNear node) (lawful : IsLawful m h)
     (fits : HoldingFits m h n x) where
   far : executed node.learner ≡ length x.view.done
@@ -313,8 +313,8 @@ module _ (m : Meaning) (h : History) (n : ℕ) (node : NodeValue) (old new : Sto
   }
 
   -- where it was made the node goes on, with nothing noted and nothing sent
-  pub rebase_goes : Holds new (Base (next_base old (standing_of node)) ∷ []) [] → DisksFit m h n (disks new)
-      → Goes m h n (Stands m (with_snapshot node) new h.genesis n) (disks new) [] []
+  pub rebase_goes : HoldsEntries new (Base (next_base old (standing_of node)) ∷ []) [] → DisksFit m h n (disks new)
+      → LeavesFit m h n (ReplicaHolds m (with_snapshot node) new h.genesis n) (disks new) [] []
   rebase_goes holds left = record {
     holding = here m h.genesis n node old new x shown may close;
     shown = rebase_stands m h.genesis n node old new x shown may close holds;
@@ -326,9 +326,9 @@ module _ (m : Meaning) (h : History) (n : ℕ) (node : NodeValue) (old new : Sto
 
 -- each image then stands for the snapshot
 module _ (m : Meaning) (genesis : Genesis) (n : ℕ) (node : NodeValue) (old new : StoreValue) (x : Holding)
-    (shown : Stands m node old genesis n x)
+    (shown : ReplicaHolds m node old genesis n x)
     (may : MayBegin (standing_of node)) (within : node.acceptor.state.snapshot_position ≤ executed node.learner) where
-  pub all_stand : Holds new (Base (next_base old (standing_of node)) ∷ []) []
+  pub all_stand : HoldsEntries new (Base (next_base old (standing_of node)) ∷ []) []
       → AllStandAt m genesis n (disks new) (executed node.learner) x.view.done
   all_stand holds image left =
       let live = synced_live new (Base (next_base old (standing_of node)) ∷ []) holds image left in (
@@ -350,7 +350,7 @@ module _ (m : Meaning) (old new : StoreValue) (same : IsSameStore old new) where
   same_disks : disks new ≡ disks old
   same_disks = λ i. pick (same.live i) (same.live_disk i) (same.other_disk i)
 
-  pub same_holds : (ks ls : List Stored) → Holds old ks ls → Holds new ks ls
+  pub same_holds : (ks ls : List Stored) → HoldsEntries old ks ls → HoldsEntries new ks ls
   same_holds ks ls h = record {
     on = subst₂ (λ (d o : Disk). HoldsOn d o ks ls) (sym same.live_disk) (sym same.other_disk) h.on;
     generation_is = same.generation ∙ h.generation_is;
@@ -358,8 +358,8 @@ module _ (m : Meaning) (old new : StoreValue) (same : IsSameStore old new) where
     header_is = subst (HasHeader ks) (sym same.header) h.header_is;
   }
 
-  abbrev pub same_remembers : (node : NodeValue) (genesis : Genesis) (n : ℕ) → Remembers node old genesis n
-      → Remembers node new genesis n
+  abbrev pub same_remembers : (node : NodeValue) (genesis : Genesis) (n : ℕ) → ReplicaRemembers node old genesis n
+      → ReplicaRemembers node new genesis n
   same_remembers node genesis n s = record {
     whose = s.whose;
     keeps = record {
@@ -374,8 +374,8 @@ module _ (m : Meaning) (old new : StoreValue) (same : IsSameStore old new) where
     };
   }
 
-  pub same_stands : (node : NodeValue) (genesis : Genesis) (n : ℕ) (x : Holding) → Stands m node old genesis n x
-      → Stands m node new genesis n x
+  pub same_stands : (node : NodeValue) (genesis : Genesis) (n : ℕ) (x : Holding) → ReplicaHolds m node old genesis n x
+      → ReplicaHolds m node new genesis n x
   same_stands node genesis n x s = record {
     whose = s.whose;
     keeps = (same_remembers node genesis n (record { whose = s.whose; keeps = s.keeps })).keeps;
@@ -396,8 +396,8 @@ module _ (m : Meaning) (old new : StoreValue) (same : IsSameStore old new) where
       (within_same 49152 (disks old) (disks old) (λ s. refl))
 
   pub same_node_fits : (node : NodeValue) (h : History) (n : ℕ)
-      → NodeFits m h n (Stands m node old h.genesis n) (disks old)
-      → NodeFits m h n (Stands m node new h.genesis n) (disks new)
+      → NodeFits m h n (ReplicaHolds m node old h.genesis n) (disks old)
+      → NodeFits m h n (ReplicaHolds m node new h.genesis n) (disks new)
   same_node_fits node h n f =
       record {
         lawful = f.lawful;
@@ -409,8 +409,8 @@ module _ (m : Meaning) (old new : StoreValue) (same : IsSameStore old new) where
 
 -- a node that went on with nothing noted and nothing sent fits again
 pub goes_fits : (m : Meaning) (h : History) (n : ℕ) (node : NodeValue) (store : StoreValue) → IsLawful m h
-    → DisksFit m h n (disks store) → Goes m h n (Stands m node store h.genesis n) (disks store) [] []
-    → NodeFits m h n (Stands m node store h.genesis n) (disks store)
+    → DisksFit m h n (disks store) → LeavesFit m h n (ReplicaHolds m node store h.genesis n) (disks store) [] []
+    → NodeFits m h n (ReplicaHolds m node store h.genesis n) (disks store)
 goes_fits m h n node store lawful left g =
     record { lawful = lawful; holding = g.holding; shown = g.shown; fits = g.fits; left = left }
 
@@ -418,7 +418,7 @@ goes_fits m h n node store lawful left g =
 
 module _ (m : Meaning) (node : NodeValue) (old new : StoreValue)
     (may : MayBegin (standing_of node)) (close : HoldsNear node)
-    (any : (ks ls : List Stored) → Holds old ks ls
+    (any : (ks ls : List Stored) → HoldsEntries old ks ls
     → KeepsOrIs (disks new) ks ls (next_base old (standing_of node))) where
   -- after any exit
   pub stays_safe : StaysWithin 49152 (disks old) (disks new) → StaysSafe m node old new
@@ -432,7 +432,8 @@ module _ (m : Meaning) (node : NodeValue) (old new : StoreValue)
 
   -- where it was made
   pub files_switched : (Metered : Type 0) → (new.generation ≡ old.generation + 1)
-      → ((ks ls : List Stored) → Holds old ks ls → Holds new (Base (next_base old (standing_of node)) ∷ []) [])
+      → ((ks ls : List Stored) → HoldsEntries old ks ls
+      → HoldsEntries new (Base (next_base old (standing_of node)) ∷ []) [])
       → (Metered → Passes old.meter new.meter rebase_calls) → length (contents new.live_disk) ≤ 49152
       → HasSwitchedFiles m Metered node old (with_snapshot node) new
   files_switched Metered further writes calls short = record {
@@ -507,7 +508,7 @@ module _ (m : Meaning) (node : NodeValue) (old mid : StoreValue) (same : IsSameS
       due = λ _. record {
         becomes = done.rebases.becomes;
         generation = omega (arith, done.rebases.generation, same.generation);
-        writes = λ ks ls h. subst (λ (b : BaseValue). Holds after (Base b ∷ []) []) same_base
+        writes = λ ks ls h. subst (λ (b : BaseValue). HoldsEntries after (Base b ∷ []) []) same_base
             (done.rebases.writes ks ls (same_holds m old mid same ks ls h));
       };
       rests = λ other. absurd (other due);

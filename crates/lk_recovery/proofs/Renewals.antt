@@ -22,10 +22,10 @@ use Rattle.lk_log.specs.Stores.{KeepsOrIs, next_base, Opens}
 use Rattle.lk_log.proofs.StoreLaws.{opens_holds, live_unique, not_both}
 use Rattle.lk_state.specs.Meanings.{Meaning}
 use Rattle.lk_node_io.specs.declared.note.Note.{Note}
-use Rattle.lk_node.specs.Calls.{Goes, NodeFits}
+use Rattle.lk_node.specs.Calls.{LeavesFit, NodeFits}
 use Rattle.lk_node.specs.Histories.{History, Genesis, IsLawful}
 use Rattle.lk_node.specs.Holdings.{Holding}
-use Rattle.lk_node.specs.Keeping.{Keeps}
+use Rattle.lk_node.specs.Keeping.{StoreKeeps}
 use Rattle.lk_node.specs.Leavings.{header_of, DisksFit}
 use Rattle.lk_node.specs.NodeValue.{NodeValue}
 use Rattle.lk_node.specs.Served.{text}
@@ -40,7 +40,7 @@ use Rattle.lk_recovery.proofs.Revivals.{nothing_later, picked}
 
 -- a node that went on with nothing sent fits
 pub goes_fit : (m : Meaning) (h : History) (n : ℕ) (Shows : Holding → Type 0) (d : Side → Disk) (notes : List Note)
-    → IsLawful m h → Goes m h n Shows d notes [] → NodeFits m h n Shows d
+    → IsLawful m h → LeavesFit m h n Shows d notes [] → NodeFits m h n Shows d
 goes_fit m h n Shows d notes lawful g = record {
   lawful = lawful;
   holding = g.holding;
@@ -52,7 +52,7 @@ goes_fit m h n Shows d notes lawful g = record {
 
 -- and goes on where it fits again
 pub then_goes : (m : Meaning) (h : History) (n : ℕ) (Shows Now : Holding → Type 0) (d new : Side → Disk)
-    (notes : List Note) → Goes m h n Shows d notes [] → NodeFits m h n Now new → Goes m h n Now new notes []
+    (notes : List Note) → LeavesFit m h n Shows d notes [] → NodeFits m h n Now new → LeavesFit m h n Now new notes []
 then_goes m h n Shows Now d new notes g f = record {
   holding = f.holding;
   shown = f.shown;
@@ -67,9 +67,9 @@ then_goes m h n Shows Now d new notes g f = record {
 pub taken_keeps : (m : Meaning) (IsText : List ℕ → Type 0) (d : Side → Disk) (genesis : Genesis) (n : ℕ)
     (whose : HeaderValue) (node : NodeValue) (store : StoreValue) (notes : List Note)
     → whose ≡ header_of genesis n → store.header ≡ whose → TakesUp m IsText d whose node store notes
-    → Keeps (header_of genesis n) store node.acceptor.state
+    → StoreKeeps (header_of genesis n) store node.acceptor.state
 taken_keeps m IsText d genesis n whose node store notes is named t =
-    subst (λ (w : HeaderValue). Keeps w store node.acceptor.state) is (record {
+    subst (λ (w : HeaderValue). StoreKeeps w store node.acceptor.state) is (record {
       entries = t.opens.entries;
       loose = [];
       holds = opens_holds (seen d) whose (text m t.genesis []) store t.standing t.opens named;

@@ -39,11 +39,11 @@ use Rattle.lk_node_io.specs.declared.fault.ReplicaFault.{ReplicaFault}
 use Rattle.lk_node_io.specs.declared.fault.ReplicaFault.TheVariants as fault
 use Rattle.lk_node.specs.Histories.{History, Genesis, Command, Datagram, later, IsLawful}
 use Rattle.lk_node.specs.Holdings.{Holding, HoldingFits}
-use Rattle.lk_node.specs.Keeping.{Stands}
+use Rattle.lk_node.specs.Keeping.{ReplicaHolds}
 use Rattle.lk_node.specs.Leavings.{header_of, acceptor_of, view_of, ImageFits, DisksFit, AllCover}
-use Rattle.lk_node.specs.Calls.{Goes, NodeFits}
+use Rattle.lk_node.specs.Calls.{LeavesFit, NodeFits}
 use Rattle.lk_node.specs.NodeValue.{NodeValue}
-use Rattle.lk_recovery.specs.Remembering.{Remembers}
+use Rattle.lk_recovery.specs.Remembering.{ReplicaRemembers}
 use Rattle.lk_recovery.specs.Revivals.{run_from, all_ran, notes_of, relearned, revived, MayRevive, Restores}
 use Rattle.lk_recovery.proofs.Reaching.{run_decided, near_revives}
 use Rattle.lk_node.specs.Served.{text, IsOfNode, IsBorneOut}
@@ -77,7 +77,7 @@ held_fits m h n image f = record {
 
 -- where nothing is done, it goes on
 pub stands_still : (m : Meaning) (h : History) (n : ℕ) (Shows : Holding → Type 0) (disks : Side → Disk)
-    → NodeFits m h n Shows disks → Goes m h n Shows disks [] []
+    → NodeFits m h n Shows disks → LeavesFit m h n Shows disks [] []
 stands_still m h n Shows disks f =
     record {
       holding = f.holding;
@@ -279,8 +279,8 @@ module _ (m : Meaning) (IsText : List ℕ → Type 0) (keeps : KeepsTexts IsText
         };
       }
 
-  shown : Stands m node store h.genesis n holding
-  shown = subst (λ (k : NodeValue). Stands m k store h.genesis n holding) (sym r.node_is) (record {
+  shown : ReplicaHolds m node store h.genesis n holding
+  shown = subst (λ (k : NodeValue). ReplicaHolds m k store h.genesis n holding) (sym r.node_is) (record {
     whose = refl;
     keeps = record {
       entries = o.entries;
@@ -303,7 +303,8 @@ module _ (m : Meaning) (IsText : List ℕ → Type 0) (keeps : KeepsTexts IsText
     told = told;
   })
 
-  pub revived_goes : DisksFit m h n (disks store) → Goes m h n (Stands m node store h.genesis n) (disks store) notes []
+  pub revived_goes : DisksFit m h n (disks store)
+      → LeavesFit m h n (ReplicaHolds m node store h.genesis n) (disks store) notes []
   revived_goes after = record {
     holding = holding;
     shown = shown;
@@ -322,9 +323,9 @@ pub revived_remembers : (m : Meaning) (IsText : List ℕ → Type 0) (genesis : 
     (store : StoreValue) (s : StandingValue) (node : NodeValue) (notes : List Note)
     → Opens (seen old) (header_of genesis n) (text m genesis []) store s
     → Restores m IsText (header_of genesis n) s node notes → store.header ≡ header_of genesis n
-    → Remembers node store genesis n
+    → ReplicaRemembers node store genesis n
 revived_remembers m IsText genesis n old store s node notes o r named =
-    subst (λ (k : NodeValue). Remembers k store genesis n) (sym r.node_is) (record {
+    subst (λ (k : NodeValue). ReplicaRemembers k store genesis n) (sym r.node_is) (record {
       whose = refl;
       keeps = record {
         entries = o.entries;

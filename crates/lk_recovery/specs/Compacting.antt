@@ -8,7 +8,7 @@ use Rattle.lk_store_format.specs.declared.stored.Stored.TheVariants.{Base}
 use Rattle.lk_log.specs.Causes.{rebase_calls}
 use Rattle.lk_log.specs.Images.{Image, MayLeaveBoth}
 use Rattle.lk_log.specs.StoreValue.{StoreValue, disks}
-use Rattle.lk_log.specs.Stores.{Holds, KeepsItsFile, next_base}
+use Rattle.lk_log.specs.Stores.{HoldsEntries, KeepsItsFile, next_base}
 use Rattle.lk_learner.specs.Learners.{executed}
 use Rattle.lk_node.specs.NodeValue.{NodeValue}
 use Rattle.lk_node.specs.Packing.{standing_of, with_snapshot}
@@ -42,8 +42,8 @@ pub record IsSameStore (old new : StoreValue) : Type 0 where
 pub record Rebases (node : NodeValue) (store : StoreValue) (new : NodeValue) (after : StoreValue) : Type 0 where
   pub becomes : new ≡ with_snapshot node
   pub generation : after.generation ≡ store.generation + 1
-  pub writes : (ks ls : List Stored) → Holds store ks ls
-      → Holds after (Base (next_base store (standing_of node)) ∷ []) []
+  pub writes : (ks ls : List Stored) → HoldsEntries store ks ls
+      → HoldsEntries after (Base (next_base store (standing_of node)) ∷ []) []
 
 -- a store of format 1 was rebased, and so has format 2, and one of format 2 is unchanged
 pub record Renews (node : NodeValue) (store : StoreValue) (new : NodeValue) (after : StoreValue) : Type 0 where

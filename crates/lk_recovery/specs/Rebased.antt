@@ -12,17 +12,17 @@ use Rattle.lk_state.specs.Meanings.{Meaning}
 use Rattle.lk_agreement.specs.Acceptors.{Covers}
 use Rattle.lk_agreement.specs.Datagrams.{NodeMessage}
 use Rattle.lk_learner.specs.Learners.{executed}
-use Rattle.lk_node.specs.Calls.{NodeFits, Goes}
+use Rattle.lk_node.specs.Calls.{NodeFits, LeavesFit}
 use Rattle.lk_node.specs.Executing.{NothingToRun}
 use Rattle.lk_node.specs.Histories.{History, Genesis}
 use Rattle.lk_node.specs.Holdings.{Holding}
-use Rattle.lk_node.specs.Keeping.{Keeps, Stands, StandsBefore}
+use Rattle.lk_node.specs.Keeping.{StoreKeeps, ReplicaHolds, HoldsBeforeRebase}
 use Rattle.lk_node.specs.Leavings.{header_of, DisksFit, AllCover}
 use Rattle.lk_node.specs.NodeValue.{NodeValue}
 use Rattle.lk_node.specs.Packing.{standing_of, with_snapshot}
 use Rattle.lk_node_io.specs.Faults.{IsStoreFault, fault_number, RefusedAfter, IfSpared}
 use Rattle.lk_recovery.specs.Compacting.{AllStandAt, AreSame, Rebases, RebasesWhereDue, CallsWhereDue}
-use Rattle.lk_recovery.specs.Remembering.{Remembers}
+use Rattle.lk_recovery.specs.Remembering.{ReplicaRemembers}
 use Rattle.lk_recovery.specs.Rooms.{GrowsFromBase}
 use Rattle.lk_node_io.specs.declared.fault.ReplicaFault.{ReplicaFault}
 use Rattle.lk_node_io.specs.declared.fault.ReplicaFault.TheVariants as fault
@@ -48,22 +48,24 @@ pub record HasSwitchedFiles (m : Meaning) (Metered : Type 0) (node : NodeValue) 
   pub rebases : Rebases node store new after
   pub calls : Metered → Passes store.meter after.meter rebase_calls
   pub short : length (contents after.live_disk) ≤ max_base
-  pub goes : (h : History) (n : ℕ) → NodeFits m h n (Stands m node store h.genesis n) (disks store)
-      → Goes m h n (Stands m new after h.genesis n) (disks after) [] []
-  pub shows : (genesis : Genesis) (n : ℕ) (held : Holding) → Stands m node store genesis n held
-      → (x : Holding) × Stands m new after genesis n x
-  pub remembers : (genesis : Genesis) (n : ℕ) → Remembers node store genesis n → Remembers new after genesis n
-  pub syncs : (genesis : Genesis) (n : ℕ) (x : NodeMessage) → Keeps (header_of genesis n) store node.acceptor.state
+  pub goes : (h : History) (n : ℕ) → NodeFits m h n (ReplicaHolds m node store h.genesis n) (disks store)
+      → LeavesFit m h n (ReplicaHolds m new after h.genesis n) (disks after) [] []
+  pub shows : (genesis : Genesis) (n : ℕ) (held : Holding) → ReplicaHolds m node store genesis n held
+      → (x : Holding) × ReplicaHolds m new after genesis n x
+  pub remembers : (genesis : Genesis) (n : ℕ) → ReplicaRemembers node store genesis n
+      → ReplicaRemembers new after genesis n
+  pub syncs : (genesis : Genesis) (n : ℕ) (x : NodeMessage) → StoreKeeps (header_of genesis n) store node.acceptor.state
       → Covers node.acceptor.state x → AllCover m genesis n (disks after) x
-  pub stands : (genesis : Genesis) (n : ℕ) (held : Holding) → Stands m node store genesis n held
+  pub stands : (genesis : Genesis) (n : ℕ) (held : Holding) → ReplicaHolds m node store genesis n held
       → AllStandAt m genesis n (disks after) (executed new.learner) held.view.done
 
 -- each image that a stop may leave of the store fits each history that the node fitted, and covers what every image
 -- covered; neither file has grown, except up to the size of a Base
 pub record StaysSafe (m : Meaning) (node : NodeValue) (store after : StoreValue) : Type 0 where
-  pub fits : (h : History) (n : ℕ) → NodeFits m h n (StandsBefore m node store h.genesis n) (disks store)
+  pub fits : (h : History) (n : ℕ) → NodeFits m h n (HoldsBeforeRebase m node store h.genesis n) (disks store)
       → DisksFit m h n (disks after)
-  pub covers : (genesis : Genesis) (n : ℕ) (x : NodeMessage) → Keeps (header_of genesis n) store node.acceptor.state
+  pub covers : (genesis : Genesis) (n : ℕ) (x : NodeMessage)
+      → StoreKeeps (header_of genesis n) store node.acceptor.state
       → AllCover m genesis n (disks store) x → AllCover m genesis n (disks after) x
   pub room : StaysWithin max_base (disks store) (disks after)
 
@@ -100,11 +102,12 @@ pub record IsReadyToStep (m : Meaning) (Metered : Type 0) (node : NodeValue) (st
   pub rebases : RebasesWhereDue node store new after
   pub calls : Metered → (k : ℕ) × CallsWhereDue node store k × Passes store.meter after.meter k
   pub short : length (contents after.live_disk) < 131072
-  pub fits : (h : History) (n : ℕ) → NodeFits m h n (Stands m node store h.genesis n) (disks store)
-      → NodeFits m h n (Stands m new after h.genesis n) (disks after)
-  pub shows : (genesis : Genesis) (n : ℕ) (held : Holding) → Stands m node store genesis n held
-      → (x : Holding) × Stands m new after genesis n x
-  pub remembers : (genesis : Genesis) (n : ℕ) → Remembers node store genesis n → Remembers new after genesis n
+  pub fits : (h : History) (n : ℕ) → NodeFits m h n (ReplicaHolds m node store h.genesis n) (disks store)
+      → NodeFits m h n (ReplicaHolds m new after h.genesis n) (disks after)
+  pub shows : (genesis : Genesis) (n : ℕ) (held : Holding) → ReplicaHolds m node store genesis n held
+      → (x : Holding) × ReplicaHolds m new after genesis n x
+  pub remembers : (genesis : Genesis) (n : ℕ) → ReplicaRemembers node store genesis n
+      → ReplicaRemembers new after genesis n
 
 -- ---- a call that may rebase
 
@@ -113,9 +116,9 @@ pub record IsReadyToStep (m : Meaning) (Metered : Type 0) (node : NodeValue) (st
 -- many bytes, nor by more than a step except by a Base
 pub record LeavesDisks (m : Meaning) (Hears : History → Type 0) (most : ℕ) (node : NodeValue) (store : StoreValue)
     (after : Side → Disk) : Type 0 where
-  pub ends : (h : History) (n : ℕ) → NodeFits m h n (Stands m node store h.genesis n) (disks store)
+  pub ends : (h : History) (n : ℕ) → NodeFits m h n (ReplicaHolds m node store h.genesis n) (disks store)
       → Hears h → DisksFit m h n after
-  pub covers : (genesis : Genesis) (n : ℕ) (x : NodeMessage) → Remembers node store genesis n
+  pub covers : (genesis : Genesis) (n : ℕ) (x : NodeMessage) → ReplicaRemembers node store genesis n
       → AllCover m genesis n (disks store) x → AllCover m genesis n after x
   pub room : StaysWithin most (disks store) after
   pub grows : GrowsFromBase (disks store) after

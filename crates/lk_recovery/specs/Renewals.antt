@@ -6,20 +6,21 @@ use Rattle.lk_state.specs.Meanings.{Meaning}
 use Rattle.lk_node.specs.Calls.{NodeFits}
 use Rattle.lk_node.specs.Executing.{NothingToRun}
 use Rattle.lk_node.specs.Histories.{History, Genesis}
-use Rattle.lk_node.specs.Keeping.{Stands}
+use Rattle.lk_node.specs.Keeping.{ReplicaHolds}
 use Rattle.lk_node.specs.NodeValue.{NodeValue}
 use Rattle.lk_node_io.specs.Faults.{IsStoreFault}
 use Rattle.lk_recovery.specs.Compacting.{Renews}
-use Rattle.lk_recovery.specs.Remembering.{Remembers}
+use Rattle.lk_recovery.specs.Remembering.{ReplicaRemembers}
 
 -- a store of format 1 was rebased, and one of format 2 is unchanged; the node fits each history that it fitted, and
 -- the store keeps what the acceptor holds if it did before
 pub record IsRenewed (m : Meaning) (node : NodeValue) (store : StoreValue) (new : NodeValue)
     (after : StoreValue) : Type 0 where
   pub renews : Renews node store new after
-  pub goes : (h : History) (n : ℕ) → NodeFits m h n (Stands m node store h.genesis n) (disks store)
-      → NodeFits m h n (Stands m new after h.genesis n) (disks after)
-  pub remembers : (genesis : Genesis) (n : ℕ) → Remembers node store genesis n → Remembers new after genesis n
+  pub goes : (h : History) (n : ℕ) → NodeFits m h n (ReplicaHolds m node store h.genesis n) (disks store)
+      → NodeFits m h n (ReplicaHolds m new after h.genesis n) (disks after)
+  pub remembers : (genesis : Genesis) (n : ℕ) → ReplicaRemembers node store genesis n
+      → ReplicaRemembers new after genesis n
 
 -- the store has format 2, and has not failed if it had not before; the node is the same, and if it had executed all
 -- that it can, it has

@@ -5,7 +5,7 @@ ghost use Rattle.lk_types.specs.Limits.{max_base, max_count};
 ghost use Rattle.lk_disk.specs.Disk.{contents};
 ghost use Rattle.lk_store_format.specs.declared.stored.Stored.{Stored};
 ghost use Rattle.lk_log.specs.StoreValue.{disks};
-ghost use Rattle.lk_log.specs.Stores.{Holds, KeepsItsFile, KeepsOrIs, next_base};
+ghost use Rattle.lk_log.specs.Stores.{HoldsEntries, KeepsItsFile, KeepsOrIs, next_base};
 ghost use Rattle.lk_node.specs.Packing.{standing_of};
 ghost use Rattle.lk_node.specs.Reaching.{HoldsNear};
 ghost use Rattle.lk_recovery.specs.Compacting.{IsDue, IsSameStore};
@@ -35,7 +35,7 @@ pub fn write_base<M: Machine, D: LogDisk + Drop>(
     // file has grown, except up to the size of a Base.
     ensures disks { D.is_honest → StaysSafe M.meaning node.old store.old store.new }
     // However it ends, every image has what it had before, or the Base alone.
-    ensures any { D.is_honest → (ks ls : List Stored) → Holds store.old ks ls
+    ensures any { D.is_honest → (ks ls : List Stored) → HoldsEntries store.old ks ls
         → KeepsOrIs (disks store.new) ks ls (next_base store.old (standing_of node.old)) }
     // What the node holds above what it has executed lies near.
     ensures near { HoldsNear node.old }

@@ -11,4 +11,4 @@ mod restart;
 pub use base::{is_rebase_due, rebase_if_due, write_base};
 pub use fault::ReviveFault;
 pub use renewing::renew;
-pub use restart::{TakenUp, take_up};
+pub use restart::{RestartedNode, restart_node};

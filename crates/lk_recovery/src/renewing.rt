@@ -3,7 +3,7 @@ ghost use Rattle.std.specs.Prelude.{◌≡◌, ◌≤◌, List, OnOk, OnErr, IfE
 ghost use Rattle.lk_types.specs.Limits.{max_count};
 ghost use Rattle.lk_store_format.specs.declared.stored.Stored.{Stored};
 ghost use Rattle.lk_log.specs.StoreValue.{disks};
-ghost use Rattle.lk_log.specs.Stores.{Holds, KeepsOrIs, next_base};
+ghost use Rattle.lk_log.specs.Stores.{HoldsEntries, KeepsOrIs, next_base};
 ghost use Rattle.lk_node.specs.Packing.{standing_of};
 ghost use Rattle.lk_recovery.specs.Compacting.{renew_calls};
 ghost use Rattle.lk_node_io.specs.Faults.{fault_number, RaisesFailures, PassesOr};
@@ -30,7 +30,7 @@ pub fn renew<M: Machine, D: LogDisk + Drop>(
     ensures safe { D.is_honest → StaysSafe M.meaning node.old store.old store.new }
     ensures wakes { node.new.halted ≡ node.old.halted }
     // After an error every image has what it had before, or the Base alone.
-    ensures left { D.is_honest → (ks ls : List Stored) → Holds store.old ks ls
+    ensures left { D.is_honest → (ks ls : List Stored) → HoldsEntries store.old ks ls
         → OnErr result (KeepsOrIs (disks store.new) ks ls (next_base store.old (standing_of node.old))) }
     ensures refused { IfErr result (λ e. IsNotRenewed store.old (fault_number e)) }
     // For a store of format 1 at the last generation it fails with `Failed`, even if it is out of memory.

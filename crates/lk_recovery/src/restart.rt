@@ -10,12 +10,12 @@ ghost use Rattle.lk_types.specs.Limits.{max_base};
 ghost use Rattle.lk_state.specs.Packed.{Packs};
 ghost use Rattle.lk_state.specs.States.{WholeValue};
 ghost use Rattle.lk_agreement.specs.Datagrams.{NodeMessage};
-ghost use Rattle.lk_node.specs.Calls.{Goes};
-ghost use Rattle.lk_recovery.specs.Remembering.{Remembers};
+ghost use Rattle.lk_node.specs.Calls.{LeavesFit};
+ghost use Rattle.lk_recovery.specs.Remembering.{ReplicaRemembers};
 ghost use Rattle.lk_node_io.specs.Faults.{fault_number, failures_by, RefusedAfter, IsNumberOfRevival};
 ghost use Rattle.lk_node.specs.Executing.{NothingToRun};
 ghost use Rattle.lk_node.specs.Histories.{History, Genesis as GenesisValue, IsLawful};
-ghost use Rattle.lk_node.specs.Keeping.{Stands};
+ghost use Rattle.lk_node.specs.Keeping.{ReplicaHolds};
 ghost use Rattle.lk_node.specs.Leavings.{header_of, DisksFit, AllCover};
 ghost use Rattle.lk_recovery.specs.Revivals.{Unpacks, MayRevive, Restores, TakesUp, IsTakenUp, IsRefusedFor};
 ghost use Rattle.lk_recovery.specs.Revivals.{CallsOfOpening};
@@ -109,7 +109,7 @@ fn restored<M: Machine>(
 
 /// A restarted node with its store, of format 1 or 2, and the notes of what it executed.
 #[derive(Drop)]
-pub struct TakenUp<M: Machine, D: LogDisk + Drop> {
+pub struct RestartedNode<M: Machine, D: LogDisk + Drop> {
     pub node: Node<M>,
     pub store: Store<D>,
     pub notes: Vec<Note>,
@@ -121,17 +121,18 @@ pub struct TakenUp<M: Machine, D: LogDisk + Drop> {
 /// format.
 ///
 /// It fails with `Device` (7), `NoMemory` (8), `Damaged` (9) and `WrongStore` (10), and returns the device.
-pub fn take_up<M: Machine, D: LogDisk + Drop>(
+pub fn restart_node<M: Machine, D: LogDisk + Drop>(
     alloc: Global,
     device: D,
     header: &Header,
-) -> Result<TakenUp<M, D>, ReviveFault<D>>
+) -> Result<RestartedNode<M, D>, ReviveFault<D>>
     // If the disks fit a history, the restarted replica goes on in it, and what an error leaves fits it; they are
     // neither damaged nor another's.
     ensures fits { D.is_honest → (h : History) (n : ℕ) → header.now ≡ header_of h.genesis n → IsLawful M.meaning h
         → DisksFit M.meaning h n (D.disk device)
         → MatchResult result
-        (λ r. Goes M.meaning h n (Stands M.meaning r.node r.store h.genesis n) (disks r.store) r.notes.items [])
+        (λ r. LeavesFit M.meaning h n (ReplicaHolds M.meaning r.node r.store h.genesis n)
+        (disks r.store) r.notes.items [])
         (λ e. IsNumberOfRevival (fault_number e.fault) × DisksFit M.meaning h n (D.disk e.device)) }
     // Every image covers whatever every image covered before.
     ensures covers { D.is_honest → (genesis : GenesisValue) (n : ℕ) (x : NodeMessage)
@@ -140,7 +141,7 @@ pub fn take_up<M: Machine, D: LogDisk + Drop>(
         (λ e. AllCover M.meaning genesis n (D.disk e.device) x) }
     // Its store keeps what its acceptor holds, whatever has happened to the disks.
     ensures remembers { D.is_honest → (genesis : GenesisValue) (n : ℕ) → header.now ≡ header_of genesis n
-        → IfOk result (λ r. Remembers r.node r.store genesis n) }
+        → IfOk result (λ r. ReplicaRemembers r.node r.store genesis n) }
     // It restarts exactly from the standing of the disks, and executes nothing else. The store is new exactly if there
     // was no Base.
     ensures exact { D.is_honest
@@ -177,7 +178,7 @@ pub fn take_up<M: Machine, D: LogDisk + Drop>(
     };
     match reopen(alloc, device, header, zero.as_slice()) {
         Ok(opened) => match restored(alloc, header, opened.standing) {
-            Ok((node, notes)) => Ok(TakenUp {
+            Ok((node, notes)) => Ok(RestartedNode {
                 node,
                 store: opened.store,
                 notes,

@@ -6,7 +6,7 @@ use Rattle.lk_messages.specs.declared.message.NodeMessage.TheVariants as kinds
 use Rattle.lk_store_format.specs.Values.{StandingValue}
 use Rattle.lk_store_format.specs.declared.stored.Stored.TheVariants.{Base}
 use Rattle.lk_log.specs.StoreValue.{StoreValue, disks}
-use Rattle.lk_log.specs.Stores.{Holds, MayBegin, next_base}
+use Rattle.lk_log.specs.Stores.{HoldsEntries, MayBegin, next_base}
 use Rattle.lk_log.proofs.StoreLaws.{one_standing}
 use Rattle.lk_state.specs.Meanings.{Meaning}
 use Rattle.lk_agreement.specs.Acceptors.{Covers, CoversSent}
@@ -21,11 +21,11 @@ use Rattle.lk_node_io.specs.Letters.{LetterValue, batch_of}
 use Rattle.lk_node_io.specs.Outboxes.{OutboxValue, nothing}
 use Rattle.lk_node_io.specs.declared.input.Input.{Input}
 use Rattle.lk_node_io.specs.declared.note.Note.{Note}
-use Rattle.lk_node.specs.Calls.{InputFits, MayGo, NodeFits, Goes}
+use Rattle.lk_node.specs.Calls.{InputFits, MayGo, NodeFits, LeavesFit}
 use Rattle.lk_node.specs.Entries.{EntriesFit}
 use Rattle.lk_node.specs.Histories.{History, Genesis, Datagram, later, IsLawful}
 use Rattle.lk_node.specs.Holdings.{Holding, HoldingFits}
-use Rattle.lk_node.specs.Keeping.{Keeps, Stands, StandsBefore}
+use Rattle.lk_node.specs.Keeping.{StoreKeeps, ReplicaHolds, HoldsBeforeRebase}
 use Rattle.lk_node.specs.Leavings.{header_of, acceptor_of, view_of}
 use Rattle.lk_node.specs.NodeValue.{NodeValue}
 use Rattle.lk_node.specs.Packing.{standing_of, with_snapshot}
@@ -33,7 +33,7 @@ use Rattle.lk_node.specs.Reaching.{HoldsNear}
 use Rattle.lk_node.specs.Served.{IsOfNode, IsBorneOut}
 use Rattle.lk_node.specs.Serving.{IsLight, Tells, Serves, ActsSafely}
 use Rattle.lk_replica.specs.Posts.{AreOf}
-use Rattle.lk_recovery.specs.Remembering.{Remembers}
+use Rattle.lk_recovery.specs.Remembering.{ReplicaRemembers}
 use Rattle.lk_replica.proofs.Going.{said_covered, said_light, batch_covered, bound, serves}
 use Rattle.lk_recovery.proofs.Recoveries.{fit_disks, snapshot_covers, base_stands, here, rebase_stands, base_fits}
 use Rattle.lk_recovery.proofs.Recoveries.{here_fits}
@@ -58,14 +58,14 @@ light_may h w i (kinds.Lead b k) light may = may
 -- The node stands on the store as it was before the step, since the step has left its acceptor and what is unsynced
 -- known.
 module _ (m : Meaning) (h : History) (n : ℕ) (node : NodeValue) (old new : StoreValue) (x : Holding)
-    (shown : StandsBefore m node old h.genesis n x)
+    (shown : HoldsBeforeRebase m node old h.genesis n x)
     (may : MayBegin (standing_of node)) (close : HoldsNear node) (lawful : IsLawful m h) (fits : HoldingFits m h n x)
     (out : OutboxValue) (tells : (l : LetterValue) → Contains out.letters l
     → Tells node.header node.acceptor.state out.rebase l)
     (goes : (d : Datagram) → Contains (batch_of n out.letters) d → MayGo m h n x.view d)
     (light : (d : Datagram) (c : Contains (batch_of n out.letters) d) → IsLight (goes d c).message)
     (noted : (k : Note) → Contains out.notes k → IsOfNode k × IsBorneOut m h k)
-    (holds : Holds new (Base (next_base old (standing_of node)) ∷ []) [])
+    (holds : HoldsEntries new (Base (next_base old (standing_of node)) ∷ []) [])
     (sent : List LetterValue) (among : AreOf sent out.letters) where
   base : EntriesFit m h n (Base (next_base old (standing_of node)) ∷ [])
   base = base_fits m h n node old new x shown may close lawful fits
@@ -96,7 +96,8 @@ module _ (m : Meaning) (h : History) (n : ℕ) (node : NodeValue) (old new : Sto
     near = base.near;
   }
 
-  pub rebased_goes : Goes m h n (Stands m (with_snapshot node) new h.genesis n) (disks new) out.notes (batch_of n sent)
+  pub rebased_goes : LeavesFit m h n (ReplicaHolds m (with_snapshot node) new h.genesis n) (disks new) out.notes
+      (batch_of n sent)
   rebased_goes = record {
     holding = here m h.genesis n node old new x shown may close;
     shown = rebase_stands m h.genesis n node old new x shown may close holds;
@@ -122,9 +123,9 @@ module _ (m : Meaning) (h : History) (n : ℕ) (node : NodeValue) (old new : Sto
 -- The step has left the acceptor, and so the store keeps it as before.
 module _ (m : Meaning) (Heard : History → Type 0) (genesis : Genesis) (n : ℕ) (node stepped : NodeValue)
     (old : StoreValue) (whose : node.header ≡ header_of genesis n)
-    (k : Keeps (header_of genesis n) old node.acceptor.state) (out : OutboxValue)
+    (k : StoreKeeps (header_of genesis n) old node.acceptor.state) (out : OutboxValue)
     (g : ActsSafely m Heard node stepped nothing out) (is : out.rebase ≡ true) where
-  abbrev pub still_keeps : Keeps (header_of genesis n) old stepped.acceptor.state
+  abbrev pub still_keeps : StoreKeeps (header_of genesis n) old stepped.acceptor.state
   still_keeps = record {
     entries = k.entries;
     loose = k.loose;
@@ -137,7 +138,7 @@ module _ (m : Meaning) (Heard : History → Type 0) (genesis : Genesis) (n : ℕ
   }
 
   -- and it remembers
-  pub still_remembers : Remembers stepped old genesis n
+  pub still_remembers : ReplicaRemembers stepped old genesis n
   still_remembers = record { whose = (bound m Heard node stepped out g).header ∙ whose; keeps = still_keeps }
 
   -- whatever is sent, the acceptor covers
@@ -149,13 +150,13 @@ module _ (m : Meaning) (Heard : History → Type 0) (genesis : Genesis) (n : ℕ
 
 module _ (m : Meaning) (h : History) (n : ℕ) (node stepped : NodeValue) (old : StoreValue)
     (i : Input) (out : OutboxValue)
-    (f : NodeFits m h n (Stands m node old h.genesis n) (disks old)) (heard : InputFits h i)
+    (f : NodeFits m h n (ReplicaHolds m node old h.genesis n) (disks old)) (heard : InputFits h i)
     (g : ActsSafely m (λ k. InputFits k i) node stepped nothing out) (is : out.rebase ≡ true) where
   abbrev served : Serves m h n f.shown.keeps.loose stepped out
   served = serves m h n node stepped old old i out f heard g
 
   -- it fits on the store as it was
-  abbrev pub stepped_fits : NodeFits m h n (StandsBefore m stepped old h.genesis n) (disks old)
+  abbrev pub stepped_fits : NodeFits m h n (HoldsBeforeRebase m stepped old h.genesis n) (disks old)
   stepped_fits = record {
     lawful = f.lawful;
     holding = served.holding;
@@ -173,9 +174,9 @@ module _ (m : Meaning) (h : History) (n : ℕ) (node stepped : NodeValue) (old :
 
   -- where its Base was written, these letters of it are sent
   pub installed_goes : (new : StoreValue) → MayBegin (standing_of stepped) → HoldsNear stepped
-      → Holds new (Base (next_base old (standing_of stepped)) ∷ []) []
+      → HoldsEntries new (Base (next_base old (standing_of stepped)) ∷ []) []
       → (sent : List LetterValue) → AreOf sent out.letters
-      → Goes m h n (Stands m (with_snapshot stepped) new h.genesis n) (disks new) out.notes (batch_of n sent)
+      → LeavesFit m h n (ReplicaHolds m (with_snapshot stepped) new h.genesis n) (disks new) out.notes (batch_of n sent)
   installed_goes new may close holds sent among =
       let b = bound m (λ k. InputFits k i) node stepped out g in
       rebased_goes m h n stepped old new served.holding stepped_fits.shown may close f.lawful

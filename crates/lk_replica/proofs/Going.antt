@@ -17,7 +17,7 @@ use Rattle.lk_store_format.specs.Entries.{plain}
 use Rattle.lk_store_format.specs.Values.{HeaderValue, StandingValue}
 use Rattle.lk_store_format.specs.declared.stored.Stored.{Stored}
 use Rattle.lk_log.specs.StoreValue.{StoreValue, disks}
-use Rattle.lk_log.specs.Stores.{Holds, KeepsAtLeast}
+use Rattle.lk_log.specs.Stores.{HoldsEntries, KeepsAtLeast}
 use Rattle.lk_log.proofs.StoreLaws.{all_stand, header_more, one_standing, plain_append}
 use Rattle.lk_state.specs.Meanings.{Meaning}
 use Rattle.lk_agreement.specs.Acceptors.{AcceptorState, Covers, CoversSent}
@@ -27,15 +27,15 @@ use Rattle.lk_agreement.proofs.Histories.{said_alike, still_stems, still_was, st
 use Rattle.lk_node_io.specs.Letters.{LetterValue, datagram_of, batch_of}
 use Rattle.lk_node_io.specs.Outboxes.{OutboxValue, nothing}
 use Rattle.lk_node_io.specs.declared.input.Input.{Input}
-use Rattle.lk_node.specs.Calls.{InputFits, NodeFits, Goes}
+use Rattle.lk_node.specs.Calls.{InputFits, NodeFits, LeavesFit}
 use Rattle.lk_node.specs.Entries.{EntriesFit, Rests}
 use Rattle.lk_node.specs.Histories.{History, Genesis, Datagram, later}
 use Rattle.lk_node.specs.Holdings.{Holding}
-use Rattle.lk_node.specs.Keeping.{TellsDecided, IsKnown, Keeps, Stands}
+use Rattle.lk_node.specs.Keeping.{TellsDecided, IsKnown, StoreKeeps, ReplicaHolds}
 use Rattle.lk_node.specs.Reaching.{IsTold, TellsOn}
 use Rattle.lk_node.specs.Leavings.{header_of, acceptor_of, view_of, DisksFit, AllCover}
 use Rattle.lk_replica.specs.Posts.{AreOf}
-use Rattle.lk_recovery.specs.Remembering.{Remembers}
+use Rattle.lk_recovery.specs.Remembering.{ReplicaRemembers}
 use Rattle.lk_node.specs.NodeValue.{NodeValue}
 use Rattle.lk_node.specs.Serving.{IsLight, with_entries, Tells, Binds, Serves, ActsSafely}
 use Rattle.lk_recovery.proofs.Recoveries.{known_rests, held_fit, fit_disks, cover_disks, put_fits, put_covers}
@@ -61,22 +61,22 @@ all_map P Q (x ∷ xs) f a = (f x a.0, all_map P Q xs f a.1)
 -- synced, these
 pub record KeepsToo (whose : HeaderValue) (new : StoreValue) (b : AcceptorState) (standing : StandingValue)
     (loose es : List Entry) (sync : Bool) : Type 0 where
-  pub keeps : Keeps whose new b
+  pub keeps : StoreKeeps whose new b
   pub known : (w : View) → AllByRecursion (IsKnown w) loose → (sync ≡ false → AllByRecursion (IsKnown w) es)
       → AllByRecursion (IsKnown w) keeps.loose
   pub told : (ahead : ℕ) (node now : NodeValue) → IsTold ahead standing loose node → TellsOn node now es
       → IsTold ahead keeps.standing keeps.loose now
 
 pub put_keeps : (whose : HeaderValue) (old new : StoreValue) (a b : AcceptorState) (es : List Entry) (sync : Bool)
-    (k : Keeps whose old a) → b ≡ with_entries es a → (sync ≡ false → AllByRecursion TellsDecided es)
-    → (sync ≡ false → Holds new k.entries (plain k.loose ++ plain es))
-    → (sync ≡ true → Holds new (k.entries ++ (plain k.loose ++ plain es)) [])
+    (k : StoreKeeps whose old a) → b ≡ with_entries es a → (sync ≡ false → AllByRecursion TellsDecided es)
+    → (sync ≡ false → HoldsEntries new k.entries (plain k.loose ++ plain es))
+    → (sync ≡ true → HoldsEntries new (k.entries ++ (plain k.loose ++ plain es)) [])
     → KeepsToo whose new b k.standing k.loose es sync
 put_keeps whose old new a b es false k written decided added synced = record {
   keeps = record {
     entries = k.entries;
     loose = k.loose ++ es;
-    holds = subst (Holds new k.entries) (sym (plain_append k.loose es)) (added refl);
+    holds = subst (HoldsEntries new k.entries) (sym (plain_append k.loose es)) (added refl);
     decided = all_append TellsDecided k.loose es k.decided (decided refl);
     header = k.header;
     standing = k.standing;
@@ -91,7 +91,8 @@ put_keeps whose old new a b es true k written decided added synced = record {
     entries = k.entries ++ plain (k.loose ++ es);
     loose = [];
     holds =
-        subst (λ (more : List Stored). Holds new (k.entries ++ more) []) (sym (plain_append k.loose es)) (synced refl);
+        subst (λ (more : List Stored). HoldsEntries new (k.entries ++ more) []) (sym (plain_append k.loose es))
+        (synced refl);
     decided = tt;
     header = header_more k.entries (plain (k.loose ++ es)) whose k.header;
     standing = with_all (k.loose ++ es) k.standing;
@@ -165,7 +166,7 @@ bound m Heard node new out g =
 
 module _ (m : Meaning) (h : History) (n : ℕ) (node new : NodeValue) (old store : StoreValue)
     (i : Input) (out : OutboxValue)
-    (f : NodeFits m h n (Stands m node old h.genesis n) (disks old)) (heard : InputFits h i)
+    (f : NodeFits m h n (ReplicaHolds m node old h.genesis n) (disks old)) (heard : InputFits h i)
     (g : ActsSafely m (λ k. InputFits k i) node new nothing out) where
   abbrev loose : List Entry
   loose = f.shown.keeps.loose
@@ -187,7 +188,7 @@ module _ (m : Meaning) (h : History) (n : ℕ) (node new : NodeValue) (old store
 
 module _ (m : Meaning) (h : History) (n : ℕ) (node new : NodeValue) (old store : StoreValue)
     (i : Input) (out : OutboxValue)
-    (f : NodeFits m h n (Stands m node old h.genesis n) (disks old)) (heard : InputFits h i)
+    (f : NodeFits m h n (ReplicaHolds m node old h.genesis n) (disks old)) (heard : InputFits h i)
     (g : ActsSafely m (λ k. InputFits k i) node new nothing out) (on : TellsOn node new out.entries) where
   abbrev unsynced : List Entry
   unsynced = f.shown.keeps.loose
@@ -247,7 +248,7 @@ module _ (m : Meaning) (h : History) (n : ℕ) (node new : NodeValue) (old store
         (λ e is. still_rests h (take j (batch_of n sent)) e
         (known_rests h n served.holding.view served.fits.view e is)) known
 
-    pub put_goes : Goes m h n (Stands m new store h.genesis n) (disks store) out.notes (batch_of n sent)
+    pub put_goes : LeavesFit m h n (ReplicaHolds m new store h.genesis n) (disks store) out.notes (batch_of n sent)
     put_goes = record {
       holding = served.holding;
       shown = record { whose = served.whose; keeps = k.keeps; known = known; held = served.held; told = told };
@@ -262,15 +263,17 @@ module _ (m : Meaning) (h : History) (n : ℕ) (node new : NodeValue) (old store
 
 -- a replica that stands so remembers
 abbrev pub remembered : (m : Meaning) (genesis : Genesis) (n : ℕ) (held : Holding) (node : NodeValue)
-    (store : StoreValue) → Stands m node store genesis n held → Remembers node store genesis n
+    (store : StoreValue) → ReplicaHolds m node store genesis n held → ReplicaRemembers node store genesis n
 remembered m genesis n held node store shown = record { whose = shown.whose; keeps = shown.keeps }
 
 module _ (m : Meaning) (genesis : Genesis) (n : ℕ) (node new : NodeValue) (old store : StoreValue)
     (Heard : History → Type 0) (out : OutboxValue)
-    (shown : Remembers node old genesis n) (g : ActsSafely m Heard node new nothing out) where
+    (shown : ReplicaRemembers node old genesis n) (g : ActsSafely m Heard node new nothing out) where
   -- what was put the store keeps
-  pub step_keeps : (out.sync ≡ false → Holds store shown.keeps.entries (plain shown.keeps.loose ++ plain out.entries))
-      → (out.sync ≡ true → Holds store (shown.keeps.entries ++ (plain shown.keeps.loose ++ plain out.entries)) [])
+  pub step_keeps : (out.sync ≡ false → HoldsEntries store shown.keeps.entries (plain shown.keeps.loose
+      ++ plain out.entries))
+      → (out.sync ≡ true → HoldsEntries store (shown.keeps.entries
+      ++ (plain shown.keeps.loose ++ plain out.entries)) [])
       → KeepsToo (header_of genesis n) store new.acceptor.state shown.keeps.standing
       shown.keeps.loose out.entries out.sync
   step_keeps added synced =
@@ -281,10 +284,10 @@ module _ (m : Meaning) (genesis : Genesis) (n : ℕ) (node new : NodeValue) (old
   -- and so it remembers
   pub step_remembers : KeepsToo
       (header_of genesis n) store new.acceptor.state shown.keeps.standing shown.keeps.loose out.entries out.sync
-      → Remembers new store genesis n
+      → ReplicaRemembers new store genesis n
   step_remembers k = record { whose = (bound m Heard node new out g).header ∙ shown.whose; keeps = k.keeps }
 
-  pub step_syncs : (k : Keeps (header_of genesis n) store new.acceptor.state) (x : NodeMessage) (d : Datagram)
+  pub step_syncs : (k : StoreKeeps (header_of genesis n) store new.acceptor.state) (x : NodeMessage) (d : Datagram)
       → Contains (batch_of n out.letters) d → Spells (said_by genesis n x) d.bytes
       → AllCover m genesis n (disks store) x
   step_syncs k x d c said =

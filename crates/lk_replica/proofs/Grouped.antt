@@ -28,7 +28,7 @@ use Rattle.lk_store_format.proofs.Mixed.{format-append}
 use Rattle.lk_store_format.proofs.Spelling.{spelled-append, spelled_long, all-append}
 use Rattle.lk_log.specs.Images.{Image, IsLive, MayLeaveBoth, seen}
 use Rattle.lk_log.specs.StoreValue.{StoreValue, pick, disks}
-use Rattle.lk_log.specs.Stores.{Holds, IsOlder, KeepsAtLeast, KeepsItsFile, MayBegin, next_base}
+use Rattle.lk_log.specs.Stores.{HoldsEntries, IsOlder, KeepsAtLeast, KeepsItsFile, MayBegin, next_base}
 use Rattle.lk_log.proofs.StoreLaws.{all_stand, header_more, plain_append, holds_keeps, live_unique, one_standing}
 use Rattle.lk_log.proofs.StoreLaws.{seen_left, synced_live, of_every}
 use Rattle.lk_state.specs.Meanings.{Meaning}
@@ -40,11 +40,11 @@ use Rattle.lk_node_io.specs.Outboxes.{OutboxValue, nothing}
 use Rattle.lk_node_io.specs.declared.input.Input.{Input}
 use Rattle.lk_node_io.specs.declared.note.Note.{Note}
 use Rattle.lk_learner.specs.Learners.{executed}
-use Rattle.lk_node.specs.Calls.{InputFits, NodeFits, Goes}
+use Rattle.lk_node.specs.Calls.{InputFits, NodeFits, LeavesFit}
 use Rattle.lk_node.specs.Entries.{Rests}
 use Rattle.lk_node.specs.Histories.{History, Genesis, Datagram}
 use Rattle.lk_node.specs.Holdings.{Holding}
-use Rattle.lk_node.specs.Keeping.{TellsDecided, IsKnown, Keeps, Stands}
+use Rattle.lk_node.specs.Keeping.{TellsDecided, IsKnown, StoreKeeps, ReplicaHolds}
 use Rattle.lk_node.specs.Leavings.{header_of, acceptor_of, DisksFit, AllCover}
 use Rattle.lk_node.specs.NodeValue.{NodeValue}
 use Rattle.lk_node.specs.Packing.{standing_of, with_snapshot}
@@ -53,8 +53,9 @@ use Rattle.lk_node.specs.Served.{text}
 use Rattle.lk_node.specs.Serving.{with_entries, ActsSafely}
 use Rattle.lk_node.proofs.Nodes.{with_all_behind, near_behind, told_behind, told_synced}
 use Rattle.lk_recovery.specs.Compacting.{IsDue, IsSameStore, Rebases}
-use Rattle.lk_replica.specs.Groups.{as_synced, as_sent, needs_sync_after, Gathers, Recalls, Gathered, GroupFits}
-use Rattle.lk_replica.specs.Groups.{GroupGoes, GroupStays, Settles, GroupValue, Adds, IsCovered, IsRefusedInGroup}
+use Rattle.lk_replica.specs.Groups.{as_synced, as_sent, needs_sync_after, StoreKeepsInGroup, RemembersInGroup}
+use Rattle.lk_replica.specs.Groups.{HoldsInGroup, GroupFits}
+use Rattle.lk_replica.specs.Groups.{GroupLeavesFit, GroupStays, Settles, GroupValue, Adds, IsCovered, IsRefusedInGroup}
 use Rattle.lk_replica.specs.Groups.{LeavesInGroup, IsSettled, MakesRoom, settle_calls, gather_calls}
 use Rattle.lk_node_io.specs.Faults.{IsStoreFault, fault_number, failures_by, WantsNoMemory}
 use Rattle.lk_replica.specs.Posts.{AreOf}
@@ -65,7 +66,7 @@ use Rattle.lk_recovery.proofs.Recoveries.{err_as, failed_alone, known_rests, Ent
 use Rattle.lk_recovery.proofs.Recoveries.{cover_entries, cover_disks, put_fits, put_covers, same_holds}
 use Rattle.lk_replica.proofs.Refusals.{number_of_calls, halted_alone}
 use Rattle.lk_replica.proofs.NoSend.{sends_not}
-use Rattle.lk_recovery.specs.Remembering.{Remembers}
+use Rattle.lk_recovery.specs.Remembering.{ReplicaRemembers}
 use Rattle.lk_replica.proofs.Behind.{installed_goes}
 use Rattle.lk_replica.proofs.Going.{KeepsToo, put_leaves, put_goes, serves, bound, step_syncs, step_covers}
 use Rattle.lk_replica.proofs.Standings.{entries_are, decided_leave, entries_behind}
@@ -78,7 +79,8 @@ generation_more [] more some = absurd (omega arith)
 generation_more (Base b ∷ ks) more some = refl
 generation_more (Plain e ∷ ks) more some = refl
 
-pub as_synced_holds : (s : StoreValue) (ks ls : List Stored) → Holds s ks ls → Holds (as_synced s) (ks ++ ls) []
+pub as_synced_holds : (s : StoreValue) (ks ls : List Stored) → HoldsEntries s ks ls
+    → HoldsEntries (as_synced s) (ks ++ ls) []
 as_synced_holds s ks ls h =
     let some : 0 < generation ks = omega (arith, h.on.older.less) in
     let all = append-nil (ks ++ ls) in
@@ -97,7 +99,7 @@ as_synced_holds s ks ls h =
     }
 
 -- where all is synced each image has all of it
-whole_keeps : (s : StoreValue) (ks more : List Stored) → Holds s (ks ++ more) [] → KeepsAtLeast s ks more
+whole_keeps : (s : StoreValue) (ks more : List Stored) → HoldsEntries s (ks ++ more) [] → KeepsAtLeast s ks more
 whole_keeps s ks more h image left = (
   length more,
   subst (λ (l : List Stored). IsLive image (ks ++ l)) (sym (take-length more))
@@ -108,7 +110,7 @@ whole_keeps s ks more h image left = (
 
 -- as it will be, it keeps what the acceptor holds
 abbrev pub group_keeps : (whose : HeaderValue) (s : StoreValue) (needs_sync : Bool) (a : AcceptorState)
-    → Gathers whose s needs_sync a → Keeps whose (as_sent needs_sync s) a
+    → StoreKeepsInGroup whose s needs_sync a → StoreKeeps whose (as_sent needs_sync s) a
 group_keeps whose s false a k = record {
   entries = k.entries;
   loose = k.loose;
@@ -131,8 +133,8 @@ group_keeps whose s true a k = record {
 }
 
 -- a group that begins
-abbrev pub group_begins : (whose : HeaderValue) (s : StoreValue) (a : AcceptorState) → Keeps whose s a
-    → Gathers whose s false a
+abbrev pub group_begins : (whose : HeaderValue) (s : StoreValue) (a : AcceptorState) → StoreKeeps whose s a
+    → StoreKeepsInGroup whose s false a
 group_begins whose s a k = record {
   entries = k.entries;
   loose = k.loose;
@@ -145,7 +147,8 @@ group_begins whose s a k = record {
 }
 
 abbrev pub group_stands : (m : Meaning) (node : NodeValue) (s : StoreValue) (needs_sync : Bool) (genesis : Genesis)
-    (n : ℕ) (x : Holding) → Gathered m node s needs_sync genesis n x → Stands m node (as_sent needs_sync s) genesis n x
+    (n : ℕ) (x : Holding) → HoldsInGroup m node s needs_sync genesis n x
+    → ReplicaHolds m node (as_sent needs_sync s) genesis n x
 group_stands m node s false genesis n x g =
     record {
       whose = g.whose;
@@ -165,7 +168,7 @@ group_stands m node s true genesis n x g =
 
 abbrev pub group_fits : (m : Meaning) (h : History) (n : ℕ) (node : NodeValue) (s : StoreValue) (needs_sync : Bool)
     → GroupFits m h n node s needs_sync
-    → NodeFits m h n (Stands m node (as_sent needs_sync s) h.genesis n) (disks (as_sent needs_sync s))
+    → NodeFits m h n (ReplicaHolds m node (as_sent needs_sync s) h.genesis n) (disks (as_sent needs_sync s))
 group_fits m h n node s needs_sync f =
     record {
       lawful = f.lawful;
@@ -176,7 +179,7 @@ group_fits m h n node s needs_sync f =
     }
 
 pub begin_fits : (m : Meaning) (h : History) (n : ℕ) (node : NodeValue) (s : StoreValue)
-    → NodeFits m h n (Stands m node s h.genesis n) (disks s) → GroupStays m h n node s false
+    → NodeFits m h n (ReplicaHolds m node s h.genesis n) (disks s) → GroupStays m h n node s false
 begin_fits m h n node s f = record {
   fits = record {
     lawful = f.lawful;
@@ -214,12 +217,13 @@ module _ (whose : HeaderValue) (old store : StoreValue) (a b : AcceptorState) (o
     (is : out.rebase ≡ false) (written : b ≡ with_entries out.entries a)
     (unsynced : out.sync ≡ false → AllByRecursion TellsDecided out.entries) where
   abbrev pub gathers_more : (needs_sync after : Bool) → after ≡ needs_sync_after needs_sync out
-      → (k : Gathers whose old needs_sync a) → Holds store k.entries (plain k.loose ++ plain out.entries)
-      → Gathers whose store after b
+      → (k : StoreKeepsInGroup whose old needs_sync a)
+      → HoldsEntries store k.entries (plain k.loose ++ plain out.entries)
+      → StoreKeepsInGroup whose store after b
   gathers_more needs_sync after e k added = record {
     entries = k.entries;
     loose = k.loose ++ out.entries;
-    holds = subst (Holds store k.entries) (sym (plain_append k.loose out.entries)) added;
+    holds = subst (HoldsEntries store k.entries) (sym (plain_append k.loose out.entries)) added;
     decided = λ none. let z = none_waits out.rebase needs_sync out.sync is (sym none ∙ e) in
         all-append TellsDecided k.loose out.entries (k.decided z.0) (unsynced z.1);
     header = k.header;
@@ -231,7 +235,8 @@ module _ (whose : HeaderValue) (old store : StoreValue) (a b : AcceptorState) (o
 
   -- of what it keeps as it will be, it then keeps all, and the entries
   pub keeps_more : (needs_sync after : Bool) → after ≡ needs_sync_after needs_sync out
-      → (k : Gathers whose old needs_sync a) → Holds store k.entries (plain k.loose ++ plain out.entries)
+      → (k : StoreKeepsInGroup whose old needs_sync a)
+      → HoldsEntries store k.entries (plain k.loose ++ plain out.entries)
       → KeepsAtLeast (as_sent after store) (group_keeps whose old needs_sync a k).entries
       (plain (group_keeps whose old needs_sync a k).loose ++ plain out.entries)
   keeps_more false false e k added = holds_keeps store k.entries (plain k.loose ++ plain out.entries) added
@@ -241,7 +246,7 @@ module _ (whose : HeaderValue) (old store : StoreValue) (a b : AcceptorState) (o
       (as_synced_holds store k.entries (plain k.loose ++ plain out.entries) added)
   keeps_more true true e k added =
       whole_keeps (as_synced store) (k.entries ++ plain k.loose) (plain out.entries)
-      (subst (λ (l : List Stored). Holds (as_synced store) l [])
+      (subst (λ (l : List Stored). HoldsEntries (as_synced store) l [])
       (sym (append_assoc k.entries (plain k.loose) (plain out.entries)))
       (as_synced_holds store k.entries (plain k.loose ++ plain out.entries) added))
 
@@ -256,7 +261,8 @@ module _ (whose : HeaderValue) (old store : StoreValue) (a b : AcceptorState) (o
 
   -- so it keeps too
   pub keeps_too : (needs_sync after : Bool) (e : after ≡ needs_sync_after needs_sync out)
-      (k : Gathers whose old needs_sync a) (added : Holds store k.entries (plain k.loose ++ plain out.entries))
+      (k : StoreKeepsInGroup whose old needs_sync a)
+      (added : HoldsEntries store k.entries (plain k.loose ++ plain out.entries))
       → KeepsToo whose (as_sent after store) b (group_keeps whose old needs_sync a k).standing
       (group_keeps whose old needs_sync a k).loose out.entries out.sync
   keeps_too false false e k added = record {
@@ -294,17 +300,18 @@ module _ (m : Meaning) (h : History) (n : ℕ) (node new : NodeValue) (old store
     (f : GroupFits m h n node old needs_sync) (heard : InputFits h i)
     (g : ActsSafely m (λ k. InputFits k i) node new nothing out) (on : TellsOn node new out.entries)
     (is : out.rebase ≡ false)
-    (added : Holds store f.shown.keeps.entries (plain f.shown.keeps.loose ++ plain out.entries)) where
+    (added : HoldsEntries store f.shown.keeps.entries (plain f.shown.keeps.loose ++ plain out.entries)) where
   abbrev mine : HeaderValue
   mine = header_of h.genesis n
 
   abbrev after : Bool
   after = needs_sync_after needs_sync out
 
-  abbrev fits : NodeFits m h n (Stands m node (as_sent needs_sync old) h.genesis n) (disks (as_sent needs_sync old))
+  abbrev fits : NodeFits m h n (ReplicaHolds m node (as_sent needs_sync old) h.genesis n)
+      (disks (as_sent needs_sync old))
   fits = group_fits m h n node old needs_sync f
 
-  abbrev pub gathered_more : Gathers mine store after new.acceptor.state
+  abbrev pub gathered_more : StoreKeepsInGroup mine store after new.acceptor.state
   gathered_more = let b = bound m (λ k. InputFits k i) node new out g in
       gathers_more mine old store node.acceptor.state new.acceptor.state out is b.written b.unsynced needs_sync
       after refl f.shown.keeps added
@@ -315,7 +322,7 @@ module _ (m : Meaning) (h : History) (n : ℕ) (node new : NodeValue) (old store
     where
       by_waits : new.acceptor.state ≡ with_entries out.entries node.acceptor.state
           → (out.sync ≡ false → AllByRecursion TellsDecided out.entries) → (w : Bool) (k : GroupFits m h n node old w)
-          → Holds store k.shown.keeps.entries (plain k.shown.keeps.loose ++ plain out.entries)
+          → HoldsEntries store k.shown.keeps.entries (plain k.shown.keeps.loose ++ plain out.entries)
           → KeepsAtLeast (as_sent (needs_sync_after w out) store) (group_fits m h n node old w k).shown.keeps.entries
           (plain (group_fits m h n node old w k).shown.keeps.loose ++ plain out.entries)
       by_waits written unsynced false k added =
@@ -331,7 +338,7 @@ module _ (m : Meaning) (h : History) (n : ℕ) (node new : NodeValue) (old store
     where
       by_waits : new.acceptor.state ≡ with_entries out.entries node.acceptor.state
           → (out.sync ≡ false → AllByRecursion TellsDecided out.entries) → (w : Bool) (k : GroupFits m h n node old w)
-          → Holds store k.shown.keeps.entries (plain k.shown.keeps.loose ++ plain out.entries)
+          → HoldsEntries store k.shown.keeps.entries (plain k.shown.keeps.loose ++ plain out.entries)
           → KeepsToo mine (as_sent (needs_sync_after w out) store) new.acceptor.state
           (group_fits m h n node old w k).shown.keeps.standing
           (group_fits m h n node old w k).shown.keeps.loose out.entries out.sync
@@ -374,7 +381,7 @@ module _ (m : Meaning) (h : History) (n : ℕ) (node new : NodeValue) (old store
 
   -- it goes on, and says these of its letters
   pub gather_goes : (sent : List LetterValue) → AreOf sent out.letters
-      → GroupGoes m h n new store after out.notes (batch_of n sent)
+      → GroupLeavesFit m h n new store after out.notes (batch_of n sent)
   gather_goes sent among =
       let s = serves m h n node new (as_sent needs_sync old) (as_sent after store) i out fits heard g in
       let p = put_goes m h n node new (as_sent needs_sync old)
@@ -401,7 +408,7 @@ module _ (m : Meaning) (h : History) (n : ℕ) (node new : NodeValue) (old store
     (i : Input) (out : OutboxValue)
     (s : GroupStays m h n node old needs_sync) (heard : InputFits h i)
     (g : ActsSafely m (λ k. InputFits k i) node new nothing out) (on : TellsOn node new out.entries) where
-  abbrev pretended : NodeFits m h n (Stands m node (as_sent needs_sync old) h.genesis n)
+  abbrev pretended : NodeFits m h n (ReplicaHolds m node (as_sent needs_sync old) h.genesis n)
       (disks (as_sent needs_sync old))
   pretended = group_fits m h n node old needs_sync s.fits
 
@@ -425,7 +432,7 @@ module _ (m : Meaning) (h : History) (n : ℕ) (node new : NodeValue) (old store
 
   pub group_stays : out.rebase ≡ false
       → KeepsAtLeast store s.fits.shown.keeps.entries (plain s.fits.shown.keeps.loose ++ plain out.entries)
-      → Holds store s.fits.shown.keeps.entries (plain s.fits.shown.keeps.loose ++ plain out.entries)
+      → HoldsEntries store s.fits.shown.keeps.entries (plain s.fits.shown.keeps.loose ++ plain out.entries)
       → GroupStays m h n new store (needs_sync_after needs_sync out)
   group_stays is keeps added =
       let v = serves m h n node new (as_sent needs_sync old) old i out pretended heard g in
@@ -454,15 +461,16 @@ module _ (m : Meaning) (h : History) (n : ℕ) (node new : NodeValue) (old store
 
 -- as it will be, it remembers
 abbrev pub recalled : (node : NodeValue) (s : StoreValue) (needs_sync : Bool) (genesis : Genesis) (n : ℕ)
-    → Recalls node s needs_sync genesis n → Remembers node (as_sent needs_sync s) genesis n
+    → RemembersInGroup node s needs_sync genesis n → ReplicaRemembers node (as_sent needs_sync s) genesis n
 recalled node s needs_sync genesis n r =
     record { whose = r.whose; keeps = group_keeps (header_of genesis n) s needs_sync node.acceptor.state r.keeps }
 
 module _ (m : Meaning) (genesis : Genesis) (n : ℕ) (node new : NodeValue) (old store : StoreValue) (needs_sync : Bool)
     (Heard : History → Type 0) (out : OutboxValue)
-    (r : Recalls node old needs_sync genesis n) (g : ActsSafely m Heard node new nothing out) (is : out.rebase ≡ false)
-    (added : Holds store r.keeps.entries (plain r.keeps.loose ++ plain out.entries)) where
-  pub gather_recalls : Recalls new store (needs_sync_after needs_sync out) genesis n
+    (r : RemembersInGroup node old needs_sync genesis n) (g : ActsSafely m Heard node new nothing out) (is : out.rebase
+    ≡ false)
+    (added : HoldsEntries store r.keeps.entries (plain r.keeps.loose ++ plain out.entries)) where
+  pub gather_recalls : RemembersInGroup new store (needs_sync_after needs_sync out) genesis n
   gather_recalls =
       let b = bound m Heard node new out g in
       record {
@@ -493,7 +501,7 @@ module _ (m : Meaning) (genesis : Genesis) (n : ℕ) (node new : NodeValue) (old
 
 -- of the files as they are
 pub gather_still_covers : (m : Meaning) (genesis : Genesis) (n : ℕ) (node : NodeValue) (old store : StoreValue)
-    (needs_sync : Bool) (es : List Entry) (r : Recalls node old needs_sync genesis n)
+    (needs_sync : Bool) (es : List Entry) (r : RemembersInGroup node old needs_sync genesis n)
     → KeepsAtLeast store r.keeps.entries (plain r.keeps.loose ++ plain es) → (x : NodeMessage)
     → AllCover m genesis n (disks old) x → AllCover m genesis n (disks store) x
 gather_still_covers m genesis n node old store needs_sync es r keeps x c =
@@ -502,9 +510,9 @@ gather_still_covers m genesis n node old store needs_sync es r keeps x c =
 -- ---- the sync
 
 pub settled_keeps : (whose : HeaderValue) (old new : StoreValue) (needs_sync : Bool) (a : AcceptorState)
-    → Settles needs_sync old new → Gathers whose old needs_sync a → Keeps whose new a
+    → Settles needs_sync old new → StoreKeepsInGroup whose old needs_sync a → StoreKeeps whose new a
 settled_keeps whose old new false a same k =
-    subst (λ (s : StoreValue). Keeps whose s a) (sym same) (group_keeps whose old false a k)
+    subst (λ (s : StoreValue). StoreKeeps whose s a) (sym same) (group_keeps whose old false a k)
 settled_keeps whose old new true a synced k = record {
   entries = k.entries ++ plain k.loose;
   loose = [];
@@ -519,9 +527,9 @@ settled_keeps whose old new true a synced k = record {
 -- the group is over: the node fits, in the history in which all that the group said is sent
 pub settled_fits : (m : Meaning) (h : History) (n : ℕ) (node : NodeValue) (old new : StoreValue) (needs_sync : Bool)
     → Settles needs_sync old new → GroupFits m h n node old needs_sync
-    → NodeFits m h n (Stands m node new h.genesis n) (disks new)
+    → NodeFits m h n (ReplicaHolds m node new h.genesis n) (disks new)
 settled_fits m h n node old new false same f =
-    subst (λ (s : StoreValue). NodeFits m h n (Stands m node s h.genesis n) (disks s)) (sym same)
+    subst (λ (s : StoreValue). NodeFits m h n (ReplicaHolds m node s h.genesis n) (disks s)) (sym same)
     (group_fits m h n node old false f)
 settled_fits m h n node old new true synced f =
     let k = f.shown.keeps in
@@ -553,7 +561,7 @@ settled_fits m h n node old new true synced f =
 
 -- and whatever was covered as it would be is covered
 pub settled_covers : (m : Meaning) (genesis : Genesis) (n : ℕ) (node : NodeValue) (old new : StoreValue)
-    (needs_sync : Bool) → Settles needs_sync old new → Recalls node old needs_sync genesis n
+    (needs_sync : Bool) → Settles needs_sync old new → RemembersInGroup node old needs_sync genesis n
     → (x : NodeMessage) → AllCover m genesis n (disks (as_sent needs_sync old)) x → AllCover m genesis n (disks new) x
 settled_covers m genesis n node old new false same r x c =
     subst (λ (s : StoreValue). AllCover m genesis n (disks s) x) (sym same) c
@@ -576,7 +584,7 @@ settle_leaves m h n node old new needs_sync s keeps =
     (subst (EntriesLieNear h.genesis.alpha k.standing) (sym (append-nil k.loose)) s.near) s.left
 
 pub settle_covers : (m : Meaning) (genesis : Genesis) (n : ℕ) (node : NodeValue) (old new : StoreValue)
-    (needs_sync : Bool) (r : Recalls node old needs_sync genesis n)
+    (needs_sync : Bool) (r : RemembersInGroup node old needs_sync genesis n)
     → KeepsAtLeast new r.keeps.entries (plain r.keeps.loose) → (x : NodeMessage) → AllCover m genesis n (disks old) x
     → AllCover m genesis n (disks new) x
 settle_covers m genesis n node old new needs_sync r keeps x c =
@@ -593,8 +601,8 @@ rebased_waits needs_sync out is = by_rebase out.rebase is
     by_rebase false is = absurd (cc is)
 
 begin_goes : (m : Meaning) (h : History) (n : ℕ) (node : NodeValue) (s : StoreValue) (notes : List Note)
-    (batch : List Datagram) → Goes m h n (Stands m node s h.genesis n) (disks s) notes batch
-    → GroupGoes m h n node s false notes batch
+    (batch : List Datagram) → LeavesFit m h n (ReplicaHolds m node s h.genesis n) (disks s) notes batch
+    → GroupLeavesFit m h n node s false notes batch
 begin_goes m h n node s notes batch g = record {
   holding = g.holding;
   shown = record {
@@ -611,16 +619,17 @@ begin_goes m h n node s notes batch g = record {
   left = g.left;
 }
 
-pub begun : (node : NodeValue) (s : StoreValue) (genesis : Genesis) (n : ℕ) → Remembers node s genesis n
-    → Recalls node s false genesis n
+pub begun : (node : NodeValue) (s : StoreValue) (genesis : Genesis) (n : ℕ) → ReplicaRemembers node s genesis n
+    → RemembersInGroup node s false genesis n
 begun node s genesis n r =
     record { whose = r.whose; keeps = group_begins (header_of genesis n) s node.acceptor.state r.keeps }
 
 pub begin_recalls : (node : NodeValue) (s : StoreValue) (genesis : Genesis) (n : ℕ) (needs_sync : Bool)
-    (out : OutboxValue) → out.rebase ≡ true → Remembers node s genesis n
-    → Recalls node s (needs_sync_after needs_sync out) genesis n
+    (out : OutboxValue) → out.rebase ≡ true → ReplicaRemembers node s genesis n
+    → RemembersInGroup node s (needs_sync_after needs_sync out) genesis n
 begin_recalls node s genesis n needs_sync out is r =
-    subst (λ (w : Bool). Recalls node s w genesis n) (sym (rebased_waits needs_sync out is)) (begun node s genesis n r)
+    subst (λ (w : Bool). RemembersInGroup node s w genesis n) (sym (rebased_waits needs_sync out is))
+    (begun node s genesis n r)
 
 -- what is on its files it has synced
 pub based_cover : (m : Meaning) (genesis : Genesis) (n : ℕ) (s : StoreValue) (needs_sync : Bool) (out : OutboxValue)
@@ -631,14 +640,14 @@ based_cover m genesis n s needs_sync out x is c =
 
 module _ (m : Meaning) (h : History) (n : ℕ) (node stepped : NodeValue) (mid new : StoreValue) (needs_sync : Bool)
     (i : Input) (out : OutboxValue)
-    (f : NodeFits m h n (Stands m node mid h.genesis n) (disks mid)) (heard : InputFits h i)
+    (f : NodeFits m h n (ReplicaHolds m node mid h.genesis n) (disks mid)) (heard : InputFits h i)
     (g : ActsSafely m (λ k. InputFits k i) node stepped nothing out) (is : out.rebase ≡ true)
     (may : MayBegin (standing_of stepped)) (close : HoldsNear stepped)
-    (holds : Holds new (Base (next_base mid (standing_of stepped)) ∷ []) []) where
+    (holds : HoldsEntries new (Base (next_base mid (standing_of stepped)) ∷ []) []) where
   pub based_goes : (sent : List LetterValue) → AreOf sent out.letters
-      → GroupGoes m h n (with_snapshot stepped) new (needs_sync_after needs_sync out) out.notes (batch_of n sent)
+      → GroupLeavesFit m h n (with_snapshot stepped) new (needs_sync_after needs_sync out) out.notes (batch_of n sent)
   based_goes sent among =
-      subst (λ (w : Bool). GroupGoes m h n (with_snapshot stepped) new w out.notes (batch_of n sent))
+      subst (λ (w : Bool). GroupLeavesFit m h n (with_snapshot stepped) new w out.notes (batch_of n sent))
       (sym (rebased_waits needs_sync out is))
       (begin_goes m h n (with_snapshot stepped) new out.notes (batch_of n sent)
       (installed_goes m h n node stepped mid i out f heard g is new may close holds sent among))
@@ -659,8 +668,9 @@ module _ (m : Meaning) (old new : StoreValue) (same : IsSameStore old new) where
   same_as_sent true = λ i. pick (same.live i) (fully_synced (same.live_disk i)) (same.other_disk i)
   same_as_sent false = λ i. pick (same.live i) (same.live_disk i) (same.other_disk i)
 
-  abbrev same_gathers : (whose : HeaderValue) (needs_sync : Bool) (a : AcceptorState) → Gathers whose old needs_sync a
-      → Gathers whose new needs_sync a
+  abbrev same_gathers : (whose : HeaderValue) (needs_sync : Bool) (a : AcceptorState)
+      → StoreKeepsInGroup whose old needs_sync a
+      → StoreKeepsInGroup whose new needs_sync a
   same_gathers whose needs_sync a k = record {
     entries = k.entries;
     loose = k.loose;
@@ -673,7 +683,7 @@ module _ (m : Meaning) (old new : StoreValue) (same : IsSameStore old new) where
   }
 
   pub same_recalls : (node : NodeValue) (needs_sync : Bool) (genesis : Genesis) (n : ℕ)
-      → Recalls node old needs_sync genesis n → Recalls node new needs_sync genesis n
+      → RemembersInGroup node old needs_sync genesis n → RemembersInGroup node new needs_sync genesis n
   same_recalls node needs_sync genesis n r =
       record { whose = r.whose; keeps = same_gathers (header_of genesis n) needs_sync node.acceptor.state r.keeps }
 
@@ -713,7 +723,7 @@ module _ (m : Meaning) (old new : StoreValue) (same : IsSameStore old new) where
 
 -- where all bytes are synced no entry is unsynced
 none_unsynced : (s : StoreValue) (ks : List Stored) (loose : List Entry)
-    → Holds (as_synced s) ks (plain loose) → loose ≡ []
+    → HoldsEntries (as_synced s) ks (plain loose) → loose ≡ []
 none_unsynced s ks [] h = refl
 none_unsynced s ks (e ∷ loose) h =
     let none = ap (λ (l : List ℕ). length l) h.on.unsynced in
@@ -726,11 +736,12 @@ none_unsynced s ks (e ∷ loose) h =
 
 -- and what a store holds of it stands for one thing
 one_told : (s : StoreValue) (ks fs : List Stored) (loose more : List Entry) (t u : StandingValue)
-    → Holds (as_synced s) ks (plain loose) → StandsFor ks t → Holds s fs (plain more) → StandsFor fs u
+    → HoldsEntries (as_synced s) ks (plain loose) → StandsFor ks t → HoldsEntries s fs (plain more) → StandsFor fs u
     → with_all loose t ≡ with_all more u
 one_told s ks fs loose more t u h stands k others =
     let none = none_unsynced s ks loose h in
-    let alone : Holds (as_synced s) ks [] = subst (λ (l : List Entry). Holds (as_synced s) ks (plain l)) none h in
+    let alone : HoldsEntries (as_synced s) ks [] = subst
+    (λ (l : List Entry). HoldsEntries (as_synced s) ks (plain l)) none h in
     let image : Image = seen (disks (as_synced s)) in
     let left : MayLeaveBoth (disks (as_synced s)) image = seen_left (disks (as_synced s)) in
     let same : ks ≡ fs ++ plain more =
@@ -742,8 +753,8 @@ one_told s ks fs loose more t u h stands k others =
 
 -- what fits as it will be fits as it is
 pub as_gathered : (m : Meaning) (genesis : Genesis) (k : ℕ) (node : NodeValue) (s : StoreValue) (needs_sync : Bool)
-    → Recalls node s needs_sync genesis k → (h : History) (n : ℕ)
-    → NodeFits m h n (Stands m node (as_sent needs_sync s) h.genesis n) (disks (as_sent needs_sync s))
+    → RemembersInGroup node s needs_sync genesis k → (h : History) (n : ℕ)
+    → NodeFits m h n (ReplicaHolds m node (as_sent needs_sync s) h.genesis n) (disks (as_sent needs_sync s))
     → GroupFits m h n node s needs_sync
 as_gathered m genesis k node s false r h n f = (begin_fits m h n node s f).fits
 as_gathered m genesis k node s true r h n f =
@@ -776,8 +787,9 @@ as_gathered m genesis k node s true r h n f =
     }
 
 pub goes_as_sent : (m : Meaning) (h : History) (n : ℕ) (node : NodeValue) (s : StoreValue) (needs_sync : Bool)
-    (notes : List Note) (batch : List Datagram) → GroupGoes m h n node s needs_sync notes batch
-    → Goes m h n (Stands m node (as_sent needs_sync s) h.genesis n) (disks (as_sent needs_sync s)) notes batch
+    (notes : List Note) (batch : List Datagram) → GroupLeavesFit m h n node s needs_sync notes batch
+    → LeavesFit m h n (ReplicaHolds m node (as_sent needs_sync s) h.genesis n)
+    (disks (as_sent needs_sync s)) notes batch
 goes_as_sent m h n node s needs_sync notes batch g = record {
   holding = g.holding;
   shown = group_stands m node s needs_sync h.genesis n g.holding g.shown;
@@ -813,7 +825,7 @@ says_more m genesis n old new first last still adds was x d c said =
 
 -- what a sync leaves on the disks, after any exit
 pub ended_in_group : (m : Meaning) (old : ReplicaValue) (needs_sync : Bool) (after : StoreValue)
-    → ((ks ls : List Stored) → Holds old.store ks ls → KeepsAtLeast after ks ls)
+    → ((ks ls : List Stored) → HoldsEntries old.store ks ls → KeepsAtLeast after ks ls)
     → StaysWithin 0 (disks old.store) (disks after)
     → LeavesInGroup m (λ h. ⊤) 0 old.node old.store needs_sync (disks after)
 ended_in_group m old needs_sync after any room = record {
@@ -827,11 +839,12 @@ ended_in_group m old needs_sync after any room = record {
 -- the node fits to each history to which it fitted as it would be
 pub settled_node_fits : (m : Meaning) (Metered : Type 0) (old : ReplicaValue) (needs_sync : Bool) (new : ReplicaValue)
     → IsSettled Metered old needs_sync new → (genesis : Genesis) (k : ℕ)
-    → Recalls old.node old.store needs_sync genesis k → (h : History) (n : ℕ)
-    → NodeFits m h n (Stands m old.node (as_sent needs_sync old.store) h.genesis n)
-    (disks (as_sent needs_sync old.store)) → NodeFits m h n (Stands m new.node new.store h.genesis n) (disks new.store)
+    → RemembersInGroup old.node old.store needs_sync genesis k → (h : History) (n : ℕ)
+    → NodeFits m h n (ReplicaHolds m old.node (as_sent needs_sync old.store) h.genesis n)
+    (disks (as_sent needs_sync old.store)) → NodeFits m h n (ReplicaHolds m new.node new.store h.genesis n)
+    (disks new.store)
 settled_node_fits m Metered old needs_sync new s genesis k r h n f =
-    subst (λ (x : NodeValue). NodeFits m h n (Stands m x new.store h.genesis n) (disks new.store)) (sym s.node)
+    subst (λ (x : NodeValue). NodeFits m h n (ReplicaHolds m x new.store h.genesis n) (disks new.store)) (sym s.node)
     (settled_fits m h n old.node old.store new.store needs_sync s.settles
     (as_gathered m genesis k old.node old.store needs_sync r h n f))
 
@@ -867,16 +880,17 @@ gathered_base l m n needs_sync o so first then_calls =
 -- ---- a Base that is written after a sync
 
 pub settled_writes : (old mid after : StoreValue) (needs_sync : Bool) (t : StandingValue) → Settles needs_sync old mid
-    → KeepsItsFile old mid → ((ks ls : List Stored) → Holds mid ks ls → Holds after (Base (next_base mid t) ∷ []) [])
-    → (ks ls : List Stored) → Holds old ks ls → Holds after (Base (next_base old t) ∷ []) []
+    → KeepsItsFile old mid → ((ks ls : List Stored) → HoldsEntries mid ks ls
+    → HoldsEntries after (Base (next_base mid t) ∷ []) [])
+    → (ks ls : List Stored) → HoldsEntries old ks ls → HoldsEntries after (Base (next_base old t) ∷ []) []
 settled_writes old mid after needs_sync t settles same writes ks ls h =
     let b : next_base mid t ≡ next_base old t =
     λ i. record { generation = same.1 i + 1; format = 2; header = same.3 i; standing = t } in
-    subst (λ (x : BaseValue). Holds after (Base x ∷ []) []) b (by_waits needs_sync settles)
+    subst (λ (x : BaseValue). HoldsEntries after (Base x ∷ []) []) b (by_waits needs_sync settles)
   where
-    by_waits : (w : Bool) → Settles w old mid → Holds after (Base (next_base mid t) ∷ []) []
+    by_waits : (w : Bool) → Settles w old mid → HoldsEntries after (Base (next_base mid t) ∷ []) []
     by_waits true synced = writes (ks ++ ls) [] (synced ks ls h)
-    by_waits false is = writes ks ls (subst (λ (s : StoreValue). Holds s ks ls) (sym is) h)
+    by_waits false is = writes ks ls (subst (λ (s : StoreValue). HoldsEntries s ks ls) (sym is) h)
 
 pub settled_rebases : (node new : NodeValue) (old mid after : StoreValue) (needs_sync : Bool)
     → Settles needs_sync old mid → KeepsItsFile old mid → Rebases node mid new after → Rebases node old new after
@@ -901,7 +915,8 @@ same_rebases m node new old mid after same r = record {
         header = same.header i;
         standing = standing_of node;
       } in
-      subst (λ (x : BaseValue). Holds after (Base x ∷ []) []) b (r.writes ks ls (same_holds m old mid same ks ls h));
+      subst (λ (x : BaseValue). HoldsEntries after (Base x ∷ []) []) b
+      (r.writes ks ls (same_holds m old mid same ks ls h));
 }
 
 -- ---- the room for a step

@@ -23,21 +23,21 @@ use Rattle.lk_agreement.specs.Datagrams.{NodeMessage, said_by}
 use Rattle.lk_node_io.specs.Letters.{LetterValue, datagram_of, batch_of}
 use Rattle.lk_node_io.specs.declared.input.Input.{Input}
 use Rattle.lk_node_io.specs.declared.note.Note.{Note}
-use Rattle.lk_node.specs.Calls.{heard_by, InputFits, NodeFits, Goes}
+use Rattle.lk_node.specs.Calls.{heard_by, InputFits, NodeFits, LeavesFit}
 use Rattle.lk_node.specs.Histories.{History, Genesis, Datagram, later}
 use Rattle.lk_node.specs.Holdings.{Holding}
-use Rattle.lk_node.specs.Keeping.{Stands}
+use Rattle.lk_node.specs.Keeping.{ReplicaHolds}
 use Rattle.lk_node.specs.Leavings.{DisksFit, AllCover}
 use Rattle.lk_node.specs.NodeValue.{NodeValue}
 use Rattle.lk_replica.specs.Groups.{GroupValue, Adds, IsCovered, KeepsGroup, LeavesInGroup, IsGathered, IsSettled}
 use Rattle.lk_replica.specs.Groups.{IsRefusedInGroup, StepSaid, letters_of, GoesThrough, as_sent, with_step}
-use Rattle.lk_replica.specs.Groups.{gather_calls, Recalls, GroupStays}
+use Rattle.lk_replica.specs.Groups.{gather_calls, RemembersInGroup, GroupStays}
 use Rattle.lk_replica.specs.Posts.{AreOf}
-use Rattle.lk_recovery.specs.Remembering.{Remembers}
+use Rattle.lk_recovery.specs.Remembering.{ReplicaRemembers}
 use Rattle.lk_replica.specs.ReplicaValue.{ReplicaValue, device_of}
 use Rattle.lk_recovery.specs.Rooms.{max_after}
 use Rattle.lk_node_io.specs.Faults.{RefusedAfter}
-use Rattle.lk_replica.specs.Together.{Said, sent_of, parts_of, said_by_steps, GoesAll, GathersAll, IsGatheredFrom}
+use Rattle.lk_replica.specs.Together.{Said, sent_of, parts_of, said_by_steps, EachLeavesFit, GathersAll, IsGatheredFrom}
 use Rattle.lk_replica.specs.Together.{IsTakenTogether, IsNotKept, IsNotSent, IsTogetherRefused}
 use Rattle.lk_replica.specs.declared.taken.Step.{Step}
 use Rattle.lk_recovery.proofs.Recoveries.{refused_on}
@@ -150,17 +150,17 @@ pub record TakenSoFar (m : Meaning) (IsText : List ℕ → Type 0) (begun_as : R
   pub done : List Input
   pub joined : done ++ rest ≡ all
   pub gathered : IsGatheredFrom m IsText begun_as done now g.needs_sync said
-  pub recalls : (genesis : Genesis) (n : ℕ) → Remembers begun_as.node begun_as.store genesis n
-      → Recalls now.node now.store g.needs_sync genesis n
-  pub covered : (genesis : Genesis) (n : ℕ) → Remembers begun_as.node begun_as.store genesis n
+  pub recalls : (genesis : Genesis) (n : ℕ) → ReplicaRemembers begun_as.node begun_as.store genesis n
+      → RemembersInGroup now.node now.store g.needs_sync genesis n
+  pub covered : (genesis : Genesis) (n : ℕ) → ReplicaRemembers begun_as.node begun_as.store genesis n
       → IsCovered m genesis n g now.store
-  pub covers : (genesis : Genesis) (n : ℕ) (x : NodeMessage) → Remembers begun_as.node begun_as.store genesis n
+  pub covers : (genesis : Genesis) (n : ℕ) (x : NodeMessage) → ReplicaRemembers begun_as.node begun_as.store genesis n
       → AllCover m genesis n (disks begun_as.store) x → AllCover m genesis n (disks now.store) x
   pub stays : (h : History) (n : ℕ)
-      → NodeFits m h n (Stands m begun_as.node begun_as.store h.genesis n) (disks begun_as.store)
+      → NodeFits m h n (ReplicaHolds m begun_as.node begun_as.store h.genesis n) (disks begun_as.store)
       → AllByRecursion (InputFits h) all
       → GroupStays m h n now.node now.store g.needs_sync × AllByRecursion (InputFits h) rest
-  pub goes : (genesis : Genesis) (k : ℕ) → Remembers begun_as.node begun_as.store genesis k
+  pub goes : (genesis : Genesis) (k : ℕ) → ReplicaRemembers begun_as.node begun_as.store genesis k
       → (n : ℕ) (q : ReplicaValue) (more : List StepSaid)
       → GoesThrough m n (record { node = now.node; store = as_sent g.needs_sync now.store; failed = false }) rest q
       more → GoesThrough m n begun_as all q (said ++ more)
@@ -210,11 +210,12 @@ taken_nothing m IsText r all rest g steps none no_steps same =
 module _ (m : Meaning) (IsText : List ℕ → Type 0) (begun_as : ReplicaValue) (all : List Input) (old now : ReplicaValue)
     (g new : GroupValue) (steps : List Step) (i : Input) (rest : List Input) (step : Step)
     (s : TakenSoFar m IsText begun_as all old g steps (i ∷ rest))
-    (goes : Adds g new (λ notes letters. (genesis : Genesis) (k : ℕ) → Recalls old.node old.store g.needs_sync genesis k
-    → (h : History) (n : ℕ) → NodeFits m h n (Stands m old.node (as_sent g.needs_sync old.store) h.genesis n)
+    (goes : Adds g new (λ notes letters. (genesis : Genesis) (k : ℕ)
+    → RemembersInGroup old.node old.store g.needs_sync genesis k
+    → (h : History) (n : ℕ) → NodeFits m h n (ReplicaHolds m old.node (as_sent g.needs_sync old.store) h.genesis n)
     (disks (as_sent g.needs_sync old.store)) → InputFits h i
     → (sent : List LetterValue) → AreOf sent letters
-    → Goes m h n (Stands m now.node (as_sent new.needs_sync now.store) h.genesis n)
+    → LeavesFit m h n (ReplicaHolds m now.node (as_sent new.needs_sync now.store) h.genesis n)
     (disks (as_sent new.needs_sync now.store)) notes (batch_of n sent)))
     (exact : IsGathered m IsText ⊤ old.node old.store g i now.node now.store new)
     (notes : step.notes.items ≡ new.notes) (sends : step.sends ≡ length new.letters - length g.letters) where
@@ -259,14 +260,15 @@ module _ (m : Meaning) (IsText : List ℕ → Type 0) (begun_as : ReplicaValue) 
       ap (λ l. x.1 ++ l) (letters_more xs ys) ∙ sym (append_assoc x.1 (letters_of xs) (letters_of ys))
 
   -- in each history it goes on by it, as by a call of its own
-  link : (genesis : Genesis) (k : ℕ) → Recalls old.node old.store g.needs_sync genesis k → (n : ℕ) (h : History)
-      → NodeFits m h n (Stands m old.node (as_sent g.needs_sync old.store) h.genesis n)
+  link : (genesis : Genesis) (k : ℕ) → RemembersInGroup old.node old.store g.needs_sync genesis k
+      → (n : ℕ) (h : History)
+      → NodeFits m h n (ReplicaHolds m old.node (as_sent g.needs_sync old.store) h.genesis n)
       (disks (as_sent g.needs_sync old.store)) → InputFits h i
       → (sent : List LetterValue) → AreOf sent one.letters
-      → Goes m h n (Stands m now.node (as_sent new.needs_sync now.store) h.genesis n)
+      → LeavesFit m h n (ReplicaHolds m now.node (as_sent new.needs_sync now.store) h.genesis n)
       (disks (as_sent new.needs_sync now.store)) one.notes (batch_of n sent)
   link genesis k was n h f heard sent among =
-      subst (λ (l : List Note). Goes m h n (Stands m now.node (as_sent new.needs_sync now.store) h.genesis n)
+      subst (λ (l : List Note). LeavesFit m h n (ReplicaHolds m now.node (as_sent new.needs_sync now.store) h.genesis n)
       (disks (as_sent new.needs_sync now.store)) l (batch_of n sent)) same_notes
       (goes.are genesis k was h n f heard sent
       (subst (λ (l : List LetterValue). AreOf sent l) (sym same_letters) among))
@@ -329,18 +331,18 @@ module _ (m : Meaning) (IsText : List ℕ → Type 0) (begun_as : ReplicaValue) 
 
 module _ (m : Meaning) (n : ℕ) where
   abbrev pub ShowsBy : ReplicaValue → Genesis → ℕ → Holding → Type 0
-  ShowsBy r genesis k x = Stands m r.node r.store genesis k x
+  ShowsBy r genesis k x = ReplicaHolds m r.node r.store genesis k x
 
   abbrev pub DisksBy : ReplicaValue → Side → Disk
   DisksBy r = disks r.store
 
   -- in words of datagrams
   pub goes_all : (is : List Input) (r q : ReplicaValue) (said : List StepSaid) → GoesThrough m n r is q said
-      → GoesAll ShowsBy DisksBy m n r is q (said_by_steps n said)
+      → EachLeavesFit ShowsBy DisksBy m n r is q (said_by_steps n said)
   goes_all [] r q said goes = (ap (said_by_steps n) goes.0, λ h f. rests h (goes.1 h f), goes.2)
     where
-      rests : (h : History) → NodeFits m h n (Stands m q.node q.store h.genesis n) (disks q.store)
-          → Goes m h n (Stands m q.node q.store h.genesis n) (disks q.store) [] []
+      rests : (h : History) → NodeFits m h n (ReplicaHolds m q.node q.store h.genesis n) (disks q.store)
+          → LeavesFit m h n (ReplicaHolds m q.node q.store h.genesis n) (disks q.store) [] []
       rests h f = record {
         holding = f.holding;
         shown = f.shown;
@@ -371,11 +373,11 @@ same_disks s A = refl
 same_disks s B = refl
 
 pub goes_in_memory : (m : Meaning) (n : ℕ) (is : List Input) (r q : ReplicaValue) (said : List Said)
-    → GoesAll (ShowsBy m n) (DisksBy m n) m n r is q said
-    → GoesAll (λ (r : ReplicaValue) genesis k x. Stands m r.node r.store genesis k x)
+    → EachLeavesFit (ShowsBy m n) (DisksBy m n) m n r is q said
+    → EachLeavesFit (λ (r : ReplicaValue) genesis k x. ReplicaHolds m r.node r.store genesis k x)
     (λ (r : ReplicaValue). disk_of (device_of r.store)) m n r is q said
 goes_in_memory m n is r q said goes =
-    subst (λ (d : ReplicaValue → Side → Disk). GoesAll (ShowsBy m n) d m n r is q said)
+    subst (λ (d : ReplicaValue → Side → Disk). EachLeavesFit (ShowsBy m n) d m n r is q said)
     (λ i k side. same_disks k.store side i) goes
 
 -- all are taken, and what waits is synced
@@ -383,7 +385,7 @@ pub goes_to_the_end : (m : Meaning) (IsText : List ℕ → Type 0) (begun_as : R
     (now q : ReplicaValue) (g : GroupValue) (steps : List Step) (rest : List Input)
     (s : TakenSoFar m IsText begun_as all now g steps rest)
     → rest ≡ [] → IsSettled ⊤ now g.needs_sync q → StaysWithin 0 (disks now.store) (disks q.store)
-    → (genesis : Genesis) (k : ℕ) → Remembers begun_as.node begun_as.store genesis k → (n : ℕ)
+    → (genesis : Genesis) (k : ℕ) → ReplicaRemembers begun_as.node begun_as.store genesis k → (n : ℕ)
     → GoesThrough m n begun_as all q s.said
 goes_to_the_end m IsText begun_as all now q g steps rest s none settled room genesis k r n =
     subst (λ (l : List StepSaid). GoesThrough m n begun_as all q l) (append-nil s.said)
@@ -396,8 +398,9 @@ goes_to_the_end m IsText begun_as all now q g steps rest s none settled room gen
           (within_more 132704 (disks now.store) (disks q.store) room),
     )))
   where
-    ended : (h : History) → NodeFits m h n (Stands m now.node (as_sent g.needs_sync now.store) h.genesis n)
-        (disks (as_sent g.needs_sync now.store)) → NodeFits m h n (Stands m q.node q.store h.genesis n) (disks q.store)
+    ended : (h : History) → NodeFits m h n (ReplicaHolds m now.node (as_sent g.needs_sync now.store) h.genesis n)
+        (disks (as_sent g.needs_sync now.store)) → NodeFits m h n (ReplicaHolds m q.node q.store h.genesis n)
+        (disks q.store)
     ended h f = settled_node_fits m ⊤ now g.needs_sync q settled genesis k (s.recalls genesis k r) h n f
 
 -- ---- what a call leaves, where a part of it ended so
@@ -462,8 +465,8 @@ pub gone_in_all : (m : Meaning) (IsText : List ℕ → Type 0) (begun_as : Repli
     → (s : TakenSoFar m IsText begun_as all now g steps rest) → rest ≡ []
     → IsSettled ⊤ now g.needs_sync new → StaysWithin 0 (disks now.store) (disks new.store)
     → sent ≡ batch_of begun_as.node.header.node g.letters
-    → (genesis : Genesis) (n : ℕ) → Remembers begun_as.node begun_as.store genesis n
-    → GoesAll (λ (r : ReplicaValue) genesis k x. Stands m r.node r.store genesis k x)
+    → (genesis : Genesis) (n : ℕ) → ReplicaRemembers begun_as.node begun_as.store genesis n
+    → EachLeavesFit (λ (r : ReplicaValue) genesis k x. ReplicaHolds m r.node r.store genesis k x)
     (λ (r : ReplicaValue). disk_of (device_of r.store)) m n begun_as all new (parts_of steps sent)
 gone_in_all m IsText begun_as all now new g steps rest sent s none settled room batch genesis n r =
     let own : begun_as.node.header.node ≡ n = ap (λ (w : HeaderValue). w.node) r.whose in
@@ -471,7 +474,8 @@ gone_in_all m IsText begun_as all now new g steps rest sent s none settled room 
     ∙ ap (batch_of n) (sym s.letters) in
     let parts : parts_of steps sent ≡ said_by_steps n s.said = ap (parts_of steps) letters
     ∙ parts_are n steps s.said s.counted in
-    subst (λ (l : List Said). GoesAll (λ (r : ReplicaValue) genesis k x. Stands m r.node r.store genesis k x)
+    subst (λ (l : List Said). EachLeavesFit (λ (r : ReplicaValue) genesis k x. ReplicaHolds m r.node r.store genesis k
+    x)
     (λ (r : ReplicaValue). disk_of (device_of r.store)) m n begun_as all new l) (sym parts)
     (goes_in_memory m n all begun_as new (said_by_steps n s.said)
     (goes_all m n all begun_as new s.said
@@ -482,7 +486,7 @@ pub covered_in_all : (m : Meaning) (IsText : List ℕ → Type 0) (begun_as : Re
     (now new : ReplicaValue) (g : GroupValue) (steps : List Step) (rest : List Input) (sent : List Datagram)
     → TakenSoFar m IsText begun_as all now g steps rest
     → IsSettled ⊤ now g.needs_sync new → sent ≡ batch_of begun_as.node.header.node g.letters
-    → (genesis : Genesis) (n : ℕ) (x : NodeMessage) → Remembers begun_as.node begun_as.store genesis n
+    → (genesis : Genesis) (n : ℕ) (x : NodeMessage) → ReplicaRemembers begun_as.node begun_as.store genesis n
     → (d : Datagram) → Contains sent d → Spells (said_by genesis n x) d.bytes → AllCover m genesis n (disks new.store) x
 covered_in_all m IsText begun_as all now new g steps rest sent s settled batch genesis n x r d listed spelled =
     let own : begun_as.node.header.node ≡ n = ap (λ (w : HeaderValue). w.node) r.whose in

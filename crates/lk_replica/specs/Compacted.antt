@@ -9,7 +9,7 @@ use Rattle.lk_log.specs.Stores.{KeepsItsFile}
 use Rattle.lk_learner.specs.Learners.{executed}
 use Rattle.lk_node.specs.Histories.{Genesis}
 use Rattle.lk_node.specs.Holdings.{Holding}
-use Rattle.lk_node.specs.Keeping.{Stands}
+use Rattle.lk_node.specs.Keeping.{ReplicaHolds}
 use Rattle.lk_recovery.specs.Compacting.{AllStandAt, AreSame, Rebases}
 use Rattle.lk_node_io.specs.Faults.{RefusedAfter, IsStoreFault}
 use Rattle.lk_replica.specs.ReplicaValue.{ReplicaValue, device_of}
@@ -20,7 +20,7 @@ use Rattle.lk_state.specs.Meanings.{Meaning}
 -- disks stands for the packed text of everything that it has executed
 pub record IsCompacted (m : Meaning) (old new : ReplicaValue) : Type 0 where
   pub rebases : Rebases old.node old.store new.node new.store
-  pub stands : (genesis : Genesis) (n : ℕ) (x : Holding) → Stands m old.node old.store genesis n x
+  pub stands : (genesis : Genesis) (n : ℕ) (x : Holding) → ReplicaHolds m old.node old.store genesis n x
       → AllStandAt m genesis n (disk_of (device_of new.store)) (executed new.node.learner) x.view.done
   pub calls : Passes old.store.meter new.store.meter rebase_calls
   pub alive : new.failed ≡ false

@@ -13,7 +13,7 @@ use Rattle.lk_store_format.specs.Values.{HeaderValue, StandingValue}
 use Rattle.lk_store_format.specs.declared.stored.Stored.{Stored}
 use Rattle.lk_log.specs.Rooms.{StaysWithin}
 use Rattle.lk_log.specs.StoreValue.{StoreValue, disks}
-use Rattle.lk_log.specs.Stores.{Holds}
+use Rattle.lk_log.specs.Stores.{HoldsEntries}
 use Rattle.lk_state.specs.Meanings.{Meaning}
 use Rattle.lk_messages.specs.Grammar.{Spells}
 use Rattle.lk_agreement.specs.Acceptors.{AcceptorState}
@@ -29,11 +29,11 @@ use Rattle.lk_node_io.specs.Faults.{failures_by, RefusedAfter, IsNumberOfCalls}
 use Rattle.lk_replica.specs.Posts.{AreOf}
 use Rattle.lk_recovery.specs.Rooms.{GrowsByStep, max_after}
 use Rattle.lk_replica.specs.ReplicaValue.{ReplicaValue}
-use Rattle.lk_node.specs.Calls.{InputFits, NodeFits, Goes}
+use Rattle.lk_node.specs.Calls.{InputFits, NodeFits, LeavesFit}
 use Rattle.lk_node.specs.Entries.{Rests}
 use Rattle.lk_node.specs.Histories.{History, Genesis, Datagram}
 use Rattle.lk_node.specs.Holdings.{Holding}
-use Rattle.lk_node.specs.Keeping.{TellsDecided, IsKnown, IsHeld, Stands}
+use Rattle.lk_node.specs.Keeping.{TellsDecided, IsKnown, IsHeld, ReplicaHolds}
 use Rattle.lk_node.specs.Leavings.{header_of, acceptor_of, DisksFit, AllCover}
 use Rattle.lk_node.specs.NodeValue.{NodeValue}
 use Rattle.lk_node.specs.Reaching.{EntriesLieNear, TellsOf}
@@ -54,11 +54,11 @@ needs_sync_after needs_sync out = if out.rebase then false else (needs_sync || o
 
 -- The store is that of this header, and its entries, synced or not, stand for what the acceptor holds. If nothing
 -- waits for a sync, the unsynced ones are decided commands.
-pub record Gathers (whose : HeaderValue) (store : StoreValue) (needs_sync : Bool)
+pub record StoreKeepsInGroup (whose : HeaderValue) (store : StoreValue) (needs_sync : Bool)
     (acceptor : AcceptorState) : Type 0 where
   pub entries : List Stored
   pub loose : List Entry
-  pub holds : Holds store entries (plain loose)
+  pub holds : HoldsEntries store entries (plain loose)
   pub decided : needs_sync ≡ false → AllByRecursion TellsDecided loose
   pub header : HasHeader entries whose
   pub standing : StandingValue
@@ -67,17 +67,17 @@ pub record Gathers (whose : HeaderValue) (store : StoreValue) (needs_sync : Bool
 
 -- the replica, by its parts, is that of the node in the cluster with this genesis, and its store has what its acceptor
 -- holds
-pub record Recalls (node : NodeValue) (store : StoreValue) (needs_sync : Bool)
+pub record RemembersInGroup (node : NodeValue) (store : StoreValue) (needs_sync : Bool)
     (genesis : Genesis) (n : ℕ) : Type 0 where
   pub whose : node.header ≡ header_of genesis n
-  pub keeps : Gathers (header_of genesis n) store needs_sync node.acceptor.state
+  pub keeps : StoreKeepsInGroup (header_of genesis n) store needs_sync node.acceptor.state
 
 -- it is, and holds this; its store tells what the node has executed, and if nothing waits for a sync, all of it lies
 -- near
-pub record Gathered (m : Meaning) (node : NodeValue) (store : StoreValue) (needs_sync : Bool) (genesis : Genesis)
+pub record HoldsInGroup (m : Meaning) (node : NodeValue) (store : StoreValue) (needs_sync : Bool) (genesis : Genesis)
     (n : ℕ) (x : Holding) : Type 0 where
   pub whose : node.header ≡ header_of genesis n
-  pub keeps : Gathers (header_of genesis n) store needs_sync node.acceptor.state
+  pub keeps : StoreKeepsInGroup (header_of genesis n) store needs_sync node.acceptor.state
   pub known : needs_sync ≡ false → AllByRecursion (IsKnown x.view) keeps.loose
   pub held : IsHeld m node genesis x
   pub tells : TellsOf genesis.alpha (with_all keeps.loose keeps.standing) node
@@ -87,22 +87,24 @@ pub record Gathered (m : Meaning) (node : NodeValue) (store : StoreValue) (needs
 -- synced
 abbrev pub GroupFits : Meaning → History → ℕ → NodeValue → StoreValue → Bool → Type 0
 GroupFits m h n node store needs_sync =
-    NodeFits m h n (Gathered m node store needs_sync h.genesis n) (disks (as_sent needs_sync store))
+    NodeFits m h n (HoldsInGroup m node store needs_sync h.genesis n) (disks (as_sent needs_sync store))
 
 -- the effect of a step of a group with these letters
-abbrev pub GroupGoes : Meaning → History → ℕ → NodeValue → StoreValue → Bool → List Note → List Datagram → Type 0
-GroupGoes m h n node store needs_sync notes batch =
-    Goes m h n (Gathered m node store needs_sync h.genesis n) (disks (as_sent needs_sync store)) notes batch
+abbrev pub GroupLeavesFit : Meaning → History → ℕ → NodeValue → StoreValue → Bool → List Note → List Datagram → Type 0
+GroupLeavesFit m h n node store needs_sync notes batch =
+    LeavesFit m h n (HoldsInGroup m node store needs_sync h.genesis n) (disks (as_sent needs_sync store)) notes batch
 
 -- what a caller sees of both: the node fits in what it holds and has on its disks once everything that waits is synced,
 -- and goes on from there
 abbrev pub FitsOnceSynced : Meaning → History → ℕ → NodeValue → StoreValue → Bool → Type 0
 FitsOnceSynced m h n node store needs_sync =
-    NodeFits m h n (Stands m node (as_sent needs_sync store) h.genesis n) (disks (as_sent needs_sync store))
+    NodeFits m h n (ReplicaHolds m node (as_sent needs_sync store) h.genesis n) (disks (as_sent needs_sync store))
 
-abbrev pub GoesOnceSynced : Meaning → History → ℕ → NodeValue → StoreValue → Bool → List Note → List Datagram → Type 0
-GoesOnceSynced m h n node store needs_sync notes batch =
-    Goes m h n (Stands m node (as_sent needs_sync store) h.genesis n) (disks (as_sent needs_sync store)) notes batch
+abbrev pub LeavesFitOnceSynced : Meaning → History → ℕ → NodeValue → StoreValue → Bool → List Note → List Datagram
+    → Type 0
+LeavesFitOnceSynced m h n node store needs_sync notes batch =
+    LeavesFit m h n (ReplicaHolds m node (as_sent needs_sync store) h.genesis n)
+    (disks (as_sent needs_sync store)) notes batch
 
 -- in this history, which contains nothing of what the group has said, the node fits, what it has written rests on what
 -- was sent and lies near, and whatever a stop may leave of the files as they are fits
@@ -115,7 +117,7 @@ pub record GroupStays (m : Meaning) (h : History) (n : ℕ) (node : NodeValue) (
 
 -- the effect of a sync, if something waits for it
 abbrev pub Settles : Bool → StoreValue → StoreValue → Type 0
-Settles true old new = (ks ls : List Stored) → Holds old ks ls → Holds new (ks ++ ls) []
+Settles true old new = (ks ls : List Stored) → HoldsEntries old ks ls → HoldsEntries new (ks ++ ls) []
 Settles false old new = new ≡ old
 
 -- the notes and the letters of a group so far, in order, and whether something that it has written waits for a sync
@@ -153,7 +155,7 @@ IsCovered m genesis n g s =
 pub record LeavesInGroup (m : Meaning) (Hears : History → Type 0) (most : ℕ) (node : NodeValue) (store : StoreValue)
     (needs_sync : Bool) (after : Side → Disk) : Type 0 where
   pub ends : (h : History) (n : ℕ) → GroupStays m h n node store needs_sync → Hears h → DisksFit m h n after
-  pub covers : (genesis : Genesis) (n : ℕ) (x : NodeMessage) → Recalls node store needs_sync genesis n
+  pub covers : (genesis : Genesis) (n : ℕ) (x : NodeMessage) → RemembersInGroup node store needs_sync genesis n
       → AllCover m genesis n (disks store) x → AllCover m genesis n after x
   pub room : StaysWithin most (disks store) after
 
@@ -163,9 +165,9 @@ pub record KeepsGroup (m : Meaning) (Hears : History → Type 0) (node : NodeVal
     (group : GroupValue) (new : NodeValue) (after : StoreValue) (now : GroupValue) : Type 0 where
   pub stays : (h : History) (n : ℕ) → GroupStays m h n node store group.needs_sync → Hears h
       → GroupStays m h n new after now.needs_sync
-  pub recalls : (genesis : Genesis) (n : ℕ) → Recalls node store group.needs_sync genesis n
-      → Recalls new after now.needs_sync genesis n
-  pub said : (genesis : Genesis) (n : ℕ) → Recalls node store group.needs_sync genesis n
+  pub recalls : (genesis : Genesis) (n : ℕ) → RemembersInGroup node store group.needs_sync genesis n
+      → RemembersInGroup new after now.needs_sync genesis n
+  pub said : (genesis : Genesis) (n : ℕ) → RemembersInGroup node store group.needs_sync genesis n
       → IsCovered m genesis n group store → IsCovered m genesis n now after
 
 -- ---- what the steps of a group have done, and nothing else
@@ -194,7 +196,7 @@ gather_calls needs_sync out = if out.rebase then settle_calls needs_sync + rebas
 
 -- the outbox's entries follow what the store held, and nothing more is synced
 abbrev pub Appends : StoreValue → OutboxValue → StoreValue → Type 0
-Appends old out new = (ks ls : List Stored) → Holds old ks ls → Holds new ks (ls ++ plain out.entries)
+Appends old out new = (ks ls : List Stored) → HoldsEntries old ks ls → HoldsEntries new ks (ls ++ plain out.entries)
 
 -- a step was taken, and what its outbox says is written, unsynced, by which neither file grows by more than a step; in
 -- the calls that this takes of a device that counts them (`Metered`)
@@ -261,14 +263,14 @@ letters_of (x ∷ xs) = x.1 ++ letters_of xs
 -- as it would be. Each `mid` is the replica as it will be once everything that it has written is synced.
 abbrev pub GoesThrough : Meaning → ℕ → ReplicaValue → List Input → ReplicaValue → List StepSaid → Type 0
 GoesThrough m n r [] q said =
-    (said ≡ []) × ((h : History) → NodeFits m h n (Stands m r.node r.store h.genesis n) (disks r.store)
-    → NodeFits m h n (Stands m q.node q.store h.genesis n) (disks q.store))
+    (said ≡ []) × ((h : History) → NodeFits m h n (ReplicaHolds m r.node r.store h.genesis n) (disks r.store)
+    → NodeFits m h n (ReplicaHolds m q.node q.store h.genesis n) (disks q.store))
     × StaysWithin max_after (disks r.store) (disks q.store)
 GoesThrough m n r (i ∷ is) q said =
     (mid : ReplicaValue) × (notes : List Note) × (letters : List LetterValue) × (rest : List StepSaid)
     × (said ≡ (notes, letters) ∷ rest)
-    × ((h : History) → NodeFits m h n (Stands m r.node r.store h.genesis n) (disks r.store) → InputFits h i
+    × ((h : History) → NodeFits m h n (ReplicaHolds m r.node r.store h.genesis n) (disks r.store) → InputFits h i
     → (sent : List LetterValue) → AreOf sent letters
-    → Goes m h n (Stands m mid.node mid.store h.genesis n) (disks mid.store) notes (batch_of n sent))
+    → LeavesFit m h n (ReplicaHolds m mid.node mid.store h.genesis n) (disks mid.store) notes (batch_of n sent))
     × StaysWithin max_after (disks r.store) (disks mid.store)
     × GoesThrough m n mid is q rest

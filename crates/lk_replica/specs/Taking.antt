@@ -8,7 +8,7 @@ use Rattle.lk_store_format.specs.Entries.{plain}
 use Rattle.lk_store_format.specs.declared.stored.Stored.{Stored}
 use Rattle.lk_log.specs.Causes.{put_calls, rebase_calls}
 use Rattle.lk_log.specs.StoreValue.{StoreValue, disks}
-use Rattle.lk_log.specs.Stores.{Holds}
+use Rattle.lk_log.specs.Stores.{HoldsEntries}
 use Rattle.lk_state.specs.Meanings.{Meaning}
 use Rattle.lk_disk.specs.Disk.{Disk, contents}
 use Rattle.lk_disk.specs.declared.device.Side.{Side}
@@ -19,12 +19,12 @@ use Rattle.lk_node_io.specs.Letters.{LetterValue, batch_of}
 use Rattle.lk_node_io.specs.Outboxes.{OutboxValue}
 use Rattle.lk_node_io.specs.declared.input.Input.{Input}
 use Rattle.lk_node_io.specs.declared.note.Note.{Note}
-use Rattle.lk_node.specs.Calls.{heard_by, InputFits, NodeFits, Goes}
+use Rattle.lk_node.specs.Calls.{heard_by, InputFits, NodeFits, LeavesFit}
 use Rattle.lk_node.specs.Executing.{NothingToRun}
 use Rattle.lk_node.specs.Histories.{Datagram, History, Genesis}
-use Rattle.lk_node.specs.Keeping.{Stands}
+use Rattle.lk_node.specs.Keeping.{ReplicaHolds}
 use Rattle.lk_node.specs.Leavings.{DisksFit, AllCover}
-use Rattle.lk_recovery.specs.Remembering.{Remembers}
+use Rattle.lk_recovery.specs.Remembering.{ReplicaRemembers}
 use Rattle.lk_recovery.specs.Rooms.{GrowsByStep, GrowsFromBase}
 use Rattle.lk_recovery.specs.Compacting.{AreLeft, IsDue, KeepsOrSwitchesFiles, Rebases, RebasesWhereDue, CallsWhereDue}
 use Rattle.lk_node_io.specs.Faults.{fault_number, failures_by, RefusedAfter, IfGoesOn, IfSend, IfSpared, IsOfCalls}
@@ -37,9 +37,9 @@ use Rattle.lk_node.specs.Steps.{Steps}
 
 -- the outbox's entries follow what the store held, and everything is synced if the outbox says so
 abbrev pub Puts : StoreValue → OutboxValue → StoreValue → Type 0
-Puts old out new = (ks ls : List Stored) → Holds old ks ls
-    → (out.sync ≡ false → Holds new ks (ls ++ plain out.entries))
-    × (out.sync ≡ true → Holds new (ks ++ (ls ++ plain out.entries)) [])
+Puts old out new = (ks ls : List Stored) → HoldsEntries old ks ls
+    → (out.sync ≡ false → HoldsEntries new ks (ls ++ plain out.entries))
+    × (out.sync ≡ true → HoldsEntries new (ks ++ (ls ++ plain out.entries)) [])
 
 -- the outbox is written: if it says so, a Base of the node, which then matches it, in place of the entries, and
 -- otherwise these, by which neither file grows by more than a step
@@ -84,19 +84,19 @@ pub record IsTaken (m : Meaning) (IsText : List ℕ → Type 0) (Metered : Type 
   pub store_alive : new.store.failed ≡ false
   pub awake : new.node.halted ≡ false
 
--- what a call says of the letters that it gave to its post, whatever the post: if it goes on, it has taken its step,
--- and these are the step's letters; what it holds permits all its notes and letters; and, however it ends, whatever
--- has happened and whatever it restarted from, each image that a stop may leave covers what they say on behalf of the
--- node: it was synced before they were given
+-- What a call guarantees of the letters that it gave to its post, whatever the post. taken: if it goes on, it has taken
+-- its step, and these are the step's letters. goes: what it then holds permits all its notes and letters. syncs:
+-- however it ends, and whatever it restarted from, each image that a stop may leave covers what the letters say, since
+-- that was synced before they were given.
 pub record GivesBy (m : Meaning) (IsText : List ℕ → Type 0) (Metered : Type 0) (old : ReplicaValue) (i : Input)
     (new : ReplicaValue) (r : Result (Vec Note Global) ReplicaFault) (letters : List LetterValue)
     (Sends : List LetterValue → Type 0) : Type 0 where
   pub taken : IfGoesOn r (λ notes. IsTaken m IsText Metered old i new notes (λ all. (all ≡ letters) × Sends all))
   pub goes : (h : History) (n : ℕ)
-      → NodeFits m h n (Stands m old.node old.store h.genesis n) (disks old.store) → InputFits h i
-      → IfGoesOn r (λ notes. Goes m h n (Stands m new.node new.store h.genesis n)
+      → NodeFits m h n (ReplicaHolds m old.node old.store h.genesis n) (disks old.store) → InputFits h i
+      → IfGoesOn r (λ notes. LeavesFit m h n (ReplicaHolds m new.node new.store h.genesis n)
       (disks new.store) notes (batch_of n letters))
-  pub syncs : (genesis : Genesis) (n : ℕ) (x : NodeMessage) → Remembers old.node old.store genesis n
+  pub syncs : (genesis : Genesis) (n : ℕ) (x : NodeMessage) → ReplicaRemembers old.node old.store genesis n
       → (d : Datagram) → Contains (batch_of n letters) d → Spells (said_by genesis n x) d.bytes
       → AllCover m genesis n (disks new.store) x
 
@@ -127,8 +127,8 @@ pub record StaysUp (Honest : Type 0) (old new : ReplicaValue) : Type 0 where
   pub store_alive : new.store.failed ≡ false
   pub awake : new.node.halted ≡ false
   pub runs : NothingToRun new.node
-  pub remembers : Honest → (genesis : Genesis) (n : ℕ) → Remembers old.node old.store genesis n
-      → Remembers new.node new.store genesis n
+  pub remembers : Honest → (genesis : Genesis) (n : ℕ) → ReplicaRemembers old.node old.store genesis n
+      → ReplicaRemembers new.node new.store genesis n
 
 -- a node and its store go on: the store has not failed, the node has not halted, it has executed what it could if it
 -- had before, and if the store kept what the acceptor held, it still does
@@ -137,7 +137,8 @@ pub record StepsOn (Honest : Type 0) (node : NodeValue) (store : StoreValue) (ne
   pub store_alive : after.failed ≡ false
   pub awake : new.halted ≡ false
   pub runs : NothingToRun node → NothingToRun new
-  pub remembers : Honest → (genesis : Genesis) (n : ℕ) → Remembers node store genesis n → Remembers new after genesis n
+  pub remembers : Honest → (genesis : Genesis) (n : ℕ) → ReplicaRemembers node store genesis n
+      → ReplicaRemembers new after genesis n
 
 -- a part of a call failed with this, which rebases at most this often, and more than once only if a rebase was due; it
 -- leaves the store with such a file, and, if no call of the device has failed, the files like this
@@ -156,9 +157,9 @@ pub record IsCutShort (Honest Metered : Type 0) (most : ℕ) (node : NodeValue) 
 -- the same of a step alone: the files are no longer than that if the live one was shorter than what makes a rebase due
 pub record StepLeavesDisks (m : Meaning) (Hears : History → Type 0) (most : ℕ) (node : NodeValue) (store : StoreValue)
     (after : Side → Disk) : Type 0 where
-  pub ends : (h : History) (n : ℕ) → NodeFits m h n (Stands m node store h.genesis n) (disks store)
+  pub ends : (h : History) (n : ℕ) → NodeFits m h n (ReplicaHolds m node store h.genesis n) (disks store)
       → Hears h → DisksFit m h n after
-  pub covers : (genesis : Genesis) (n : ℕ) (x : NodeMessage) → Remembers node store genesis n
+  pub covers : (genesis : Genesis) (n : ℕ) (x : NodeMessage) → ReplicaRemembers node store genesis n
       → AllCover m genesis n (disks store) x → AllCover m genesis n after x
   pub room : length (contents store.live_disk) < 131072 → StaysWithin most (disks store) after
   pub grows : GrowsFromBase (disks store) after

@@ -9,7 +9,7 @@ use Rattle.lk_state.specs.Meanings.{Meaning}
 use Rattle.lk_node_io.specs.Letters.{batch_of}
 use Rattle.lk_node_io.specs.declared.input.Input.{Input}
 use Rattle.lk_node_io.specs.declared.note.Note.{Note}
-use Rattle.lk_node.specs.Calls.{heard_by, InputFits, NodeFits, Goes}
+use Rattle.lk_node.specs.Calls.{heard_by, InputFits, NodeFits, LeavesFit}
 use Rattle.lk_node.specs.Histories.{History, Genesis, Datagram}
 use Rattle.lk_node.specs.Holdings.{Holding}
 use Rattle.lk_node.specs.NodeValue.{NodeValue}
@@ -48,17 +48,18 @@ said_by_steps n (x ∷ xs) = (x.0, batch_of n x.1) ∷ said_by_steps n xs
 -- The replica took these inputs in order: in each history that it fits, and that contains what it said before, it goes
 -- on at each of them as in a call of `take`, and at the end it is as it would be. Each `mid` is the replica as it will
 -- be once everything that it has written is synced.
-abbrev pub GoesAll : {R : Type 0} → (R → Genesis → ℕ → Holding → Type 0) → (R → Side → Disk) → Meaning → ℕ → R
+abbrev pub EachLeavesFit : {R : Type 0} → (R → Genesis → ℕ → Holding → Type 0) → (R → Side → Disk) → Meaning → ℕ → R
     → List Input → R → List Said → Type 0
-GoesAll Shows disks m n r [] q said = (said ≡ [])
+EachLeavesFit Shows disks m n r [] q said = (said ≡ [])
     × ((h : History) → NodeFits m h n (Shows r h.genesis n) (disks r)
-    → Goes m h n (Shows q h.genesis n) (disks q) [] [])
+    → LeavesFit m h n (Shows q h.genesis n) (disks q) [] [])
     × StaysWithin max_after (disks r) (disks q)
-GoesAll {R} Shows disks m n r (i ∷ is) q said = (mid : R) × (one : Said) × (rest : List Said) × (said ≡ one ∷ rest)
+EachLeavesFit {R} Shows disks m n r (i ∷ is) q said = (mid : R) × (one : Said) × (rest : List Said)
+    × (said ≡ one ∷ rest)
     × ((h : History) → NodeFits m h n (Shows r h.genesis n) (disks r) → InputFits h i
-    → Goes m h n (Shows mid h.genesis n) (disks mid) one.0 one.1)
+    → LeavesFit m h n (Shows mid h.genesis n) (disks mid) one.0 one.1)
     × StaysWithin max_after (disks r) (disks mid)
-    × GoesAll Shows disks m n mid is q rest
+    × EachLeavesFit Shows disks m n mid is q rest
 
 -- ---- what it has done, and nothing else
 

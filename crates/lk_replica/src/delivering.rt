@@ -8,8 +8,8 @@ use lk_node_io::{Letter, Post, SendFault};
 // Gives a letter to the post. Returns whether it was sent; if not, it is lost.
 fn is_sent<P: Post>(letter: &Letter, post: &mut P) -> bool
     ensures carries { P.Carries post.old letter.now result post.new }
-    ensures sent { P.is_telling → result ≡ true → P.sent post.new ≡ P.sent post.old ++ letter.now ∷ [] }
-    ensures lost { P.is_telling → result ≡ false → P.sent post.new ≡ P.sent post.old }
+    ensures sent { P.is_observable → result ≡ true → P.sent post.new ≡ P.sent post.old ++ letter.now ∷ [] }
+    ensures lost { P.is_observable → result ≡ false → P.sent post.new ≡ P.sent post.old }
     ensures same { result ≡ true → P.failures post.new ≡ P.failures post.old }
     ensures rises { result ≡ false → P.failures post.new ≡ one_more (P.failures post.old) }
 {
@@ -23,8 +23,8 @@ fn is_sent<P: Post>(letter: &Letter, post: &mut P) -> bool
 /// letter alone.
 pub fn deliver<P: Post>(letters: &[Letter], post: &mut P) -> Result<(), SendFault>
     ensures carries { CarriesAll P.Carries post.old letters.now post.new }
-    ensures all { P.is_telling → OnOk result (P.sent post.new ≡ P.sent post.old ++ letters.now) }
-    ensures some { P.is_telling
+    ensures all { P.is_observable → OnOk result (P.sent post.new ≡ P.sent post.old ++ letters.now) }
+    ensures some { P.is_observable
         → OnErr result (SendsSome letters.now (P.sent post.old) (P.sent post.new)
         (P.failures post.old) (P.failures post.new)) }
     ensures cause { OnOk result (P.failures post.new ≡ P.failures post.old) }

@@ -7,20 +7,21 @@ ghost use Rattle.lk_disk.specs.Meters.{Passes};
 ghost use Rattle.lk_store_format.specs.declared.stored.Stored.{Stored};
 ghost use Rattle.lk_log.specs.Rooms.{StaysWithin};
 ghost use Rattle.lk_log.specs.StoreValue.{disks};
-ghost use Rattle.lk_log.specs.Stores.{Holds, KeepsAtLeast, KeepsItsFile};
+ghost use Rattle.lk_log.specs.Stores.{HoldsEntries, KeepsAtLeast, KeepsItsFile};
 ghost use Rattle.lk_messages.specs.Grammar.{Spells};
 ghost use Rattle.lk_agreement.specs.Datagrams.{NodeMessage, Datagram as DatagramValue, said_by};
 ghost use Rattle.lk_node_io.specs.Letters.{LetterValue, batch_of};
 ghost use Rattle.lk_node.specs.Calls.{InputFits, NodeFits};
 ghost use Rattle.lk_node.specs.Executing.{NothingToRun};
 ghost use Rattle.lk_node.specs.Histories.{History, Genesis};
-ghost use Rattle.lk_node.specs.Keeping.{Stands};
+ghost use Rattle.lk_node.specs.Keeping.{ReplicaHolds};
 ghost use Rattle.lk_node.specs.Leavings.{DisksFit, AllCover};
 ghost use Rattle.lk_node_io.specs.Faults.{RaisesFailures, fault_number};
 ghost use Rattle.lk_replica.specs.Groups.{Adds, IsCovered, LeavesInGroup, KeepsGroup, MakesRoom, StepsToFile};
 ghost use Rattle.lk_replica.specs.Groups.{IsGathered, IsSettled, IsRefusedInGroup, settle_calls, as_sent};
-ghost use Rattle.lk_replica.specs.Groups.{needs_sync_after, with_step, Settles, Recalls, GroupFits, GroupGoes};
-ghost use Rattle.lk_replica.specs.Groups.{GroupStays, FitsOnceSynced, GoesOnceSynced};
+ghost use Rattle.lk_replica.specs.Groups.{needs_sync_after, with_step, Settles, RemembersInGroup, GroupFits};
+ghost use Rattle.lk_replica.specs.Groups.{GroupLeavesFit};
+ghost use Rattle.lk_replica.specs.Groups.{GroupStays, FitsOnceSynced, LeavesFitOnceSynced};
 ghost use Rattle.lk_replica.specs.Posts.{AreOf, CarriesAll, TellsSends};
 ghost use Rattle.lk_recovery.specs.Rebased.{IsNotWritten, StaysAlive};
 ghost use Rattle.lk_recovery.specs.Rooms.{GrowsFromBase, max_after};
@@ -147,7 +148,7 @@ pub fn sync_if_waiting<D: LogDisk + Drop>(
     requires { store.old.format ≡ 2 }
     ensures settles { D.is_honest → OnOk result (Settles needs_sync store.old store.new) }
     // However it ends, every image that a stop may leave has everything that was synced, and a prefix of the rest.
-    ensures any { D.is_honest → (ks ls : List Stored) → Holds store.old ks ls → KeepsAtLeast store.new ks ls }
+    ensures any { D.is_honest → (ks ls : List Stored) → HoldsEntries store.old ks ls → KeepsAtLeast store.new ks ls }
     ensures room { D.is_honest → StaysWithin 0 (disks store.old) (disks store.new) }
     ensures refused { IfErr result (IsNotWritten D.is_honest D.is_metered store.old store.new) }
     ensures metered { D.is_metered → OnOk result (Passes store.old.meter store.new.meter (settle_calls needs_sync)) }
@@ -177,7 +178,7 @@ fn step_to_file<M: Machine, D: LogDisk + Drop>(
     ensures goes { D.is_honest → (h : History) (n : ℕ) → GroupFits M.meaning h n node.old store.old needs_sync
         → InputFits h input.entry
         → IfOk result (λ o. (sent : List LetterValue) → AreOf sent o.letters
-        → GroupGoes M.meaning h n node.new store.new (needs_sync_after needs_sync o) o.notes (batch_of n sent)) }
+        → GroupLeavesFit M.meaning h n node.new store.new (needs_sync_after needs_sync o) o.notes (batch_of n sent)) }
     // In each history that contains nothing of it, whatever a stop may leave fits, however it ends.
     ensures ends { D.is_honest → (h : History) (n : ℕ) → GroupStays M.meaning h n node.old store.old needs_sync
         → InputFits h input.entry → DisksFit M.meaning h n (disks store.new) }
@@ -186,21 +187,22 @@ fn step_to_file<M: Machine, D: LogDisk + Drop>(
         → IfOk result (λ o. GroupStays M.meaning h n node.new store.new (needs_sync_after needs_sync o)) }
     // Once everything that waits is synced, the step's letters are covered, and whatever was covered still is.
     ensures syncs { D.is_honest → (genesis : Genesis) (n : ℕ) (x : NodeMessage)
-        → Recalls node.old store.old needs_sync genesis n
+        → RemembersInGroup node.old store.old needs_sync genesis n
         → IfOk result (λ o. (d : DatagramValue) → Contains (batch_of n o.letters) d
         → Spells (said_by genesis n x) d.bytes
         → AllCover M.meaning genesis n (disks (as_sent (needs_sync_after needs_sync o) store.new)) x) }
     ensures still { D.is_honest → (genesis : Genesis) (n : ℕ) (x : NodeMessage)
-        → Recalls node.old store.old needs_sync genesis n
+        → RemembersInGroup node.old store.old needs_sync genesis n
         → AllCover M.meaning genesis n (disks (as_sent needs_sync store.old)) x
         → IfOk result (λ o. AllCover M.meaning genesis n
         (disks (as_sent (needs_sync_after needs_sync o) store.new)) x) }
     // However it ends, whatever was covered still is.
     ensures covers { D.is_honest → (genesis : Genesis) (n : ℕ) (x : NodeMessage)
-        → Recalls node.old store.old needs_sync genesis n → AllCover M.meaning genesis n (disks store.old) x
+        → RemembersInGroup node.old store.old needs_sync genesis n → AllCover M.meaning genesis n (disks store.old) x
         → AllCover M.meaning genesis n (disks store.new) x }
-    ensures recalls { D.is_honest → (genesis : Genesis) (n : ℕ) → Recalls node.old store.old needs_sync genesis n
-        → IfOk result (λ o. Recalls node.new store.new (needs_sync_after needs_sync o) genesis n) }
+    ensures recalls { D.is_honest → (genesis : Genesis) (n : ℕ)
+        → RemembersInGroup node.old store.old needs_sync genesis n
+        → IfOk result (λ o. RemembersInGroup node.new store.new (needs_sync_after needs_sync o) genesis n) }
     ensures runs { NothingToRun node.old → OnOk result (NothingToRun node.new) }
     ensures room { D.is_honest → length (contents store.old.live_disk) < 131072
         → StaysWithin max_after (disks store.old) (disks store.new) }
@@ -240,14 +242,15 @@ fn make_room<M: Machine, D: LogDisk + Drop>(
     ensures stays { D.is_honest → (h : History) (n : ℕ) → GroupStays M.meaning h n node.old store.old needs_sync
         → IfOk result (λ w. GroupStays M.meaning h n node.new store.new w) }
     ensures still { D.is_honest → (genesis : Genesis) (n : ℕ) (x : NodeMessage)
-        → Recalls node.old store.old needs_sync genesis n
+        → RemembersInGroup node.old store.old needs_sync genesis n
         → AllCover M.meaning genesis n (disks (as_sent needs_sync store.old)) x
         → IfOk result (λ w. AllCover M.meaning genesis n (disks (as_sent w store.new)) x) }
     ensures covers { D.is_honest → (genesis : Genesis) (n : ℕ) (x : NodeMessage)
-        → Recalls node.old store.old needs_sync genesis n → AllCover M.meaning genesis n (disks store.old) x
+        → RemembersInGroup node.old store.old needs_sync genesis n → AllCover M.meaning genesis n (disks store.old) x
         → AllCover M.meaning genesis n (disks store.new) x }
-    ensures recalls { D.is_honest → (genesis : Genesis) (n : ℕ) → Recalls node.old store.old needs_sync genesis n
-        → IfOk result (λ w. Recalls node.new store.new w genesis n) }
+    ensures recalls { D.is_honest → (genesis : Genesis) (n : ℕ)
+        → RemembersInGroup node.old store.old needs_sync genesis n
+        → IfOk result (λ w. RemembersInGroup node.new store.new w genesis n) }
     ensures room { D.is_honest → StaysWithin max_base (disks store.old) (disks store.new) }
     ensures exact { D.is_honest
         → IfOk result (MakesRoom D.is_metered node.old store.old needs_sync node.new store.new) }
@@ -283,7 +286,7 @@ fn step_in_group<M: Machine, D: LogDisk + Drop>(
         (λ notes letters. (h : History) (n : ℕ) → GroupFits M.meaning h n node.old store.old group.old.needs_sync
         → InputFits h input.entry
         → (sent : List LetterValue) → AreOf sent letters
-        → GroupGoes M.meaning h n node.new store.new group.new.needs_sync notes (batch_of n sent))) }
+        → GroupLeavesFit M.meaning h n node.new store.new group.new.needs_sync notes (batch_of n sent))) }
     ensures disks { D.is_honest
         → LeavesInGroup M.meaning
         (λ h. InputFits h input.entry) max_after node.old store.old group.old.needs_sync (disks store.new) }
@@ -318,11 +321,11 @@ impl<M: Machine, D: LogDisk + Drop> Replica<M, D> {
         ensures goes { D.is_honest
             → OnOk result (Adds group.old group.new
             (λ notes letters. (genesis : Genesis) (k : ℕ)
-            → Recalls self.old.node self.old.store group.old.needs_sync genesis k
+            → RemembersInGroup self.old.node self.old.store group.old.needs_sync genesis k
             → (h : History) (n : ℕ)
             → FitsOnceSynced M.meaning h n self.old.node self.old.store group.old.needs_sync
             → InputFits h input.entry → (sent : List LetterValue) → AreOf sent letters
-            → GoesOnceSynced M.meaning h n self.new.node self.new.store group.new.needs_sync notes
+            → LeavesFitOnceSynced M.meaning h n self.new.node self.new.store group.new.needs_sync notes
             (batch_of n sent))) }
         // After any exit, if nothing of the group is sent, the disks fit. Each step first writes a Base if one is due,
         // so no file exceeds half of its maximum by more than a step and, except for a Base, none grows by more than a
@@ -366,10 +369,11 @@ impl<M: Machine, D: LogDisk + Drop> Replica<M, D> {
     pub fn release<P: Post>(&mut self, group: &Group, post: &mut P) -> Result<bool, ReplicaFault>
         // The node fits each history that it was to fit once it was synced.
         ensures fits { D.is_honest → (genesis : Genesis) (k : ℕ)
-            → Recalls self.old.node self.old.store group.now.needs_sync genesis k
+            → RemembersInGroup self.old.node self.old.store group.now.needs_sync genesis k
             → (h : History) (n : ℕ)
             → FitsOnceSynced M.meaning h n self.old.node self.old.store group.now.needs_sync
-            → IfOk result (λ all. NodeFits M.meaning h n (Stands M.meaning self.new.node self.new.store h.genesis n)
+            → IfOk result (λ all. NodeFits M.meaning h n
+            (ReplicaHolds M.meaning self.new.node self.new.store h.genesis n)
             (disks self.new.store)) }
         // After any exit, if nothing of the group is sent, the disks fit, and neither file has grown.
         ensures disks { D.is_honest
@@ -377,7 +381,7 @@ impl<M: Machine, D: LogDisk + Drop> Replica<M, D> {
             (λ h. ⊤) 0 self.old.node self.old.store group.now.needs_sync (disks self.new.store) }
         // Sync before send: every image covers everything that the group says.
         ensures syncs { D.is_honest → (genesis : Genesis) (n : ℕ) (x : NodeMessage)
-            → Recalls self.old.node self.old.store group.now.needs_sync genesis n
+            → RemembersInGroup self.old.node self.old.store group.now.needs_sync genesis n
             → IsCovered M.meaning genesis n group.now self.old.store
             → IfOk result (λ all. (d : DatagramValue) → Contains (batch_of n group.now.letters) d
             → Spells (said_by genesis n x) d.bytes → AllCover M.meaning genesis n (disks self.new.store) x) }

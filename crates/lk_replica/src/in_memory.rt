@@ -2,7 +2,7 @@
 ghost use Rattle.std.specs.Prelude.{◌≡◌, [], refl};
 ghost use Rattle.lk_disk.specs.Meters.{trapped};
 ghost use Rattle.lk_replica.specs.ReplicaValue.{device_of};
-ghost use Rattle.lk_node.specs.Keeping.{Stands};
+ghost use Rattle.lk_node.specs.Keeping.{ReplicaHolds};
 ghost use Rattle.lk_replica.specs.Compacted.{CompactsTo};
 ghost use Rattle.lk_replica.specs.Revived.{RevivesTo};
 ghost use Rattle.lk_replica.specs.Taking.{ComesTo};
@@ -46,7 +46,7 @@ impl<M: Machine, D: LogDisk + Drop> Replica<M, D> {
 impl<M: Machine> MemoryReplica for Replica<M, MemoryDisk> {
     ghost meaning = { M.meaning };
 
-    ghost Shows = { λ r genesis n x. Stands M.meaning r.node r.store genesis n x };
+    ghost Shows = { λ r genesis n x. ReplicaHolds M.meaning r.node r.store genesis n x };
 
     ghost behaves = { record {
       memory = λ r. device_of r.store;

@@ -30,7 +30,7 @@ impl Post for MemoryPost {
 
     ghost sent = { λ c. c.letters };
 
-    ghost is_telling = { Unit {0} };
+    ghost is_observable = { Unit {0} };
 
     ghost failures = { λ c. c.failures };
 

@@ -14,12 +14,12 @@ ghost use Rattle.lk_agreement.specs.Datagrams.{NodeMessage, Datagram as Datagram
 ghost use Rattle.lk_node.specs.Histories.{History, Genesis, IsLawful};
 ghost use Rattle.lk_node.specs.Holdings.{Holding};
 ghost use Rattle.lk_node.specs.Leavings.{header_of, DisksFit, AllCover};
-ghost use Rattle.lk_node.specs.Calls.{heard_by, InputFits, NodeFits, Goes};
+ghost use Rattle.lk_node.specs.Calls.{heard_by, InputFits, NodeFits, LeavesFit};
 ghost use Rattle.lk_replica.specs.Behaviours.{Behaviour, TrapsAlone, disks_by};
 ghost use Rattle.lk_node_io.specs.Faults.{IsStoreFault, fault_number, RefusedAfter, IsNumberOfCalls, IsNumberOfRevival};
 ghost use Rattle.lk_recovery.specs.Compacting.{AllStandAt};
 ghost use Rattle.lk_recovery.specs.Rooms.{max_after};
-ghost use Rattle.lk_replica.specs.Together.{GoesAll, said_in, sent_of};
+ghost use Rattle.lk_replica.specs.Together.{EachLeavesFit, said_in, sent_of};
 
 use crate::taken::{Taken, TakenAll};
 use lk_disk::Trap;
@@ -67,7 +67,7 @@ pub trait MemoryReplica: Sized + Drop {
     ) -> Result<Revived<Self>, ReviveFault<MemoryDisk>>
         ensures up { (h : History) (n : ℕ) → header.now ≡ header_of h.genesis n → IsLawful meaning h
             → DisksFit meaning h n (disk_of device)
-            → IfOk result (λ r. Goes meaning h n (Shows r.replica h.genesis n)
+            → IfOk result (λ r. LeavesFit meaning h n (Shows r.replica h.genesis n)
             (disks_by behaves r.replica) r.notes.items []) }
         ensures down { (h : History) (n : ℕ) → header.now ≡ header_of h.genesis n → IsLawful meaning h
             → DisksFit meaning h n (disk_of device)
@@ -92,7 +92,7 @@ pub trait MemoryReplica: Sized + Drop {
     fn take(&mut self, input: Input) -> Result<Taken, ReplicaFault>
         ensures goes { (h : History) (n : ℕ)
             → NodeFits meaning h n (Shows self.old h.genesis n) (disks_by behaves self.old) → InputFits h input.entry
-            → IfOk result (λ t. Goes meaning h n (Shows self.new h.genesis n)
+            → IfOk result (λ t. LeavesFit meaning h n (Shows self.new h.genesis n)
             (disks_by behaves self.new) t.notes.items t.sent.items) }
         ensures ends { (h : History) (n : ℕ)
             → NodeFits meaning h n (Shows self.old h.genesis n) (disks_by behaves self.old) → InputFits h input.entry
@@ -124,7 +124,7 @@ pub trait MemoryReplica: Sized + Drop {
     fn take_all(&mut self, inputs: Vec<Input<'_>>) -> Result<TakenAll, ReplicaFault>
         // At Ok it has gone on at each of them, in each history that contains what the steps before it have sent.
         ensures goes { (genesis : Genesis) (n : ℕ) (held : Holding) → Shows self.old genesis n held
-            → IfOk result (λ t. GoesAll Shows
+            → IfOk result (λ t. EachLeavesFit Shows
             (disks_by behaves) meaning n self.old inputs.entry.items self.new (said_in t)) }
         // However it ends, whatever a stop may leave fits if nothing of it is sent.
         ensures ends { (h : History) (n : ℕ)
@@ -160,7 +160,7 @@ pub trait MemoryReplica: Sized + Drop {
     fn compact(&mut self) -> Result<(), ReplicaFault>
         ensures goes { (h : History) (n : ℕ)
             → NodeFits meaning h n (Shows self.old h.genesis n) (disks_by behaves self.old)
-            → OnOk result (Goes meaning h n (Shows self.new h.genesis n) (disks_by behaves self.new) [] []) }
+            → OnOk result (LeavesFit meaning h n (Shows self.new h.genesis n) (disks_by behaves self.new) [] []) }
         // However it ends, every image that a stop may leave fits, and covers what every image covered before.
         ensures ends { (h : History) (n : ℕ)
             → NodeFits meaning h n (Shows self.old h.genesis n) (disks_by behaves self.old)

@@ -11,10 +11,10 @@ ghost use Rattle.lk_node.specs.NodeValue.{NodeValue};
 ghost use Rattle.lk_recovery.specs.Compacting.{AreLeft, AreSame, IsDue, KeepsOrSwitchesFiles, RebasesWhereDue};
 ghost use Rattle.lk_messages.specs.Grammar.{Spells};
 ghost use Rattle.lk_agreement.specs.Datagrams.{NodeMessage, Datagram as DatagramValue, said_by};
-ghost use Rattle.lk_node.specs.Calls.{InputFits, NodeFits, Goes};
+ghost use Rattle.lk_node.specs.Calls.{InputFits, NodeFits, LeavesFit};
 ghost use Rattle.lk_node.specs.Executing.{NothingToRun};
 ghost use Rattle.lk_node.specs.Histories.{History, Genesis};
-ghost use Rattle.lk_node.specs.Keeping.{Stands};
+ghost use Rattle.lk_node.specs.Keeping.{ReplicaHolds};
 ghost use Rattle.lk_node.specs.Leavings.{AllCover};
 ghost use Rattle.lk_replica.specs.Posts.{AreOf, GivesLetters, SendsAs, RefusesSends};
 ghost use Rattle.lk_node.specs.Steps.{Steps};
@@ -22,7 +22,7 @@ ghost use Rattle.lk_replica.specs.Taking.{Writes, CallsOfStep, GivesBy, IsRefuse
 ghost use Rattle.lk_replica.specs.Taking.{StepsToDisk, StepLeavesDisks};
 ghost use Rattle.lk_recovery.specs.Rebased.{LeavesDisks};
 ghost use Rattle.lk_node_io.specs.Faults.{fault_number, RaisesFailures, IfGoesOn, WantsNoMemory};
-ghost use Rattle.lk_recovery.specs.Remembering.{Remembers};
+ghost use Rattle.lk_recovery.specs.Remembering.{ReplicaRemembers};
 ghost use Rattle.lk_recovery.specs.Rooms.{max_after};
 
 use crate::delivering::deliver;
@@ -74,7 +74,7 @@ impl<M: Machine, D: LogDisk + Drop> Replica<M, D> {
         ensures gives { GivesLetters P.Carries post.old post.new
             (λ letters. D.is_honest → GivesBy M.meaning M.IsText D.is_metered self.old
             input.entry self.new result letters
-            (λ all. P.is_telling → SendsAs result all (P.sent post.old) (P.sent post.new) (P.failures post.old)
+            (λ all. P.is_observable → SendsAs result all (P.sent post.old) (P.sent post.new) (P.failures post.old)
             (P.failures post.new))) }
         ensures alive { IfGoesOn result (λ notes. StaysUp D.is_honest self.old self.new) }
         // What is on the disks, however it ends: neither file has grown beyond half of its maximum and one step, nor
@@ -193,12 +193,13 @@ fn step_to_disk<M: Machine, D: LogDisk + Drop>(
 ) -> Result<Outbox, ReplicaFault>
     requires { store.old.format ≡ 2 }
     ensures goes { D.is_honest → (h : History) (n : ℕ)
-        → NodeFits M.meaning h n (Stands M.meaning node.old store.old h.genesis n) (disks store.old)
+        → NodeFits M.meaning h n (ReplicaHolds M.meaning node.old store.old h.genesis n) (disks store.old)
         → InputFits h input.entry
         → IfOk result (λ o. (sent : List LetterValue) → AreOf sent o.letters
-        → Goes M.meaning h n (Stands M.meaning node.new store.new h.genesis n)
+        → LeavesFit M.meaning h n (ReplicaHolds M.meaning node.new store.new h.genesis n)
         (disks store.new) o.notes (batch_of n sent)) }
-    ensures syncs { D.is_honest → (genesis : Genesis) (n : ℕ) (x : NodeMessage) → Remembers node.old store.old genesis n
+    ensures syncs { D.is_honest → (genesis : Genesis) (n : ℕ) (x : NodeMessage)
+        → ReplicaRemembers node.old store.old genesis n
         → IfOk result (λ o. (d : DatagramValue) → Contains (batch_of n o.letters) d
         → Spells (said_by genesis n x) d.bytes → AllCover M.meaning genesis n (disks store.new) x) }
     ensures exact { D.is_honest
@@ -233,12 +234,13 @@ fn rebase_and_step<M: Machine, D: LogDisk + Drop>(
 ) -> Result<Outbox, ReplicaFault>
     requires { store.old.format ≡ 2 }
     ensures goes { D.is_honest → (h : History) (n : ℕ)
-        → NodeFits M.meaning h n (Stands M.meaning node.old store.old h.genesis n) (disks store.old)
+        → NodeFits M.meaning h n (ReplicaHolds M.meaning node.old store.old h.genesis n) (disks store.old)
         → InputFits h input.entry
         → IfOk result (λ o. (sent : List LetterValue) → AreOf sent o.letters
-        → Goes M.meaning h n (Stands M.meaning node.new store.new h.genesis n)
+        → LeavesFit M.meaning h n (ReplicaHolds M.meaning node.new store.new h.genesis n)
         (disks store.new) o.notes (batch_of n sent)) }
-    ensures syncs { D.is_honest → (genesis : Genesis) (n : ℕ) (x : NodeMessage) → Remembers node.old store.old genesis n
+    ensures syncs { D.is_honest → (genesis : Genesis) (n : ℕ) (x : NodeMessage)
+        → ReplicaRemembers node.old store.old genesis n
         → IfOk result (λ o. (d : DatagramValue) → Contains (batch_of n o.letters) d
         → Spells (said_by genesis n x) d.bytes → AllCover M.meaning genesis n (disks store.new) x) }
     ensures exact { D.is_honest

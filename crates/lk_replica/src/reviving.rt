@@ -5,11 +5,11 @@ ghost use Rattle.lk_log.specs.StoreValue.{disks};
 ghost use Rattle.lk_log.specs.Rooms.{StaysWithin};
 ghost use Rattle.lk_types.specs.Limits.{max_base};
 ghost use Rattle.lk_agreement.specs.Datagrams.{NodeMessage};
-ghost use Rattle.lk_node.specs.Calls.{Goes};
-ghost use Rattle.lk_recovery.specs.Remembering.{Remembers};
+ghost use Rattle.lk_node.specs.Calls.{LeavesFit};
+ghost use Rattle.lk_recovery.specs.Remembering.{ReplicaRemembers};
 ghost use Rattle.lk_node_io.specs.Faults.{fault_number, failures_by, RefusedAfter, IsNumberOfRevival};
 ghost use Rattle.lk_node.specs.Histories.{History, Genesis as GenesisValue, IsLawful};
-ghost use Rattle.lk_node.specs.Keeping.{Stands};
+ghost use Rattle.lk_node.specs.Keeping.{ReplicaHolds};
 ghost use Rattle.lk_node.specs.Leavings.{header_of, DisksFit, AllCover};
 ghost use Rattle.lk_recovery.specs.Revivals.{IsRefusedFor, CallsOfRevival, NarrowsOrRenews};
 ghost use Rattle.lk_replica.specs.Revived.{Revives, MayGoOn};
@@ -18,7 +18,7 @@ ghost use Rattle.lk_node.specs.Served.{text};
 use crate::memory_replica::Revived;
 use crate::replica::Replica;
 use lk_disk::LogDisk;
-use lk_recovery::{ReviveFault, TakenUp, renew, take_up};
+use lk_recovery::{RestartedNode, ReviveFault, renew, restart_node};
 use lk_state::Machine;
 use lk_store_format::Header;
 use std::alloc::Global;
@@ -41,7 +41,7 @@ impl<M: Machine, D: LogDisk + Drop> Replica<M, D> {
         ensures fits { D.is_honest → (h : History) (n : ℕ) → header.now ≡ header_of h.genesis n → IsLawful M.meaning h
             → DisksFit M.meaning h n (D.disk device)
             → MatchResult result
-            (λ r. Goes M.meaning h n (Stands M.meaning r.replica.node r.replica.store h.genesis n)
+            (λ r. LeavesFit M.meaning h n (ReplicaHolds M.meaning r.replica.node r.replica.store h.genesis n)
             (disks r.replica.store) r.notes.items [])
             (λ e. IsNumberOfRevival (fault_number e.fault) × DisksFit M.meaning h n (D.disk e.device)) }
         // Every image covers whatever every image covered before.
@@ -51,7 +51,7 @@ impl<M: Machine, D: LogDisk + Drop> Replica<M, D> {
             (λ e. AllCover M.meaning genesis n (D.disk e.device) x) }
         // Its store keeps what its acceptor holds, whatever has happened to the disks.
         ensures remembers { D.is_honest → (genesis : GenesisValue) (n : ℕ) → header.now ≡ header_of genesis n
-            → IfOk result (λ r. Remembers r.replica.node r.replica.store genesis n) }
+            → IfOk result (λ r. ReplicaRemembers r.replica.node r.replica.store genesis n) }
         // It restarts exactly from the standing of the disks, and executes nothing else. A file of format 1 at
         // generation 2^48 never restarts. The store is new exactly if there was no Base.
         ensures exact { D.is_honest
@@ -82,7 +82,7 @@ impl<M: Machine, D: LogDisk + Drop> Replica<M, D> {
             → MatchResult result (λ r. StaysWithin max_base (D.disk device) (disks r.replica.store))
             (λ e. StaysWithin max_base (D.disk device) (D.disk e.device)) }
     {
-        let mut up: TakenUp<M, D> = match take_up(alloc, device, header) {
+        let mut up: RestartedNode<M, D> = match restart_node(alloc, device, header) {
             Ok(up) => up,
             Err(e) => return Err(e),
         };

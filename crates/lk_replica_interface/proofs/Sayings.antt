@@ -16,14 +16,15 @@ use Rattle.lk_agreement.specs.Datagrams.{NodeMessage, said_by}
 use Rattle.lk_node_io.specs.Letters.{LetterValue, batch_of}
 use Rattle.lk_node_io.specs.declared.input.Input.{Input}
 use Rattle.lk_node_io.specs.declared.note.Note.{Note}
-use Rattle.lk_node.specs.Calls.{heard_by, InputFits, NodeFits, Goes}
+use Rattle.lk_node.specs.Calls.{heard_by, InputFits, NodeFits, LeavesFit}
 use Rattle.lk_node.specs.Histories.{History, Genesis, Datagram}
-use Rattle.lk_node.specs.Keeping.{Stands}
+use Rattle.lk_node.specs.Keeping.{ReplicaHolds}
 use Rattle.lk_node.specs.Leavings.{AllCover}
 use Rattle.lk_node.specs.NodeValue.{NodeValue}
 use Rattle.lk_node_io.specs.Faults.{fault_number, IsNumberOfCalls}
 use Rattle.lk_replica.specs.Groups.{Adds, GroupValue, StepSaid, letters_of, KeepsGroup, LeavesInGroup, MakesRoom}
-use Rattle.lk_replica.specs.Groups.{IsGathered, IsSettled, IsRefusedInGroup, GoesThrough, IsCovered, Recalls, as_sent}
+use Rattle.lk_replica.specs.Groups.{IsGathered, IsSettled, IsRefusedInGroup, GoesThrough, IsCovered, RemembersInGroup}
+use Rattle.lk_replica.specs.Groups.{as_sent}
 use Rattle.lk_replica.specs.Groups.{with_step}
 use Rattle.lk_replica.specs.Posts.{AreOf, CarriesAll, GivesLetters}
 use Rattle.lk_replica.specs.ReplicaValue.{ReplicaValue}
@@ -177,11 +178,12 @@ module _ (m : Meaning) (IsText : List ℕ → Type 0) (Honest Metered : Type 0) 
 
     -- what the step says of its notes and letters
     abbrev Links : List Note → List LetterValue → Type 0
-    Links notes letters = (genesis : Genesis) (k : ℕ) → Recalls old.node old.store group.needs_sync genesis k
-        → (h : History) (n : ℕ) → NodeFits m h n (Stands m old.node (as_sent group.needs_sync old.store) h.genesis n)
+    Links notes letters = (genesis : Genesis) (k : ℕ) → RemembersInGroup old.node old.store group.needs_sync genesis k
+        → (h : History) (n : ℕ) → NodeFits m h n (ReplicaHolds m old.node
+        (as_sent group.needs_sync old.store) h.genesis n)
         (disks (as_sent group.needs_sync old.store)) → InputFits h i
         → (sent : List LetterValue) → AreOf sent letters
-        → Goes m h n (Stands m new.node (as_sent now.needs_sync new.store) h.genesis n)
+        → LeavesFit m h n (ReplicaHolds m new.node (as_sent now.needs_sync new.store) h.genesis n)
         (disks (as_sent now.needs_sync new.store)) notes (batch_of n sent)
 
     -- they are those of its outbox
@@ -259,11 +261,12 @@ module _ (m : Meaning) (IsText : List ℕ → Type 0) (Honest Metered : Type 0) 
     -- what a call of `gather` tells
     pub gathers_of : {T : Type 0} (r : Result T ReplicaFault)
         → (Honest → OnOk r (Adds group now
-        (λ notes letters. (genesis : Genesis) (k : ℕ) → Recalls old.node old.store group.needs_sync genesis k
-        → (h : History) (n : ℕ) → NodeFits m h n (Stands m old.node (as_sent group.needs_sync old.store) h.genesis n)
+        (λ notes letters. (genesis : Genesis) (k : ℕ) → RemembersInGroup old.node old.store group.needs_sync genesis k
+        → (h : History) (n : ℕ) → NodeFits m h n (ReplicaHolds m old.node
+        (as_sent group.needs_sync old.store) h.genesis n)
         (disks (as_sent group.needs_sync old.store)) → InputFits h i
         → (sent : List LetterValue) → AreOf sent letters
-        → Goes m h n (Stands m new.node (as_sent now.needs_sync new.store) h.genesis n)
+        → LeavesFit m h n (ReplicaHolds m new.node (as_sent now.needs_sync new.store) h.genesis n)
         (disks (as_sent now.needs_sync new.store)) notes (batch_of n sent))))
         → (Honest → OnOk r (KeepsGroup m (λ h. InputFits h i) old.node old.store group new.node new.store now))
         → (Honest → LeavesInGroup m (λ h. InputFits h i) 132704 old.node old.store group.needs_sync (disks new.store))
@@ -308,12 +311,14 @@ module _ (m : Meaning) (IsText : List ℕ → Type 0) (Honest Metered : Type 0) 
 
     says_all : (first : ReplicaValue) (given : List (Option (List ℕ)))
         → GathersOf m IsText Metered first given group old
-        → ((genesis : Genesis) (k : ℕ) → Recalls old.node old.store group.needs_sync genesis k → (h : History) (n : ℕ)
-        → NodeFits m h n (Stands m old.node (as_sent group.needs_sync old.store) h.genesis n)
+        → ((genesis : Genesis) (k : ℕ) → RemembersInGroup old.node old.store group.needs_sync genesis k
+        → (h : History) (n : ℕ)
+        → NodeFits m h n (ReplicaHolds m old.node (as_sent group.needs_sync old.store) h.genesis n)
         (disks (as_sent group.needs_sync old.store))
-        → NodeFits m h n (Stands m new.node new.store h.genesis n) (disks new.store))
+        → NodeFits m h n (ReplicaHolds m new.node new.store h.genesis n) (disks new.store))
         → LeavesInGroup m (λ h. ⊤) 0 old.node old.store group.needs_sync (disks new.store)
-        → ((genesis : Genesis) (n : ℕ) (x : NodeMessage) → Recalls old.node old.store group.needs_sync genesis n
+        → ((genesis : Genesis) (n : ℕ) (x : NodeMessage)
+        → RemembersInGroup old.node old.store group.needs_sync genesis n
         → IsCovered m genesis n group old.store
         → (d : Datagram) → Contains (batch_of n group.letters) d → Spells (said_by genesis n x) d.bytes
         → AllCover m genesis n (disks new.store) x)
@@ -371,13 +376,14 @@ module _ (m : Meaning) (IsText : List ℕ → Type 0) (Honest Metered : Type 0) 
 
     -- what a call of `release` tells
     pub released_of : (r : Result Bool ReplicaFault)
-        → (Honest → (genesis : Genesis) (k : ℕ) → Recalls old.node old.store group.needs_sync genesis k
-        → (h : History) (n : ℕ) → NodeFits m h n (Stands m old.node (as_sent group.needs_sync old.store) h.genesis n)
+        → (Honest → (genesis : Genesis) (k : ℕ) → RemembersInGroup old.node old.store group.needs_sync genesis k
+        → (h : History) (n : ℕ) → NodeFits m h n (ReplicaHolds m old.node
+        (as_sent group.needs_sync old.store) h.genesis n)
         (disks (as_sent group.needs_sync old.store))
-        → IfOk r (λ all. NodeFits m h n (Stands m new.node new.store h.genesis n) (disks new.store)))
+        → IfOk r (λ all. NodeFits m h n (ReplicaHolds m new.node new.store h.genesis n) (disks new.store)))
         → (Honest → LeavesInGroup m (λ h. ⊤) 0 old.node old.store group.needs_sync (disks new.store))
         → (Honest → (genesis : Genesis) (n : ℕ) (x : NodeMessage)
-        → Recalls old.node old.store group.needs_sync genesis n → IsCovered m genesis n group old.store
+        → RemembersInGroup old.node old.store group.needs_sync genesis n → IsCovered m genesis n group old.store
         → IfOk r (λ all. (d : Datagram) → Contains (batch_of n group.letters) d → Spells (said_by genesis n x) d.bytes
         → AllCover m genesis n (disks new.store) x))
         → IfOk r (λ all. CarriesAll Carries before group.letters after)

@@ -14,12 +14,12 @@ use Rattle.lk_node_io.specs.Letters.{LetterValue, batch_of}
 use Rattle.lk_node_io.specs.declared.input.Input.{Input}
 use Rattle.lk_node.specs.Calls.{heard_by, InputFits, NodeFits}
 use Rattle.lk_node.specs.Histories.{History, Genesis, Datagram}
-use Rattle.lk_node.specs.Keeping.{Stands}
+use Rattle.lk_node.specs.Keeping.{ReplicaHolds}
 use Rattle.lk_node.specs.Leavings.{DisksFit, AllCover}
 use Rattle.lk_node.specs.NodeValue.{NodeValue}
 use Rattle.lk_replica.specs.Groups.{GroupValue, StepSaid, letters_of, IsGathered, GoesThrough, GroupStays, IsCovered}
-use Rattle.lk_replica.specs.Groups.{Recalls, Settles, as_sent, settle_calls}
-use Rattle.lk_recovery.specs.Remembering.{Remembers}
+use Rattle.lk_replica.specs.Groups.{RemembersInGroup, Settles, as_sent, settle_calls}
+use Rattle.lk_recovery.specs.Remembering.{ReplicaRemembers}
 use Rattle.lk_replica.specs.ReplicaValue.{ReplicaValue}
 use Rattle.lk_recovery.specs.Rooms.{GrowsBySteps, max_after}
 
@@ -64,9 +64,9 @@ pub record SaysByGroup (m : Meaning) (IsText : List ℕ → Type 0) (Metered : T
   pub said : List StepSaid
   pub are_said : letters ≡ letters_of said
   pub taken : IsGroupTaken m IsText Metered old inputs said new
-  pub goes : (genesis : Genesis) (k : ℕ) → Remembers old.node old.store genesis k → (n : ℕ)
+  pub goes : (genesis : Genesis) (k : ℕ) → ReplicaRemembers old.node old.store genesis k → (n : ℕ)
       → GoesThrough m n old inputs new said
-  pub syncs : (genesis : Genesis) (n : ℕ) (x : NodeMessage) → Remembers old.node old.store genesis n
+  pub syncs : (genesis : Genesis) (n : ℕ) (x : NodeMessage) → ReplicaRemembers old.node old.store genesis n
       → (d : Datagram) → Contains (batch_of n letters) d → Spells (said_by genesis n x) d.bytes
       → AllCover m genesis n (disks new.store) x
 
@@ -80,9 +80,9 @@ pub record IsSilenced (letters : List LetterValue) (new : ReplicaValue) : Type 0
 -- was, or else than so many bytes, nor has it grown by more than so many steps apart from a Base
 pub record GroupLeaves (m : Meaning) (Hears : History → Type 0) (most steps : ℕ) (node : NodeValue)
     (store : StoreValue) (after : Side → Disk) : Type 0 where
-  pub ends : (h : History) (n : ℕ) → NodeFits m h n (Stands m node store h.genesis n) (disks store)
+  pub ends : (h : History) (n : ℕ) → NodeFits m h n (ReplicaHolds m node store h.genesis n) (disks store)
       → Hears h → DisksFit m h n after
-  pub covers : (genesis : Genesis) (n : ℕ) (x : NodeMessage) → Remembers node store genesis n
+  pub covers : (genesis : Genesis) (n : ℕ) (x : NodeMessage) → ReplicaRemembers node store genesis n
       → AllCover m genesis n (disks store) x → AllCover m genesis n after x
   pub room : StaysWithin most (disks store) after
   pub grows : GrowsBySteps steps (disks store) after
@@ -111,16 +111,17 @@ pub record GathersOf (m : Meaning) (IsText : List ℕ → Type 0) (Metered : Typ
   pub said : List StepSaid
   pub are_said : group.letters ≡ letters_of said
   pub steps : AreGathered m IsText Metered start.node start.store nothing_taken inputs said now.node now.store group
-  pub goes : (genesis : Genesis) (k : ℕ) → Remembers start.node start.store genesis k
+  pub goes : (genesis : Genesis) (k : ℕ) → ReplicaRemembers start.node start.store genesis k
       → (n : ℕ) (more : List Input) (q : ReplicaValue) (rest : List StepSaid)
       → GoesThrough m n (record { node = now.node; store = as_sent group.needs_sync now.store; failed = false }) more q
       rest → GoesThrough m n start (inputs ++ more) q (said ++ rest)
-  pub recalls : (genesis : Genesis) (n : ℕ) → Remembers start.node start.store genesis n
-      → Recalls now.node now.store group.needs_sync genesis n × IsCovered m genesis n group now.store
-  pub stays : (h : History) (n : ℕ) → NodeFits m h n (Stands m start.node start.store h.genesis n) (disks start.store)
+  pub recalls : (genesis : Genesis) (n : ℕ) → ReplicaRemembers start.node start.store genesis n
+      → RemembersInGroup now.node now.store group.needs_sync genesis n × IsCovered m genesis n group now.store
+  pub stays : (h : History) (n : ℕ) → NodeFits m h n (ReplicaHolds m start.node start.store h.genesis n)
+      (disks start.store)
       → AllByRecursion (InputFits h) inputs
       → GroupStays m h n now.node now.store group.needs_sync
-  pub covers : (genesis : Genesis) (n : ℕ) (x : NodeMessage) → Remembers start.node start.store genesis n
+  pub covers : (genesis : Genesis) (n : ℕ) (x : NodeMessage) → ReplicaRemembers start.node start.store genesis n
       → AllCover m genesis n (disks start.store) x → AllCover m genesis n (disks now.store) x
   pub room : StaysWithin max_after (disks start.store) (disks now.store)
   pub grows : GrowsBySteps (length inputs) (disks start.store) (disks now.store)

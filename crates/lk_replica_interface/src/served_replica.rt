@@ -43,7 +43,7 @@ pub trait ServedReplica: Sized + Drop {
     ghost IsRaised: { Self → Bool → Type 0 };
 
     /// Returns an empty group, for `gather` and `release`.
-    fn begin(&self, alloc: Global) -> Group
+    fn begin_group(&self, alloc: Global) -> Group
         ensures begins { Gathers self.now [] result self.now };
 
     /// Takes a tick or a datagram into a group, as `Replica::gather` does. Nothing is sent before `release`, and
@@ -100,7 +100,7 @@ impl<M: Machine, D: LogDisk + Drop> ServedReplica for Replica<M, D> {
 
     ghost IsRaised = { λ r. TellsRaised M.meaning M.IsText (packed r.node.learner.whole) };
 
-    fn begin(&self, alloc: Global) -> Group {
+    fn begin_group(&self, alloc: Global) -> Group {
         Group::new(alloc)
     }
 

@@ -8,7 +8,7 @@ use Rattle.lk_sim.specs.Events.{IsExecuted, IsRefused}
 use Rattle.lk_sim.specs.Runs.{Passes}
 use Rattle.lk_sim.specs.Scenes.{Scene}
 use Rattle.lk_sim.specs.declared.event.Event.{Event}
-use Rattle.lk_world_nodes.specs.declared.refused.Refused.{Refused}
+use Rattle.lk_sim_nodes.specs.declared.refused.Refused.{Refused}
 use Rattle.lk_script_lines.specs.WorldLines.{SpellsInstruction}
 use Rattle.lk_script.specs.Worlds.{events_of, Follows}
 use Rattle.lk_script_lines.specs.declared.instruction.Instruction.{Instruction}

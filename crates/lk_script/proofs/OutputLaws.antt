@@ -26,7 +26,7 @@ use Rattle.lk_script.specs.TableMode.Replies.{answers, passes}
 use Rattle.lk_script.specs.TableMode.Prints.{unreadable, others, not_here, replied}
 use Rattle.lk_script.specs.Scripts.Takes.{begins, opens, prints, happens}
 use Rattle.lk_script.specs.Scripts.Runs.{ends, skips, takes, stops, refuses}
-use Rattle.lk_world_nodes.specs.declared.refused.Refused.{Refused}
+use Rattle.lk_sim_nodes.specs.declared.refused.Refused.{Refused}
 use Rattle.lk_script_lines.proofs.HexSpelling.{same_bytes}
 
 some_same : {X : Type 0} {x y : X} → Some x ≡ Some y → x ≡ y

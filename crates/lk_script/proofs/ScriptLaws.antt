@@ -8,7 +8,7 @@ use Rattle.lk_types.specs.declared.member.Member.{Member}
 use Rattle.lk_members.specs.Effects.{Command}
 use Rattle.lk_replica.specs.Behaviours.{Behaviour}
 use Rattle.lk_sim.specs.Runs.{Passes}
-use Rattle.lk_world_nodes.specs.declared.refused.Refused.{Refused}
+use Rattle.lk_sim_nodes.specs.declared.refused.Refused.{Refused}
 use Rattle.lk_script_lines.specs.HexLines.{SpellsBytes}
 use Rattle.lk_script_lines.specs.Lines.{lines_of, TakesLine, TakesWithinLine}
 use Rattle.lk_script.specs.TableMode.{Prints, IsTableLine}

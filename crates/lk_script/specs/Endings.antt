@@ -3,7 +3,7 @@ use Rattle.std.specs.Prelude.{◌≡◌, ℕ, List, ◌++◌, Option, ⊤}
 use Rattle.lk_replica.specs.Behaviours.{Behaviour}
 use Rattle.lk_script_lines.specs.Lines.{lines_of, TakesWithinLine}
 use Rattle.lk_script.specs.Scripts.{Script, begun, Runs, at_end, at_line, at_refusal, last_line}
-use Rattle.lk_world_nodes.specs.declared.refused.Refused.{Refused}
+use Rattle.lk_sim_nodes.specs.declared.refused.Refused.{Refused}
 use Rattle.lk_script.specs.TableServers.{Fits}
 use Rattle.lk_script_lines.specs.declared.fault.ScriptFault.{ScriptFault}
 use Rattle.lk_script_lines.specs.declared.fault.ScriptFault.TheVariants.{Read, Write, ScriptMemory, BadLine, Ended}

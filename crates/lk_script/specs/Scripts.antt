@@ -6,7 +6,7 @@ use Rattle.lk_members.specs.Rosters.{Genesis}
 use Rattle.lk_replica.specs.Behaviours.{Behaviour}
 use Rattle.lk_sim.specs.Runs.{Passes}
 use Rattle.lk_sim.specs.Scenes.{Scene}
-use Rattle.lk_world_nodes.specs.declared.refused.Refused.{Refused}
+use Rattle.lk_sim_nodes.specs.declared.refused.Refused.{Refused}
 use Rattle.lk_script_lines.specs.HexLines.{SpellsBytes}
 use Rattle.lk_script.specs.TableMode.{Prints, IsTableLine}
 use Rattle.lk_script_lines.specs.GenesisLines.{IsGenesisLine}

@@ -3,14 +3,14 @@ use Rattle.std.specs.Prelude.{ℕ, List, [], ◌∷◌, ◌++◌, replicate, Opt
 use Rattle.std.specs.Fmt.{decimal}
 use Rattle.lk_members.specs.Rosters.{Genesis}
 use Rattle.lk_replica.specs.Behaviours.{Behaviour}
-use Rattle.lk_world_nodes.specs.Refusals.{refusal_number}
+use Rattle.lk_sim_nodes.specs.Refusals.{refusal_number}
 use Rattle.lk_sim.specs.Runs.{Runs}
 use Rattle.lk_sim.specs.Scenes.{Scene}
 use Rattle.lk_sim.specs.declared.event.Event.{Event}
 use Rattle.lk_sim.specs.declared.event.Event.TheVariants.{Tick}
-use Rattle.lk_world_nodes.specs.declared.refused.Refused.{Refused}
-use Rattle.lk_world_nodes.specs.declared.refused.Refused.TheVariants.{NoSuchNode, NotUp, AlreadyUp, NoSuchDatagram}
-use Rattle.lk_world_nodes.specs.declared.refused.Refused.TheVariants.{Forged, WorldFull, WorldMemory}
+use Rattle.lk_sim_nodes.specs.declared.refused.Refused.{Refused}
+use Rattle.lk_sim_nodes.specs.declared.refused.Refused.TheVariants.{NoSuchNode, NotUp, AlreadyUp, NoSuchDatagram}
+use Rattle.lk_sim_nodes.specs.declared.refused.Refused.TheVariants.{Forged, WorldFull, WorldMemory}
 use Rattle.lk_script_lines.specs.declared.instruction.Instruction.{Instruction}
 use Rattle.lk_script_lines.specs.declared.instruction.Instruction.TheVariants.{Ticks, Once}
 

@@ -4,7 +4,7 @@ ghost use Rattle.std.specs.Prelude.{◌≡◌, ◌≢◌, ◌+◌, ◌<◌, ◌�
 ghost use Rattle.std.specs.Prelude.{IfSome, OnOk, IsErrOf, string_bytes};
 ghost use Rattle.std.specs.Io.KnownBytes.{Appends};
 ghost use Rattle.lk_types.specs.Limits.{max_count};
-ghost use Rattle.lk_world_nodes.specs.declared.refused.Refused.{Refused as RefusedValue};
+ghost use Rattle.lk_sim_nodes.specs.declared.refused.Refused.{Refused as RefusedValue};
 ghost use Rattle.lk_script.specs.TableMode.{IsTableLine};
 ghost use Rattle.lk_script.specs.Worlds.{new_world, done_line};
 ghost use Rattle.lk_script.specs.Scripts.{Script, begun, table, world, IsFirstLine, IsUnderstood, Takes, Refuses};
@@ -74,7 +74,7 @@ fn world_mode<M: MemoryReplica>(alloc: Global, genesis: Genesis) -> Mode<M>
 // Sets up the mode that the first line asks for. It is not inlined, as a server is large: in `take_line` each line
 // would pay for the space of a new one.
 #[inline(never)]
-fn begin<M: MemoryReplica>(alloc: Global, line: &[u8]) -> Result<Mode<M>, LineFault>
+fn begin_mode<M: MemoryReplica>(alloc: Global, line: &[u8]) -> Result<Mode<M>, LineFault>
     ensures ok { IfOk result (λ m. (after : Script M) × Takes M.behaves begun line.now [] after × Fits after m) }
     ensures done { IfOk result (λ m. done_in m ≡ 0) }
     ensures not_understood { IsErrOf result LineFault.NotUnderstood → IsFirstLine line.now → ⊥ }
@@ -108,7 +108,7 @@ fn take_line<M: MemoryReplica>(
 {
     match mode {
         Mode::Begun => {
-            *mode = begin(alloc, line)?;
+            *mode = begin_mode(alloc, line)?;
             buffers.text.clear();
             Ok(None)
         }

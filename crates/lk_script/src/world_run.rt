@@ -2,7 +2,7 @@
 ghost use Rattle.std.specs.Prelude.{◌≡◌, ◌+◌, ◌*◌, ◌<◌, ◌≤◌, ◌++◌, ℕ, List, replicate, Ok, Some, None, IfOk, IsErrOf};
 ghost use Rattle.lk_sim.specs.Events.{IsExecuted, IsRefused};
 ghost use Rattle.lk_sim.specs.declared.event.Event.TheVariants.{Tick};
-ghost use Rattle.lk_world_nodes.specs.declared.refused.Refused.{Refused as RefusedValue};
+ghost use Rattle.lk_sim_nodes.specs.declared.refused.Refused.{Refused as RefusedValue};
 ghost use Rattle.lk_types.specs.Limits.{max_count};
 ghost use Rattle.lk_script_lines.specs.declared.instruction.Instruction.{Instruction as InstructionValue};
 ghost use Rattle.lk_script_lines.specs.WorldLines.{SpellsInstruction};

@@ -12,8 +12,8 @@ use Rattle.lk_replica_interface.specs.declared.probed_state.ProbedState.{ProbedS
 
 -- an answer leaves what is to come
 answer_still : {R : Type 0} (Shows : R → ProbedState → Type 0) (tells : Type 0) (asked : Option ReceivedProbe)
-    (old new : ServerValue R) → AnswersKept Shows tells asked old new → tells → new.coming ≡ old.coming
-answer_still {R} Shows tells None old new same t = ap (λ (s : ServerValue R). s.coming) same
+    (old new : ServerValue R) → AnswersKept Shows tells asked old new → tells → new.incoming ≡ old.incoming
+answer_still {R} Shows tells None old new same t = ap (λ (s : ServerValue R). s.incoming) same
 answer_still Shows tells (Some a) old new one t = one.still t
 
 module _ {R : Type 0} (Shows : R → ProbedState → Type 0) (tells : Type 0) (asked : Option ReceivedProbe)
@@ -23,7 +23,7 @@ module _ {R : Type 0} (Shows : R → ProbedState → Type 0) (tells : Type 0) (a
       → answered ≡ record old {
         sent = answered.sent;
         socket_failures = answered.socket_failures;
-        coming = answered.coming;
+        incoming = answered.incoming;
       }
       → ReadmitsKept asked answered.addresses readmitted.addresses
       → IsSameNetwork answered.addresses readmitted.addresses
@@ -33,12 +33,12 @@ module _ {R : Type 0} (Shows : R → ProbedState → Type 0) (tells : Type 0) (a
       → learned ≡ record readmitted { addresses = learned.addresses }
       → now ≡ learned.ticks → AsksOne tells now learned.node learned.addresses new.addresses
       (tray_at learned.own learned) (tray_at new.own new) → IsSameNetwork learned.addresses new.addresses
-      → (tells → new.coming ≡ learned.coming)
+      → (tells → new.incoming ≡ learned.incoming)
       → new ≡ record learned {
         addresses = new.addresses;
         sent = new.sent;
         socket_failures = new.socket_failures;
-        coming = new.coming;
+        incoming = new.incoming;
       }
       → HandlesProbes Shows tells asked reported old new
   acted answers answered_so readmits heard readmitted_so learns known learned_so own asks kept still new_so =
@@ -53,7 +53,7 @@ module _ {R : Type 0} (Shows : R → ProbedState → Type 0) (tells : Type 0) (a
         addresses = learned.addresses;
         sent = answered.sent;
         socket_failures = answered.socket_failures;
-        coming = answered.coming;
+        incoming = answered.incoming;
       } =
       again ∙ ap (λ (s : ServerValue R). record s { addresses = learned.addresses }) answered_so in
       let time : now ≡ old.ticks = own ∙ ap (λ (s : ServerValue R). s.ticks) since in
@@ -74,12 +74,12 @@ module _ {R : Type 0} (Shows : R → ProbedState → Type 0) (tells : Type 0) (a
           kept.0 ∙ known.0 ∙ heard.0 ∙ ap (λ (b : AddressBook). b.hosts) book,
           kept.1 ∙ known.1 ∙ heard.1 ∙ ap (λ (b : AddressBook). b.seals) book,
         );
-        still = λ t. still t ∙ ap (λ (s : ServerValue R). s.coming) again
+        still = λ t. still t ∙ ap (λ (s : ServerValue R). s.incoming) again
             ∙ answer_still Shows tells asked old answered answers t;
         same = new_so ∙ ap (λ (s : ServerValue R). record s {
           addresses = new.addresses;
           sent = new.sent;
           socket_failures = new.socket_failures;
-          coming = new.coming;
+          incoming = new.incoming;
         }) since;
       }

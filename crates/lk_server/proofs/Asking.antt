@@ -6,14 +6,15 @@ use Rattle.lk_probe.specs.Grammar.{padded, SpellsProbe, SpellsReport}
 use Rattle.lk_probe.specs.declared.probe.Probe.{Probe}
 use Rattle.lk_probe.specs.declared.probe.Report.{Report}
 use Rattle.lk_probe.specs.declared.reported.Reported.{Reported}
-use Rattle.lk_seal.specs.Seals.{heard}
-use Rattle.lk_seal.specs.declared.seals.Seals.{Seals}
+use Rattle.lk_auth.specs.Seals.{heard}
+use Rattle.lk_auth.specs.declared.seals.Seals.{Seals}
 use Rattle.lk_timing.specs.declared.turn_input.TurnInput.{TurnInput}
 use Rattle.lk_timing.specs.declared.turn_input.TurnInput.TheVariants.{Nothing, Filtered, Something}
 use Rattle.lk_transport.specs.Askers.{BringsProbe}
 use Rattle.lk_transport.specs.ReceiveBuffers.{BufferValue, listed}
 use Rattle.lk_transport.specs.Inquiring.{IsToldBy}
-use Rattle.lk_transport.specs.Kept.{BringNothing, BringsFirst, IsFirstOf, KeepsFirst, KeepsFirstOf, Keeps, KeepsOf}
+use Rattle.lk_transport.specs.Kept.{BringNothing, BringsFirst, IsFirstOf, KeepsFirst, KeepsFirstOf, KeepsProbes}
+use Rattle.lk_transport.specs.Kept.{KeepsOf}
 use Rattle.lk_transport.specs.Posts.{is_beside}
 use Rattle.lk_transport.specs.declared.received_probe.ReceivedProbe.{ReceivedProbe}
 
@@ -134,10 +135,10 @@ keeps_given n s d old new apart asked reported = keeps_on n s (d ∷ []) old old
 
 -- of one that stands beside the protocol
 pub keeps_beside : (n m : ℕ) (s t : Seals) (d : SocketAddr × List ℕ) (old mid new : BufferValue) → m ≡ n → t ≡ s
-    → mid.asked ≡ old.asked → mid.reported ≡ old.reported → mid.last ≡ Some d → Keeps m t mid new
+    → mid.asked ≡ old.asked → mid.reported ≡ old.reported → mid.last ≡ Some d → KeepsProbes m t mid new
     → KeepsOf n s (d ∷ []) old new
 keeps_beside n m s t d old mid new node seals asked reported is keeps =
-    let kept : Keeps n s mid new = subst₂ (λ (k : ℕ) (z : Seals). Keeps k z mid new) node seals keeps in
+    let kept : KeepsProbes n s mid new = subst₂ (λ (k : ℕ) (z : Seals). KeepsProbes k z mid new) node seals keeps in
     record {
       asked = first_one (BringsProbe s) old.asked new.asked d
           (subst₂ (λ (l : Option (SocketAddr × List ℕ)) (a : Option ReceivedProbe). KeepsFirst
@@ -149,7 +150,7 @@ keeps_beside n m s t d old mid new node seals asked reported is keeps =
 
 -- of one that is neither a probe nor a report
 pub keeps_strange : (n : ℕ) (s : Seals) (d : SocketAddr × List ℕ) (old : BufferValue) → old.last ≡ Some d
-    → is_beside (heard s d.1) ≡ false → Keeps n s old old
+    → is_beside (heard s d.1) ≡ false → KeepsProbes n s old old
 keeps_strange n s d old is apart = record {
   last = refl;
   asked = subst (λ (l : Option (SocketAddr × List ℕ)). KeepsFirst (BringsProbe s) l old.asked old.asked) (sym is)
@@ -161,7 +162,8 @@ keeps_strange n s d old is apart = record {
 -- of what came last, where a replica is given nothing of it
 pub keeps_found : (n m : ℕ) (s t : Seals) (found : TurnInput) (old mid new : BufferValue) → m ≡ n → t ≡ s
     → mid.asked ≡ old.asked → mid.reported ≡ old.reported → (found ≡ Nothing → mid.last ≡ None)
-    → (found ≡ Filtered → (d : SocketAddr × List ℕ) × (mid.last ≡ Some d)) → (found ≡ Filtered → Keeps m t mid new)
+    → (found ≡ Filtered → (d : SocketAddr × List ℕ) × (mid.last ≡ Some d))
+    → (found ≡ Filtered → KeepsProbes m t mid new)
     → ((found ≡ Filtered → ⊥) → new ≡ mid) → (found ≡ Something → ⊥) → KeepsOf n s (listed mid.last) old new
 keeps_found n m s t Nothing old mid new node seals asked reported nothing beside kept rest apart =
     let same = rest (λ is. cc is) in

@@ -47,8 +47,8 @@ same_node tells old new [] all = ap (λ (p : PostValue). p.node) all
 same_node tells old new (l ∷ letters) all = same_node tells all.1 new letters all.3 ∙ all.2.node
 
 pub same_coming : (tells : Type 0) (old new : PostValue) (letters : List LetterValue)
-    → CarriesAll (CarriesLetter tells) old letters new → tells → new.coming ≡ old.coming
-same_coming tells old new [] all t = ap (λ (p : PostValue). p.coming) all
+    → CarriesAll (CarriesLetter tells) old letters new → tells → new.incoming ≡ old.incoming
+same_coming tells old new [] all t = ap (λ (p : PostValue). p.incoming) all
 same_coming tells old new (l ∷ letters) all t = same_coming tells all.1 new letters all.3 t ∙ all.2.still t
 
 pub same_addresses : (tells : Type 0) (old new : PostValue) (letters : List LetterValue)
@@ -91,7 +91,7 @@ grows_by tells node book old new (l ∷ letters) all =
 -- whatever has become of a call, the post is that node's, and has these addresses; and the same is to come
 pub same_post : (tells : Type 0) {T E : Type 0} (r : Result T E) (H : List LetterValue → Type 0)
     (before after : PostValue) → OnOk r (GivesLetters (CarriesLetter tells) before after H) → OnErr r (after ≡ before)
-    → (after.node ≡ before.node) × (after.addresses ≡ before.addresses) × (tells → after.coming ≡ before.coming)
+    → (after.node ≡ before.node) × (after.addresses ≡ before.addresses) × (tells → after.incoming ≡ before.incoming)
 same_post tells (Ok x) H before after gives unsent = (
   same_node tells before after gives.letters gives.carried,
   same_addresses tells before after gives.letters gives.carried,
@@ -100,7 +100,7 @@ same_post tells (Ok x) H before after gives unsent = (
 same_post tells (Err e) H before after gives unsent = (
   ap (λ (p : PostValue). p.node) unsent,
   ap (λ (p : PostValue). p.addresses) unsent,
-  λ t. ap (λ (p : PostValue). p.coming) unsent,
+  λ t. ap (λ (p : PostValue). p.incoming) unsent,
 )
 
 module _ {R : Type 0} (S : Sayings R) (G : Gatherings R) (tells : Type 0) (old new : ServerValue R)

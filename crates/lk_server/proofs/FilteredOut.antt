@@ -1,7 +1,7 @@
 -- When a replica is given nothing of what came.
 use Rattle.std.proofs.Common.{◌≡◌, ℕ, Bool, ◌||◌, true, false, List, refl}
 use Rattle.std.specs.declared.net.socket_addr.SocketAddr.{SocketAddr}
-use Rattle.lk_seal.specs.Seals.{heard}
+use Rattle.lk_auth.specs.Seals.{heard}
 use Rattle.lk_transport.specs.Addresses.{Filter}
 use Rattle.lk_transport.specs.Posts.{is_filtered_out, is_beside}
 

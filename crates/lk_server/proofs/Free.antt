@@ -2,18 +2,18 @@
 use Rattle.std.proofs.Common.{◌≡◌, ◌≢◌, ◌⊎◌, inl, inr, ℕ, List, [], ap, sym, subst, ◌∙◌, refl, arith, slice_index, ◌++◌}
 use Rattle.std.proofs.lemmas.Nat.{from_be_bytes-to_be_bytes_2}
 use Rattle.lk_types.specs.declared.command.Request.{Request}
-use Rattle.lk_fields.specs.Fields.{two, four, eight}
+use Rattle.lk_codec.specs.Fields.{two, four, eight}
 use Rattle.lk_types.specs.Ranges.{IsClient}
 use Rattle.lk_messages.specs.Grammar.{spelling, kind, sender, fields, header, Spells, IsContent}
 use Rattle.lk_messages.specs.declared.message.Message.{Message}
 use Rattle.lk_messages.specs.declared.message.Content.{Content}
 use Rattle.lk_messages.specs.declared.message.Content.TheVariants as content
 use Rattle.lk_messages.specs.declared.message.NodeMessage.TheVariants as kinds
-use Rattle.lk_seal.specs.Seals.{key_list, heard, IsOfNoNode}
-use Rattle.lk_seal.specs.declared.seals.Seals.{Seals}
-use Rattle.lk_seal.specs.Clients.{client_in}
-use Rattle.lk_seal.specs.Vouching.{IsSealedByClient}
-use Rattle.lk_seal.proofs.VouchLaws.{is_vouched, is_of_who_it_names}
+use Rattle.lk_auth.specs.Seals.{key_list, heard, IsOfNoNode}
+use Rattle.lk_auth.specs.declared.seals.Seals.{Seals}
+use Rattle.lk_auth.specs.Clients.{client_in}
+use Rattle.lk_auth.specs.Vouching.{IsSealedByClient}
+use Rattle.lk_auth.proofs.VouchLaws.{is_vouched, is_of_who_it_names}
 use Rattle.lk_server.specs.Premises.{IsFree, IsToldByANode, IsToldOrAsked}
 
 -- a message of kind 9 is a request

@@ -163,13 +163,13 @@ same_network old mid new a b = (b.0 ∙ a.0, b.1 ∙ a.1)
 
 -- no frame came
 pub none_came : {R : Type 0} (tells : Type 0) (e : Option (SocketAddr × List ℕ)) (old mid new : ServerValue R)
-    → e ≡ None → (tells → old.coming ≡ listed e ++ mid.coming)
-    → mid ≡ record old { coming = mid.coming } → new ≡ mid
-    → (tells → new.coming ≡ old.coming) × (record new { coming = old.coming } ≡ old)
+    → e ≡ None → (tells → old.incoming ≡ listed e ++ mid.incoming)
+    → mid ≡ record old { incoming = mid.incoming } → new ≡ mid
+    → (tells → new.incoming ≡ old.incoming) × (record new { incoming = old.incoming } ≡ old)
 none_came {R} tells e old mid new is comes others same = (
-  λ t. ap (λ (s : ServerValue R). s.coming) same
-      ∙ sym (comes t ∙ ap (λ (o : Option (SocketAddr × List ℕ)). listed o ++ mid.coming) is),
-  ap (λ (s : ServerValue R). record s { coming = old.coming }) (same ∙ others),
+  λ t. ap (λ (s : ServerValue R). s.incoming) same
+      ∙ sym (comes t ∙ ap (λ (o : Option (SocketAddr × List ℕ)). listed o ++ mid.incoming) is),
+  ap (λ (s : ServerValue R). record s { incoming = old.incoming }) (same ∙ others),
 )
 
 -- what is given by a server that was the same
@@ -188,7 +188,7 @@ later old mid xs ys pace count =
 
 -- what was taken of a frame stood beside the protocol no more when only what was to come has changed
 pub still_not_out : {R : Type 0} (old mid : ServerValue R) (frame : SocketAddr × List ℕ)
-    → mid ≡ record old { coming = mid.coming } → is_filtered_out (filter_of mid.addresses) frame ≡ false
+    → mid ≡ record old { incoming = mid.incoming } → is_filtered_out (filter_of mid.addresses) frame ≡ false
     → is_filtered_out (filter_of old.addresses) frame ≡ false
 still_not_out {R} old mid frame others apart =
     subst (λ (s : Filter). is_filtered_out s frame ≡ false)
@@ -212,8 +212,8 @@ found_few s Something frames never = absurd never
 -- what was found at the socket, where a replica is given nothing of it
 pub finds : {R : Type 0} (tells : Type 0) (found : TurnInput) (e : Option (SocketAddr × List ℕ))
     (group now : GroupValue) (old mid new : ServerValue R)
-    → (tells → old.coming ≡ listed e ++ mid.coming) → (tells → e ≡ None → old.coming ≡ [])
-    → mid ≡ record old { coming = mid.coming }
+    → (tells → old.incoming ≡ listed e ++ mid.incoming) → (tells → e ≡ None → old.incoming ≡ [])
+    → mid ≡ record old { incoming = mid.incoming }
     → (found ≡ Nothing → (e ≡ None) × (new ≡ mid) × (now ≡ group))
     → (found ≡ Filtered → (frame : SocketAddr × List ℕ) × (e ≡ Some frame)
     × (is_filtered_out (filter_of mid.addresses) frame ≡ true) × (new ≡ mid) × (now ≡ group))
@@ -223,8 +223,8 @@ finds {R} tells Nothing e group now old mid new comes none others nothing beside
       record {
         are = ap listed n.0;
         none = λ t empty. none t n.0;
-        comes = λ t. comes t ∙ ap (λ (s : ServerValue R). listed e ++ s.coming) (sym n.1);
-        same = ap (λ (s : ServerValue R). record s { coming = old.coming }) (n.1 ∙ others);
+        comes = λ t. comes t ∙ ap (λ (s : ServerValue R). listed e ++ s.incoming) (sym n.1);
+        same = ap (λ (s : ServerValue R). record s { incoming = old.incoming }) (n.1 ∙ others);
       },
       n.2,
     )
@@ -236,8 +236,8 @@ finds {R} tells Filtered e group now old mid new comes none others nothing besid
       record {
         are = (b.0, ap listed b.1, is);
         none = λ t empty. absurd (let both : b.0 ∷ [] ≡ [] = sym (ap listed b.1) ∙ empty in cc both);
-        comes = λ t. comes t ∙ ap (λ (s : ServerValue R). listed e ++ s.coming) (sym b.3);
-        same = ap (λ (s : ServerValue R). record s { coming = old.coming }) (b.3 ∙ others);
+        comes = λ t. comes t ∙ ap (λ (s : ServerValue R). listed e ++ s.incoming) (sym b.3);
+        same = ap (λ (s : ServerValue R). record s { incoming = old.incoming }) (b.3 ∙ others);
       },
       b.4,
     )
@@ -353,7 +353,7 @@ module _ {R : Type 0} (G : Gatherings R) where
           network = same_network old.addresses mid.addresses new.addresses a.takes.network b.takes.network;
         };
         comes = λ t. a.comes t ∙ ap (λ (l : List (SocketAddr × List ℕ)). xs ++ l) (b.comes t)
-            ∙ sym (append_assoc xs ys new.coming);
+            ∙ sym (append_assoc xs ys new.incoming);
       }
 
   -- a frame of which this was taken
@@ -375,11 +375,11 @@ module _ {R : Type 0} (G : Gatherings R) where
   -- nothing is taken of a frame that stands beside the protocol
   pub socket_beside : (tells : Type 0) (e : Option (SocketAddr × List ℕ)) (frame : SocketAddr × List ℕ)
       (group now : GroupValue) (old mid new : ServerValue R) → e ≡ Some frame
-      → (tells → old.coming ≡ listed e ++ mid.coming) → mid ≡ record old { coming = mid.coming }
+      → (tells → old.incoming ≡ listed e ++ mid.incoming) → mid ≡ record old { incoming = mid.incoming }
       → is_filtered_out (filter_of mid.addresses) frame ≡ true
       → new ≡ mid → now ≡ group → TakesSocket G tells (frame ∷ []) group now old new
   socket_beside tells e frame group now old mid new is comes others beside same still =
-      let as_was : new ≡ record old { coming = mid.coming } = same ∙ others in
+      let as_was : new ≡ record old { incoming = mid.incoming } = same ∙ others in
       let aside : is_filtered_out (filter_of old.addresses) frame ≡ true =
       subst (λ (s : Filter). is_filtered_out s frame ≡ true)
       (ap (λ (s : ServerValue R). filter_of s.addresses) others) beside in
@@ -397,17 +397,17 @@ module _ {R : Type 0} (G : Gatherings R) where
           network = (ap (λ (b : AddressBook). b.hosts) book, ap (λ (b : AddressBook). filter_of b) book);
         };
         comes = λ t.
-            comes t ∙ ap (λ (o : Option (SocketAddr × List ℕ)). listed o ++ mid.coming) is
-            ∙ ap (λ (l : List (SocketAddr × List ℕ)). frame ∷ l) (sym (ap (λ (s : ServerValue R). s.coming) same));
+            comes t ∙ ap (λ (o : Option (SocketAddr × List ℕ)). listed o ++ mid.incoming) is
+            ∙ ap (λ (l : List (SocketAddr × List ℕ)). frame ∷ l) (sym (ap (λ (s : ServerValue R). s.incoming) same));
       }
 
   -- it came from the socket
   pub socket_one : (tells : Type 0) (e : Option (SocketAddr × List ℕ)) (frame : SocketAddr × List ℕ)
       (group now : GroupValue) (old mid new : ServerValue R) → e ≡ Some frame
-      → (tells → old.coming ≡ listed e ++ mid.coming) → mid ≡ record old { coming = mid.coming }
-      → new.coming ≡ mid.coming
+      → (tells → old.incoming ≡ listed e ++ mid.incoming) → mid ≡ record old { incoming = mid.incoming }
+      → new.incoming ≡ mid.incoming
       → TakesHeard G (frame ∷ []) group now mid new → TakesSocket G tells (frame ∷ []) group now old new
-  socket_one tells e frame group now old mid new is comes others coming heard =
+  socket_one tells e frame group now old mid new is comes others incoming heard =
       let h = subst (λ (s : ServerValue R). TakesHeard G (frame ∷ []) group now s new) others heard in
       record {
         takes = record {
@@ -422,8 +422,8 @@ module _ {R : Type 0} (G : Gatherings R) where
           network = h.network;
         };
         comes = λ t.
-            comes t ∙ ap (λ (o : Option (SocketAddr × List ℕ)). listed o ++ mid.coming) is
-            ∙ ap (λ (l : List (SocketAddr × List ℕ)). frame ∷ l) (sym coming);
+            comes t ∙ ap (λ (o : Option (SocketAddr × List ℕ)). listed o ++ mid.incoming) is
+            ∙ ap (λ (l : List (SocketAddr × List ℕ)). frame ∷ l) (sym incoming);
       }
 
   -- no frame
@@ -436,13 +436,13 @@ module _ {R : Type 0} (G : Gatherings R) where
       network =
           (ap (λ (s : ServerValue R). s.addresses.hosts) same, ap (λ (s : ServerValue R). filter_of s.addresses) same);
     };
-    comes = λ t. sym (ap (λ (s : ServerValue R). s.coming) same);
+    comes = λ t. sym (ap (λ (s : ServerValue R). s.incoming) same);
   }
 
   -- and no further one
   pub socket_still : (tells : Type 0) (xs : List (SocketAddr × List ℕ)) (group one now : GroupValue)
       (old mid new : ServerValue R) → TakesSocket G tells xs group one old mid → now ≡ one
-      → record new { coming = mid.coming } ≡ mid → (tells → new.coming ≡ mid.coming)
+      → record new { incoming = mid.incoming } ≡ mid → (tells → new.incoming ≡ mid.incoming)
       → TakesSocket G tells xs group now old new
   socket_still tells xs group one now old mid new a is same none =
       let book : new.addresses ≡ mid.addresses = ap (λ (s : ServerValue R). s.addresses) same in
@@ -581,10 +581,10 @@ module _ {R : Type 0} (S : Sayings R) (G : Gatherings R) where
 
   pub ends_socket : (tells : Type 0) (e : Option (SocketAddr × List ℕ)) (frame : SocketAddr × List ℕ)
       (group : GroupValue) (old mid new : ServerValue R) → e ≡ Some frame
-      → (tells → old.coming ≡ listed e ++ mid.coming) → mid ≡ record old { coming = mid.coming }
-      → new.coming ≡ mid.coming
+      → (tells → old.incoming ≡ listed e ++ mid.incoming) → mid ≡ record old { incoming = mid.incoming }
+      → new.incoming ≡ mid.incoming
       → EndsHeard S G (frame ∷ []) group mid new → EndsSocket S G tells (frame ∷ []) group old new
-  ends_socket tells e frame group old mid new is comes others coming ends =
+  ends_socket tells e frame group old mid new is comes others incoming ends =
       let h = subst (λ (s : ServerValue R). EndsHeard S G (frame ∷ []) group s new) others ends in
       record {
         ends = record {
@@ -598,8 +598,8 @@ module _ {R : Type 0} (S : Sayings R) (G : Gatherings R) where
           network = h.network;
         };
         comes = λ t.
-            comes t ∙ ap (λ (o : Option (SocketAddr × List ℕ)). listed o ++ mid.coming) is
-            ∙ ap (λ (l : List (SocketAddr × List ℕ)). frame ∷ l) (sym coming);
+            comes t ∙ ap (λ (o : Option (SocketAddr × List ℕ)). listed o ++ mid.incoming) is
+            ∙ ap (λ (l : List (SocketAddr × List ℕ)). frame ∷ l) (sym incoming);
       }
 
   pub ends_further : (tells : Type 0) (xs ys : List (SocketAddr × List ℕ)) (group one : GroupValue)
@@ -625,7 +625,7 @@ module _ {R : Type 0} (S : Sayings R) (G : Gatherings R) where
           network = same_network old.addresses mid.addresses new.addresses a.takes.network b.ends.network;
         };
         comes = λ t. a.comes t ∙ ap (λ (l : List (SocketAddr × List ℕ)). xs ++ l) (b.comes t)
-            ∙ sym (append_assoc xs ys new.coming);
+            ∙ sym (append_assoc xs ys new.incoming);
       }
 
   -- a letter has ended it

@@ -5,17 +5,17 @@ use Rattle.std.specs.Prelude.{IfSome, IsSome}
 use Rattle.std.proofs.lemmas.Nat.{from_be_bytes-to_be_bytes_2}
 use Rattle.std.specs.declared.net.socket_addr.SocketAddr.{SocketAddr}
 use Rattle.lk_types.specs.Ranges.{IsClient}
-use Rattle.lk_fields.specs.Fields.{two, four, eight}
+use Rattle.lk_codec.specs.Fields.{two, four, eight}
 use Rattle.lk_probe.specs.Grammar.{or_zero, padded, probe_spelling, SpellsProbe}
 use Rattle.lk_probe.specs.declared.probe.Probe.{Probe}
-use Rattle.lk_seal.specs.Clients.{client_in}
-use Rattle.lk_seal.specs.Seals.{key_list, to_node, opened_by, only_request, heard_of_client, said_or, heard_with, heard}
-use Rattle.lk_seal.specs.Seals.{IsSealedBy}
-use Rattle.lk_seal.specs.Vouching.{IsSealedByClient}
-use Rattle.lk_seal.specs.declared.frame.Scope.{Scope}
-use Rattle.lk_seal.specs.declared.seals.Seals.{Seals}
-use Rattle.lk_seal.proofs.FrameLaws.{either_way}
-use Rattle.lk_seal.proofs.VouchLaws.{opened_by_is, is_of_who_it_names}
+use Rattle.lk_auth.specs.Clients.{client_in}
+use Rattle.lk_auth.specs.Seals.{key_list, to_node, opened_by, only_request, heard_of_client, said_or, heard_with, heard}
+use Rattle.lk_auth.specs.Seals.{IsSealedBy}
+use Rattle.lk_auth.specs.Vouching.{IsSealedByClient}
+use Rattle.lk_auth.specs.declared.frame.Scope.{Scope}
+use Rattle.lk_auth.specs.declared.seals.Seals.{Seals}
+use Rattle.lk_auth.proofs.FrameLaws.{either_way}
+use Rattle.lk_auth.proofs.VouchLaws.{opened_by_is, is_of_who_it_names}
 use Rattle.lk_transport.specs.Askers.{BringsProbe}
 use Rattle.lk_transport.specs.declared.received_probe.ReceivedProbe.{ReceivedProbe}
 use Rattle.lk_server.specs.Premises.{IsProbedByANode, IsProbedByWhomItNames}

@@ -11,7 +11,7 @@ use Rattle.lk_replica_interface.specs.Groups.{Sayings, Gatherings, GathersMore, 
 use Rattle.lk_server.specs.Gatherings.{AreFound, Finds, TakesAll, EndsWithin, TakesOwn, EndsOwn, TakesSocket}
 use Rattle.lk_server.specs.Gatherings.{EndsSocket, TakesWaiting, TakesGroup, EndsGroup, DeliversAllLetters, SaysNothing}
 use Rattle.lk_timing.specs.Paces.{MayFollow}
-use Rattle.lk_seal.specs.Seals.{heard}
+use Rattle.lk_auth.specs.Seals.{heard}
 use Rattle.lk_transport.specs.Posts.{HearsAll, is_filtered_out, all_filtered}
 use Rattle.lk_server.specs.Servers.{ServerValue, DeliversLetters, DeliversNothing, HasReceived, IsSameServer, Turn}
 use Rattle.lk_server.specs.Servers.{LastTurn}
@@ -80,7 +80,7 @@ pub same_by : {R : Type 0} (old new : ServerValue R)
       ticks = new.ticks;
       own = new.own;
       addresses = new.addresses;
-      coming = new.coming;
+      incoming = new.incoming;
     } → IsSameServer old new
 same_by old new others = record {
   cluster = ap (λ (s : ServerValue _). s.cluster) others;
@@ -99,15 +99,15 @@ received_first tells frames old new r = record {
   ];
   few = omega (arith, r.few, long_as (filter_of old.addresses) frames);
   comes = λ telling empty. (
-    all_filtered (filter_of old.addresses) new.coming,
+    all_filtered (filter_of old.addresses) new.incoming,
     ap (λ (l : List (SocketAddr × List ℕ)). all_filtered (filter_of old.addresses) l) (r.comes telling)
-        ∙ taken_more (filter_of old.addresses) frames new.coming,
+        ∙ taken_more (filter_of old.addresses) frames new.incoming,
   );
 }
 
 -- and what is to come is the same behind it
 pub received_on : {R : Type 0} (tells : Type 0) (frames : List (SocketAddr × List ℕ)) (old mid new : ServerValue R)
-    → (tells → new.coming ≡ mid.coming) → HasReceived tells frames old mid → HasReceived tells frames old new
+    → (tells → new.incoming ≡ mid.incoming) → HasReceived tells frames old mid → HasReceived tells frames old new
 received_on tells frames old mid new still r = record {
   alone = r.alone;
   few = r.few;
@@ -176,7 +176,7 @@ module _ {R : Type 0} (S : Sayings R) (G : Gatherings R) (tells : Type 0) where
 
   -- letters of the node to itself: a first one, and further ones
   own_received : (l : LetterValue) (rest : List LetterValue) (old new : ServerValue R) → old.own ≡ l ∷ rest
-      → new.coming ≡ old.coming → HasReceived tells [] old new
+      → new.incoming ≡ old.incoming → HasReceived tells [] old new
   own_received l rest old new own still = record {
     alone = inr refl;
     few = omega arith;
@@ -185,7 +185,7 @@ module _ {R : Type 0} (S : Sayings R) (G : Gatherings R) (tells : Type 0) where
   }
 
   pub own_group : (l : LetterValue) (group one now : GroupValue) (old mid new : ServerValue R) → old.own ≡ l ∷ mid.own
-      → new.addresses ≡ old.addresses → new.coming ≡ old.coming
+      → new.addresses ≡ old.addresses → new.incoming ≡ old.incoming
       → TakesAll G (l.bytes ∷ []) group one old mid → TakesOwn G 63 one now mid new
       → TakesWaiting G tells [] group now old new
   own_group l group one now old mid new own book still first further = record {
@@ -201,7 +201,7 @@ module _ {R : Type 0} (S : Sayings R) (G : Gatherings R) (tells : Type 0) where
 
   -- so many of them have ended it
   own_ends_at : (count : ℕ) (l : LetterValue) (rest : List LetterValue) (group : GroupValue) (old new : ServerValue R)
-      → old.own ≡ l ∷ rest → new.addresses ≡ old.addresses → new.coming ≡ old.coming → suc count ≤ 64
+      → old.own ≡ l ∷ rest → new.addresses ≡ old.addresses → new.incoming ≡ old.incoming → suc count ≤ 64
       → EndsWithin S G (datagrams_in (take (suc count) (l ∷ rest)) []) group old new
       → new.own ≡ drop (suc count) (l ∷ rest) → EndsGroup S G tells [] group old new
   own_ends_at count l rest group old new own book still few ends left =
@@ -228,7 +228,7 @@ module _ {R : Type 0} (S : Sayings R) (G : Gatherings R) (tells : Type 0) where
 
   -- the first has
   pub own_ends_first : (l : LetterValue) (group : GroupValue) (old new : ServerValue R) → old.own ≡ l ∷ new.own
-      → new.addresses ≡ old.addresses → new.coming ≡ old.coming
+      → new.addresses ≡ old.addresses → new.incoming ≡ old.incoming
       → EndsWithin S G (l.bytes ∷ []) group old new → EndsGroup S G tells [] group old new
   own_ends_first l group old new own book still ends =
       own_ends_at 0 l new.own group old new own book still (omega arith)
@@ -245,7 +245,7 @@ module _ {R : Type 0} (S : Sayings R) (G : Gatherings R) (tells : Type 0) where
 
   -- a further one has
   pub own_ends : (l : LetterValue) (group one : GroupValue) (old mid new : ServerValue R) → old.own ≡ l ∷ mid.own
-      → new.addresses ≡ old.addresses → new.coming ≡ old.coming
+      → new.addresses ≡ old.addresses → new.incoming ≡ old.incoming
       → TakesAll G (l.bytes ∷ []) group one old mid → EndsOwn S G 63 one mid new → EndsGroup S G tells [] group old new
   own_ends l group one old mid new own book still first further =
       own_ends_at further.count l mid.own group old new own book still (omega (arith, further.at_most))
@@ -286,7 +286,7 @@ module _ {R : Type 0} (S : Sayings R) (G : Gatherings R) (tells : Type 0) where
 
     tick_received : HasReceived tells frames old new
     tick_received =
-        received_on tells frames old mid new (λ telling. ap (λ (s : ServerValue R). s.coming) same) t.received
+        received_on tells frames old mid new (λ telling. ap (λ (s : ServerValue R). s.incoming) same) t.received
 
     tick_left : new.own ≡ drop 64 old.own
     tick_left = ap (λ (s : ServerValue R). s.own) same ∙ t.left
@@ -362,7 +362,7 @@ module _ {R : Type 0} (S : Sayings R) (G : Gatherings R) (tells : Type 0) where
       alone = inl own;
       few = found_few (filter_of old.addresses) found frames f.are;
       comes = λ telling. f.comes telling
-          ∙ ap (λ (l : List (SocketAddr × List ℕ)). frames ++ l) (sym (ap (λ (s : ServerValue R). s.coming) same));
+          ∙ ap (λ (l : List (SocketAddr × List ℕ)). frames ++ l) (sym (ap (λ (s : ServerValue R). s.incoming) same));
       waited = λ telling empty is. f.none telling is;
     }
 

@@ -22,9 +22,9 @@ AreFound s Something frames = ⊥
 pub record Finds {R : Type 0} (tells : Type 0) (found : TurnInput) (frames : List (SocketAddr × List ℕ))
     (old new : ServerValue R) : Type 0 where
   pub are : AreFound (filter_of old.addresses) found frames
-  pub none : tells → frames ≡ [] → old.coming ≡ []
-  pub comes : tells → old.coming ≡ frames ++ new.coming
-  pub same : record new { coming = old.coming } ≡ old
+  pub none : tells → frames ≡ [] → old.incoming ≡ []
+  pub comes : tells → old.incoming ≡ frames ++ new.incoming
+  pub same : record new { incoming = old.incoming } ≡ old
 
 -- ---- what a part of a turn may change: a datagram that the replica takes, a letter of the node to itself, what comes
 -- to the socket, and all that a turn takes
@@ -61,7 +61,7 @@ ChangesAtSocket old new =
       received = new.received;
       ticks = new.ticks;
       addresses = new.addresses;
-      coming = new.coming;
+      incoming = new.incoming;
     }
 
 abbrev pub ChangesInGroup : {R : Type 0} → ServerValue R → ServerValue R → Type 0
@@ -73,7 +73,7 @@ ChangesInGroup old new =
       ticks = new.ticks;
       own = new.own;
       addresses = new.addresses;
-      coming = new.coming;
+      incoming = new.incoming;
     }
 
 module _ {R : Type 0} (Gathers : Gatherings R) where
@@ -101,7 +101,7 @@ module _ {R : Type 0} (Gathers : Gatherings R) where
   pub record TakesSocket (tells : Type 0) (frames : List (SocketAddr × List ℕ)) (group now : GroupValue)
       (old new : ServerValue R) : Type 0 where
     pub takes : TakesHeard frames group now old new
-    pub comes : tells → old.coming ≡ frames ++ new.coming
+    pub comes : tells → old.incoming ≡ frames ++ new.incoming
 
   -- what waits is taken: letters of the node to itself, or these frames of the socket
   pub record TakesWaiting (tells : Type 0) (frames : List (SocketAddr × List ℕ)) (group now : GroupValue)
@@ -157,7 +157,7 @@ module _ {R : Type 0} (Says : Sayings R) (Gathers : Gatherings R) where
   pub record EndsSocket (tells : Type 0) (frames : List (SocketAddr × List ℕ)) (group : GroupValue)
       (old new : ServerValue R) : Type 0 where
     pub ends : EndsHeard frames group old new
-    pub comes : tells → old.coming ≡ frames ++ new.coming
+    pub comes : tells → old.incoming ≡ frames ++ new.incoming
 
   -- the replica ended at the input of a turn
   pub record EndsGroup (tells : Type 0) (frames : List (SocketAddr × List ℕ)) (group : GroupValue)

@@ -6,9 +6,9 @@ use Rattle.lk_messages.specs.declared.message.Message.{Message}
 use Rattle.lk_messages.specs.declared.message.Content.TheVariants as content
 use Rattle.lk_probe.specs.Grammar.{or_zero}
 use Rattle.lk_probe.specs.declared.probe.Probe.{Probe}
-use Rattle.lk_seal.specs.Seals.{key_list, to_node, heard, IsSealedBy}
-use Rattle.lk_seal.specs.Vouching.{IsSealedByClient}
-use Rattle.lk_seal.specs.declared.seals.Seals.{Seals}
+use Rattle.lk_auth.specs.Seals.{key_list, to_node, heard, IsSealedBy}
+use Rattle.lk_auth.specs.Vouching.{IsSealedByClient}
+use Rattle.lk_auth.specs.declared.seals.Seals.{Seals}
 
 -- no node's message: it spells a client's request, or nothing
 abbrev pub IsFree : List ℕ → Type 0

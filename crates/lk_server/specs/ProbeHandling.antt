@@ -23,10 +23,10 @@ pub record HandlesProbes {R : Type 0} (Shows : R → ProbedState → Type 0) (te
   pub asks : AsksOne tells old.ticks old.node learned new.addresses
       (tray_at answered.own answered) (tray_at new.own new)
   pub network : IsSameNetwork old.addresses new.addresses
-  pub still : tells → new.coming ≡ old.coming
+  pub still : tells → new.incoming ≡ old.incoming
   pub same : new ≡ record old {
     addresses = new.addresses;
     sent = new.sent;
     socket_failures = new.socket_failures;
-    coming = new.coming;
+    incoming = new.incoming;
   }

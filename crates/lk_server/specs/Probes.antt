@@ -43,8 +43,8 @@ pub record AnswersOne {R : Type 0} (Shows : R → ProbedState → Type 0) (tells
   pub bytes : List ℕ
   pub answer : IsAnswer old.node old.addresses.seals.genesis old.ticks shown a.probe bytes
   pub replies : Replies tells old.addresses.seals a bytes (tray_at old.own old) (tray_at new.own new)
-  pub still : tells → new.coming ≡ old.coming
-  pub same : new ≡ record old { sent = new.sent; socket_failures = new.socket_failures; coming = new.coming }
+  pub still : tells → new.incoming ≡ old.incoming
+  pub same : new ≡ record old { sent = new.sent; socket_failures = new.socket_failures; incoming = new.incoming }
 
 -- the probe that is kept was answered, if one is; else nothing is sent or changed
 abbrev pub AnswersKept : {R : Type 0} → (R → ProbedState → Type 0) → Type 0 → Option ReceivedProbe

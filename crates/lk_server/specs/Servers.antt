@@ -32,7 +32,7 @@ pub record ServerValue (R : Type 0) : Type 0 where
   pub sent : List (SocketAddr × List ℕ)
   pub socket_failures : ℕ
   -- the frames that are to come to it, in order
-  pub coming : List (SocketAddr × List ℕ)
+  pub incoming : List (SocketAddr × List ℕ)
 
 -- it serves as this node of this cluster, with this pace, these hosts and these keys
 pub record ServesAs {R : Type 0} (c n : ℕ) (p : Pace) (known : Network) (s : ServerValue R) : Type 0 where
@@ -60,7 +60,7 @@ pub record ServesOn {R : Type 0} (datagrams : List (SocketAddr × List ℕ)) (co
     (next : List (SocketAddr × List ℕ)) (s : ServerValue R) : Type 0 where
   pub sent : s.sent ≡ datagrams
   pub failures : s.socket_failures ≡ count
-  pub coming : s.coming ≡ next
+  pub incoming : s.incoming ≡ next
 
 -- ---- the input of a replica
 
@@ -159,8 +159,8 @@ pub record HasReceived {R : Type 0} (tells : Type 0) (frames : List (SocketAddr 
     (old new : ServerValue R) : Type 0 where
   pub alone : (old.own ≡ []) ⊎ (frames ≡ [])
   pub few : length frames ≤ 64
-  pub comes : tells → old.coming ≡ frames ++ new.coming
-  pub waited : tells → old.own ≡ [] → frames ≡ [] → old.coming ≡ []
+  pub comes : tells → old.incoming ≡ frames ++ new.incoming
+  pub waited : tells → old.own ≡ [] → frames ≡ [] → old.incoming ≡ []
 
 -- what may be taken of the socket: nothing where letters of the node to itself wait, at most 64 datagrams, and the
 -- first of what is to come if the socket tells that
@@ -168,7 +168,7 @@ pub record TakesFirst {R : Type 0} (tells : Type 0) (came : List (SocketAddr × 
     (old : ServerValue R) : Type 0 where
   pub alone : (old.own ≡ []) ⊎ (came ≡ [])
   pub few : length came ≤ 64
-  pub comes : tells → old.own ≡ [] → IsPrefix came (all_filtered (filter_of old.addresses) old.coming)
+  pub comes : tells → old.own ≡ [] → IsPrefix came (all_filtered (filter_of old.addresses) old.incoming)
 
 -- so many letters of the node to itself are taken: at most 64, and at least one where some wait
 pub record TakesLetters (count : ℕ) (own : List LetterValue) : Type 0 where
@@ -220,8 +220,8 @@ pub record IsIdle {R : Type 0} (tells : Type 0) (frames : List (SocketAddr × Li
   pub own : old.own ≡ []
   pub none : all_filtered (filter_of old.addresses) frames ≡ []
   pub clock : frames ≡ [] → old.pace ≡ Clock
-  pub comes : tells → old.coming ≡ frames ++ new.coming
-  pub same : record new { coming = old.coming } ≡ old
+  pub comes : tells → old.incoming ≡ frames ++ new.incoming
+  pub same : record new { incoming = old.incoming } ≡ old
 
 -- a turn in which these frames came: its replica was given what was taken of them, or what waited, or a tick; or the
 -- turn is idle

@@ -166,16 +166,16 @@ impl<R: ServedReplica, S: DatagramSocket + Drop> Server<R, S> {
         ensures takes { IfOk result
             (λ found. found ≡ TurnInput.Something
             → (frames : List (Address × List ℕ))
-            × TakesWaiting R.Gathers S.is_telling frames group.old group.new self.old self.new
+            × TakesWaiting R.Gathers S.is_observable frames group.old group.new self.old self.new
             × KeepsOf self.old.node self.old.addresses.seals frames buffer.old buffer.new) }
         ensures none { IfOk result
             (λ found. (found ≡ TurnInput.Something → ⊥)
             → (self.old.own ≡ []) × (frames : List (Address × List ℕ))
-            × Finds S.is_telling found frames self.old self.new × (group.new ≡ group.old)
+            × Finds S.is_observable found frames self.old self.new × (group.new ≡ group.old)
             × KeepsOf self.old.node self.old.addresses.seals frames buffer.old buffer.new) }
         ensures ends { OnErr result
             ((frames : List (Address × List ℕ))
-            × EndsGroup R.Says R.Gathers S.is_telling frames group.old self.old self.new) }
+            × EndsGroup R.Says R.Gathers S.is_observable frames group.old self.old self.new) }
         ensures others { ChangesInGroup self.old self.new }
         ensures broken { OnErr result (self.new.failed ≡ true) }
     {
@@ -197,15 +197,15 @@ impl<R: ServedReplica, S: DatagramSocket + Drop> Server<R, S> {
     ) -> Result<bool, GroupFault>
         ensures takes { IfOk result
             (λ some. some ≡ true → (frames : List (Address × List ℕ))
-            × TakesGroup R.Gathers S.is_telling frames group.old group.new self.old self.new
+            × TakesGroup R.Gathers S.is_observable frames group.old group.new self.old self.new
             × KeepsOf self.old.node self.old.addresses.seals frames buffer.old buffer.new) }
         ensures idle { IfOk result
             (λ some. some ≡ false → (frames : List (Address × List ℕ))
-            × HasReceived S.is_telling frames self.old self.new × IsIdle S.is_telling frames self.old self.new
+            × HasReceived S.is_observable frames self.old self.new × IsIdle S.is_observable frames self.old self.new
             × KeepsOf self.old.node self.old.addresses.seals frames buffer.old buffer.new) }
         ensures ends { OnErr result
             ((frames : List (Address × List ℕ))
-            × EndsGroup R.Says R.Gathers S.is_telling frames group.old self.old self.new) }
+            × EndsGroup R.Says R.Gathers S.is_observable frames group.old self.old self.new) }
         ensures others { ChangesInGroup self.old self.new }
         ensures broken { OnErr result (self.new.failed ≡ true) }
     {

@@ -2,8 +2,8 @@
 
 ghost use Rattle.std.specs.Prelude.{◌≡◌, ◌≢◌, ℕ, List, [], Some, IsSome};
 ghost use Rattle.std.specs.declared.net.socket_addr.SocketAddr.{SocketAddr};
-ghost use Rattle.lk_seal.specs.Seals.{key_list};
-ghost use Rattle.lk_seal.specs.declared.seals.Seals.{Seals};
+ghost use Rattle.lk_auth.specs.Seals.{key_list};
+ghost use Rattle.lk_auth.specs.declared.seals.Seals.{Seals};
 ghost use Rattle.lk_transport.specs.Askers.{BringsProbe};
 ghost use Rattle.lk_transport.specs.declared.received_probe.ReceivedProbe.{ReceivedProbe};
 ghost use Rattle.lk_server.specs.Premises.{IsToldByANode, IsToldOrAsked, IsProbedByANode, IsProbedByWhomItNames};

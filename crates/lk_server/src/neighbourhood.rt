@@ -86,16 +86,16 @@ impl<R: ServedReplica, S: DatagramSocket + Drop> Server<R, S> {
 
     // Probes one address for the genesis of its node, if that is due at this count of ticks. A failed send is counted.
     pub(crate) fn probe_next(&mut self, now: u64)
-        ensures asks { AsksOne S.is_telling now self.old.node self.old.addresses self.new.addresses
+        ensures asks { AsksOne S.is_observable now self.old.node self.old.addresses self.new.addresses
             (tray_at self.old.own self.old) (tray_at self.new.own self.new) }
         ensures network { IsSameNetwork self.old.addresses self.new.addresses }
-        ensures still { S.is_telling → self.new.coming ≡ self.old.coming }
+        ensures still { S.is_observable → self.new.incoming ≡ self.old.incoming }
         ensures others { self.new
             ≡ record self.old {
               addresses = self.new.addresses;
               sent = self.new.sent;
               socket_failures = self.new.socket_failures;
-              coming = self.new.coming;
+              incoming = self.new.incoming;
             } }
     {
         if self.post.probe_next(now).is_err() {
@@ -118,12 +118,12 @@ impl<R: ServedReplica, S: DatagramSocket + Drop> Server<R, S> {
         self.post.followed_stranger()
     }
 
-    /// Handles probes after the letters of a turn: answers the probe that the buffer keeps, hears the node again that
-    /// asks by it if it is of this genesis, learns from the report that the buffer keeps, and probes one node if that
-    /// is due. Returns the first node of another genesis that this one has followed, if there is one; the caller then
-    /// ends the node.
+    /// Handles probes after the letters of a turn. It answers the probe that the buffer keeps; if the node that sent it
+    /// has this genesis, that node's datagrams are taken again. It learns from the report that the buffer keeps, and
+    /// probes one node if that is due. Returns the first node of another genesis that this one has followed, if there
+    /// is one; the caller then ends the node.
     pub fn handle_probes<L: Log>(&mut self, buffer: &mut ReceiveBuffer, log: &L) -> Option<Origin>
-        ensures acts { HandlesProbes R.Shows S.is_telling buffer.old.asked buffer.old.reported self.old self.new }
+        ensures acts { HandlesProbes R.Shows S.is_observable buffer.old.asked buffer.old.reported self.old self.new }
         ensures kept { buffer.new ≡ record buffer.old { asked = None; reported = None } }
         ensures bound { result ≡ bound_in self.new.addresses.neighbours }
     {

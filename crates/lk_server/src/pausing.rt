@@ -40,13 +40,13 @@ fn receive_after_pause<S: DatagramSocket + Drop, C: Clock>(
     group: &Group,
 )
     // A datagram that arrived in the pause is in the buffer.
-    ensures comes { S.is_telling → buffer.old.last ≡ None
-        → post.old.coming ≡ listed buffer.new.last ++ post.new.coming }
-    ensures none { S.is_telling → IsPauseDue pause.old group.now → buffer.new.last ≡ None → post.old.coming ≡ [] }
+    ensures comes { S.is_observable → buffer.old.last ≡ None
+        → post.old.incoming ≡ listed buffer.new.last ++ post.new.incoming }
+    ensures none { S.is_observable → IsPauseDue pause.old group.now → buffer.new.last ≡ None → post.old.incoming ≡ [] }
     ensures pauses { IsPauseDue pause.old group.now → pause.new.left + 1 ≡ pause.old.left }
     ensures asked { buffer.new.asked ≡ buffer.old.asked }
     ensures reported { buffer.new.reported ≡ buffer.old.reported }
-    ensures others { post.new ≡ record post.old { coming = post.new.coming } }
+    ensures others { post.new ≡ record post.old { incoming = post.new.incoming } }
 {
     if pauses(pause, tick_timer, group) {
         post.try_receive(buffer);
@@ -62,14 +62,14 @@ pub(crate) fn receive_or_pause<S: DatagramSocket + Drop, C: Clock>(
     tick_timer: &TickTimer<C>,
     group: &Group,
 )
-    ensures comes { S.is_telling → post.old.coming ≡ listed buffer.new.last ++ post.new.coming }
-    ensures none { S.is_telling → buffer.new.last ≡ None → post.old.coming ≡ [] }
+    ensures comes { S.is_observable → post.old.incoming ≡ listed buffer.new.last ++ post.new.incoming }
+    ensures none { S.is_observable → buffer.new.last ≡ None → post.old.incoming ≡ [] }
     // Where none is waiting it pauses if that is due.
-    ensures pauses { S.is_telling → post.old.coming ≡ [] → IsPauseDue pause.old group.now
+    ensures pauses { S.is_observable → post.old.incoming ≡ [] → IsPauseDue pause.old group.now
         → pause.new.left + 1 ≡ pause.old.left }
     ensures asked { buffer.new.asked ≡ buffer.old.asked }
     ensures reported { buffer.new.reported ≡ buffer.old.reported }
-    ensures others { post.new ≡ record post.old { coming = post.new.coming } }
+    ensures others { post.new ≡ record post.old { incoming = post.new.incoming } }
 {
     post.try_receive(buffer);
     if buffer.latest().is_some() {

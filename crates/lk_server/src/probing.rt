@@ -59,12 +59,12 @@ impl<R: ServedReplica, S: DatagramSocket + Drop> Server<R, S> {
     /// Sends the report that answers a probe to where the probe came from, if there is one. Reads the lock table's
     /// version first if that is unknown. A failed send is counted.
     pub fn answer(&mut self, asked: &Option<ReceivedProbe>)
-        ensures answers { AnswersKept R.Shows S.is_telling asked.now self.old self.new }
+        ensures answers { AnswersKept R.Shows S.is_observable asked.now self.old self.new }
         ensures others { self.new
             ≡ record self.old {
               sent = self.new.sent;
               socket_failures = self.new.socket_failures;
-              coming = self.new.coming;
+              incoming = self.new.incoming;
             } }
     {
         let Some(asked) = asked else {

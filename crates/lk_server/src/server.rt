@@ -76,7 +76,7 @@ impl<R: ServedReplica, S: DatagramSocket + Drop> Model for Server<R, S> {
       failed = R.failed s.replica;
       sent = s.post.sent;
       socket_failures = s.post.socket_failures;
-      coming = s.post.coming;
+      incoming = s.post.incoming;
     } };
 }
 
@@ -93,7 +93,7 @@ impl<R: ServedReplica, S: DatagramSocket + Drop> Server<R, S> {
     ) -> Server<R, S>
         ensures node { ServesAs cluster node pace network result }
         ensures replica { Runs replica (R.failed replica) result }
-        ensures socket { ServesOn (S.sent socket) (S.failures socket) (S.coming socket) result }
+        ensures socket { ServesOn (S.sent socket) (S.failures socket) (S.incoming socket) result }
         ensures unheard { HasHeardNobody result }
     {
         Server {
@@ -163,19 +163,19 @@ impl<R: ServedReplica, S: DatagramSocket + Drop> Server<R, S> {
     fn begin_group(&self) -> Group
         ensures { R.Gathers self.now.replica [] result self.now.replica }
     {
-        self.replica.begin(self.alloc)
+        self.replica.begin_group(self.alloc)
     }
 
     // Releases a group: after its sync each letter is sent, or kept if it is to the node itself. Logs their fate, and
     // counts failed sends. Returns whether none failed.
     fn sync_and_send<L: Log>(&mut self, group: &Group, log: &L) -> Result<bool, ReplicaFault>
-        ensures gives { OnOk result (DeliversAllLetters R.Says R.Gathers S.is_telling group.now self.old self.new) }
+        ensures gives { OnOk result (DeliversAllLetters R.Says R.Gathers S.is_observable group.now self.old self.new) }
         ensures silent { OnErr result (SaysNothing R.Says R.Gathers group.now self.old self.new) }
         ensures addresses { self.new.addresses ≡ self.old.addresses }
         ensures same { IsSameServer self.old self.new }
         ensures received { self.new.received ≡ self.old.received }
         ensures ticks { self.new.ticks ≡ self.old.ticks }
-        ensures still { S.is_telling → self.new.coming ≡ self.old.coming }
+        ensures still { S.is_observable → self.new.incoming ≡ self.old.incoming }
         ensures alive { OnOk result (self.new.failed ≡ false) }
         ensures broken { OnErr result (self.new.failed ≡ true) }
         ensures told { IfErr result IsOfGroups }
@@ -192,14 +192,14 @@ impl<R: ServedReplica, S: DatagramSocket + Drop> Server<R, S> {
     fn end_group<L: Log>(&mut self, group: &Group, log: &L) -> Result<(), GroupFault>
         // Each letter of the group was sent to its destination, kept for the node itself, or lost by a failed send, in
         // order.
-        ensures gives { OnOk result (DeliversAllLetters R.Says R.Gathers S.is_telling group.now self.old self.new) }
+        ensures gives { OnOk result (DeliversAllLetters R.Says R.Gathers S.is_observable group.now self.old self.new) }
         // After an error nothing of the group is sent.
         ensures silent { OnErr result (SaysNothing R.Says R.Gathers group.now self.old self.new) }
         ensures addresses { self.new.addresses ≡ self.old.addresses }
         ensures same { IsSameServer self.old self.new }
         ensures received { self.new.received ≡ self.old.received }
         ensures ticks { self.new.ticks ≡ self.old.ticks }
-        ensures still { S.is_telling → self.new.coming ≡ self.old.coming }
+        ensures still { S.is_observable → self.new.incoming ≡ self.old.incoming }
         ensures alive { OnOk result (self.new.failed ≡ false) }
         ensures broken { OnErr result (self.new.failed ≡ true) }
     {
@@ -217,7 +217,7 @@ impl<R: ServedReplica, S: DatagramSocket + Drop> Server<R, S> {
     pub fn tick<L: Log>(&mut self, log: &L) -> Result<(), GroupFault>
         // The replica took a tick and nothing else. Each of its letters was sent, kept, lost by a failed send, or
         // dropped since no address is known for it, and nothing else was sent.
-        ensures hands_on { OnOk result (DeliversLetters R.Says S.is_telling
+        ensures hands_on { OnOk result (DeliversLetters R.Says S.is_observable
             (None ∷ []) self.old.own self.old self.new) }
         ensures ends { OnErr result (DeliversNothing R.Says (None ∷ []) self.old.own self.old self.new) }
         ensures addresses { self.new.addresses ≡ self.old.addresses }
@@ -242,15 +242,15 @@ impl<R: ServedReplica, S: DatagramSocket + Drop> Server<R, S> {
     ) -> Result<bool, GroupFault>
         ensures turn { IfOk result
             (λ came. came ≡ true → (frames : List (Address × List ℕ))
-            × HasReceived S.is_telling frames self.old self.new
-            × Turn R.Says S.is_telling (all_filtered (filter_of self.old.addresses) frames) self.old self.new
+            × HasReceived S.is_observable frames self.old self.new
+            × Turn R.Says S.is_observable (all_filtered (filter_of self.old.addresses) frames) self.old self.new
             × KeepsOf self.old.node self.old.addresses.seals frames buffer.old buffer.new) }
         ensures ends { OnErr result
-            ((frames : List (Address × List ℕ)) × HasReceived S.is_telling frames self.old self.new
-            × LastTurn R.Says S.is_telling (all_filtered (filter_of self.old.addresses) frames) self.old self.new) }
+            ((frames : List (Address × List ℕ)) × HasReceived S.is_observable frames self.old self.new
+            × LastTurn R.Says S.is_observable (all_filtered (filter_of self.old.addresses) frames) self.old self.new) }
         ensures none { IfOk result
             (λ came. came ≡ false → (self.old.own ≡ []) × (found : TurnInput) × (frames : List (Address × List ℕ))
-            × Finds S.is_telling found frames self.old self.new
+            × Finds S.is_observable found frames self.old self.new
             × KeepsOf self.old.node self.old.addresses.seals frames buffer.old buffer.new) }
         // Where nodes live and the keys do not change.
         ensures network { IsSameNetwork self.old.addresses self.new.addresses }
@@ -281,13 +281,14 @@ pub fn node_turn<R: ServedReplica, S: DatagramSocket + Drop, C: Clock, L: Log>(
     // dropped since no address is known, in order, and nothing else was sent. A turn that gives the replica nothing is
     // idle. Of the probes in these frames the first is kept, unless one was kept before.
     ensures turn { OnOk result
-        ((frames : List (Address × List ℕ)) × HasReceived S.is_telling frames server.old server.new
-        × TakesTurn R.Says S.is_telling frames server.old server.new
+        ((frames : List (Address × List ℕ)) × HasReceived S.is_observable frames server.old server.new
+        × TakesTurn R.Says S.is_observable frames server.old server.new
         × KeepsOf server.old.node server.old.addresses.seals frames buffer.old buffer.new) }
     // After an error nothing of the group is sent.
     ensures ends { OnErr result
-        ((frames : List (Address × List ℕ)) × HasReceived S.is_telling frames server.old server.new
-        × LastTurn R.Says S.is_telling (all_filtered (filter_of server.old.addresses) frames) server.old server.new) }
+        ((frames : List (Address × List ℕ)) × HasReceived S.is_observable frames server.old server.new
+        × LastTurn R.Says S.is_observable (all_filtered (filter_of server.old.addresses) frames)
+        server.old server.new) }
     // Where nodes live and the keys do not change.
     ensures network { IsSameNetwork server.old.addresses server.new.addresses }
 {

@@ -11,7 +11,7 @@ ghost use Rattle.lk_server.specs.Gatherings.{Finds, TakesHeard, EndsHeard, Takes
 ghost use Rattle.lk_server.specs.Gatherings.{EndsGroup, ChangesAtFrame, ChangesAtSocket};
 ghost use Rattle.lk_transport.specs.ReceiveBuffers.{listed};
 ghost use Rattle.lk_transport.specs.Posts.{Hears, is_filtered_out};
-ghost use Rattle.lk_transport.specs.Kept.{Keeps, KeepsOf};
+ghost use Rattle.lk_transport.specs.Kept.{KeepsProbes, KeepsOf};
 
 use crate::gathering::FURTHER;
 use crate::group_fault::GroupFault;
@@ -33,11 +33,11 @@ use std::time::Clock;
 impl<R: ServedReplica, S: DatagramSocket + Drop> Server<R, S> {
     // Receives the next datagram of the socket into the buffer, if one arrives before the timeout.
     pub(crate) fn receive(&mut self, buffer: &mut ReceiveBuffer)
-        ensures comes { S.is_telling → self.old.coming ≡ listed buffer.new.last ++ self.new.coming }
-        ensures none { S.is_telling → buffer.new.last ≡ None → self.old.coming ≡ [] }
+        ensures comes { S.is_observable → self.old.incoming ≡ listed buffer.new.last ++ self.new.incoming }
+        ensures none { S.is_observable → buffer.new.last ≡ None → self.old.incoming ≡ [] }
         ensures asked { buffer.new.asked ≡ buffer.old.asked }
         ensures reported { buffer.new.reported ≡ buffer.old.reported }
-        ensures others { self.new ≡ record self.old { coming = self.new.coming } }
+        ensures others { self.new ≡ record self.old { incoming = self.new.incoming } }
     {
         self.post.receive(buffer);
     }
@@ -50,11 +50,11 @@ impl<R: ServedReplica, S: DatagramSocket + Drop> Server<R, S> {
         tick_timer: &TickTimer<C>,
         group: &Group,
     )
-        ensures comes { S.is_telling → self.old.coming ≡ listed buffer.new.last ++ self.new.coming }
-        ensures none { S.is_telling → buffer.new.last ≡ None → self.old.coming ≡ [] }
+        ensures comes { S.is_observable → self.old.incoming ≡ listed buffer.new.last ++ self.new.incoming }
+        ensures none { S.is_observable → buffer.new.last ≡ None → self.old.incoming ≡ [] }
         ensures asked { buffer.new.asked ≡ buffer.old.asked }
         ensures reported { buffer.new.reported ≡ buffer.old.reported }
-        ensures others { self.new ≡ record self.old { coming = self.new.coming } }
+        ensures others { self.new ≡ record self.old { incoming = self.new.incoming } }
     {
         receive_or_pause(
             &mut self.post,
@@ -112,7 +112,8 @@ impl<R: ServedReplica, S: DatagramSocket + Drop> Server<R, S> {
             × (is_filtered_out (filter_of self.old.addresses) frame ≡ false)
             × EndsHeard R.Says R.Gathers (frame ∷ []) group.old self.old self.new) }
         ensures kept { IfOk result
-            (λ found. found ≡ TurnInput.Filtered → Keeps self.old.node self.old.addresses.seals buffer.old buffer.new) }
+            (λ found. found ≡ TurnInput.Filtered → KeepsProbes self.old.node self.old.addresses.seals buffer.old
+            buffer.new) }
         ensures rest { IfOk result (λ found. (found ≡ TurnInput.Filtered → ⊥) → buffer.new ≡ buffer.old) }
         ensures spares { OnErr result (buffer.new ≡ buffer.old) }
         ensures others { ChangesAtFrame self.old self.new }
@@ -149,15 +150,15 @@ impl<R: ServedReplica, S: DatagramSocket + Drop> Server<R, S> {
         ensures takes { IfOk result
             (λ found. found ≡ TurnInput.Something
             → (frame : Address × List ℕ) × (is_filtered_out (filter_of self.old.addresses) frame ≡ false)
-            × TakesSocket R.Gathers S.is_telling (frame ∷ []) group.old group.new self.old self.new
+            × TakesSocket R.Gathers S.is_observable (frame ∷ []) group.old group.new self.old self.new
             × KeepsOf self.old.node self.old.addresses.seals (frame ∷ []) buffer.old buffer.new) }
         ensures none { IfOk result
             (λ found. (found ≡ TurnInput.Something → ⊥)
-            → (frames : List (Address × List ℕ)) × Finds S.is_telling found frames self.old self.new
+            → (frames : List (Address × List ℕ)) × Finds S.is_observable found frames self.old self.new
             × (group.new ≡ group.old) × KeepsOf self.old.node self.old.addresses.seals frames buffer.old buffer.new) }
         ensures ends { OnErr result
             ((frame : Address × List ℕ) × (is_filtered_out (filter_of self.old.addresses) frame ≡ false)
-            × EndsSocket R.Says R.Gathers S.is_telling (frame ∷ []) group.old self.old self.new) }
+            × EndsSocket R.Says R.Gathers S.is_observable (frame ∷ []) group.old self.old self.new) }
         ensures others { ChangesAtSocket self.old self.new }
         ensures broken { OnErr result (self.new.failed ≡ true) }
     {
@@ -176,15 +177,15 @@ impl<R: ServedReplica, S: DatagramSocket + Drop> Server<R, S> {
     ) -> Result<bool, GroupFault>
         ensures takes { IfOk result
             (λ came. came ≡ true → (frame : Address × List ℕ)
-            × TakesSocket R.Gathers S.is_telling (frame ∷ []) group.old group.new self.old self.new
+            × TakesSocket R.Gathers S.is_observable (frame ∷ []) group.old group.new self.old self.new
             × KeepsOf self.old.node self.old.addresses.seals (frame ∷ []) buffer.old buffer.new) }
         ensures none { IfOk result
-            (λ came. came ≡ false → (S.is_telling → self.new.coming ≡ self.old.coming)
-            × (record self.new { coming = self.old.coming } ≡ self.old) × (group.new ≡ group.old)
+            (λ came. came ≡ false → (S.is_observable → self.new.incoming ≡ self.old.incoming)
+            × (record self.new { incoming = self.old.incoming } ≡ self.old) × (group.new ≡ group.old)
             × (buffer.new.asked ≡ buffer.old.asked) × (buffer.new.reported ≡ buffer.old.reported)) }
         ensures ends { OnErr result
             ((frame : Address × List ℕ)
-            × EndsSocket R.Says R.Gathers S.is_telling (frame ∷ []) group.old self.old self.new) }
+            × EndsSocket R.Says R.Gathers S.is_observable (frame ∷ []) group.old self.old self.new) }
         ensures others { ChangesAtSocket self.old self.new }
         ensures broken { OnErr result (self.new.failed ≡ true) }
     {
@@ -210,11 +211,11 @@ impl<R: ServedReplica, S: DatagramSocket + Drop> Server<R, S> {
     ) -> Result<(), GroupFault>
         ensures takes { OnOk result
             ((frames : List (Address × List ℕ)) × (length frames ≤ 63)
-            × TakesSocket R.Gathers S.is_telling frames group.old group.new self.old self.new
+            × TakesSocket R.Gathers S.is_observable frames group.old group.new self.old self.new
             × KeepsOf self.old.node self.old.addresses.seals frames buffer.old buffer.new) }
         ensures ends { OnErr result
             ((frames : List (Address × List ℕ)) × (length frames ≤ 63)
-            × EndsSocket R.Says R.Gathers S.is_telling frames group.old self.old self.new) }
+            × EndsSocket R.Says R.Gathers S.is_observable frames group.old self.old self.new) }
         ensures others { ChangesAtSocket self.old self.new }
         ensures broken { OnErr result (self.new.failed ≡ true) }
     {
@@ -238,16 +239,16 @@ impl<R: ServedReplica, S: DatagramSocket + Drop> Server<R, S> {
         ensures takes { IfOk result
             (λ found. found ≡ TurnInput.Something
             → (frames : List (Address × List ℕ))
-            × TakesWaiting R.Gathers S.is_telling frames group.old group.new self.old self.new
+            × TakesWaiting R.Gathers S.is_observable frames group.old group.new self.old self.new
             × KeepsOf self.old.node self.old.addresses.seals frames buffer.old buffer.new) }
         ensures none { IfOk result
             (λ found. (found ≡ TurnInput.Something → ⊥)
             → (self.old.own ≡ []) × (frames : List (Address × List ℕ))
-            × Finds S.is_telling found frames self.old self.new × (group.new ≡ group.old)
+            × Finds S.is_observable found frames self.old self.new × (group.new ≡ group.old)
             × KeepsOf self.old.node self.old.addresses.seals frames buffer.old buffer.new) }
         ensures ends { OnErr result
             ((frames : List (Address × List ℕ))
-            × EndsGroup R.Says R.Gathers S.is_telling frames group.old self.old self.new) }
+            × EndsGroup R.Says R.Gathers S.is_observable frames group.old self.old self.new) }
         ensures others { ChangesAtSocket self.old self.new }
         ensures broken { OnErr result (self.new.failed ≡ true) }
     {

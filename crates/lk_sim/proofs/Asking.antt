@@ -22,13 +22,13 @@ use Rattle.lk_node.specs.Histories.{History, Genesis, Datagram, RequestValue}
 use Rattle.lk_node.specs.Served.{BearsOut}
 use Rattle.lk_node.specs.Holdings.{Holding}
 use Rattle.lk_node.specs.Leavings.{DisksFit}
-use Rattle.lk_world_nodes.specs.Told.{Tells}
+use Rattle.lk_sim_nodes.specs.Told.{Tells}
 use Rattle.lk_sim.specs.Traces.{asked_in, happened, told_in}
-use Rattle.lk_world_nodes.proofs.Tellings.{tells_append}
+use Rattle.lk_sim_nodes.proofs.Tellings.{tells_append}
 use Rattle.lk_sim.proofs.Told.{told_in-append}
-use Rattle.lk_world_nodes.specs.Seats.{SeatFits, At}
-use Rattle.lk_sim.specs.Worlds.{Holds}
-use Rattle.lk_world_nodes.specs.declared.seat.Seat.{Seat}
+use Rattle.lk_sim_nodes.specs.Seats.{SeatFits, At}
+use Rattle.lk_sim.specs.Worlds.{WorldInvariant}
+use Rattle.lk_sim_nodes.specs.declared.seat.Seat.{Seat}
 use Rattle.lk_sim.proofs.Lists.{asked_in-append, asked_among}
 use Rattle.lk_sim.proofs.Growth.{disks_move, still_asked, still_holding, still_bears}
 use Rattle.lk_sim.proofs.Ordering.{still_in_time}
@@ -41,7 +41,7 @@ asked_last trace r = subst (λ l. Contains l r) (sym (asked_in-append trace (not
 
 module _ {R : Type 0} (Shows : R → Genesis → ℕ → Holding → Type 0) (disks : R → Side → Disk) (m : Meaning)
     (genesis : Genesis) (seats : List (Seat R)) (sent : List Datagram) (trace : List Note)
-    (w : Holds Shows disks m genesis seats sent trace) (r : RequestValue) where
+    (w : WorldInvariant Shows disks m genesis seats sent trace) (r : RequestValue) where
   -- datagrams of clients
   module _ (more : List Datagram) (fits : WorldFits genesis (record { sent = sent ++ more; views = w.views }))
       (silent : (d : Datagram) → Contains more d → (n : ℕ) (x : NodeMessage) → Spells (said_by genesis n x) d.bytes → ⊥)
@@ -79,7 +79,7 @@ module _ {R : Type 0} (Shows : R → Genesis → ℕ → Holding → Type 0) (di
       room = f.room;
     }
 
-    goes_on : Holds Shows disks m genesis seats (sent ++ more) (trace ++ notes)
+    goes_on : WorldInvariant Shows disks m genesis seats (sent ++ more) (trace ++ notes)
     goes_on = record {
       views = w.views;
       world = fits;
@@ -108,14 +108,15 @@ module _ {R : Type 0} (Shows : R → Genesis → ℕ → Holding → Type 0) (di
     }
 
   -- a request that is injected
-  pub injected_holds : Holds Shows disks m genesis seats sent (trace ++ note.Asked r ∷ [])
-  injected_holds = subst (λ l. Holds Shows disks m genesis seats l (trace ++ note.Asked r ∷ [])) (append-nil sent)
+  pub injected_holds : WorldInvariant Shows disks m genesis seats sent (trace ++ note.Asked r ∷ [])
+  injected_holds = subst (λ l. WorldInvariant Shows disks m genesis seats l (trace ++ note.Asked r ∷ []))
+      (append-nil sent)
       (goes_on [] (subst (λ l. WorldFits genesis (record { sent = l; views = w.views }))
       (sym (append-nil sent)) w.world) (λ d c. absurd (omega (arith, c.1))) refl (λ d c. absurd (omega (arith, c.1))))
 
   -- a client's datagram
   pub asked_holds : (d : Datagram) (a : IsClientRequest d) → a.request ≡ r
-      → Holds Shows disks m genesis seats (sent ++ d ∷ []) (trace ++ note.Asked r ∷ [])
+      → WorldInvariant Shows disks m genesis seats (sent ++ d ∷ []) (trace ++ note.Asked r ∷ [])
   asked_holds d a is = goes_on (d ∷ []) (asked_fits genesis (record { sent = sent; views = w.views }) d w.world a)
       (λ x c n k said. asked_is_no_saying genesis d a n k
       (subst (λ (z : Datagram). Spells (said_by genesis n k) z.bytes) (sym (only d x c)) said))

@@ -11,28 +11,28 @@ use Rattle.lk_node_io.specs.declared.note.Note.{Note}
 use Rattle.lk_node.specs.Histories.{History, Genesis, Datagram, RequestValue}
 use Rattle.lk_node.specs.Holdings.{Holding}
 use Rattle.lk_node.specs.Leavings.{header_of}
-use Rattle.lk_world_nodes.specs.Told.{Tells}
+use Rattle.lk_sim_nodes.specs.Told.{Tells}
 use Rattle.lk_sim.specs.Traces.{asked_in, happened, asked_note}
 use Rattle.lk_sim.specs.Scenes.{Scene}
-use Rattle.lk_world_nodes.specs.Seats.{At, SeatFits, SeatGoes, stopped_on, fallen_on, rested_on, device_in}
+use Rattle.lk_sim_nodes.specs.Seats.{At, SeatFits, SeatGoes, stopped_on, fallen_on, rested_on, device_in}
 use Rattle.lk_replica.specs.Behaviours.{Behaviour, TrapsAlone, disks_by}
-use Rattle.lk_world_nodes.specs.Ends.{Breaks, StaysDown, FailsToCompact, IsToldEnd, end_by, end_at}
-use Rattle.lk_world_nodes.specs.Sends.{stop_among, after_sends}
+use Rattle.lk_sim_nodes.specs.Ends.{Breaks, StaysDown, FailsToCompact, IsToldEnd, end_by, end_at}
+use Rattle.lk_sim_nodes.specs.Sends.{stop_among, after_sends}
 use Rattle.lk_sim.specs.Events.{AreOwn, Adds, EndsByFault, Comes, IsGiven, IsBack, ComesUp, GoesOnCompacted}
 use Rattle.lk_sim.specs.Events.{IsCompacted}
 use Rattle.lk_sim.specs.Events.{IsHalted, LeftBy, LeftByRevival}
-use Rattle.lk_world_nodes.specs.Outcomes.{HasEndedByFault, HasTaken, HasRevived, HasCompacted, HasStoppedOutOfMemory}
-use Rattle.lk_world_nodes.specs.Outcomes.{Rests}
+use Rattle.lk_sim_nodes.specs.Outcomes.{HasEndedByFault, HasTaken, HasRevived, HasCompacted, HasStoppedOutOfMemory}
+use Rattle.lk_sim_nodes.specs.Outcomes.{Rests}
 use Rattle.lk_sim.specs.Settled.{HasAdded, HasSettled, HasGivenUp}
-use Rattle.lk_sim.specs.Worlds.{Holds}
-use Rattle.lk_world_nodes.specs.declared.end.End.{End}
-use Rattle.lk_world_nodes.specs.declared.seat.Seat.{Seat}
-use Rattle.lk_world_nodes.specs.declared.seat.Life.{Life}
-use Rattle.lk_world_nodes.specs.declared.seat.Life.TheVariants.{Up, Down}
+use Rattle.lk_sim.specs.Worlds.{WorldInvariant}
+use Rattle.lk_sim_nodes.specs.declared.end.End.{End}
+use Rattle.lk_sim_nodes.specs.declared.seat.Seat.{Seat}
+use Rattle.lk_sim_nodes.specs.declared.seat.Life.{Life}
+use Rattle.lk_sim_nodes.specs.declared.seat.Life.TheVariants.{Up, Down}
 use Rattle.lk_sim.proofs.Ending.{goes_fits}
-use Rattle.lk_world_nodes.proofs.Faults.{told_as}
+use Rattle.lk_sim_nodes.proofs.Faults.{told_as}
 use Rattle.lk_sim.proofs.Lists.{at_set_here}
-use Rattle.lk_world_nodes.proofs.Stopping.{rested, nothing_sent, stopped_sent}
+use Rattle.lk_sim_nodes.proofs.Stopping.{rested, nothing_sent, stopped_sent}
 use Rattle.lk_sim.proofs.Given.{set_twice, asked_maybe, went_down, went_off, went_on}
 
 -- one thing stands at a place
@@ -363,7 +363,7 @@ packed_cases b r t mine batch how stop cases = elim cases [
 
 module _ {R : Type 0} (Shows : R → Genesis → ℕ → Holding → Type 0) (b : Behaviour R) (m : Meaning) (genesis : Genesis)
     (seats : List (Seat R)) (sent : List Datagram) (trace : List Note)
-    (w : Holds Shows (disks_by b) m genesis seats sent trace) (i : ℕ) (s t : Seat R) (at : At seats i s)
+    (w : WorldInvariant Shows (disks_by b) m genesis seats sent trace) (i : ℕ) (s t : Seat R) (at : At seats i s)
     (number : t.number ≡ s.number) (o : Option RequestValue) where
   abbrev asked : List Note
   asked = trace ++ asked_note o
@@ -371,12 +371,12 @@ module _ {R : Type 0} (Shows : R → Genesis → ℕ → Holding → Type 0) (b 
   abbrev h : History
   h = happened genesis sent asked
 
-  pub since : Holds Shows (disks_by b) m genesis seats sent asked
+  pub since : WorldInvariant Shows (disks_by b) m genesis seats sent asked
   since = asked_maybe Shows (disks_by b) m genesis seats sent trace w o
 
   -- a node that was halted keeps all that holds
   pub halted_holds : (off : Seat R) → off.number ≡ s.number → (d : Memory) → off.life ≡ Down d → (v : View)
-      → SeatFits Shows (disks_by b) m h v off → Holds Shows (disks_by b) m genesis (set seats i off) sent trace
+      → SeatFits Shows (disks_by b) m h v off → WorldInvariant Shows (disks_by b) m genesis (set seats i off) sent trace
   halted_holds off same d down v f =
       went_off Shows (disks_by b) m genesis seats sent trace w i s off at same (asked_in asked) v d down f
 
@@ -388,14 +388,15 @@ module _ {R : Type 0} (Shows : R → Genesis → ℕ → Holding → Type 0) (b 
     mid ended = record { genesis = genesis; seats = set seats i t; sent = sent; trace = trace; ended = ended }
 
     added : (told : List Note) → Tells batch told
-        → Holds Shows (disks_by b) m genesis (set seats i t) (sent ++ batch) (trace ++ ((asked_note o ++ mine) ++ told))
+        → WorldInvariant Shows (disks_by b) m genesis (set seats i t) (sent ++ batch) (trace
+        ++ ((asked_note o ++ mine) ++ told))
     added told tells = elim cases [
-      | inl u ↦ subst (λ l. Holds Shows (disks_by b) m genesis (set seats i t) (sent ++ batch) l)
+      | inl u ↦ subst (λ l. WorldInvariant Shows (disks_by b) m genesis (set seats i t) (sent ++ batch) l)
           (append_assoc trace (asked_note o) (mine ++ told)
           ∙ ap (λ l. trace ++ l) (sym (append_assoc (asked_note o) mine told)))
           (went_on Shows (disks_by b) m genesis seats sent asked since i s t at number mine told
           batch (goes u.0 u.1) tells)
-      | inr e ↦ subst₂ (λ x y. Holds Shows (disks_by b) m genesis (set seats i t) x y)
+      | inr e ↦ subst₂ (λ x y. WorldInvariant Shows (disks_by b) m genesis (set seats i t) x y)
           (sym (ap (λ l. sent ++ l) e.no_batch ∙ append-nil sent))
           (sym (ap (λ l. trace ++ l)
           (ap (λ l. (asked_note o ++ mine) ++ l) (nothing_told batch told e.no_batch tells)
@@ -406,27 +407,28 @@ module _ {R : Type 0} (Shows : R → Genesis → ℕ → Holding → Type 0) (b 
     -- what the node has added keeps all that holds
     pub added_holds : (before how : Option End) (new : Scene R)
         → HasAdded (mid before) new (asked_note o) mine batch how
-        → Holds Shows (disks_by b) m new.genesis new.seats new.sent new.trace
+        → WorldInvariant Shows (disks_by b) m new.genesis new.seats new.sent new.trace
     added_holds before how new k =
-        subst (λ g. Holds Shows (disks_by b) m g new.seats new.sent new.trace) (sym k.adds.genesis)
-        (subst (λ z. Holds Shows (disks_by b) m genesis z new.sent new.trace) (sym k.seats)
-        (subst₂ (λ x y. Holds Shows (disks_by b) m genesis (set seats i t) x y) (sym k.adds.sent)
+        subst (λ g. WorldInvariant Shows (disks_by b) m g new.seats new.sent new.trace) (sym k.adds.genesis)
+        (subst (λ z. WorldInvariant Shows (disks_by b) m genesis z new.sent new.trace) (sym k.seats)
+        (subst₂ (λ x y. WorldInvariant Shows (disks_by b) m genesis (set seats i t) x y) (sym k.adds.sent)
         (sym k.adds.trace) (added k.told k.tells)))
 
     -- what the node has added, and an armed stop to which it has come, keeps all that holds
     pub settled_holds : (before how : Option End) (stop : Option ℕ) (new : Scene R)
         → HasSettled Shows b m (mid before) i new (asked_note o) mine batch how stop
-        → Holds Shows (disks_by b) m new.genesis new.seats new.sent new.trace
+        → WorldInvariant Shows (disks_by b) m new.genesis new.seats new.sent new.trace
     settled_holds before how stop new k =
         let same : k.seat ≡ t = at_same (set seats i t) i k.seat t k.at (at_set_here seats i t at.0) in
         let here : At (set seats i t) i t = at_set_here seats i t at.0 in
         let now : List Note = trace ++ ((asked_note o ++ mine) ++ k.told) in
-        let w2 : Holds Shows (disks_by b) m genesis (set seats i t) (sent ++ batch) now = added k.told k.tells in
+        let w2 : WorldInvariant Shows (disks_by b) m genesis (set seats i t) (sent
+        ++ batch) now = added k.told k.tells in
         let f : SeatFits Shows (disks_by b) m (happened genesis (sent ++ batch) now) (w2.views t.number) t =
         w2.seated i t here in
-        subst (λ g. Holds Shows (disks_by b) m g new.seats new.sent new.trace) (sym k.adds.genesis)
-        (subst (λ z. Holds Shows (disks_by b) m genesis z new.sent new.trace) (sym k.seats)
-        (subst₂ (λ x y. Holds Shows (disks_by b) m genesis (set (set seats i t) i k.next) x y)
+        subst (λ g. WorldInvariant Shows (disks_by b) m g new.seats new.sent new.trace) (sym k.adds.genesis)
+        (subst (λ z. WorldInvariant Shows (disks_by b) m genesis z new.sent new.trace) (sym k.seats)
+        (subst₂ (λ x y. WorldInvariant Shows (disks_by b) m genesis (set (set seats i t) i k.next) x y)
         (sym k.adds.sent) (sym k.adds.trace)
         (went_down Shows (disks_by b) m genesis (set seats i t) (sent ++ batch) now w2 i t k.next here
         (k.number ∙ ap (λ (z : Seat R). z.number) same)
@@ -443,14 +445,14 @@ module _ {R : Type 0} (Shows : R → Genesis → ℕ → Holding → Type 0) (b 
 
     -- that it was given up does too
     pub given_up_holds : (before : Option End) (new : Scene R) → HasGivenUp Shows b m (mid before) i new
-        → Holds Shows (disks_by b) m new.genesis new.seats new.sent new.trace
+        → WorldInvariant Shows (disks_by b) m new.genesis new.seats new.sent new.trace
     given_up_holds before new k =
         let same : k.seat ≡ t = at_same (set seats i t) i k.seat t k.at (at_set_here seats i t at.0) in
         let f = fits_some in
-        subst (λ g. Holds Shows (disks_by b) m g new.seats new.sent new.trace) (sym k.adds.genesis)
-        (subst (λ z. Holds Shows (disks_by b) m genesis z new.sent new.trace)
+        subst (λ g. WorldInvariant Shows (disks_by b) m g new.seats new.sent new.trace) (sym k.adds.genesis)
+        (subst (λ z. WorldInvariant Shows (disks_by b) m genesis z new.sent new.trace)
         (sym (k.seats ∙ set_twice seats i t k.next))
-        (subst₂ (λ x y. Holds Shows (disks_by b) m genesis (set seats i k.next) x y)
+        (subst₂ (λ x y. WorldInvariant Shows (disks_by b) m genesis (set seats i k.next) x y)
         (sym (k.adds.sent ∙ append-nil sent)) (sym (k.adds.trace ∙ append-nil trace))
         (halted_holds k.next (k.number ∙ ap (λ (z : Seat R). z.number) same ∙ number)
         (stopped_on 0 0 (device_in b k.seat.life)) k.halted f.0

@@ -12,10 +12,10 @@ use Rattle.lk_node.specs.Histories.{History, Genesis, Datagram, RequestValue}
 use Rattle.lk_node.specs.Holdings.{Holding}
 use Rattle.lk_node.specs.Leavings.{DisksFit}
 use Rattle.lk_sim.specs.Traces.{happened}
-use Rattle.lk_world_nodes.specs.Seats.{UpFits, SeatFits, SeatGoes, At}
-use Rattle.lk_sim.specs.Worlds.{Holds}
-use Rattle.lk_world_nodes.specs.declared.seat.Seat.{Seat}
-use Rattle.lk_world_nodes.specs.declared.seat.Life.TheVariants.{Down}
+use Rattle.lk_sim_nodes.specs.Seats.{UpFits, SeatFits, SeatGoes, At}
+use Rattle.lk_sim.specs.Worlds.{WorldInvariant}
+use Rattle.lk_sim_nodes.specs.declared.seat.Seat.{Seat}
+use Rattle.lk_sim_nodes.specs.declared.seat.Life.TheVariants.{Down}
 use Rattle.lk_sim.proofs.Lists.{at_set, at_set_here, at_set_other}
 
 -- a node that is down fits whatever view stands for its number
@@ -27,7 +27,7 @@ any_view Shows disks m h v x s d down f = record { up = λ q is. absurd (cc (dow
 -- a node is replaced by one of the same number that fits to the same view
 module _ {R : Type 0} (Shows : R → Genesis → ℕ → Holding → Type 0) (disks : R → Side → Disk) (m : Meaning)
     (genesis : Genesis) (seats : List (Seat R)) (sent : List Datagram) (trace : List Note)
-    (w : Holds Shows disks m genesis seats sent trace)
+    (w : WorldInvariant Shows disks m genesis seats sent trace)
     (i : ℕ) (s new : Seat R) (at : At seats i s) (number : new.number ≡ s.number)
     (fits : SeatFits Shows disks m (happened genesis sent trace) (w.views s.number) new) where
   abbrev h : History
@@ -63,7 +63,7 @@ module _ {R : Type 0} (Shows : R → Genesis → ℕ → Holding → Type 0) (di
       same : j ≡ i → s ≡ t
       same e = sym at.1 ∙ get_or_default seats i s t at.0 ∙ ap (λ k. get_or seats k t) (sym e) ∙ c.1
 
-  pub ends : Holds Shows disks m genesis (set seats i new) sent trace
+  pub ends : WorldInvariant Shows disks m genesis (set seats i new) sent trace
   ends = record {
     views = w.views;
     world = w.world;

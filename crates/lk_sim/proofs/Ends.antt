@@ -4,7 +4,7 @@ use Rattle.std.specs.Prelude.{List, [], ◌∷◌, map, take}
 use Rattle.lk_simulated_disk.specs.Memory.{Memory, empty}
 use Rattle.lk_replica.specs.Behaviours.{Behaviour}
 use Rattle.lk_node_io.specs.declared.note.Note.{Note}
-use Rattle.lk_world_nodes.specs.Ends.{IsToldEnd}
+use Rattle.lk_sim_nodes.specs.Ends.{IsToldEnd}
 use Rattle.lk_sim.specs.Events.{IsGiven, IsGivenTogether, ComesUp, HasEffect, IsExecuted, Wants, IsRefused}
 use Rattle.lk_sim.specs.Groups.{given_by}
 use Rattle.lk_sim.specs.Runs.{Passes, StopsAt, Runs}
@@ -13,9 +13,9 @@ use Rattle.lk_sim.specs.Traces.{asked_note}
 use Rattle.lk_sim.specs.declared.end.RunEnd.{RunEnd}
 use Rattle.lk_sim.specs.declared.event.Event.{Event}
 use Rattle.lk_sim.specs.declared.event.Event.TheVariants as event
-use Rattle.lk_world_nodes.specs.declared.refused.Refused.{Refused}
-use Rattle.lk_world_nodes.specs.declared.seat.Seat.{Seat}
-use Rattle.lk_world_nodes.proofs.Faults.{told_as}
+use Rattle.lk_sim_nodes.specs.declared.refused.Refused.{Refused}
+use Rattle.lk_sim_nodes.specs.declared.seat.Seat.{Seat}
+use Rattle.lk_sim_nodes.proofs.Faults.{told_as}
 
 module _ {R : Type 0} (b : Behaviour R) where
   nothing_told : (new : Scene R) → new.ended ≡ None → IsToldEnd new.ended

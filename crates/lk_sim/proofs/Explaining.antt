@@ -21,10 +21,10 @@ use Rattle.lk_node.specs.Leavings.{DisksFit}
 use Rattle.lk_sim.specs.Traces.{asked_by, asked_in, happened}
 use Rattle.lk_sim.specs.Explained.{Explains}
 use Rattle.lk_sim.specs.Orders.{InOrder, ToldInTime}
-use Rattle.lk_world_nodes.specs.Seats.{At}
+use Rattle.lk_sim_nodes.specs.Seats.{At}
 use Rattle.lk_sim.specs.States.{KeepsPacked, SumsUpChosen}
-use Rattle.lk_sim.specs.Worlds.{Holds}
-use Rattle.lk_world_nodes.specs.declared.seat.Seat.{Seat}
+use Rattle.lk_sim.specs.Worlds.{WorldInvariant}
+use Rattle.lk_sim_nodes.specs.declared.seat.Seat.{Seat}
 use Rattle.lk_sim.proofs.Ordering as ordering
 
 asked_of : (x : Note) (r : RequestValue) → Contains (asked_by x) r → x ≡ note.Asked r
@@ -46,7 +46,7 @@ at_place L v c = (c.0, slice_get-get_or L c.0 v c.1 ∙ ap Some c.2)
 
 module _ {R : Type 0} (Shows : R → Genesis → ℕ → Holding → Type 0) (disks : R → Side → Disk) (m : Meaning)
     (genesis : Genesis) (seats : List (Seat R)) (sent : List Datagram) (trace : List Note)
-    (w : Holds Shows disks m genesis seats sent trace) where
+    (w : WorldInvariant Shows disks m genesis seats sent trace) where
   abbrev sound : Sound genesis sent
   sound = w.world.sound
 

@@ -9,14 +9,14 @@ use Rattle.lk_agreement.specs.Nodes.{View}
 use Rattle.lk_node_io.specs.declared.note.Note.{Note}
 use Rattle.lk_node.specs.Histories.{Genesis, Datagram, RequestValue}
 use Rattle.lk_node.specs.Holdings.{Holding}
-use Rattle.lk_node.specs.Calls.{Goes}
-use Rattle.lk_world_nodes.specs.Told.{Tells}
+use Rattle.lk_node.specs.Calls.{LeavesFit}
+use Rattle.lk_sim_nodes.specs.Told.{Tells}
 use Rattle.lk_sim.specs.Traces.{asked_in, happened, asked_note}
-use Rattle.lk_world_nodes.specs.Seats.{SeatFits, SeatGoes, At}
-use Rattle.lk_sim.specs.Worlds.{Holds}
-use Rattle.lk_world_nodes.specs.declared.seat.Seat.{Seat}
-use Rattle.lk_world_nodes.specs.declared.seat.Life.TheVariants.{Down}
-use Rattle.lk_world_nodes.proofs.Fitting.{down_fits}
+use Rattle.lk_sim_nodes.specs.Seats.{SeatFits, SeatGoes, At}
+use Rattle.lk_sim.specs.Worlds.{WorldInvariant}
+use Rattle.lk_sim_nodes.specs.declared.seat.Seat.{Seat}
+use Rattle.lk_sim_nodes.specs.declared.seat.Life.TheVariants.{Down}
+use Rattle.lk_sim_nodes.proofs.Fitting.{down_fits}
 use Rattle.lk_sim.proofs.Growth.{disks_move}
 use Rattle.lk_sim.proofs.Asking.{injected_holds}
 use Rattle.lk_sim.proofs.Sending.{goes_on}
@@ -30,26 +30,26 @@ set_twice (x ∷ xs) (suc i) y z = ap (λ l. x ∷ l) (set_twice xs i y z)
 -- a request that was just asked, if there is one, keeps all
 pub asked_maybe : {R : Type 0} (Shows : R → Genesis → ℕ → Holding → Type 0) (disks : R → Side → Disk) (m : Meaning)
     (genesis : Genesis) (seats : List (Seat R)) (sent : List Datagram) (trace : List Note)
-    → Holds Shows disks m genesis seats sent trace → (o : Option RequestValue)
-    → Holds Shows disks m genesis seats sent (trace ++ asked_note o)
+    → WorldInvariant Shows disks m genesis seats sent trace → (o : Option RequestValue)
+    → WorldInvariant Shows disks m genesis seats sent (trace ++ asked_note o)
 asked_maybe Shows disks m genesis seats sent trace w None =
-    subst (λ l. Holds Shows disks m genesis seats sent l) (sym (append-nil trace)) w
+    subst (λ l. WorldInvariant Shows disks m genesis seats sent l) (sym (append-nil trace)) w
 asked_maybe Shows disks m genesis seats sent trace w (Some r) =
     injected_holds Shows disks m genesis seats sent trace w r
 
 module _ {R : Type 0} (Shows : R → Genesis → ℕ → Holding → Type 0) (disks : R → Side → Disk) (m : Meaning)
     (genesis : Genesis) (seats : List (Seat R)) (sent : List Datagram) (trace : List Note)
-    (w : Holds Shows disks m genesis seats sent trace) (i : ℕ) (s new : Seat R) (at : At seats i s)
+    (w : WorldInvariant Shows disks m genesis seats sent trace) (i : ℕ) (s new : Seat R) (at : At seats i s)
     (number : new.number ≡ s.number) where
   -- it went down
   pub went_down : SeatFits Shows disks m (happened genesis sent trace) (w.views s.number) new
-      → Holds Shows disks m genesis (set seats i new) sent trace
+      → WorldInvariant Shows disks m genesis (set seats i new) sent trace
   went_down f = ends Shows disks m genesis seats sent trace w i s new at number f
 
   -- it went down, whatever was asked meanwhile
   pub went_off : (asked : List RequestValue) (v : View) (d : Memory) → new.life ≡ Down d
       → SeatFits Shows disks m (record { genesis = genesis; sent = sent; asked = asked }) v new
-      → Holds Shows disks m genesis (set seats i new) sent trace
+      → WorldInvariant Shows disks m genesis (set seats i new) sent trace
   went_off asked v d down f =
       went_down (down_fits Shows disks m (happened genesis sent trace) (w.views s.number) new d down
       (disks_move m genesis sent sent asked (asked_in trace) new.number (disk_of d) (λ x c. c) (λ x c. c)
@@ -58,8 +58,9 @@ module _ {R : Type 0} (Shows : R → Genesis → ℕ → Holding → Type 0) (di
   -- it went on
   pub went_on : (notes told : List Note) (batch : List Datagram)
       → SeatGoes Shows disks m (happened genesis sent trace) new notes batch → Tells batch told
-      → Holds Shows disks m genesis (set seats i new) (sent ++ batch) (trace ++ (notes ++ told))
+      → WorldInvariant Shows disks m genesis (set seats i new) (sent ++ batch) (trace ++ (notes ++ told))
   went_on notes told batch f tells =
       goes_on Shows disks m genesis seats sent trace w i s new at f.replica number f.up notes told batch
-      (subst (λ k. Goes m (happened genesis sent trace) k (Shows f.replica genesis k) (disks f.replica) notes batch)
+      (subst (λ k. LeavesFit m (happened genesis sent trace) k (Shows f.replica genesis k)
+      (disks f.replica) notes batch)
       number f.goes) tells f.room

@@ -17,43 +17,43 @@ use Rattle.lk_node.specs.Histories.{History, Genesis, Datagram}
 use Rattle.lk_node.specs.Holdings.{Holding}
 use Rattle.lk_node.specs.Leavings.{DisksFit}
 use Rattle.lk_replica.specs.Behaviours.{Behaviour, TrapsAlone, disks_by}
-use Rattle.lk_replica.specs.Together.{Said, sent_of, parts_of, GoesAll}
+use Rattle.lk_replica.specs.Together.{Said, sent_of, parts_of, EachLeavesFit}
 use Rattle.lk_replica.specs.declared.taken.Step.{Step}
-use Rattle.lk_world_nodes.specs.Ends.{BreaksTogether, IsToldEnd, end_at}
-use Rattle.lk_world_nodes.specs.Sends.{after_sends, stop_among}
+use Rattle.lk_sim_nodes.specs.Ends.{BreaksTogether, IsToldEnd, end_at}
+use Rattle.lk_sim_nodes.specs.Sends.{after_sends, stop_among}
 use Rattle.lk_sim.specs.Events.{Adds, AreAllOwn, EndsByFault, ComesTogether, IsGivenTogether, LeftByGroup}
 use Rattle.lk_sim.specs.Groups.{WasSentTo, WereSentTo, AreNotesOf, given_by}
-use Rattle.lk_world_nodes.specs.Outcomes.{HasTakenTogether, HasFallenTogether, Rests}
+use Rattle.lk_sim_nodes.specs.Outcomes.{HasTakenTogether, HasFallenTogether, Rests}
 use Rattle.lk_sim.specs.Settled.{HasSettledSteps, HasGivenUp}
 use Rattle.lk_sim.specs.Refusals.{AreFor, IsFor}
-use Rattle.lk_world_nodes.specs.Rooms.{AreShort}
+use Rattle.lk_sim_nodes.specs.Rooms.{AreShort}
 use Rattle.lk_sim.specs.Scenes.{Scene}
-use Rattle.lk_world_nodes.specs.Seats.{At, SeatFits, stopped_on, fallen_on, device_in}
-use Rattle.lk_world_nodes.specs.Told.{Tells}
+use Rattle.lk_sim_nodes.specs.Seats.{At, SeatFits, stopped_on, fallen_on, device_in}
+use Rattle.lk_sim_nodes.specs.Told.{Tells}
 use Rattle.lk_sim.specs.Traces.{happened}
-use Rattle.lk_sim.specs.Worlds.{Holds}
-use Rattle.lk_world_nodes.specs.declared.end.End.{End}
+use Rattle.lk_sim.specs.Worlds.{WorldInvariant}
+use Rattle.lk_sim_nodes.specs.declared.end.End.{End}
 use Rattle.lk_sim.specs.declared.event.Turn.{Turn}
 use Rattle.lk_sim.specs.declared.event.Turn.TheVariants as turn
-use Rattle.lk_world_nodes.specs.declared.seat.Seat.{Seat}
-use Rattle.lk_world_nodes.specs.declared.seat.Life.{Life}
-use Rattle.lk_world_nodes.specs.declared.seat.Life.TheVariants.{Up, Down}
+use Rattle.lk_sim_nodes.specs.declared.seat.Seat.{Seat}
+use Rattle.lk_sim_nodes.specs.declared.seat.Life.{Life}
+use Rattle.lk_sim_nodes.specs.declared.seat.Life.TheVariants.{Up, Down}
 use Rattle.lk_sim.proofs.Doing.{StopsOn, at_same, falls}
-use Rattle.lk_world_nodes.proofs.Fitting.{stopped_fit, down_fits}
+use Rattle.lk_sim_nodes.proofs.Fitting.{stopped_fit, down_fits}
 use Rattle.lk_sim.proofs.Given.{set_twice, went_down}
 use Rattle.lk_sim.proofs.Grouping.{group_holds, group_own}
 use Rattle.lk_sim.proofs.Hearing.{heard_sent, datagram_listed}
 use Rattle.lk_sim.proofs.Lists.{at_set_here}
-use Rattle.lk_world_nodes.proofs.Shortness.{kept_short}
-use Rattle.lk_world_nodes.proofs.Stopping.{nothing_sent, stopped_sent}
-use Rattle.lk_world_nodes.proofs.Together.{parts_cut, still_whole}
+use Rattle.lk_sim_nodes.proofs.Shortness.{kept_short}
+use Rattle.lk_sim_nodes.proofs.Stopping.{nothing_sent, stopped_sent}
+use Rattle.lk_sim_nodes.proofs.Together.{parts_cut, still_whole}
 
 -- ---- what it may be given
 
 -- datagrams that were sent may be heard
 pub all_heard : {R : Type 0} (Shows : R → Genesis → ℕ → Holding → Type 0) (disks : R → Side → Disk) (m : Meaning)
     (genesis : Genesis) (seats : List (Seat R)) (sent : List Datagram) (trace : List Note)
-    → Holds Shows disks m genesis seats sent trace → (is : List Input) → WereSentTo sent is
+    → WorldInvariant Shows disks m genesis seats sent trace → (is : List Input) → WereSentTo sent is
     → AllByRecursion (InputFits (happened genesis sent trace)) is
 all_heard Shows disks m genesis seats sent trace w [] were = tt
 all_heard Shows disks m genesis seats sent trace w (Tick ∷ is) were =
@@ -217,7 +217,7 @@ kept_none m B = (0, refl)
 
 module _ {R : Type 0} (Shows : R → Genesis → ℕ → Holding → Type 0) (b : Behaviour R) (m : Meaning) (genesis : Genesis)
     (seats : List (Seat R)) (sent : List Datagram) (trace : List Note)
-    (w : Holds Shows (disks_by b) m genesis seats sent trace) (i : ℕ) (s t : Seat R) (at : At seats i s)
+    (w : WorldInvariant Shows (disks_by b) m genesis seats sent trace) (i : ℕ) (s t : Seat R) (at : At seats i s)
     (number : t.number ≡ s.number) where
   abbrev h : History
   h = happened genesis sent trace
@@ -225,7 +225,7 @@ module _ {R : Type 0} (Shows : R → Genesis → ℕ → Holding → Type 0) (b 
   -- a node that went down on such disks
   pub down_holds : (off : Seat R) → off.number ≡ s.number → (d : Memory) → off.life ≡ Down d
       → DisksFit m h off.number (disk_of d) → AreShort (disk_of d)
-      → Holds Shows (disks_by b) m genesis (set seats i off) sent trace
+      → WorldInvariant Shows (disks_by b) m genesis (set seats i off) sent trace
   down_holds off same d down fit short =
       went_down Shows (disks_by b) m genesis seats sent trace w i s off at same
       (down_fits Shows (disks_by b) m h (w.views s.number) off d down fit short)
@@ -233,14 +233,15 @@ module _ {R : Type 0} (Shows : R → Genesis → ℕ → Holding → Type 0) (b 
   -- one that is up, with what it noted and sent
   taken_holds : (r q : R) (is : List Input) (steps : List Step) (batch : List Datagram) (notes : List Note)
       → s.life ≡ Up r → t.life ≡ Up q → WereSentTo sent is
-      → GoesAll Shows (disks_by b) m s.number r is q (parts_of steps batch)
+      → EachLeavesFit Shows (disks_by b) m s.number r is q (parts_of steps batch)
       → batch ≡ sent_of (parts_of steps batch) → AreNotesOf (parts_of steps batch) notes
-      → Holds Shows (disks_by b) m genesis (set seats i t) (sent ++ batch) (trace ++ notes)
+      → WorldInvariant Shows (disks_by b) m genesis (set seats i t) (sent ++ batch) (trace ++ notes)
   taken_holds r q is steps batch notes was up were goes whole tells =
       let made : ℕ → Life R → Seat R = λ k l. record { number = k; life = l } in
       let same : made s.number (Up q) ≡ t = ap (λ k. made k (Up q)) (sym number) ∙ ap (made t.number) (sym up) in
-      subst (λ (z : Seat R). Holds Shows (disks_by b) m genesis (set seats i z) (sent ++ batch) (trace ++ notes)) same
-      (subst (λ (l : List Datagram). Holds Shows (disks_by b) m genesis (set seats i (made s.number (Up q)))
+      subst (λ (z : Seat R). WorldInvariant Shows (disks_by b) m genesis (set seats i z) (sent ++ batch) (trace
+      ++ notes)) same
+      (subst (λ (l : List Datagram). WorldInvariant Shows (disks_by b) m genesis (set seats i (made s.number (Up q)))
       (sent ++ l) (trace ++ notes)) (sym whole)
       (group_holds Shows (disks_by b) m genesis i is r q
       (parts_of steps batch) seats sent trace notes s w at was were goes tells))
@@ -251,16 +252,16 @@ module _ {R : Type 0} (Shows : R → Genesis → ℕ → Holding → Type 0) (b 
 
     -- the node rests, where it has come to an armed stop
     rested_holds : (new : Scene R) → (k : HasSettledSteps Shows b m mid i new steps batch how stop)
-        → Holds Shows (disks_by b) m genesis (set seats i t) (sent ++ batch) (trace ++ k.notes)
-        → Holds Shows (disks_by b) m new.genesis new.seats new.sent new.trace
+        → WorldInvariant Shows (disks_by b) m genesis (set seats i t) (sent ++ batch) (trace ++ k.notes)
+        → WorldInvariant Shows (disks_by b) m new.genesis new.seats new.sent new.trace
     rested_holds new k now =
         let same : k.seat ≡ t = at_same (set seats i t) i k.seat t k.at (at_set_here seats i t at.0) in
         let here : At (set seats i t) i t = at_set_here seats i t at.0 in
         let f : SeatFits Shows (disks_by b) m (happened genesis (sent ++ batch) (trace ++ k.notes))
         (now.views t.number) t = now.seated i t here in
-        subst (λ g. Holds Shows (disks_by b) m g new.seats new.sent new.trace) (sym k.adds.genesis)
-        (subst (λ z. Holds Shows (disks_by b) m genesis z new.sent new.trace) (sym k.seats)
-        (subst₂ (λ x y. Holds Shows (disks_by b) m genesis (set (set seats i t) i k.next) x y)
+        subst (λ g. WorldInvariant Shows (disks_by b) m g new.seats new.sent new.trace) (sym k.adds.genesis)
+        (subst (λ z. WorldInvariant Shows (disks_by b) m genesis z new.sent new.trace) (sym k.seats)
+        (subst₂ (λ x y. WorldInvariant Shows (disks_by b) m genesis (set (set seats i t) i k.next) x y)
         (sym k.adds.sent) (sym k.adds.trace)
         (went_down Shows (disks_by b) m genesis (set seats i t) (sent ++ batch) (trace ++ k.notes) now i t k.next here
         (k.number ∙ ap (λ (z : Seat R). z.number) same)
@@ -270,15 +271,15 @@ module _ {R : Type 0} (Shows : R → Genesis → ℕ → Holding → Type 0) (b 
     -- what a group came to keeps all that holds
     pub settled_steps_hold : (new : Scene R) (r : R) (is : List Input) (given : List (Option (List ℕ)))
         (Ends : ℕ → Memory → Type 0) → s.life ≡ Up r → WereSentTo sent is
-        → ((q : R) → t.life ≡ Up q → GoesAll Shows (disks_by b) m s.number r is q (parts_of steps batch))
+        → ((q : R) → t.life ≡ Up q → EachLeavesFit Shows (disks_by b) m s.number r is q (parts_of steps batch))
         → DisksFit m h t.number (disk_of (device_in b t.life)) → AreShort (disk_of (device_in b t.life))
         → HasTakenTogether b r given t steps batch how stop ⊎ HasFallenTogether Ends t steps batch how stop
         → HasSettledSteps Shows b m mid i new steps batch how stop
-        → Holds Shows (disks_by b) m new.genesis new.seats new.sent new.trace
+        → WorldInvariant Shows (disks_by b) m new.genesis new.seats new.sent new.trace
     settled_steps_hold new r is given Ends was were goes left short cases k = rested_holds new k (elim cases [
       | inl q ↦ taken_holds r q.after is steps batch k.notes was q.up were (goes q.after q.up)
           (still_whole b stop q.replica q.after steps q.all batch q.sends q.whole) k.tells
-      | inr f ↦ subst₂ (λ x y. Holds Shows (disks_by b) m genesis (set seats i t) x y)
+      | inr f ↦ subst₂ (λ x y. WorldInvariant Shows (disks_by b) m genesis (set seats i t) x y)
           (sym (ap (λ l. sent ++ l) f.fallen.no_batch ∙ append-nil sent))
           (sym (ap (λ l. trace ++ l)
           (subst (λ (l : List Step). AreNotesOf (parts_of l batch) k.notes) f.no_steps k.tells) ∙ append-nil trace))
@@ -290,17 +291,17 @@ module _ {R : Type 0} (Shows : R → Genesis → ℕ → Holding → Type 0) (b 
     -- that it was given up does too
     pub given_up_still : (new : Scene R) → DisksFit m h t.number (disk_of (device_in b t.life))
         → AreShort (disk_of (device_in b t.life)) → HasGivenUp Shows b m mid i new
-        → Holds Shows (disks_by b) m new.genesis new.seats new.sent new.trace
+        → WorldInvariant Shows (disks_by b) m new.genesis new.seats new.sent new.trace
     given_up_still new left short k =
         let same : k.seat ≡ t = at_same (set seats i t) i k.seat t k.at (at_set_here seats i t at.0) in
         let device = device_in b t.life in
         let off : k.next.number ≡ t.number = k.number ∙ ap (λ (z : Seat R). z.number) same in
         let down : k.next.life ≡ Down (stopped_on 0 0 device) = k.halted
         ∙ ap (λ (z : Seat R). Down (stopped_on 0 0 (device_in b z.life))) same in
-        subst (λ g. Holds Shows (disks_by b) m g new.seats new.sent new.trace) (sym k.adds.genesis)
-        (subst (λ z. Holds Shows (disks_by b) m genesis z new.sent new.trace)
+        subst (λ g. WorldInvariant Shows (disks_by b) m g new.seats new.sent new.trace) (sym k.adds.genesis)
+        (subst (λ z. WorldInvariant Shows (disks_by b) m genesis z new.sent new.trace)
         (sym (k.seats ∙ set_twice seats i t k.next))
-        (subst₂ (λ x y. Holds Shows (disks_by b) m genesis (set seats i k.next) x y)
+        (subst₂ (λ x y. WorldInvariant Shows (disks_by b) m genesis (set seats i k.next) x y)
         (sym (k.adds.sent ∙ append-nil sent)) (sym (k.adds.trace ∙ append-nil trace))
         (down_holds k.next (off ∙ number) (stopped_on 0 0 device) down
         (subst (λ n. DisksFit m h n (disk_of (stopped_on 0 0 device))) (sym off)
@@ -316,9 +317,9 @@ own_too (s ∷ steps) some others own = (own.0, own_too steps (drop s.sends some
 
 pub all_own : {R : Type 0} (Shows : R → Genesis → ℕ → Holding → Type 0) (disks : R → Side → Disk) (m : Meaning)
     (genesis : Genesis) (seats : List (Seat R)) (sent : List Datagram) (trace notes : List Note)
-    → Holds Shows disks m genesis seats sent trace → (i : ℕ) (s : Seat R) → At seats i s
+    → WorldInvariant Shows disks m genesis seats sent trace → (i : ℕ) (s : Seat R) → At seats i s
     → (is : List Input) (r q : R) (steps : List Step) (batch all : List Datagram) → s.life ≡ Up r → WereSentTo sent is
-    → GoesAll Shows disks m s.number r is q (parts_of steps batch) → AreNotesOf (parts_of steps batch) notes
+    → EachLeavesFit Shows disks m s.number r is q (parts_of steps batch) → AreNotesOf (parts_of steps batch) notes
     → AreAllOwn (parts_of steps all)
 all_own Shows disks m genesis seats sent trace notes w i s at is r q steps batch all up were goes tells =
     own_too steps batch all (group_own Shows disks m genesis i is r q

@@ -8,24 +8,24 @@ use Rattle.lk_state.specs.Meanings.{Meaning}
 use Rattle.lk_node_io.specs.declared.note.Note.{Note}
 use Rattle.lk_node_io.specs.declared.input.Input.{Input}
 use Rattle.lk_node_io.specs.declared.input.Input.TheVariants.{Tick, Datagram as Heard}
-use Rattle.lk_node.specs.Calls.{InputFits, Goes}
+use Rattle.lk_node.specs.Calls.{InputFits, LeavesFit}
 use Rattle.lk_node.specs.Histories.{Genesis, Datagram}
 use Rattle.lk_node.specs.Holdings.{Holding}
-pub use Rattle.lk_replica.specs.Together.{Said, sent_of, said_by_steps, GoesAll}
+pub use Rattle.lk_replica.specs.Together.{Said, sent_of, said_by_steps, EachLeavesFit}
 pub use Rattle.lk_replica.proofs.TakenTogether.{goes_all}
 pub use Rattle.lk_sim.specs.Groups.{WasSentTo, WereSentTo, AreNotesOf}
 use Rattle.lk_sim.specs.Events.{AreAllOwn}
-use Rattle.lk_world_nodes.specs.Seats.{At}
+use Rattle.lk_sim_nodes.specs.Seats.{At}
 use Rattle.lk_sim.specs.Traces.{happened}
-use Rattle.lk_sim.specs.Worlds.{Holds}
-use Rattle.lk_world_nodes.specs.declared.seat.Seat.{Seat}
-use Rattle.lk_world_nodes.specs.declared.seat.Life.TheVariants.{Up}
-use Rattle.lk_world_nodes.proofs.Fitting.{node_fits}
+use Rattle.lk_sim.specs.Worlds.{WorldInvariant}
+use Rattle.lk_sim_nodes.specs.declared.seat.Seat.{Seat}
+use Rattle.lk_sim_nodes.specs.declared.seat.Life.TheVariants.{Up}
+use Rattle.lk_sim_nodes.proofs.Fitting.{node_fits}
 use Rattle.lk_sim.proofs.Given.{set_twice}
 use Rattle.lk_sim.proofs.Hearing.{heard_sent}
 use Rattle.lk_sim.proofs.Lists.{at_set_here}
 use Rattle.lk_sim.proofs.Sending.{goes_on}
-use Rattle.lk_world_nodes.proofs.Shortness.{stepped_short}
+use Rattle.lk_sim_nodes.proofs.Shortness.{stepped_short}
 use Rattle.lk_sim.proofs.Explaining.{lawful}
 
 still_sent_to : (sent more : List Datagram) (is : List Input) → WereSentTo sent is → WereSentTo (sent ++ more) is
@@ -41,21 +41,23 @@ module _ {R : Type 0} (Shows : R → Genesis → ℕ → Holding → Type 0) (di
     (genesis : Genesis) (i : ℕ) where
   pub group_holds : (is : List Input) (r q : R) (said : List Said) (seats : List (Seat R)) (sent : List Datagram)
       (trace notes : List Note) (s : Seat R)
-      → Holds Shows disks m genesis seats sent trace → At seats i s → s.life ≡ Up r → WereSentTo sent is
-      → GoesAll Shows disks m s.number r is q said → AreNotesOf said notes
-      → Holds Shows disks m genesis (set seats i (seat_with s.number q)) (sent ++ sent_of said) (trace ++ notes)
+      → WorldInvariant Shows disks m genesis seats sent trace → At seats i s → s.life ≡ Up r → WereSentTo sent is
+      → EachLeavesFit Shows disks m s.number r is q said → AreNotesOf said notes
+      → WorldInvariant Shows disks m genesis (set seats i (seat_with s.number q)) (sent ++ sent_of said) (trace
+      ++ notes)
   group_holds [] r q said seats sent trace notes s w at up were goes told =
       let none : notes ≡ [] = subst (λ (l : List Said). AreNotesOf l notes) goes.0 told in
       let u = (w.seated i s at).up r up in
-      let g : Goes m (happened genesis sent trace) s.number (Shows q genesis s.number) (disks q) [] [] =
+      let g : LeavesFit m (happened genesis sent trace) s.number (Shows q genesis s.number) (disks q) [] [] =
       goes.1 (happened genesis sent trace)
       (node_fits Shows disks m (happened genesis sent trace) (w.views s.number) s.number r
       (lawful Shows disks m genesis seats sent trace w) u) in
       let last = goes_on Shows disks m genesis seats sent trace w i s
       (seat_with s.number q) at q refl refl [] [] [] g refl (stepped_short (disks r) (disks q) goes.2 u.room) in
-      subst (λ (l : List Said). Holds Shows disks m genesis (set seats i (seat_with s.number q)) (sent ++ sent_of l)
+      subst (λ (l : List Said). WorldInvariant Shows disks m genesis (set seats i (seat_with s.number q)) (sent
+      ++ sent_of l)
       (trace ++ notes)) (sym goes.0)
-      (subst (λ l. Holds Shows disks m genesis (set seats i (seat_with s.number q)) (sent ++ []) (trace ++ l))
+      (subst (λ l. WorldInvariant Shows disks m genesis (set seats i (seat_with s.number q)) (sent ++ []) (trace ++ l))
       (sym none) last)
   group_holds (x ∷ is) r q said seats sent trace notes s w at up were goes told =
       let mid = goes.0 in
@@ -64,7 +66,7 @@ module _ {R : Type 0} (Shows : R → Genesis → ℕ → Holding → Type 0) (di
       let names : AreNotesOf (one ∷ rest) notes = subst (λ (l : List Said). AreNotesOf l notes) goes.3 told in
       let h = happened genesis sent trace in
       let u = (w.seated i s at).up r up in
-      let g : Goes m h s.number (Shows mid genesis s.number) (disks mid) one.0 one.1 =
+      let g : LeavesFit m h s.number (Shows mid genesis s.number) (disks mid) one.0 one.1 =
       goes.4 h (node_fits Shows disks m h (w.views s.number) s.number r
       (lawful Shows disks m genesis seats sent trace w) u) (fits x were.0) in
       let next = goes_on Shows disks m genesis seats sent trace w i s
@@ -78,11 +80,13 @@ module _ {R : Type 0} (Shows : R → Genesis → ℕ → Holding → Type 0) (di
       ∙ ap (λ (l : List Said). sent ++ sent_of l) (sym goes.3) in
       let trace_is : (trace ++ (one.0 ++ names.0)) ++ names.1 ≡ trace ++ notes =
       append_assoc trace (one.0 ++ names.0) names.1 ∙ ap (λ l. trace ++ l) (sym names.3) in
-      subst (λ z. Holds Shows disks m genesis z (sent ++ sent_of said) (trace ++ notes))
+      subst (λ z. WorldInvariant Shows disks m genesis z (sent ++ sent_of said) (trace ++ notes))
       (set_twice seats i (seat_with s.number mid) (seat_with s.number q))
-      (subst (λ z. Holds Shows disks m genesis (set (set seats i (seat_with s.number mid)) i (seat_with s.number q)) z
+      (subst (λ z. WorldInvariant Shows disks m genesis
+      (set (set seats i (seat_with s.number mid)) i (seat_with s.number q)) z
       (trace ++ notes)) sent_is
-      (subst (λ z. Holds Shows disks m genesis (set (set seats i (seat_with s.number mid)) i (seat_with s.number q))
+      (subst (λ z. WorldInvariant Shows disks m genesis
+      (set (set seats i (seat_with s.number mid)) i (seat_with s.number q))
       ((sent ++ one.1) ++ sent_of rest) z) trace_is all))
     where
       fits : (x : Input) → WasSentTo sent x → InputFits (happened genesis sent trace) x
@@ -92,8 +96,8 @@ module _ {R : Type 0} (Shows : R → Genesis → ℕ → Holding → Type 0) (di
   -- each step notes what is its own
   pub group_own : (is : List Input) (r q : R) (said : List Said) (seats : List (Seat R)) (sent : List Datagram)
       (trace notes : List Note) (s : Seat R)
-      → Holds Shows disks m genesis seats sent trace → At seats i s → s.life ≡ Up r → WereSentTo sent is
-      → GoesAll Shows disks m s.number r is q said → AreNotesOf said notes → AreAllOwn said
+      → WorldInvariant Shows disks m genesis seats sent trace → At seats i s → s.life ≡ Up r → WereSentTo sent is
+      → EachLeavesFit Shows disks m s.number r is q said → AreNotesOf said notes → AreAllOwn said
   group_own [] r q said seats sent trace notes s w at up were goes told =
       subst (λ (l : List Said). AreAllOwn l) (sym goes.0) tt
   group_own (x ∷ is) r q said seats sent trace notes s w at up were goes told =
@@ -103,7 +107,7 @@ module _ {R : Type 0} (Shows : R → Genesis → ℕ → Holding → Type 0) (di
       let names : AreNotesOf (one ∷ rest) notes = subst (λ (l : List Said). AreNotesOf l notes) goes.3 told in
       let h = happened genesis sent trace in
       let u = (w.seated i s at).up r up in
-      let g : Goes m h s.number (Shows mid genesis s.number) (disks mid) one.0 one.1 =
+      let g : LeavesFit m h s.number (Shows mid genesis s.number) (disks mid) one.0 one.1 =
       goes.4 h (node_fits Shows disks m h (w.views s.number) s.number r
       (lawful Shows disks m genesis seats sent trace w) u) (fits x were.0) in
       let next = goes_on Shows disks m genesis seats sent trace w i s

@@ -17,14 +17,14 @@ use Rattle.lk_node.specs.Holdings.{Holding}
 use Rattle.lk_sim.specs.Heard.{Reads, Asks, IsForged}
 use Rattle.lk_sim.specs.Traces.{asked_in, happened, asked_note}
 use Rattle.lk_sim.specs.Refusals.{datagram_at}
-use Rattle.lk_sim.specs.Worlds.{Holds}
-use Rattle.lk_world_nodes.specs.declared.seat.Seat.{Seat}
+use Rattle.lk_sim.specs.Worlds.{WorldInvariant}
+use Rattle.lk_sim_nodes.specs.declared.seat.Seat.{Seat}
 use Rattle.lk_sim.proofs.Asking.{asked_last}
 
 -- a datagram of the list
 pub heard_sent : {R : Type 0} (Shows : R → Genesis → ℕ → Holding → Type 0) (disks : R → Side → Disk) (m : Meaning)
     (genesis : Genesis) (seats : List (Seat R)) (sent : List Datagram) (trace : List Note)
-    → Holds Shows disks m genesis seats sent trace → (d : Datagram) → Contains sent d → (bytes : List ℕ)
+    → WorldInvariant Shows disks m genesis seats sent trace → (d : Datagram) → Contains sent d → (bytes : List ℕ)
     → bytes ≡ d.bytes → IsHeard (happened genesis sent trace) bytes
 heard_sent Shows disks m genesis seats sent trace w d c bytes e = record {
   said = λ n x said. heard_was_sent genesis sent w.world.sound d c n x
@@ -53,7 +53,7 @@ one_datagram sent k d e a b = one_some (datagram_at sent k) d e a b
 -- where nothing more was asked
 pub heard_delivered : {R : Type 0} (Shows : R → Genesis → ℕ → Holding → Type 0) (disks : R → Side → Disk) (m : Meaning)
     (genesis : Genesis) (seats : List (Seat R)) (sent : List Datagram) (trace : List Note)
-    → Holds Shows disks m genesis seats sent trace → (k : ℕ) (d : Datagram) → datagram_at sent k ≡ Some d
+    → WorldInvariant Shows disks m genesis seats sent trace → (k : ℕ) (d : Datagram) → datagram_at sent k ≡ Some d
     → (bytes : List ℕ) → bytes ≡ d.bytes → IsHeard (happened genesis sent (trace ++ [])) bytes
 heard_delivered Shows disks m genesis seats sent trace w k d at bytes e =
     subst (λ l. IsHeard (happened genesis sent l) bytes) (sym (append-nil trace))

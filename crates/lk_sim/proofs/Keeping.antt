@@ -12,17 +12,17 @@ use Rattle.lk_node.specs.Histories.{Genesis, Datagram, Command}
 use Rattle.lk_node.specs.Holdings.{Holding}
 use Rattle.lk_node.specs.Leavings.{view_of, DisksFit}
 use Rattle.lk_sim.specs.Traces.{happened}
-use Rattle.lk_world_nodes.specs.Seats.{disks_of, At, SeatFits}
+use Rattle.lk_sim_nodes.specs.Seats.{disks_of, At, SeatFits}
 use Rattle.lk_sim.specs.Kept.{CoversAll, IsKeptBy}
-use Rattle.lk_world_nodes.specs.Rooms.{AreShort}
-use Rattle.lk_sim.specs.Worlds.{Holds}
-use Rattle.lk_world_nodes.specs.declared.seat.Life.{Life}
-use Rattle.lk_world_nodes.specs.declared.seat.Life.TheVariants.{Up, Down}
-use Rattle.lk_world_nodes.specs.declared.seat.Seat.{Seat}
+use Rattle.lk_sim_nodes.specs.Rooms.{AreShort}
+use Rattle.lk_sim.specs.Worlds.{WorldInvariant}
+use Rattle.lk_sim_nodes.specs.declared.seat.Life.{Life}
+use Rattle.lk_sim_nodes.specs.declared.seat.Life.TheVariants.{Up, Down}
+use Rattle.lk_sim_nodes.specs.declared.seat.Seat.{Seat}
 
 module _ {R : Type 0} (Shows : R → Genesis → ℕ → Holding → Type 0) (disks : R → Side → Disk) (m : Meaning)
     (genesis : Genesis) (seats : List (Seat R)) (sent : List Datagram) (trace : List Note)
-    (w : Holds Shows disks m genesis seats sent trace) where
+    (w : WorldInvariant Shows disks m genesis seats sent trace) where
   its_disks_fit : (s : Seat R) (life : Life R) → s.life ≡ life
       → SeatFits Shows disks m (happened genesis sent trace) (w.views s.number) s
       → DisksFit m (happened genesis sent trace) s.number (disks_of disks life)

@@ -9,24 +9,24 @@ use Rattle.lk_state.specs.Meanings.{Meaning}
 use Rattle.lk_agreement.specs.Datagrams.{said_by}
 use Rattle.lk_agreement.proofs.Histories.{contains_more}
 use Rattle.lk_node_io.specs.declared.note.Note.{Note}
-use Rattle.lk_node.specs.Calls.{Goes, NodeFits}
+use Rattle.lk_node.specs.Calls.{LeavesFit, NodeFits}
 use Rattle.lk_node.specs.Histories.{History, Genesis, Datagram, RequestValue, IsHeard, IsLawful}
 use Rattle.lk_node.specs.Holdings.{Holding}
 use Rattle.lk_node.specs.Leavings.{DisksFit}
-use Rattle.lk_world_nodes.specs.Rooms.{AreShort}
+use Rattle.lk_sim_nodes.specs.Rooms.{AreShort}
 use Rattle.lk_sim.specs.Events.{Adds}
 use Rattle.lk_sim.specs.Networks.{MayCome, IsRequestIn, AreAsking, MayHear, TellsOf, Appears, Restarts, Rests, GoesOn}
 use Rattle.lk_sim.specs.Networks.{Ends, Stops, Steps, StepsAll, nothing}
 use Rattle.lk_sim.specs.Scenes.{Scene}
-use Rattle.lk_world_nodes.specs.Seats.{UpFits, SeatFits, SeatGoes, At}
-use Rattle.lk_world_nodes.specs.Told.{Tells}
+use Rattle.lk_sim_nodes.specs.Seats.{UpFits, SeatFits, SeatGoes, At}
+use Rattle.lk_sim_nodes.specs.Told.{Tells}
 use Rattle.lk_sim.specs.Traces.{asked_in, happened, asked_note}
-use Rattle.lk_sim.specs.Worlds.{Holds}
-use Rattle.lk_world_nodes.specs.declared.seat.Seat.{Seat}
-use Rattle.lk_world_nodes.specs.declared.seat.Life.{Life}
-use Rattle.lk_world_nodes.specs.declared.seat.Life.TheVariants.{Up, Down}
+use Rattle.lk_sim.specs.Worlds.{WorldInvariant}
+use Rattle.lk_sim_nodes.specs.declared.seat.Seat.{Seat}
+use Rattle.lk_sim_nodes.specs.declared.seat.Life.{Life}
+use Rattle.lk_sim_nodes.specs.declared.seat.Life.TheVariants.{Up, Down}
 use Rattle.lk_sim.proofs.Asking.{asked_last}
-use Rattle.lk_world_nodes.proofs.Fitting.{stopped_fit, node_fits, down_fits}
+use Rattle.lk_sim_nodes.proofs.Fitting.{stopped_fit, node_fits, down_fits}
 use Rattle.lk_sim.proofs.Explaining.{lawful, explains, agree, states, ordered, told_in_time}
 use Rattle.lk_sim.proofs.Keeping.{room, covered, kept}
 use Rattle.lk_sim.specs.Promises.{Promises}
@@ -34,7 +34,7 @@ use Rattle.lk_replica.specs.Behaviours.{Behaviour, disks_by}
 use Rattle.lk_state.specs.States.{WholeValue, SumsUp}
 pub use Rattle.lk_sim.proofs.Given.{asked_maybe, set_twice, went_down}
 use Rattle.lk_sim.proofs.Given.{went_on}
-use Rattle.lk_world_nodes.proofs.Shortness.{kept_short}
+use Rattle.lk_sim_nodes.proofs.Shortness.{kept_short}
 pub use Rattle.lk_sim.proofs.Lists.{at_set, at_set_here}
 pub use Rattle.lk_sim.proofs.Starting.{at_push, nothing_holds}
 use Rattle.lk_sim.proofs.Starting.{starts}
@@ -69,28 +69,28 @@ tells_all (d ∷ batch) told reads (inr t) = let r = reads d (0, omega arith, re
 module _ {R : Type 0} (Shows : R → Genesis → ℕ → Holding → Type 0) (disks : R → Side → Disk) (m : Meaning) where
   -- what holds of the parts of a network
   abbrev pub HoldsOf : Scene R → Type 0
-  HoldsOf w = Holds Shows disks m w.genesis w.seats w.sent w.trace
+  HoldsOf w = WorldInvariant Shows disks m w.genesis w.seats w.sent w.trace
 
   moved : (old new : Scene R) (seats : List (Seat R)) (notes : List Note) (batch : List Datagram) → new.seats ≡ seats
       → Adds old new notes batch
-      → Holds Shows disks m old.genesis seats (old.sent ++ batch) (old.trace ++ notes) → HoldsOf new
+      → WorldInvariant Shows disks m old.genesis seats (old.sent ++ batch) (old.trace ++ notes) → HoldsOf new
   moved old new seats notes batch same a w =
-      subst (λ g. Holds Shows disks m g new.seats new.sent new.trace) (sym a.genesis)
-      (subst (λ z. Holds Shows disks m old.genesis z new.sent new.trace) (sym same)
-      (subst₂ (λ x y. Holds Shows disks m old.genesis seats x y) (sym a.sent) (sym a.trace) w))
+      subst (λ g. WorldInvariant Shows disks m g new.seats new.sent new.trace) (sym a.genesis)
+      (subst (λ z. WorldInvariant Shows disks m old.genesis z new.sent new.trace) (sym same)
+      (subst₂ (λ x y. WorldInvariant Shows disks m old.genesis seats x y) (sym a.sent) (sym a.trace) w))
 
   moved_still : (old new : Scene R) (seats : List (Seat R)) (notes : List Note)
       → new.seats ≡ seats → Adds old new notes []
-      → Holds Shows disks m old.genesis seats old.sent (old.trace ++ notes) → HoldsOf new
+      → WorldInvariant Shows disks m old.genesis seats old.sent (old.trace ++ notes) → HoldsOf new
   moved_still old new seats notes same a w =
       moved old new seats notes [] same a
-      (subst (λ l. Holds Shows disks m old.genesis seats l (old.trace ++ notes)) (sym (append-nil old.sent)) w)
+      (subst (λ l. WorldInvariant Shows disks m old.genesis seats l (old.trace ++ notes)) (sym (append-nil old.sent)) w)
 
   moved_silent : (old new : Scene R) (seats : List (Seat R)) → new.seats ≡ seats → Adds old new [] []
-      → Holds Shows disks m old.genesis seats old.sent old.trace → HoldsOf new
+      → WorldInvariant Shows disks m old.genesis seats old.sent old.trace → HoldsOf new
   moved_silent old new seats same a w =
       moved_still old new seats [] same a
-      (subst (λ l. Holds Shows disks m old.genesis seats old.sent l) (sym (append-nil old.trace)) w)
+      (subst (λ l. WorldInvariant Shows disks m old.genesis seats old.sent l) (sym (append-nil old.trace)) w)
 
   appears : (old new : Scene R) → HoldsOf old → Appears old new → HoldsOf new
   appears old new w a = moved_silent old new (old.seats ++ a.seat ∷ []) a.seats a.adds
@@ -106,13 +106,14 @@ module _ {R : Type 0} (Shows : R → Genesis → ℕ → Holding → Type 0) (di
         replica = a.replica;
         up = a.up;
         goes =
-            subst (λ k. Goes m h k (Shows a.replica old.genesis k) (disks a.replica) a.notes []) (sym a.turns.number) g;
+            subst (λ k. LeavesFit m h k (Shows a.replica old.genesis k) (disks a.replica) a.notes [])
+            (sym a.turns.number) g;
         room = a.restarts.short (f.room a.device a.down);
       } in
       let went = went_on Shows disks m old.genesis old.seats old.sent old.trace w a.turns.place a.seat a.next
       a.turns.at a.turns.number a.notes [] [] seat_goes refl in
       moved old new (set old.seats a.turns.place a.next) a.notes [] a.turns.seats a.adds
-      (subst (λ l. Holds Shows disks m old.genesis (set old.seats a.turns.place a.next) (old.sent ++ [])
+      (subst (λ l. WorldInvariant Shows disks m old.genesis (set old.seats a.turns.place a.next) (old.sent ++ [])
       (old.trace ++ l)) (append-nil a.notes) went)
 
   -- of a node that is down, the history is lawful, and its disks fit it
@@ -164,7 +165,7 @@ module _ {R : Type 0} (Shows : R → Genesis → ℕ → Holding → Type 0) (di
     abbrev asked : List Note
     asked = old.trace ++ asked_note o
 
-    since : Holds Shows disks m old.genesis old.seats old.sent asked
+    since : WorldInvariant Shows disks m old.genesis old.seats old.sent asked
     since = asked_maybe Shows disks m old.genesis old.seats old.sent old.trace w o
 
     fits_before : (place : ℕ) (seat : Seat R) → At old.seats place seat → (r : R) → seat.life ≡ Up r
@@ -188,7 +189,7 @@ module _ {R : Type 0} (Shows : R → Genesis → ℕ → Holding → Type 0) (di
       let seat_goes : SeatGoes Shows disks m (happened old.genesis old.sent trace) a.next a.notes a.batch = record {
         replica = a.after;
         up = a.up;
-        goes = subst (λ k. Goes m (happened old.genesis old.sent trace) k (Shows a.after old.genesis k)
+        goes = subst (λ k. LeavesFit m (happened old.genesis old.sent trace) k (Shows a.after old.genesis k)
             (disks a.after) a.notes a.batch) (sym a.turns.number) g;
         room = a.goes.short (fits_before old w a.request a.turns.place a.seat a.turns.at a.before a.was).room;
       } in
@@ -198,7 +199,8 @@ module _ {R : Type 0} (Shows : R → Genesis → ℕ → Holding → Type 0) (di
       a.turns.number a.notes a.told a.batch seat_goes tells in
       moved old new (set old.seats a.turns.place a.next)
       ((asked_note a.request ++ a.notes) ++ a.told) a.batch a.turns.seats a.adds
-      (subst (λ l. Holds Shows disks m old.genesis (set old.seats a.turns.place a.next) (old.sent ++ a.batch) l)
+      (subst (λ l. WorldInvariant Shows disks m old.genesis (set old.seats a.turns.place a.next) (old.sent
+      ++ a.batch) l)
       (append_assoc old.trace (asked_note a.request) (a.notes ++ a.told)
       ∙ ap (λ l. old.trace ++ l) (sym (append_assoc (asked_note a.request) a.notes a.told))) went)
 
@@ -241,7 +243,7 @@ module _ {R : Type 0} (Shows : R → Genesis → ℕ → Holding → Type 0) (di
 pub promises_of : {R : Type 0} (Shows : R → Genesis → ℕ → Holding → Type 0) (b : Behaviour R)
     (whole : R → WholeValue) (m : Meaning)
     → ((r : R) (g : Genesis) (n : ℕ) (x : Holding) → Shows r g n x → SumsUp m g x.view.done (whole r)) → (w : Scene R)
-    → Holds Shows (disks_by b) m w.genesis w.seats w.sent w.trace → Promises b whole m w
+    → WorldInvariant Shows (disks_by b) m w.genesis w.seats w.sent w.trace → Promises b whole m w
 promises_of Shows b whole m sums w h = record {
   explained = (h.list, h.chosen, explains Shows (disks_by b) m w.genesis w.seats w.sent w.trace h);
   agree = agree Shows (disks_by b) m w.genesis w.seats w.sent w.trace h;

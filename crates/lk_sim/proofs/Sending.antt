@@ -25,15 +25,15 @@ use Rattle.lk_node.specs.Histories.{History, Genesis, Datagram, Command, Request
 use Rattle.lk_node.specs.Served.{BearsOut, BearsOutMessage}
 use Rattle.lk_node.specs.Holdings.{Holding}
 use Rattle.lk_node.specs.Leavings.{DisksFit}
-use Rattle.lk_node.specs.Calls.{Goes}
-use Rattle.lk_world_nodes.specs.Told.{told_by, Tells}
+use Rattle.lk_node.specs.Calls.{LeavesFit}
+use Rattle.lk_sim_nodes.specs.Told.{told_by, Tells}
 use Rattle.lk_sim.specs.Traces.{asked_in, happened, told_in}
-use Rattle.lk_world_nodes.specs.Rooms.{AreShort}
-use Rattle.lk_world_nodes.specs.Seats.{UpFits, SeatFits, At}
-use Rattle.lk_sim.specs.Worlds.{Holds}
-use Rattle.lk_world_nodes.specs.declared.seat.Seat.{Seat}
-use Rattle.lk_world_nodes.specs.declared.seat.Life.TheVariants.{Up}
-use Rattle.lk_world_nodes.proofs.Tellings.{tells_append}
+use Rattle.lk_sim_nodes.specs.Rooms.{AreShort}
+use Rattle.lk_sim_nodes.specs.Seats.{UpFits, SeatFits, At}
+use Rattle.lk_sim.specs.Worlds.{WorldInvariant}
+use Rattle.lk_sim_nodes.specs.declared.seat.Seat.{Seat}
+use Rattle.lk_sim_nodes.specs.declared.seat.Life.TheVariants.{Up}
+use Rattle.lk_sim_nodes.proofs.Tellings.{tells_append}
 use Rattle.lk_sim.proofs.Told.{told_in-append, told_in-of_node, told_in-tells, told_from, bears_told}
 use Rattle.lk_sim.proofs.Lists.{at_set, at_set_here, at_set_other, asked_among}
 use Rattle.lk_sim.proofs.Growth.{disks_move, still_asked, still_holding, still_bears}
@@ -61,10 +61,10 @@ no_request genesis n x r cluster bytes said asked = none (ap (λ k. k.content) (
 
 module _ {R : Type 0} (Shows : R → Genesis → ℕ → Holding → Type 0) (disks : R → Side → Disk) (m : Meaning)
     (genesis : Genesis) (seats : List (Seat R)) (sent : List Datagram) (trace : List Note)
-    (w : Holds Shows disks m genesis seats sent trace)
+    (w : WorldInvariant Shows disks m genesis seats sent trace)
     (i : ℕ) (s new : Seat R) (at : At seats i s) (r : R) (number : new.number ≡ s.number) (up : new.life ≡ Up r)
     (mine told : List Note) (batch : List Datagram)
-    (g : Goes m (happened genesis sent trace) s.number (Shows r genesis s.number) (disks r) mine batch)
+    (g : LeavesFit m (happened genesis sent trace) s.number (Shows r genesis s.number) (disks r) mine batch)
     (tells : Tells batch told) (short : AreShort (disks r)) where
   abbrev notes : List Note
   notes = mine ++ told
@@ -271,7 +271,7 @@ module _ {R : Type 0} (Shows : R → Genesis → ℕ → Holding → Type 0) (di
       (told_in-append mine told ∙ ap (λ l. l ++ told_in told) (told_in-of_node mine (λ x c. (g.noted x c).0))
       ∙ told_in-tells batch told tells)
 
-  pub goes_on : Holds Shows disks m genesis (set seats i new) (sent ++ batch) (trace ++ notes)
+  pub goes_on : WorldInvariant Shows disks m genesis (set seats i new) (sent ++ batch) (trace ++ notes)
   goes_on =
       let h = happened genesis sent trace in
       let a = all_borne genesis sent w.world.sound (BearsOut m h) (bears_longer m h) notes of_note w.list w.chosen in

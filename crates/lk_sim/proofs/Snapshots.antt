@@ -11,10 +11,10 @@ use Rattle.lk_node.specs.Served.{text}
 use Rattle.lk_replica.specs.Behaviours.{Behaviour, disks_by}
 use Rattle.lk_recovery.specs.Compacting.{AllStandAt}
 use Rattle.lk_sim.specs.Events.{IsExecuted, IsCompacted, GoesOnCompacted}
-use Rattle.lk_world_nodes.specs.Seats.{disks_of, At}
+use Rattle.lk_sim_nodes.specs.Seats.{disks_of, At}
 use Rattle.lk_sim.specs.Packed.{StandsPacked, LeavesPacked}
 use Rattle.lk_sim.specs.Scenes.{Scene}
-use Rattle.lk_sim.specs.Worlds.{Holds}
+use Rattle.lk_sim.specs.Worlds.{WorldInvariant}
 use Rattle.lk_sim.specs.declared.event.Event.{Event}
 use Rattle.lk_sim.specs.declared.event.Event.TheVariants as event
 use Rattle.lk_sim.proofs.Lists.{at_set_here}
@@ -28,7 +28,8 @@ module _ {R : Type 0} (b : Behaviour R) (Shows : R → Genesis → ℕ → Holdi
     (whole : R → WholeValue) (m : Meaning)
     (law : (old new : R) (genesis : Genesis) (n : ℕ) (x : Holding) → Shows old genesis n x → b.Compacts old new (Ok tt)
     → AllStandAt m genesis n (disks_by b new) (whole new).roster.executed x.view.done) where
-  stands_packed : (old new : Scene R) → Holds Shows (disks_by b) m old.genesis old.seats old.sent old.trace → (n : ℕ)
+  stands_packed : (old new : Scene R) → WorldInvariant Shows (disks_by b) m old.genesis old.seats old.sent old.trace
+      → (n : ℕ)
       → (k : IsCompacted b old new n) → GoesOnCompacted b old new k.replica k.next
       → StandsPacked whole (disks_by b) m new n
   stands_packed old new w n k p = record {
@@ -60,7 +61,7 @@ module _ {R : Type 0} (b : Behaviour R) (Shows : R → Genesis → ℕ → Holdi
   }
 
   -- an event that is done leaves such disks where a node compacted
-  pub leaves_packed : (old new : Scene R) → Holds Shows (disks_by b) m old.genesis old.seats old.sent old.trace
+  pub leaves_packed : (old new : Scene R) → WorldInvariant Shows (disks_by b) m old.genesis old.seats old.sent old.trace
       → (e : Event) → IsExecuted b old e new → LeavesPacked whole (disks_by b) m e new
   leaves_packed old new w (event.Start n) k = tt
   leaves_packed old new w (event.Restart n) k = tt

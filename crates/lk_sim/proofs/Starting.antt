@@ -18,12 +18,12 @@ use Rattle.lk_node.specs.Served.{text}
 use Rattle.lk_node.specs.Holdings.{Holding}
 use Rattle.lk_node.specs.Leavings.{header_of, DisksFit}
 use Rattle.lk_sim.specs.Traces.{happened}
-use Rattle.lk_world_nodes.specs.Rooms.{AreShort}
-use Rattle.lk_world_nodes.proofs.Shortness.{empty_short}
-use Rattle.lk_world_nodes.specs.Seats.{SeatFits, At}
-use Rattle.lk_sim.specs.Worlds.{Holds}
-use Rattle.lk_world_nodes.specs.declared.seat.Seat.{Seat}
-use Rattle.lk_world_nodes.specs.declared.seat.Life.TheVariants.{Down}
+use Rattle.lk_sim_nodes.specs.Rooms.{AreShort}
+use Rattle.lk_sim_nodes.proofs.Shortness.{empty_short}
+use Rattle.lk_sim_nodes.specs.Seats.{SeatFits, At}
+use Rattle.lk_sim.specs.Worlds.{WorldInvariant}
+use Rattle.lk_sim_nodes.specs.declared.seat.Seat.{Seat}
+use Rattle.lk_sim_nodes.specs.declared.seat.Life.TheVariants.{Down}
 
 -- empty disks fit where the node has sent nothing
 pub empty_fits : (m : Meaning) (h : History) (n : ℕ) (disks : Side → Disk)
@@ -73,7 +73,7 @@ at_end (z ∷ xs) y = let a = at_end xs y in (omega (arith, a.0), a.1)
 
 module _ {R : Type 0} (Shows : R → Genesis → ℕ → Holding → Type 0) (disks : R → Side → Disk) (m : Meaning)
     (genesis : Genesis) (seats : List (Seat R)) (sent : List Datagram) (trace : List Note)
-    (w : Holds Shows disks m genesis seats sent trace)
+    (w : WorldInvariant Shows disks m genesis seats sent trace)
     (new : Seat R) (unused : (k : ℕ) (t : Seat R) → At seats k t → t.number ≡ new.number → ⊥)
     (device : Memory) (down : new.life ≡ Down device)
     (left : (s : Side) → disk_of device s ≡ record { synced = []; unsynced = [] }) where
@@ -90,7 +90,7 @@ module _ {R : Type 0} (Shows : R → Genesis → ℕ → Holding → Type 0) (di
         subst (λ (z : Memory). AreShort (disk_of z)) same (empty_short (disk_of device) left);
   }
 
-  pub starts : Holds Shows disks m genesis (seats ++ new ∷ []) sent trace
+  pub starts : WorldInvariant Shows disks m genesis (seats ++ new ∷ []) sent trace
   starts = record {
     views = w.views;
     world = w.world;
@@ -121,7 +121,7 @@ module _ {R : Type 0} (Shows : R → Genesis → ℕ → Holding → Type 0) (di
 
 -- nothing was started, sent or noted
 pub nothing_holds : {R : Type 0} (Shows : R → Genesis → ℕ → Holding → Type 0) (disks : R → Side → Disk) (m : Meaning)
-    (genesis : Genesis) → Holds Shows disks m genesis [] [] []
+    (genesis : Genesis) → WorldInvariant Shows disks m genesis [] [] []
 nothing_holds Shows disks m genesis = record {
   views = λ n. fresh;
   world = start_fits genesis;

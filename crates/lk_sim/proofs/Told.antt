@@ -15,7 +15,7 @@ use Rattle.lk_node_io.specs.declared.note.Note.{Note}
 use Rattle.lk_node_io.specs.declared.note.Note.TheVariants as note
 use Rattle.lk_node.specs.Histories.{History, Datagram, Command}
 use Rattle.lk_node.specs.Served.{IsOfNode, BearsOut, BearsOutMessage}
-use Rattle.lk_world_nodes.specs.Told.{told_by_node, told_by, Tells}
+use Rattle.lk_sim_nodes.specs.Told.{told_by_node, told_by, Tells}
 use Rattle.lk_sim.specs.Traces.{told_of, told_in}
 
 pub told_in-append : (xs ys : List Note) → told_in (xs ++ ys) ≡ told_in xs ++ told_in ys

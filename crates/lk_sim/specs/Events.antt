@@ -19,18 +19,18 @@ use Rattle.lk_node.specs.Leavings.{header_of}
 use Rattle.lk_node.specs.Served.{IsOfNode}
 use Rattle.lk_replica.specs.Behaviours.{Behaviour}
 use Rattle.lk_replica.specs.Together.{Said, sent_of}
-use Rattle.lk_world_nodes.specs.Ends.{Breaks, BreaksTogether, StaysDown, FailsToCompact, IsOtherFault, IsOutOfMemory}
-use Rattle.lk_world_nodes.specs.Ends.{IsToldEnd}
-use Rattle.lk_world_nodes.specs.Ends.{end_by}
-use Rattle.lk_world_nodes.specs.Seats.{At, stopped_on, rested_on, IsTrapped}
-use Rattle.lk_world_nodes.specs.Sends.{stop_among, after_sends, cut_short}
-use Rattle.lk_world_nodes.specs.Told.{Tells}
-use Rattle.lk_world_nodes.specs.declared.end.End.TheVariants.{Stopped}
-use Rattle.lk_world_nodes.specs.declared.refused.Refused.{Refused}
-use Rattle.lk_world_nodes.specs.declared.refused.Refused.TheVariants.{WorldMemory}
-use Rattle.lk_world_nodes.specs.declared.seat.Seat.{Seat}
-use Rattle.lk_world_nodes.specs.declared.seat.Life.{Life}
-use Rattle.lk_world_nodes.specs.declared.seat.Life.TheVariants.{Up, Down}
+use Rattle.lk_sim_nodes.specs.Ends.{Breaks, BreaksTogether, StaysDown, FailsToCompact, IsOtherFault, IsOutOfMemory}
+use Rattle.lk_sim_nodes.specs.Ends.{IsToldEnd}
+use Rattle.lk_sim_nodes.specs.Ends.{end_by}
+use Rattle.lk_sim_nodes.specs.Seats.{At, stopped_on, rested_on, IsTrapped}
+use Rattle.lk_sim_nodes.specs.Sends.{stop_among, after_sends, cut_short}
+use Rattle.lk_sim_nodes.specs.Told.{Tells}
+use Rattle.lk_sim_nodes.specs.declared.end.End.TheVariants.{Stopped}
+use Rattle.lk_sim_nodes.specs.declared.refused.Refused.{Refused}
+use Rattle.lk_sim_nodes.specs.declared.refused.Refused.TheVariants.{WorldMemory}
+use Rattle.lk_sim_nodes.specs.declared.seat.Seat.{Seat}
+use Rattle.lk_sim_nodes.specs.declared.seat.Life.{Life}
+use Rattle.lk_sim_nodes.specs.declared.seat.Life.TheVariants.{Up, Down}
 use Rattle.lk_sim.specs.Groups.{AreNotesOf, given_by}
 use Rattle.lk_sim.specs.Heard.{Asks}
 use Rattle.lk_sim.specs.Refusals.{datagram_at, IsPermitted, MayGroup, MayInject, IsRejectedFor, NoGroup, NoInjection}

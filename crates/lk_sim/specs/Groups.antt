@@ -7,7 +7,7 @@ use Rattle.lk_node_io.specs.declared.note.Note.{Note}
 use Rattle.lk_node.specs.Histories.{Datagram}
 use Rattle.lk_replica.specs.Together.{Said}
 use Rattle.lk_sim.specs.Refusals.{datagram_at}
-use Rattle.lk_world_nodes.specs.Told.{Tells}
+use Rattle.lk_sim_nodes.specs.Told.{Tells}
 use Rattle.lk_sim.specs.declared.event.Turn.{Turn}
 use Rattle.lk_sim.specs.declared.event.Turn.TheVariants as turn
 

@@ -13,8 +13,8 @@ use Rattle.lk_agreement.specs.Chosen.{Chosen, IsBeginning}
 use Rattle.lk_node.specs.Histories.{Genesis, Datagram, Command}
 use Rattle.lk_node.specs.Leavings.{header_of, acceptor_of, StandsAs}
 use Rattle.lk_node.specs.Served.{text}
-use Rattle.lk_world_nodes.specs.Seats.{At, disks_of}
-use Rattle.lk_world_nodes.specs.declared.seat.Seat.{Seat}
+use Rattle.lk_sim_nodes.specs.Seats.{At, disks_of}
+use Rattle.lk_sim_nodes.specs.declared.seat.Seat.{Seat}
 
 -- whatever a stop may leave of the node's disks has a standing with this property
 abbrev pub EveryStanding : {R : Type 0} → (R → Side → Disk) → Meaning → Genesis → Seat R

@@ -11,18 +11,18 @@ use Rattle.lk_messages.specs.declared.message.NodeMessage.{NodeMessage}
 use Rattle.lk_state.specs.Meanings.{Meaning}
 use Rattle.lk_agreement.specs.Datagrams.{said_by, HasSent}
 use Rattle.lk_node_io.specs.declared.note.Note.{Note}
-use Rattle.lk_node.specs.Calls.{NodeFits, Goes}
+use Rattle.lk_node.specs.Calls.{NodeFits, LeavesFit}
 use Rattle.lk_node.specs.Histories.{History, Genesis, Datagram, RequestValue, IsHeard, IsLawful}
 use Rattle.lk_node.specs.Holdings.{Holding}
 use Rattle.lk_node.specs.Leavings.{DisksFit}
-use Rattle.lk_world_nodes.specs.Rooms.{AreShort}
-use Rattle.lk_world_nodes.specs.Seats.{At}
+use Rattle.lk_sim_nodes.specs.Rooms.{AreShort}
+use Rattle.lk_sim_nodes.specs.Seats.{At}
 use Rattle.lk_sim.specs.Events.{Turns, Adds}
 use Rattle.lk_sim.specs.Scenes.{Scene}
-use Rattle.lk_world_nodes.specs.Told.{told_by}
+use Rattle.lk_sim_nodes.specs.Told.{told_by}
 use Rattle.lk_sim.specs.Traces.{asked_note}
-use Rattle.lk_world_nodes.specs.declared.seat.Seat.{Seat}
-use Rattle.lk_world_nodes.specs.declared.seat.Life.TheVariants.{Up, Down}
+use Rattle.lk_sim_nodes.specs.declared.seat.Seat.{Seat}
+use Rattle.lk_sim_nodes.specs.declared.seat.Life.TheVariants.{Up, Down}
 
 -- ---- what arrives at a node
 
@@ -64,7 +64,7 @@ TellsOf (d ∷ ds) notes =
 pub record GoesBy {R : Type 0} (Shows : R → Genesis → ℕ → Holding → Type 0) (disks : R → Side → Disk) (m : Meaning)
     (n : ℕ) (r : R) (o : Option (List ℕ)) (q : R) (notes : List Note) (batch : List Datagram) : Type 0 where
   pub goes : (h : History) → NodeFits m h n (Shows r h.genesis n) (disks r) → MayHear h o
-      → Goes m h n (Shows q h.genesis n) (disks q) notes batch
+      → LeavesFit m h n (Shows q h.genesis n) (disks q) notes batch
   pub short : AreShort (disks r) → AreShort (disks q)
 
 -- with that input it ends, and each image that a stop may leave of these disks fits
@@ -77,7 +77,7 @@ pub record EndsBy {R : Type 0} (Shows : R → Genesis → ℕ → Holding → Ty
 pub record RestartsBy {R : Type 0} (Shows : R → Genesis → ℕ → Holding → Type 0) (disks : R → Side → Disk) (m : Meaning)
     (genesis : Genesis) (n : ℕ) (old : Side → Disk) (q : R) (notes : List Note) : Type 0 where
   pub goes : (h : History) → h.genesis ≡ genesis → IsLawful m h → DisksFit m h n old
-      → Goes m h n (Shows q h.genesis n) (disks q) notes []
+      → LeavesFit m h n (Shows q h.genesis n) (disks q) notes []
   pub short : AreShort old → AreShort (disks q)
 
 -- it does not, and leaves these disks

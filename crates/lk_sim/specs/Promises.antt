@@ -4,15 +4,15 @@ use Rattle.lk_agreement.specs.Chosen.{command_at, Chosen, IsBeginning}
 use Rattle.lk_node.specs.Histories.{Command}
 use Rattle.lk_replica.specs.Behaviours.{Behaviour, disks_by}
 use Rattle.lk_sim.specs.Explained.{Explains}
-use Rattle.lk_world_nodes.specs.Seats.{disks_of, At}
+use Rattle.lk_sim_nodes.specs.Seats.{disks_of, At}
 use Rattle.lk_sim.specs.Kept.{CoversAll, IsKeptBy}
 use Rattle.lk_sim.specs.Orders.{InOrder, ToldInTime}
-use Rattle.lk_world_nodes.specs.Rooms.{AreShort}
+use Rattle.lk_sim_nodes.specs.Rooms.{AreShort}
 use Rattle.lk_sim.specs.Scenes.{Scene}
 use Rattle.lk_sim.specs.States.{SumsUpChosen}
-use Rattle.lk_world_nodes.specs.Told.{Tells}
+use Rattle.lk_sim_nodes.specs.Told.{Tells}
 use Rattle.lk_sim.specs.Traces.{told_in}
-use Rattle.lk_world_nodes.specs.declared.seat.Seat.{Seat}
+use Rattle.lk_sim_nodes.specs.declared.seat.Seat.{Seat}
 use Rattle.lk_state.specs.Meanings.{Meaning}
 use Rattle.lk_state.specs.States.{WholeValue}
 

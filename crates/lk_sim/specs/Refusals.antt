@@ -6,16 +6,16 @@ use Rattle.lk_agreement.specs.declared.party.Party.TheVariants as party
 use Rattle.lk_node.specs.Histories.{Datagram}
 use Rattle.lk_sim.specs.Heard.{IsForged}
 use Rattle.lk_sim.specs.Scenes.{Scene}
-use Rattle.lk_world_nodes.specs.Refusals.{NoneUp, NoRestart}
-use Rattle.lk_world_nodes.specs.Seats.{IsStarted, IsUp, IsDown, HasNo}
+use Rattle.lk_sim_nodes.specs.Refusals.{NoneUp, NoRestart}
+use Rattle.lk_sim_nodes.specs.Seats.{IsStarted, IsUp, IsDown, HasNo}
 use Rattle.lk_sim.specs.declared.event.Event.{Event}
 use Rattle.lk_sim.specs.declared.event.Event.TheVariants as event
 use Rattle.lk_sim.specs.declared.event.Turn.{Turn}
 use Rattle.lk_sim.specs.declared.event.Turn.TheVariants as turn
-use Rattle.lk_world_nodes.specs.declared.refused.Refused.{Refused}
-use Rattle.lk_world_nodes.specs.declared.refused.Refused.TheVariants.{NoSuchNode, NotUp, AlreadyUp, NoSuchDatagram}
-use Rattle.lk_world_nodes.specs.declared.refused.Refused.TheVariants.{Forged, WorldFull}
-use Rattle.lk_world_nodes.specs.declared.seat.Seat.{Seat}
+use Rattle.lk_sim_nodes.specs.declared.refused.Refused.{Refused}
+use Rattle.lk_sim_nodes.specs.declared.refused.Refused.TheVariants.{NoSuchNode, NotUp, AlreadyUp, NoSuchDatagram}
+use Rattle.lk_sim_nodes.specs.declared.refused.Refused.TheVariants.{Forged, WorldFull}
+use Rattle.lk_sim_nodes.specs.declared.seat.Seat.{Seat}
 
 -- there are more than 99,000 datagrams
 abbrev pub IsFull : List Datagram → Type 0

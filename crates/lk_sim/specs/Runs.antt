@@ -5,7 +5,7 @@ use Rattle.lk_sim.specs.Events.{IsExecuted, IsRefused}
 use Rattle.lk_sim.specs.Scenes.{Scene}
 use Rattle.lk_sim.specs.declared.end.RunEnd.{RunEnd}
 use Rattle.lk_sim.specs.declared.event.Event.{Event}
-use Rattle.lk_world_nodes.specs.declared.refused.Refused.{Refused}
+use Rattle.lk_sim_nodes.specs.declared.refused.Refused.{Refused}
 
 -- the events are done, one after another
 abbrev pub Passes : {R : Type 0} → Behaviour R → List Event → Scene R → Scene R → Type 0

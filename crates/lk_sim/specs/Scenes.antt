@@ -2,8 +2,8 @@
 use Rattle.std.specs.Prelude.{List, Option}
 use Rattle.lk_node_io.specs.declared.note.Note.{Note}
 use Rattle.lk_node.specs.Histories.{Genesis, Datagram}
-use Rattle.lk_world_nodes.specs.declared.end.End.{End}
-use Rattle.lk_world_nodes.specs.declared.seat.Seat.{Seat}
+use Rattle.lk_sim_nodes.specs.declared.end.End.{End}
+use Rattle.lk_sim_nodes.specs.declared.seat.Seat.{Seat}
 
 -- its genesis, the nodes that were ever started, all datagrams that were ever sent, the trace, and how the last event
 -- ended a node

@@ -8,12 +8,12 @@ use Rattle.lk_node.specs.Holdings.{Holding}
 use Rattle.lk_replica.specs.Behaviours.{Behaviour, disks_by}
 use Rattle.lk_replica.specs.Together.{parts_of}
 use Rattle.lk_replica.specs.declared.taken.Step.{Step}
-use Rattle.lk_world_nodes.specs.Outcomes.{Rests}
-use Rattle.lk_world_nodes.specs.Seats.{SeatFits, At, stopped_on, device_in}
-use Rattle.lk_world_nodes.specs.Told.{Tells}
-use Rattle.lk_world_nodes.specs.declared.end.End.{End}
-use Rattle.lk_world_nodes.specs.declared.seat.Seat.{Seat}
-use Rattle.lk_world_nodes.specs.declared.seat.Life.TheVariants.{Down}
+use Rattle.lk_sim_nodes.specs.Outcomes.{Rests}
+use Rattle.lk_sim_nodes.specs.Seats.{SeatFits, At, stopped_on, device_in}
+use Rattle.lk_sim_nodes.specs.Told.{Tells}
+use Rattle.lk_sim_nodes.specs.declared.end.End.{End}
+use Rattle.lk_sim_nodes.specs.declared.seat.Seat.{Seat}
+use Rattle.lk_sim_nodes.specs.declared.seat.Life.TheVariants.{Down}
 use Rattle.lk_sim.specs.Events.{Adds}
 use Rattle.lk_sim.specs.Groups.{AreNotesOf}
 use Rattle.lk_sim.specs.Scenes.{Scene}

@@ -11,8 +11,8 @@ use Rattle.lk_agreement.specs.Chosen.{Chosen}
 use Rattle.lk_node.specs.Histories.{Genesis, Datagram, Command}
 use Rattle.lk_node.specs.Leavings.{header_of, StandsAs}
 use Rattle.lk_node.specs.Served.{text}
-use Rattle.lk_world_nodes.specs.declared.seat.Seat.{Seat}
-use Rattle.lk_world_nodes.specs.declared.seat.Life.TheVariants.{Up, Down}
+use Rattle.lk_sim_nodes.specs.declared.seat.Seat.{Seat}
+use Rattle.lk_sim_nodes.specs.declared.seat.Life.TheVariants.{Up, Down}
 
 -- the snapshot is the packed text of a chosen list, whose length is its position
 abbrev pub IsPackedList : Meaning → Genesis → List Datagram → StandingValue → Type 0

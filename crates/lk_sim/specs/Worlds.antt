@@ -15,13 +15,14 @@ use Rattle.lk_node.specs.Served.{BearsOut, BearsOutMessage}
 use Rattle.lk_node.specs.Holdings.{Holding}
 use Rattle.lk_sim.specs.Orders.{InTime}
 use Rattle.lk_sim.specs.Scenes.{Scene}
-use Rattle.lk_world_nodes.specs.Told.{Tells}
+use Rattle.lk_sim_nodes.specs.Told.{Tells}
 use Rattle.lk_sim.specs.Traces.{asked_in, happened, told_in}
-use Rattle.lk_world_nodes.specs.Seats.{SeatFits, At}
-use Rattle.lk_world_nodes.specs.declared.seat.Seat.{Seat}
+use Rattle.lk_sim_nodes.specs.Seats.{SeatFits, At}
+use Rattle.lk_sim_nodes.specs.declared.seat.Seat.{Seat}
 use Rattle.lk_sim.specs.declared.world_parts.WorldParts.{WorldParts}
 
-pub record Holds {R : Type 0} (Shows : R → Genesis → ℕ → Holding → Type 0) (disks : R → Side → Disk) (m : Meaning)
+pub record WorldInvariant {R : Type 0} (Shows : R → Genesis → ℕ → Holding → Type 0) (disks : R → Side
+    → Disk) (m : Meaning)
     (genesis : Genesis) (seats : List (Seat R)) (sent : List Datagram) (trace : List Note) : Type 0 where
   -- a view for each number, which everything that was sent fits
   pub views : ℕ → View
@@ -48,9 +49,9 @@ pub record Holds {R : Type 0} (Shows : R → Genesis → ℕ → Holding → Typ
   pub in_time : InTime m genesis sent trace
 
 -- the same of the parts of a world
-abbrev pub PartsHold : {R : Type 0} → (R → Genesis → ℕ → Holding → Type 0) → (R → Side → Disk)
+abbrev pub PartsKeepInvariant : {R : Type 0} → (R → Genesis → ℕ → Holding → Type 0) → (R → Side → Disk)
     → Meaning → WorldParts R → Type 0
-PartsHold Shows disks m p = Holds Shows disks m p.genesis p.seats.items p.sent.items p.trace.items
+PartsKeepInvariant Shows disks m p = WorldInvariant Shows disks m p.genesis p.seats.items p.sent.items p.trace.items
 
 -- what is seen of them
 abbrev pub scene_of : {R : Type 0} → WorldParts R → Scene R

@@ -4,7 +4,7 @@ ghost use Rattle.lk_messages.specs.Grammar.{Spells};
 ghost use Rattle.lk_messages.specs.declared.message.Content.TheVariants as content;
 ghost use Rattle.lk_replica.specs.Behaviours.{disks_by};
 ghost use Rattle.lk_sim.specs.Events.{IsExecuted, IsAsked, IsRefused};
-ghost use Rattle.lk_sim.specs.Worlds.{PartsHold, scene_of};
+ghost use Rattle.lk_sim.specs.Worlds.{PartsKeepInvariant, scene_of};
 ghost use Rattle.lk_sim.specs.declared.event.Event.TheVariants as event;
 
 use crate::datagrams::has_room;
@@ -13,9 +13,9 @@ use bytes::BytesMut;
 use lk_agreement::Party;
 use lk_node_io::Note;
 use lk_replica::{Datagram, MemoryReplica};
+use lk_sim_nodes::{Refused, find};
 use lk_types::{NoMemory, NodeNo, Request};
 use lk_wire::{Content, Message, write};
-use lk_world_nodes::{Refused, find};
 use std::alloc::Global;
 
 // Serialises a request as a datagram of this cluster.
@@ -78,8 +78,8 @@ pub fn client<R: MemoryReplica>(
     number: NodeNo,
     request: &Request,
 ) -> Result<(), Refused>
-    requires { PartsHold R.Shows (disks_by R.behaves) R.meaning parts.old }
-    ensures holds { PartsHold R.Shows (disks_by R.behaves) R.meaning parts.new }
+    requires { PartsKeepInvariant R.Shows (disks_by R.behaves) R.meaning parts.old }
+    ensures holds { PartsKeepInvariant R.Shows (disks_by R.behaves) R.meaning parts.new }
     ensures ok { OnOk result
         (IsExecuted R.behaves (scene_of parts.old) (event.Client number request.now) (scene_of parts.new)) }
     ensures err { IfErr result

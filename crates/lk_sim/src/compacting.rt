@@ -1,22 +1,22 @@
 // Makes a node replace the commands that it has executed with a snapshot.
 ghost use Rattle.std.specs.Prelude.{ℕ, IfErr, OnOk, OnErr};
 ghost use Rattle.lk_replica.specs.Behaviours.{disks_by};
-ghost use Rattle.lk_world_nodes.specs.Seats.{IsUpAt};
+ghost use Rattle.lk_sim_nodes.specs.Seats.{IsUpAt};
 ghost use Rattle.lk_sim.specs.Events.{IsExecuted, IsCompacted, IsHalted, IsRefused, LeftByCompacting};
-ghost use Rattle.lk_sim.specs.Worlds.{PartsHold, scene_of};
+ghost use Rattle.lk_sim.specs.Worlds.{PartsKeepInvariant, scene_of};
 ghost use Rattle.lk_sim.specs.declared.event.Event.TheVariants as event;
 
 use crate::giving::finish_call;
 use crate::world_parts::WorldParts;
 use lk_replica::MemoryReplica;
+use lk_sim_nodes::{Refused, compact_node, find_up};
 use lk_types::{NoMemory, NodeNo};
-use lk_world_nodes::{Refused, compact_node, find_up};
 
 // Compacts the node at place `i`, which is up.
 fn compact_at<R: MemoryReplica>(parts: &mut WorldParts<R>, i: usize) -> Result<(), NoMemory>
     requires up { (n : ℕ) × IsUpAt parts.old.seats.items i n }
-    requires holds { PartsHold R.Shows (disks_by R.behaves) R.meaning parts.old }
-    ensures holds { PartsHold R.Shows (disks_by R.behaves) R.meaning parts.new }
+    requires holds { PartsKeepInvariant R.Shows (disks_by R.behaves) R.meaning parts.old }
+    ensures holds { PartsKeepInvariant R.Shows (disks_by R.behaves) R.meaning parts.new }
     ensures compacted { (n : ℕ) → IsUpAt parts.old.seats.items i n
         → OnOk result (IsCompacted R.behaves (scene_of parts.old) (scene_of parts.new) n) }
     ensures halted { (n : ℕ) → IsUpAt parts.old.seats.items i n
@@ -29,8 +29,8 @@ fn compact_at<R: MemoryReplica>(parts: &mut WorldParts<R>, i: usize) -> Result<(
 
 /// Makes a node that is up write a snapshot of everything that it has executed.
 pub fn compact<R: MemoryReplica>(parts: &mut WorldParts<R>, number: NodeNo) -> Result<(), Refused>
-    requires { PartsHold R.Shows (disks_by R.behaves) R.meaning parts.old }
-    ensures holds { PartsHold R.Shows (disks_by R.behaves) R.meaning parts.new }
+    requires { PartsKeepInvariant R.Shows (disks_by R.behaves) R.meaning parts.old }
+    ensures holds { PartsKeepInvariant R.Shows (disks_by R.behaves) R.meaning parts.new }
     ensures ok { OnOk result (IsExecuted R.behaves (scene_of parts.old) (event.Compact number) (scene_of parts.new)) }
     ensures err { IfErr result
         (λ e. IsRefused R.behaves (scene_of parts.old) (event.Compact number) e (scene_of parts.new)) }

@@ -10,8 +10,8 @@ ghost use Rattle.lk_sim.specs.Events.{IsExecuted, IsInjected, IsNotInjected, IsR
 ghost use Rattle.lk_sim.specs.Heard.{Asks, IsForged};
 ghost use Rattle.lk_sim.specs.Refusals.{datagram_at, HasRoom, NoTurn, NoDelivery, MayInject};
 ghost use Rattle.lk_sim.specs.Rooms.{HasNoteRoom};
-ghost use Rattle.lk_world_nodes.specs.Seats.{IsUpAt};
-ghost use Rattle.lk_sim.specs.Worlds.{PartsHold, scene_of};
+ghost use Rattle.lk_sim_nodes.specs.Seats.{IsUpAt};
+ghost use Rattle.lk_sim.specs.Worlds.{PartsKeepInvariant, scene_of};
 ghost use Rattle.lk_sim.specs.declared.event.Event.TheVariants as event;
 
 use crate::datagrams::{datagram, has_room};
@@ -20,9 +20,9 @@ use crate::world_parts::WorldParts;
 use lk_agreement::Party;
 use lk_node_io::{Input, Note};
 use lk_replica::MemoryReplica;
+use lk_sim_nodes::{Refused, find_up};
 use lk_types::{NoMemory, NodeNo, Request};
 use lk_wire::{ContentRef, Datagram};
-use lk_world_nodes::{Refused, find_up};
 
 // Returns the place of the node in `seats`, if it is up and the world has room for what it sends.
 fn find_ready<R: MemoryReplica>(parts: &WorldParts<R>, number: NodeNo) -> Result<usize, Refused>
@@ -38,8 +38,8 @@ fn find_ready<R: MemoryReplica>(parts: &WorldParts<R>, number: NodeNo) -> Result
 
 /// Gives a tick to a node that is up.
 pub fn tick<R: MemoryReplica>(parts: &mut WorldParts<R>, number: NodeNo) -> Result<(), Refused>
-    requires { PartsHold R.Shows (disks_by R.behaves) R.meaning parts.old }
-    ensures holds { PartsHold R.Shows (disks_by R.behaves) R.meaning parts.new }
+    requires { PartsKeepInvariant R.Shows (disks_by R.behaves) R.meaning parts.old }
+    ensures holds { PartsKeepInvariant R.Shows (disks_by R.behaves) R.meaning parts.new }
     ensures ok { OnOk result (IsExecuted R.behaves (scene_of parts.old) (event.Tick number) (scene_of parts.new)) }
     ensures err { IfErr result
         (λ e. IsRefused R.behaves (scene_of parts.old) (event.Tick number) e (scene_of parts.new)) }
@@ -81,8 +81,8 @@ fn bytes_of<R: MemoryReplica>(parts: &WorldParts<R>, k: usize) -> Result<Vec<u8>
 /// Delivers the datagram at place `k` to the node to which it is addressed. It stays in the list, and may be delivered
 /// again.
 pub fn deliver<R: MemoryReplica>(parts: &mut WorldParts<R>, k: usize) -> Result<(), Refused>
-    requires { PartsHold R.Shows (disks_by R.behaves) R.meaning parts.old }
-    ensures holds { PartsHold R.Shows (disks_by R.behaves) R.meaning parts.new }
+    requires { PartsKeepInvariant R.Shows (disks_by R.behaves) R.meaning parts.old }
+    ensures holds { PartsKeepInvariant R.Shows (disks_by R.behaves) R.meaning parts.new }
     ensures ok { OnOk result (IsExecuted R.behaves (scene_of parts.old) (event.Deliver k) (scene_of parts.new)) }
     ensures err { IfErr result
         (λ e. IsRefused R.behaves (scene_of parts.old) (event.Deliver k) e (scene_of parts.new)) }
@@ -137,8 +137,8 @@ pub fn inject<R: MemoryReplica>(
     number: NodeNo,
     bytes: &[u8],
 ) -> Result<(), Refused>
-    requires { PartsHold R.Shows (disks_by R.behaves) R.meaning parts.old }
-    ensures holds { PartsHold R.Shows (disks_by R.behaves) R.meaning parts.new }
+    requires { PartsKeepInvariant R.Shows (disks_by R.behaves) R.meaning parts.old }
+    ensures holds { PartsKeepInvariant R.Shows (disks_by R.behaves) R.meaning parts.new }
     ensures ok { OnOk result
         (MayInject (scene_of parts.old) number bytes.now
         × IsInjected R.behaves (scene_of parts.old) (scene_of parts.new) number bytes.now) }

@@ -1,4 +1,4 @@
-use lk_world_nodes::Refused;
+use lk_sim_nodes::Refused;
 
 /// How a run of events ended: how many were done, and why the next one was rejected, if one was.
 #[derive(Clone, Copy)]

@@ -7,16 +7,16 @@ ghost use Rattle.lk_replica.specs.Behaviours.{disks_by};
 ghost use Rattle.lk_sim.specs.Events.{IsGiven, IsHalted, IsBack, LeftBy, LeftByRevival};
 ghost use Rattle.lk_sim.specs.Settled.{HasAdded, HasSettled, HasGivenUp};
 ghost use Rattle.lk_sim.specs.Rooms.{HasNoteRoom};
-ghost use Rattle.lk_world_nodes.specs.Seats.{IsUpAt, IsDownAt};
-ghost use Rattle.lk_world_nodes.specs.Told.{Tells};
+ghost use Rattle.lk_sim_nodes.specs.Seats.{IsUpAt, IsDownAt};
+ghost use Rattle.lk_sim_nodes.specs.Told.{Tells};
 ghost use Rattle.lk_sim.specs.Traces.{happened, asked_note};
-ghost use Rattle.lk_sim.specs.Worlds.{PartsHold, scene_of};
+ghost use Rattle.lk_sim.specs.Worlds.{PartsKeepInvariant, scene_of};
 
 use crate::world_parts::WorldParts;
 use lk_node_io::{Input, Note};
 use lk_replica::{Datagram, MemoryReplica};
+use lk_sim_nodes::{Outcome, add_notes, carry_out_stop, revive, step, stop};
 use lk_types::{NoMemory, Request};
-use lk_world_nodes::{Outcome, add_notes, carry_out_stop, revive, step, stop};
 use std::alloc::Global;
 
 // Collects the notes of a step in this order: the request that was just asked, what the node noted, and its answers and
@@ -149,8 +149,8 @@ pub fn give<R: MemoryReplica>(
     requires heard { InputFits
         (happened parts.old.genesis parts.old.sent.items (parts.old.trace.items ++ asked_note asked)) input }
     requires room { HasNoteRoom asked parts.old.trace }
-    requires holds { PartsHold R.Shows (disks_by R.behaves) R.meaning parts.old }
-    ensures holds { PartsHold R.Shows (disks_by R.behaves) R.meaning parts.new }
+    requires holds { PartsKeepInvariant R.Shows (disks_by R.behaves) R.meaning parts.old }
+    ensures holds { PartsKeepInvariant R.Shows (disks_by R.behaves) R.meaning parts.new }
     ensures given { (n : ℕ) → IsUpAt parts.old.seats.items i n
         → OnOk result (IsGiven R.behaves (scene_of parts.old) (scene_of parts.new) n
         (heard_by input.entry) (asked_note asked)) }
@@ -166,8 +166,8 @@ pub fn give<R: MemoryReplica>(
 /// Restarts the node at place `i`, which is down, from its disks.
 pub fn come_up<R: MemoryReplica>(parts: &mut WorldParts<R>, i: usize) -> Result<(), NoMemory>
     requires down { (n : ℕ) × IsDownAt parts.old.seats.items i n }
-    requires holds { PartsHold R.Shows (disks_by R.behaves) R.meaning parts.old }
-    ensures holds { PartsHold R.Shows (disks_by R.behaves) R.meaning parts.new }
+    requires holds { PartsKeepInvariant R.Shows (disks_by R.behaves) R.meaning parts.old }
+    ensures holds { PartsKeepInvariant R.Shows (disks_by R.behaves) R.meaning parts.new }
     ensures back { (n : ℕ) → IsDownAt parts.old.seats.items i n
         → OnOk result (IsBack R.behaves (scene_of parts.old) (scene_of parts.new) n) }
     ensures halted { (n : ℕ) → IsDownAt parts.old.seats.items i n

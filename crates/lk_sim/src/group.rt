@@ -3,12 +3,12 @@ ghost use Rattle.std.specs.Prelude.{◌≡◌, ◌↔◌, ℕ, ◌<◌, [], true
 ghost use Rattle.lk_node.specs.Calls.{heard_by};
 ghost use Rattle.lk_replica.specs.Behaviours.{disks_by};
 ghost use Rattle.lk_replica.specs.Together.{parts_of};
-ghost use Rattle.lk_world_nodes.specs.Seats.{IsUpAt};
+ghost use Rattle.lk_sim_nodes.specs.Seats.{IsUpAt};
 ghost use Rattle.lk_sim.specs.Events.{IsGivenTogether, IsHalted, IsNotGrouped, LeftByGroup};
 ghost use Rattle.lk_sim.specs.Groups.{AreNotesOf, WereSentTo, copied, given_by};
 ghost use Rattle.lk_sim.specs.Refusals.{AreFor, IsFor, MayGroup};
 ghost use Rattle.lk_sim.specs.Settled.{HasAddedSteps, HasGivenUp, HasSettledSteps};
-ghost use Rattle.lk_sim.specs.Worlds.{PartsHold, scene_of};
+ghost use Rattle.lk_sim.specs.Worlds.{PartsKeepInvariant, scene_of};
 
 use crate::datagrams::{datagram, has_room};
 use crate::event::Turn;
@@ -17,8 +17,8 @@ use crate::world_parts::WorldParts;
 use lk_agreement::Party;
 use lk_node_io::{Input, Note};
 use lk_replica::{Datagram, MemoryReplica, Step};
+use lk_sim_nodes::{GroupOutcome, Refused, add_notes, carry_out_stop, find_up, step_all, stop};
 use lk_types::{NoMemory, NodeNo};
-use lk_world_nodes::{GroupOutcome, Refused, add_notes, carry_out_stop, find_up, step_all, stop};
 use std::alloc::Global;
 
 // Collects the notes of all steps, step by step: what the node noted, then the answers and passes that the step sent.
@@ -112,8 +112,8 @@ fn give_all<R: MemoryReplica>(
 ) -> Result<(), NoMemory>
     requires up { (n : ℕ) × IsUpAt parts.old.seats.items i n }
     requires heard { WereSentTo parts.old.sent.items inputs.items }
-    requires holds { PartsHold R.Shows (disks_by R.behaves) R.meaning parts.old }
-    ensures holds { PartsHold R.Shows (disks_by R.behaves) R.meaning parts.new }
+    requires holds { PartsKeepInvariant R.Shows (disks_by R.behaves) R.meaning parts.old }
+    ensures holds { PartsKeepInvariant R.Shows (disks_by R.behaves) R.meaning parts.new }
     ensures given { (n : ℕ) → IsUpAt parts.old.seats.items i n
         → OnOk result (IsGivenTogether R.behaves (scene_of parts.old) (scene_of parts.new) n
         (map heard_by inputs.entry.items)) }
@@ -198,8 +198,8 @@ pub fn group<R: MemoryReplica>(
     number: NodeNo,
     turns: &[Turn],
 ) -> Result<(), Refused>
-    requires { PartsHold R.Shows (disks_by R.behaves) R.meaning parts.old }
-    ensures holds { PartsHold R.Shows (disks_by R.behaves) R.meaning parts.new }
+    requires { PartsKeepInvariant R.Shows (disks_by R.behaves) R.meaning parts.old }
+    ensures holds { PartsKeepInvariant R.Shows (disks_by R.behaves) R.meaning parts.new }
     ensures ok { OnOk result
         (MayGroup (scene_of parts.old) number turns.now
         × IsGivenTogether R.behaves (scene_of parts.old) (scene_of parts.new) number

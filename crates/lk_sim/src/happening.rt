@@ -3,7 +3,7 @@ ghost use Rattle.std.specs.Prelude.{OnOk, IfErr};
 ghost use Rattle.lk_replica.specs.Behaviours.{disks_by};
 ghost use Rattle.lk_sim.specs.Events.{IsExecuted, IsRefused};
 ghost use Rattle.lk_sim.specs.Runs.{Runs};
-ghost use Rattle.lk_sim.specs.Worlds.{PartsHold, scene_of};
+ghost use Rattle.lk_sim.specs.Worlds.{PartsKeepInvariant, scene_of};
 
 use crate::client::client;
 use crate::compacting::compact;
@@ -14,12 +14,12 @@ use crate::group::group;
 use crate::lives::{arm, fail_at, halt, restart, start};
 use crate::world_parts::WorldParts;
 use lk_replica::MemoryReplica;
-use lk_world_nodes::Refused;
+use lk_sim_nodes::Refused;
 
 /// Executes one event. A rejected event changes nothing, except that its node may have stopped when out of memory.
 pub fn happen<R: MemoryReplica>(parts: &mut WorldParts<R>, event: &Event) -> Result<(), Refused>
-    requires { PartsHold R.Shows (disks_by R.behaves) R.meaning parts.old }
-    ensures holds { PartsHold R.Shows (disks_by R.behaves) R.meaning parts.new }
+    requires { PartsKeepInvariant R.Shows (disks_by R.behaves) R.meaning parts.old }
+    ensures holds { PartsKeepInvariant R.Shows (disks_by R.behaves) R.meaning parts.new }
     ensures ok { OnOk result (IsExecuted R.behaves (scene_of parts.old) event.now (scene_of parts.new)) }
     ensures err { IfErr result (λ e. IsRefused R.behaves (scene_of parts.old) event.now e (scene_of parts.new)) }
 {
@@ -40,8 +40,8 @@ pub fn happen<R: MemoryReplica>(parts: &mut WorldParts<R>, event: &Event) -> Res
 
 /// Executes events in order, up to the first that is rejected.
 pub fn happen_all<R: MemoryReplica>(parts: &mut WorldParts<R>, events: &[Event]) -> RunEnd
-    requires { PartsHold R.Shows (disks_by R.behaves) R.meaning parts.old }
-    ensures holds { PartsHold R.Shows (disks_by R.behaves) R.meaning parts.new }
+    requires { PartsKeepInvariant R.Shows (disks_by R.behaves) R.meaning parts.old }
+    ensures holds { PartsKeepInvariant R.Shows (disks_by R.behaves) R.meaning parts.new }
     ensures runs { Runs R.behaves (scene_of parts.old) events.now result (scene_of parts.new) }
 {
     'events: for i in 0..events.len() {

@@ -18,5 +18,5 @@ mod world_parts;
 
 pub use end::RunEnd;
 pub use event::{Event, Turn};
-pub use lk_world_nodes::{End, LeftNode, Refused};
+pub use lk_sim_nodes::{End, LeftNode, Refused};
 pub use world::World;

@@ -2,29 +2,29 @@
 ghost use Rattle.std.specs.Prelude.{◌≡◌, IfErr, OnOk, OnErr};
 ghost use Rattle.lk_replica.specs.Behaviours.{disks_by};
 ghost use Rattle.lk_sim.specs.Events.{IsExecuted, IsBegun, IsRefused, StartWants};
-ghost use Rattle.lk_world_nodes.specs.Seats.{HasNo};
-ghost use Rattle.lk_sim.specs.Worlds.{PartsHold, scene_of};
+ghost use Rattle.lk_sim_nodes.specs.Seats.{HasNo};
+ghost use Rattle.lk_sim.specs.Worlds.{PartsKeepInvariant, scene_of};
 ghost use Rattle.lk_sim.specs.declared.event.Event.TheVariants as event;
-ghost use Rattle.lk_world_nodes.specs.declared.refused.Refused.TheVariants.{WorldMemory};
+ghost use Rattle.lk_sim_nodes.specs.declared.refused.Refused.TheVariants.{WorldMemory};
 
 use crate::giving::{add, come_up};
 use crate::world_parts::WorldParts;
 use lk_disk::Trap;
 use lk_replica::MemoryReplica;
-use lk_simulated_disk::MemoryDisk;
-use lk_types::{NoMemory, NodeNo};
-use lk_world_nodes::{
+use lk_sim_nodes::{
     Life, Refused, Seat, carry_out_stop, find, find_down, find_up, revive, set_trap, stop,
 };
+use lk_simulated_disk::MemoryDisk;
+use lk_types::{NoMemory, NodeNo};
 
 // The most nodes that a world ever starts.
 const MAX_NODES: usize = 16;
 
 // Starts a node of a new number with empty disks, and appends it to the world. On an error the world is unchanged.
-fn begin<R: MemoryReplica>(parts: &mut WorldParts<R>, number: NodeNo) -> Result<(), NoMemory>
+fn begin_node<R: MemoryReplica>(parts: &mut WorldParts<R>, number: NodeNo) -> Result<(), NoMemory>
     requires unused { HasNo parts.old.seats.items number }
-    requires holds { PartsHold R.Shows (disks_by R.behaves) R.meaning parts.old }
-    ensures holds { PartsHold R.Shows (disks_by R.behaves) R.meaning parts.new }
+    requires holds { PartsKeepInvariant R.Shows (disks_by R.behaves) R.meaning parts.old }
+    ensures holds { PartsKeepInvariant R.Shows (disks_by R.behaves) R.meaning parts.new }
     ensures ok { OnOk result (IsBegun R.behaves (scene_of parts.old) (scene_of parts.new) number) }
     ensures err { OnErr result (scene_of parts.new ≡ scene_of parts.old) }
     // Memory ran out for the node's place, before its start, or for the result of its start.
@@ -44,8 +44,8 @@ fn begin<R: MemoryReplica>(parts: &mut WorldParts<R>, number: NodeNo) -> Result<
 
 /// Starts a new node with two empty disks. One that was ever started is rejected, and so is a 17th.
 pub fn start<R: MemoryReplica>(parts: &mut WorldParts<R>, number: NodeNo) -> Result<(), Refused>
-    requires { PartsHold R.Shows (disks_by R.behaves) R.meaning parts.old }
-    ensures holds { PartsHold R.Shows (disks_by R.behaves) R.meaning parts.new }
+    requires { PartsKeepInvariant R.Shows (disks_by R.behaves) R.meaning parts.old }
+    ensures holds { PartsKeepInvariant R.Shows (disks_by R.behaves) R.meaning parts.new }
     ensures ok { OnOk result (IsExecuted R.behaves (scene_of parts.old) (event.Start number) (scene_of parts.new)) }
     ensures err { IfErr result
         (λ e. IsRefused R.behaves (scene_of parts.old) (event.Start number) e (scene_of parts.new)) }
@@ -58,14 +58,14 @@ pub fn start<R: MemoryReplica>(parts: &mut WorldParts<R>, number: NodeNo) -> Res
     if parts.seats.len() >= MAX_NODES {
         return Err(Refused::WorldFull);
     }
-    begin(parts, number)?;
+    begin_node(parts, number)?;
     Ok(())
 }
 
 /// Restarts a node that is down from its disks.
 pub fn restart<R: MemoryReplica>(parts: &mut WorldParts<R>, number: NodeNo) -> Result<(), Refused>
-    requires { PartsHold R.Shows (disks_by R.behaves) R.meaning parts.old }
-    ensures holds { PartsHold R.Shows (disks_by R.behaves) R.meaning parts.new }
+    requires { PartsKeepInvariant R.Shows (disks_by R.behaves) R.meaning parts.old }
+    ensures holds { PartsKeepInvariant R.Shows (disks_by R.behaves) R.meaning parts.new }
     ensures ok { OnOk result (IsExecuted R.behaves (scene_of parts.old) (event.Restart number) (scene_of parts.new)) }
     ensures err { IfErr result
         (λ e. IsRefused R.behaves (scene_of parts.old) (event.Restart number) e (scene_of parts.new)) }
@@ -82,8 +82,8 @@ pub fn halt<R: MemoryReplica>(
     x: usize,
     y: usize,
 ) -> Result<(), Refused>
-    requires { PartsHold R.Shows (disks_by R.behaves) R.meaning parts.old }
-    ensures holds { PartsHold R.Shows (disks_by R.behaves) R.meaning parts.new }
+    requires { PartsKeepInvariant R.Shows (disks_by R.behaves) R.meaning parts.old }
+    ensures holds { PartsKeepInvariant R.Shows (disks_by R.behaves) R.meaning parts.new }
     ensures ok { OnOk result (IsExecuted R.behaves (scene_of parts.old) (event.Stop number x y) (scene_of parts.new)) }
     ensures err { IfErr result
         (λ e. IsRefused R.behaves (scene_of parts.old) (event.Stop number x y) e (scene_of parts.new)) }
@@ -100,8 +100,8 @@ pub fn fail_at<R: MemoryReplica>(
     number: NodeNo,
     count: u64,
 ) -> Result<(), Refused>
-    requires { PartsHold R.Shows (disks_by R.behaves) R.meaning parts.old }
-    ensures holds { PartsHold R.Shows (disks_by R.behaves) R.meaning parts.new }
+    requires { PartsKeepInvariant R.Shows (disks_by R.behaves) R.meaning parts.old }
+    ensures holds { PartsKeepInvariant R.Shows (disks_by R.behaves) R.meaning parts.new }
     ensures ok { OnOk result (IsExecuted R.behaves (scene_of parts.old) (event.FailAt number count)
         (scene_of parts.new)) }
     ensures err { IfErr result
@@ -120,8 +120,8 @@ pub fn arm<R: MemoryReplica>(
     count: u64,
     bytes: usize,
 ) -> Result<(), Refused>
-    requires { PartsHold R.Shows (disks_by R.behaves) R.meaning parts.old }
-    ensures holds { PartsHold R.Shows (disks_by R.behaves) R.meaning parts.new }
+    requires { PartsKeepInvariant R.Shows (disks_by R.behaves) R.meaning parts.old }
+    ensures holds { PartsKeepInvariant R.Shows (disks_by R.behaves) R.meaning parts.new }
     ensures ok { OnOk result (IsExecuted R.behaves (scene_of parts.old) (event.Arm number count bytes)
         (scene_of parts.new)) }
     ensures err { IfErr result

@@ -5,8 +5,8 @@ use crate::happening::{happen, happen_all};
 use crate::world_parts::WorldParts;
 use lk_node_io::Note;
 use lk_replica::{Datagram, MemoryReplica};
+use lk_sim_nodes::{End, LeftNode, Refused, all_left, find, lengths};
 use lk_types::{Genesis, NoMemory, NodeNo};
-use lk_world_nodes::{End, LeftNode, Refused, all_left, find, lengths};
 use std::alloc::Global;
 use std::marker::Model;
 
@@ -18,30 +18,31 @@ pub struct World<R: MemoryReplica> {
 
 impl<R: MemoryReplica> Model for World<R> {
     ghost use Rattle.lk_replica.specs.Behaviours.{disks_by};
-    ghost use Rattle.lk_world_nodes.specs.Ends.{IsToldEnd};
+    ghost use Rattle.lk_sim_nodes.specs.Ends.{IsToldEnd};
     ghost use Rattle.lk_sim.specs.Scenes.{Scene};
-    ghost use Rattle.lk_sim.specs.Worlds.{PartsHold, scene_of};
+    ghost use Rattle.lk_sim.specs.Worlds.{PartsKeepInvariant, scene_of};
 
     ghost Value = { Scene R };
 
     ghost view = { λ w. scene_of w.parts };
 
-    ghost invariant = { λ w. PartsHold R.Shows (disks_by R.behaves) R.meaning w.parts × IsToldEnd w.parts.ended };
+    ghost invariant = { λ w. PartsKeepInvariant R.Shows (disks_by R.behaves) R.meaning w.parts
+        × IsToldEnd w.parts.ended };
 }
 
 impl<R: MemoryReplica> World<R> {
     ghost use Rattle.std.specs.Prelude.{◌≡◌, ℕ, [], length, map, None, IfSome, IfOk, OnOk, IfErr};
     ghost use Rattle.lk_replica.specs.Behaviours.{disks_by};
-    ghost use Rattle.lk_world_nodes.specs.Ends.{IsToldEnd};
+    ghost use Rattle.lk_sim_nodes.specs.Ends.{IsToldEnd};
     ghost use Rattle.lk_sim.specs.Events.{IsExecuted, IsRefused, Grows};
     ghost use Rattle.lk_disk.specs.Disk.{contents};
     ghost use Rattle.lk_disk.specs.declared.device.Side.TheVariants.{A, B};
-    ghost use Rattle.lk_world_nodes.specs.Seats.{disks_of, At, HasNo};
-    ghost use Rattle.lk_world_nodes.specs.Left.{left_of};
+    ghost use Rattle.lk_sim_nodes.specs.Seats.{disks_of, At, HasNo};
+    ghost use Rattle.lk_sim_nodes.specs.Left.{left_of};
     ghost use Rattle.lk_sim.specs.Packed.{LeavesPacked};
     ghost use Rattle.lk_sim.specs.Promises.{Promises};
     ghost use Rattle.lk_sim.specs.Runs.{Runs};
-    ghost use Rattle.lk_world_nodes.specs.declared.seat.Seat.{Seat as SeatValue};
+    ghost use Rattle.lk_sim_nodes.specs.declared.seat.Seat.{Seat as SeatValue};
 
     /// Returns a world of this genesis in which no node was started and nothing was sent.
     pub fn new(alloc: Global, genesis: Genesis) -> Self

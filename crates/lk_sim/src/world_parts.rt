@@ -1,7 +1,7 @@
 use lk_node_io::Note;
 use lk_replica::Datagram;
+use lk_sim_nodes::{End, Seat};
 use lk_types::Genesis;
-use lk_world_nodes::{End, Seat};
 use std::alloc::Global;
 
 /// The parts of a world: the nodes that were ever started, everything that was ever sent, the trace, and how the last

@@ -121,7 +121,7 @@ impl MemoryDisk {
 
     // Counts a changing call. Fails if the trap or the fuse rejects it. Returns how many unsynced bytes the stop is to
     // keep, if the call is an armed stop.
-    fn begin(&mut self) -> Result<Option<usize>, DeviceFault>
+    fn begin_call(&mut self) -> Result<Option<usize>, DeviceFault>
         ensures ok { OnOk result ((is_refused self.old.meter ≡ false) × (self.new ≡ counted self.old)) }
         ensures stop { IfOk result (λ stop. stop ≡ stops_next self.old.meter.trap) }
         ensures err { OnErr result ((is_refused self.old.meter ≡ true) × (self.new ≡ refused self.old)) }
@@ -246,7 +246,7 @@ impl LogDisk for MemoryDisk {
             (λ _. self.new ≡ with_disk side (appended (disk_of self.old side) piece.now) (counted self.old))
             (λ _. self.new ≡ wanting self.old) }
     {
-        let stop = self.begin()?;
+        let stop = self.begin_call()?;
         // At an armed stop too: the stop may then keep a prefix of the piece.
         if self.grow(side, piece).is_err() {
             self.meter.starved = true;
@@ -272,7 +272,7 @@ impl LogDisk for MemoryDisk {
         ensures passed { IsFalse (is_refused self.old.meter) → stops_next self.old.meter.trap ≡ None → IsOk result
             × (self.new ≡ with_disk side (fully_synced (disk_of self.old side)) (counted self.old)) }
     {
-        match self.begin()? {
+        match self.begin_call()? {
             Some(_) => Err(self.fail()),
             None => {
                 self.make_synced(side);
@@ -300,7 +300,7 @@ impl LogDisk for MemoryDisk {
             → stops_next self.old.meter.trap ≡ None → IsOk result
             × (self.new ≡ with_disk side (cut_to len (disk_of self.old side)) (counted self.old)) }
     {
-        let stop = self.begin()?;
+        let stop = self.begin_call()?;
         let size = self.len_of(side);
         if size < len {
             return Err(self.fail());

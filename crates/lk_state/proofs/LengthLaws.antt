@@ -7,8 +7,8 @@ use Rattle.lk_types.specs.declared.answer.Answer.{Answer}
 use Rattle.lk_types.specs.declared.answer.Answer.TheVariants.{Granted, Busy, Free, Held, Shared, HeldShared}
 use Rattle.lk_types.specs.declared.member.Member.{Member}
 use Rattle.lk_types.specs.Rosters.{IsMember}
-use Rattle.lk_fields.specs.Fields.{one, two, four, eight, member, members, answer}
-use Rattle.lk_fields.proofs.Spellings.{length-two, length-four, length-eight}
+use Rattle.lk_codec.specs.Fields.{one, two, four, eight, member, members, answer}
+use Rattle.lk_codec.proofs.Spellings.{length-two, length-four, length-eight}
 use Rattle.lk_members.specs.Sets.{IsSet}
 use Rattle.lk_members.specs.Windows.{RosterValue, IsRoster}
 use Rattle.lk_state.specs.Sessions.{Session, IsSession, AreSessions}

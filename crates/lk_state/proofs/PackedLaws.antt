@@ -6,13 +6,13 @@ use Rattle.lk_types.specs.Ranges.{IsNode, IsClient, IsCount, IsTotal}
 use Rattle.lk_types.specs.Answers.{IsAnswer}
 use Rattle.lk_types.specs.declared.answer.Answer.{Answer}
 use Rattle.lk_types.specs.declared.member.Member.{Member}
-use Rattle.lk_fields.specs.Fields.{one, two, four, eight, members, answer}
-use Rattle.lk_fields.specs.Parser.{read_byte, tested}
-use Rattle.lk_fields.specs.FieldReading.{is_from_1_to, read_two, read_node, read_client, read_count, read_total}
-use Rattle.lk_fields.specs.FieldReading.{read_members, read_answer}
-use Rattle.lk_fields.proofs.Spellings.{IsBytes, Reads, fitting, both_reads, made_reads, tested_reads, byte_reads}
-use Rattle.lk_fields.proofs.Spellings.{some_is, counted_reads, two_reads, ranged_reads, limited_reads, node_reads}
-use Rattle.lk_fields.proofs.Spellings.{client_reads, count_reads, total_reads, members_reads, answer_reads}
+use Rattle.lk_codec.specs.Fields.{one, two, four, eight, members, answer}
+use Rattle.lk_codec.specs.Parser.{read_byte, tested}
+use Rattle.lk_codec.specs.FieldReading.{is_from_1_to, read_two, read_node, read_client, read_count, read_total}
+use Rattle.lk_codec.specs.FieldReading.{read_members, read_answer}
+use Rattle.lk_codec.proofs.Spellings.{IsBytes, Reads, fitting, both_reads, made_reads, tested_reads, byte_reads}
+use Rattle.lk_codec.proofs.Spellings.{some_is, counted_reads, two_reads, ranged_reads, limited_reads, node_reads}
+use Rattle.lk_codec.proofs.Spellings.{client_reads, count_reads, total_reads, members_reads, answer_reads}
 use Rattle.lk_members.specs.Sets.{IsSet, are_at_most}
 use Rattle.lk_members.specs.Windows.{RosterValue, IsRoster}
 use Rattle.lk_state.specs.Sessions.{Session, are_sessions_above, IsSession, AreSessions}

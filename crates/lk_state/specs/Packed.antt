@@ -2,7 +2,7 @@
 use Rattle.std.specs.Prelude.{◌≡◌, ℕ, List, ◌++◌, length}
 use Rattle.std.specs.List.{flat_map}
 use Rattle.lk_types.specs.declared.member.Member.{Member}
-use Rattle.lk_fields.specs.Fields.{one, two, four, eight, members, answer}
+use Rattle.lk_codec.specs.Fields.{one, two, four, eight, members, answer}
 use Rattle.lk_members.specs.Windows.{RosterValue, IsRoster}
 use Rattle.lk_state.specs.Sessions.{Session, AreSessions}
 use Rattle.lk_state.specs.States.{WholeValue}

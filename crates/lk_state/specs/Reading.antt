@@ -1,9 +1,9 @@
 -- Reading the start of a packed state: everything before the machine's text.
 use Rattle.std.specs.Prelude.{ℕ, nat_le, List, Option}
 use Rattle.lk_types.specs.declared.member.Member.{Member}
-use Rattle.lk_fields.specs.Parser.{read_byte, both, made, tested, counted}
-use Rattle.lk_fields.specs.FieldReading.{is_from_1_to, read_two, read_node, read_client, read_count, read_total}
-use Rattle.lk_fields.specs.FieldReading.{read_members, read_answer}
+use Rattle.lk_codec.specs.Parser.{read_byte, both, made, tested, counted}
+use Rattle.lk_codec.specs.FieldReading.{is_from_1_to, read_two, read_node, read_client, read_count, read_total}
+use Rattle.lk_codec.specs.FieldReading.{read_members, read_answer}
 use Rattle.lk_members.specs.Sets.{are_at_most}
 use Rattle.lk_members.specs.Windows.{RosterValue}
 use Rattle.lk_state.specs.Sessions.{Session, are_sessions_above}

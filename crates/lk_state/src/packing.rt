@@ -11,7 +11,7 @@ use crate::machine::Machine;
 use crate::session::Session;
 use crate::whole::Whole;
 use bytes::BytesMut;
-use lk_fields::{
+use lk_codec::{
     put_answer, put_client, put_executed, put_members, put_node, put_number, put_u8, put_u16,
 };
 use lk_members::{Roster, Window};

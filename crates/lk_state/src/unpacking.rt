@@ -2,15 +2,15 @@
 
 ghost use Rattle.std.specs.Prelude.{◌≡◌, ◌<◌, ◌≤◌, length, IfSome};
 ghost use Rattle.lk_types.specs.Limits.{max_alpha, max_client};
-ghost use Rattle.lk_fields.specs.Parser.{Finds, many};
-ghost use Rattle.lk_fields.specs.FieldReading.{read_members};
+ghost use Rattle.lk_codec.specs.Parser.{Finds, many};
+ghost use Rattle.lk_codec.specs.FieldReading.{read_members};
 ghost use Rattle.lk_state.specs.Reading.{read_sets, read_roster, read_session, read_sessions, read_front};
 
 use crate::machine::{Machine, UnpackFault};
 use crate::session::{Session, Sessions};
 use crate::whole::Whole;
 use arrayvec::ArrayVec;
-use lk_fields::{
+use lk_codec::{
     read_answer, read_client, read_executed, read_members, read_node, read_number, read_u8,
     read_u16,
 };

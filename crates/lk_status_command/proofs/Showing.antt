@@ -3,19 +3,19 @@ use Rattle.std.specs.Prelude.{◌≡◌, ◌≢◌, ◌↔◌, ℕ, Bool, true, 
 use Rattle.std.proofs.lemmas.Bool.{false≢true}
 use Rattle.std.specs.declared.net.socket_addr.SocketAddr.{SocketAddr}
 use Rattle.lk_probe.specs.declared.probe.Report.{Report}
-use Rattle.lk_probe_round.specs.Rounds.{AreHeard}
-use Rattle.lk_probe_round.specs.Verdicts.{IsServed}
+use Rattle.lk_status.specs.Rounds.{AreHeard}
+use Rattle.lk_status.specs.Verdicts.{IsServed}
 use Rattle.lk_status_command.specs.Outcomes.{IsReady, Shows}
 use Rattle.lk_status_command.specs.declared.status.Plan.{Plan}
 
-module _ {S : Type 0} (sent coming : S → List (SocketAddr × List ℕ)) (failures : S → ℕ) (tells : Type 0)
+module _ {S : Type 0} (sent incoming : S → List (SocketAddr × List ℕ)) (failures : S → ℕ) (tells : Type 0)
     (p : Plan) (ended : S) where
   -- served and ready, by the reports
   pub shows : (first : ℕ) (reports : List Report) (served ready : Bool)
-      → AreHeard sent coming failures p.inquiry first tells reports ended
+      → AreHeard sent incoming failures p.inquiry first tells reports ended
       → (IsTrue served ↔ IsServed reports) → (p.seconds ≡ 0 → ready ≡ true)
       → (p.seconds ≢ 0 → IsTrue ready → IsReady p.inquiry reports)
-      → Shows sent coming failures tells p (served && ready) ended
+      → Shows sent incoming failures tells p (served && ready) ended
   shows first reports true true heard is at_once waited =
       record { first = first; reports = reports; heard = heard; only = λ it. is.0 it; exact = λ at. is; ready = waited }
   shows first reports true false heard is at_once waited = record {

@@ -6,8 +6,8 @@ use Rattle.std.proofs.lemmas.List.{append-nil, flat_map_more, drop_all}
 use Rattle.std.specs.Io.KnownBytes.{Appends, Keeps}
 use Rattle.std.specs.Prelude.{codes}
 use Rattle.lk_probe.specs.declared.probe.Report.{Report}
-use Rattle.lk_probe_round.specs.Verdicts.{one_genesis}
-use Rattle.lk_probe_round.specs.declared.target.Target.{Target}
+use Rattle.lk_status.specs.Verdicts.{one_genesis}
+use Rattle.lk_status.specs.declared.target.Target.{Target}
 use Rattle.lk_status_command.specs.Lines.{count_text, traffic_text, stranger_word, strangers_text}
 use Rattle.lk_status_command.specs.Tokens.{by_token}
 

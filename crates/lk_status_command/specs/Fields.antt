@@ -5,7 +5,7 @@ use Rattle.std.specs.List.{list_any}
 use Rattle.lk_types.specs.declared.member.Member.{Member}
 use Rattle.lk_probe.specs.Grammar.{flag, or_zero}
 use Rattle.lk_probe.specs.declared.probe.Report.{Report}
-use Rattle.lk_probe_round.specs.Verdicts.{seeks_votes}
+use Rattle.lk_status.specs.Verdicts.{seeks_votes}
 use Rattle.lk_status_command.specs.declared.field.Field.{Field}
 use Rattle.lk_status_command.specs.declared.field.Field.TheVariants.{Leads, Leader, Silence, Promised, Executed}
 use Rattle.lk_status_command.specs.declared.field.Field.TheVariants.{Snapshot}

@@ -6,9 +6,9 @@ use Rattle.hex.specs.Hex.{encode_lower}
 use Rattle.lk_types.specs.declared.member.Member.{Member}
 use Rattle.lk_probe.specs.declared.probe.Report.{Report}
 use Rattle.lk_probe.specs.declared.status.Version.{Version}
-use Rattle.lk_probe_round.specs.Rounds.{report_of}
-use Rattle.lk_probe_round.specs.Verdicts.{count_reporting, is_served, one_genesis}
-use Rattle.lk_probe_round.specs.declared.target.Target.{Target}
+use Rattle.lk_status.specs.Rounds.{report_of}
+use Rattle.lk_status.specs.Verdicts.{count_reporting, is_served, one_genesis}
+use Rattle.lk_status.specs.declared.target.Target.{Target}
 use Rattle.lk_status_command.specs.Fields.{field_name, field_value, all_fields}
 use Rattle.lk_status_command.specs.Tokens.{by_token}
 use Rattle.lk_status_command.specs.declared.field.Field.{Field}

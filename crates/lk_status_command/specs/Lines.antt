@@ -8,10 +8,10 @@ use Rattle.lk_types.specs.BallotValue.{BallotValue}
 use Rattle.lk_types.specs.declared.member.Member.{Member}
 use Rattle.lk_probe.specs.declared.probe.Report.{Report}
 use Rattle.lk_probe.specs.declared.status.Leadership.{Leadership}
-use Rattle.lk_probe_round.specs.Measures.{executed_of}
-use Rattle.lk_probe_round.specs.Rounds.{report_of}
-use Rattle.lk_probe_round.specs.Verdicts.{seeks_votes, count_reporting, one_genesis}
-use Rattle.lk_probe_round.specs.declared.target.Target.{Target}
+use Rattle.lk_status.specs.Measures.{executed_of}
+use Rattle.lk_status.specs.Rounds.{report_of}
+use Rattle.lk_status.specs.Verdicts.{seeks_votes, count_reporting, one_genesis}
+use Rattle.lk_status.specs.declared.target.Target.{Target}
 
 -- ---- counts
 

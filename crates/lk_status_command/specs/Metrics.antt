@@ -3,9 +3,9 @@ use Rattle.std.specs.Prelude.{ℕ, Option, Some, None, Bool, List, [], ◌∷◌
 use Rattle.std.specs.Fmt.{decimal}
 use Rattle.lk_probe.specs.Grammar.{flag}
 use Rattle.lk_probe.specs.declared.probe.Report.{Report}
-use Rattle.lk_probe_round.specs.Rounds.{has_token}
-use Rattle.lk_probe_round.specs.Verdicts.{count_reporting, is_served, one_genesis}
-use Rattle.lk_probe_round.specs.declared.target.Target.{Target}
+use Rattle.lk_status.specs.Rounds.{has_token}
+use Rattle.lk_status.specs.Verdicts.{count_reporting, is_served, one_genesis}
+use Rattle.lk_status.specs.declared.target.Target.{Target}
 use Rattle.lk_status_command.specs.Fields.{field_name, field_kind, field_help, field_value, all_fields}
 use Rattle.lk_status_command.specs.Tokens.{by_token}
 use Rattle.lk_status_command.specs.declared.field.Field.{Field}

@@ -2,8 +2,8 @@
 use Rattle.std.specs.Prelude.{ℕ, Option, List, ◌++◌}
 use Rattle.std.specs.Io.KnownBytes.{Appends}
 use Rattle.lk_probe.specs.declared.probe.Report.{Report}
-use Rattle.lk_probe_round.specs.Measures.{IsMeasureOf}
-use Rattle.lk_probe_round.specs.declared.target.Inquiry.{Inquiry}
+use Rattle.lk_status.specs.Measures.{IsMeasureOf}
+use Rattle.lk_status.specs.declared.target.Inquiry.{Inquiry}
 use Rattle.lk_status_command.specs.Json.{json_text}
 use Rattle.lk_status_command.specs.Lines.{status_text}
 use Rattle.lk_status_command.specs.Metrics.{metrics_text}

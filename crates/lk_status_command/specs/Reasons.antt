@@ -4,7 +4,7 @@ use Rattle.std.specs.Prelude.{if◌then◌else◌}
 use Rattle.std.specs.Fmt.{decimal}
 use Rattle.lk_types.specs.declared.member.Member.{Member}
 use Rattle.lk_probe.specs.declared.probe.Report.{Report}
-use Rattle.lk_probe_round.specs.Verdicts.{seeks_votes, one_genesis, has_majority}
+use Rattle.lk_status.specs.Verdicts.{seeks_votes, one_genesis, has_majority}
 use Rattle.lk_status_command.specs.Fields.{is_member, followed}
 
 -- ---- of a node

@@ -11,8 +11,8 @@ ghost use Rattle.lk_status_command.specs.Json.{counts_part, majority_part, json_
 
 use crate::field::{FIELDS, Field};
 use lk_probe::{DIGEST, Report};
-use lk_probe_round::target::{Inquiry, Target, report_with};
-use lk_probe_round::verdict::{count_reporting, has_one_genesis, is_served};
+use lk_status::target::{Inquiry, Target, report_with};
+use lk_status::verdict::{count_reporting, has_one_genesis, is_served};
 use lk_types::Member;
 use std::io;
 use std::io::Write;

@@ -11,9 +11,9 @@ ghost use Rattle.lk_status_command.specs.Lines.{stranger_word};
 ghost use Rattle.lk_status_command.specs.Lines.{strangers_text, raised_text, majority_text, cluster_line, status_text};
 
 use lk_probe::{Leadership, Report};
-use lk_probe_round::measure::executed_of;
-use lk_probe_round::target::{Inquiry, report_with};
-use lk_probe_round::verdict::{count_reporting, has_one_genesis, seeks_votes};
+use lk_status::measure::executed_of;
+use lk_status::target::{Inquiry, report_with};
+use lk_status::verdict::{count_reporting, has_one_genesis, seeks_votes};
 use lk_types::{Ballot, Member, NodeNo};
 use std::io;
 use std::io::Write;

@@ -10,8 +10,8 @@ ghost use Rattle.lk_status_command.specs.Metrics.{field_text, metrics_text};
 
 use crate::field::{FIELDS, Field};
 use lk_probe::Report;
-use lk_probe_round::target::{Inquiry, Target, is_answered};
-use lk_probe_round::verdict::{count_reporting, has_one_genesis, is_served};
+use lk_status::target::{Inquiry, Target, is_answered};
+use lk_status::verdict::{count_reporting, has_one_genesis, is_served};
 use std::io;
 use std::io::Write;
 

@@ -3,8 +3,8 @@
 ghost use Rattle.std.specs.Io.KnownBytes.{Appends};
 ghost use Rattle.std.specs.Option.{option_copied};
 ghost use Rattle.std.specs.Prelude.{◌≡◌, ◌≢◌, ◌≤◌, ◌↔◌, ◌&&◌, true, false, length, IfOk, OnOk, IsTrue};
-ghost use Rattle.lk_probe_round.specs.Rounds.{AreHeard};
-ghost use Rattle.lk_probe_round.specs.Verdicts.{IsServed, is_at};
+ghost use Rattle.lk_status.specs.Rounds.{AreHeard};
+ghost use Rattle.lk_status.specs.Verdicts.{IsServed, is_at};
 ghost use Rattle.lk_status_command.specs.Prints.{lines_text, form_text, Prints};
 ghost use Rattle.lk_status_command.specs.Outcomes.{IsReady, Shows, IsShownServed};
 
@@ -13,10 +13,10 @@ use crate::lines::write_lines;
 use crate::prometheus::write_metrics;
 use crate::why::write_why;
 use lk_probe::Report;
-use lk_probe_round::asking::probe_all;
-use lk_probe_round::measure::reference_report;
-use lk_probe_round::target::Inquiry;
-use lk_probe_round::verdict::{is_ready, is_served};
+use lk_status::asking::probe_all;
+use lk_status::measure::reference_report;
+use lk_status::target::Inquiry;
+use lk_status::verdict::{is_ready, is_served};
 use lk_transport::fault::ServiceFault;
 use lk_transport::receive_buffer::ReceiveBuffer;
 use lk_transport::socket::DatagramSocket;
@@ -158,7 +158,7 @@ fn wait_until_ready<S: DatagramSocket>(
 ) -> Result<Round, ServiceFault>
     ensures ready { IfOk result (λ r. IsTrue r.is_ready → IsReady inquiry.now r.reports.items) }
     ensures heard { IfOk result
-        (λ r. AreHeard S.sent S.coming S.failures inquiry.now r.first S.is_telling r.reports.items socket.new) }
+        (λ r. AreHeard S.sent S.incoming S.failures inquiry.now r.first S.is_observable r.reports.items socket.new) }
 {
     let (mut idle, mut goal) = (0, None);
     let mut round = ask_once(alloc, socket, inquiry, 0, &mut idle)?;
@@ -184,7 +184,7 @@ fn ask_once<S: DatagramSocket>(
 ) -> Result<Round, ServiceFault>
     ensures fresh { IfOk result (λ r. r.is_ready ≡ false) }
     ensures heard { IfOk result
-        (λ r. AreHeard S.sent S.coming S.failures inquiry.now r.first S.is_telling r.reports.items socket.new) }
+        (λ r. AreHeard S.sent S.incoming S.failures inquiry.now r.first S.is_observable r.reports.items socket.new) }
 {
     Ok(Round {
         first,
@@ -200,7 +200,8 @@ fn round_of<S: DatagramSocket>(
     plan: &Plan,
 ) -> Result<Round, ServiceFault>
     ensures heard { IfOk result
-        (λ r. AreHeard S.sent S.coming S.failures plan.now.inquiry r.first S.is_telling r.reports.items socket.new) }
+        (λ r. AreHeard S.sent S.incoming S.failures plan.now.inquiry r.first S.is_observable r.reports.items
+        socket.new) }
     ensures ready { plan.now.seconds ≡ 0 → IfOk result (λ r. r.is_ready ≡ true) }
     ensures waited { plan.now.seconds ≢ 0
         → IfOk result (λ r. IsTrue r.is_ready → IsReady plan.now.inquiry r.reports.items) }
@@ -228,7 +229,7 @@ fn ask_and_print<S: DatagramSocket, W: Write>(
     plan: &Plan,
     out: &mut W,
 ) -> Result<bool, ServiceFault>
-    ensures { IfOk result (λ is. Shows S.sent S.coming S.failures S.is_telling plan.now is socket.new) }
+    ensures { IfOk result (λ is. Shows S.sent S.incoming S.failures S.is_observable plan.now is socket.new) }
 {
     let round = round_of(alloc, socket, plan)?;
     match print(plan, round.first, &round.reports, out) {
@@ -249,7 +250,7 @@ pub fn status<S: DatagramSocket, W: Write, E: Write>(
     ensures status { result ≤ 1 }
     // Status 0 only where all targets were asked, and the reports to that show that the cluster is served, and is ready
     // if that is waited for: they are what was heard then, each a datagram that came and reads as that report.
-    ensures served { result ≡ 0 → IsShownServed S.sent S.coming S.failures S.is_telling plan.now socket.new }
+    ensures served { result ≡ 0 → IsShownServed S.sent S.incoming S.failures S.is_observable plan.now socket.new }
 {
     match ask_and_print(alloc, socket, plan, out) {
         Ok(true) => 0,

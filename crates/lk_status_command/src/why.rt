@@ -9,7 +9,7 @@ ghost use Rattle.lk_status_command.specs.Reasons.{geneses_reason, leader_reason,
 ghost use Rattle.lk_status_command.specs.Reasons.{why_text};
 
 use lk_probe::Report;
-use lk_probe_round::verdict::{has_majority, has_one_genesis, seeks_votes};
+use lk_status::verdict::{has_majority, has_one_genesis, seeks_votes};
 use lk_types::{Member, NodeNo};
 use std::io;
 use std::io::Write;

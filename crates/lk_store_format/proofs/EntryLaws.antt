@@ -17,16 +17,16 @@ use Rattle.lk_types.specs.declared.entry.Entry.{Entry}
 use Rattle.lk_types.specs.declared.entry.Entry.TheVariants.{Promise, Vote, Decided}
 use Rattle.lk_types.specs.declared.member.Member.{Member}
 use Rattle.lk_types.specs.declared.vote.Vote.{Vote as VoteValue}
-use Rattle.lk_fields.specs.Fields.{one, two, four, eight, ballot, members, op, command, vote, pair}
-use Rattle.lk_fields.specs.Parser.{◌>>=◌, read_byte, tested, sized, whole}
-use Rattle.lk_fields.specs.FieldReading.{is_from_1_to, read_two, read_four, read_eight, read_node, read_count}
-use Rattle.lk_fields.specs.FieldReading.{read_total, read_ballot, read_any_ballot, read_members, read_vote, read_pair}
-use Rattle.lk_fields.proofs.Spellings.{IsBytes, IsBytes-drop, IsBytes-take, Took, Reads, bind_ok, some_is, fitting}
-use Rattle.lk_fields.proofs.Spellings.{both_reads, made_reads, tested_reads, byte_reads, whole_takes, whole_again}
-use Rattle.lk_fields.proofs.Spellings.{two_reads, four_reads, eight_reads, sized_reads, counted_reads, TakesKinds}
-use Rattle.lk_fields.proofs.Spellings.{no_kind_takes, kind_takes, tagged_reads, ranged_reads, limited_reads, node_reads}
-use Rattle.lk_fields.proofs.Spellings.{count_reads, total_reads, ballot_reads, mark_reads, members_reads, vote_reads}
-use Rattle.lk_fields.proofs.Spellings.{pair_reads}
+use Rattle.lk_codec.specs.Fields.{one, two, four, eight, ballot, members, op, command, vote, pair}
+use Rattle.lk_codec.specs.Parser.{◌>>=◌, read_byte, tested, sized, whole}
+use Rattle.lk_codec.specs.FieldReading.{is_from_1_to, read_two, read_four, read_eight, read_node, read_count}
+use Rattle.lk_codec.specs.FieldReading.{read_total, read_ballot, read_any_ballot, read_members, read_vote, read_pair}
+use Rattle.lk_codec.proofs.Spellings.{IsBytes, IsBytes-drop, IsBytes-take, Took, Reads, bind_ok, some_is, fitting}
+use Rattle.lk_codec.proofs.Spellings.{both_reads, made_reads, tested_reads, byte_reads, whole_takes, whole_again}
+use Rattle.lk_codec.proofs.Spellings.{two_reads, four_reads, eight_reads, sized_reads, counted_reads, TakesKinds}
+use Rattle.lk_codec.proofs.Spellings.{no_kind_takes, kind_takes, tagged_reads, ranged_reads, limited_reads, node_reads}
+use Rattle.lk_codec.proofs.Spellings.{count_reads, total_reads, ballot_reads, mark_reads, members_reads, vote_reads}
+use Rattle.lk_codec.proofs.Spellings.{pair_reads}
 use Rattle.lk_store_format.specs.Values.{HeaderValue, StandingValue, BaseValue}
 use Rattle.lk_store_format.specs.Formats.{IsFormat}
 use Rattle.lk_store_format.specs.Headers.{IsHeader}

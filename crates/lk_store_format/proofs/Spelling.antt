@@ -3,8 +3,8 @@ use Rattle.std.proofs.Common.{◌≡◌, ℕ, zero, suc, ◌+◌, ◌<◌, List,
 use Rattle.std.proofs.Common.{arith, append_assoc, length-append, take-append-drop}
 use Rattle.std.specs.List.{AllByRecursion}
 use Rattle.std.proofs.lemmas.List.{append-nil, length-take}
-use Rattle.lk_fields.specs.Fields.{four}
-use Rattle.lk_fields.proofs.Spellings.{one_front}
+use Rattle.lk_codec.specs.Fields.{four}
+use Rattle.lk_codec.proofs.Spellings.{one_front}
 use Rattle.lk_store_format.specs.Entries.{body, spelling, spelling_of_all, IsStored, SpellsEntry}
 use Rattle.lk_store_format.specs.Files.{NoneBegins}
 use Rattle.lk_store_format.specs.Parsing.{read_entry}

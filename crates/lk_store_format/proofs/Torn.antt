@@ -7,8 +7,8 @@ use Rattle.std.proofs.lemmas.Bool.{cases_lt}
 use Rattle.std.proofs.lemmas.Bool.Decides.{nat_tests}
 use Rattle.std.proofs.lemmas.List.{take-take, take_at, length-take}
 use Rattle.std.proofs.lemmas.Nat.{from_be_bytes-to_be_bytes_4}
-use Rattle.lk_fields.specs.Fields.{four}
-use Rattle.lk_fields.proofs.Spellings.{length-four}
+use Rattle.lk_codec.specs.Fields.{four}
+use Rattle.lk_codec.proofs.Spellings.{length-four}
 use Rattle.lk_store_format.specs.Entries.{body, spelling, IsStored}
 use Rattle.lk_store_format.specs.Files.{told_length, is_torn}
 use Rattle.lk_store_format.specs.declared.stored.Stored.{Stored}

@@ -6,7 +6,7 @@ use Rattle.std.specs.List.{AllByRecursion}
 use Rattle.std.proofs.Math.Seq.{take-append-add}
 use Rattle.std.proofs.lemmas.Bool.{cases_lt}
 use Rattle.std.proofs.lemmas.List.{append_cancel_left, append-nil, take-append-le, take_all, nil_from_length}
-use Rattle.lk_fields.proofs.Spellings.{IsBytes}
+use Rattle.lk_codec.proofs.Spellings.{IsBytes}
 use Rattle.lk_store_format.specs.Entries.{spelling, spelling_of_all, IsStored}
 use Rattle.lk_store_format.specs.Files.{NoneBegins, AreWholeEntries, is_torn, IsFile}
 use Rattle.lk_store_format.specs.Formats.{is_mixed}

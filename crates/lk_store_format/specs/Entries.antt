@@ -10,8 +10,8 @@ use Rattle.lk_types.specs.declared.command.Command.{Command}
 use Rattle.lk_types.specs.declared.entry.Entry.{Entry}
 use Rattle.lk_types.specs.declared.entry.Entry.TheVariants.{Promise, Vote, Decided}
 use Rattle.lk_types.specs.declared.vote.Vote.{Vote as VoteValue}
-pub use Rattle.lk_fields.specs.Fields.{members}
-use Rattle.lk_fields.specs.Fields.{one, two, four, eight, ballot, vote, pair}
+pub use Rattle.lk_codec.specs.Fields.{members}
+use Rattle.lk_codec.specs.Fields.{one, two, four, eight, ballot, vote, pair}
 use Rattle.lk_store_format.specs.Formats.{IsFormat}
 use Rattle.lk_store_format.specs.Headers.{IsHeader}
 use Rattle.lk_store_format.specs.Values.{HeaderValue, StandingValue, BaseValue}

@@ -4,9 +4,9 @@ use Rattle.lk_types.specs.Limits.{max_votes, max_base}
 use Rattle.lk_types.specs.declared.command.Command.{Command}
 use Rattle.lk_types.specs.declared.entry.Entry.TheVariants.{Promise, Vote, Decided}
 use Rattle.lk_types.specs.declared.vote.Vote.{Vote as VoteValue}
-use Rattle.lk_fields.specs.Parser.{◌>>=◌, read_byte, both, made, tested, counted, sized, tagged, kind, no_kind, whole}
-use Rattle.lk_fields.specs.FieldReading.{is_from_1_to, read_two, read_four, read_eight, read_node, read_count}
-use Rattle.lk_fields.specs.FieldReading.{read_total, read_ballot, read_any_ballot, read_members, read_vote, read_pair}
+use Rattle.lk_codec.specs.Parser.{◌>>=◌, read_byte, both, made, tested, counted, sized, tagged, kind, no_kind, whole}
+use Rattle.lk_codec.specs.FieldReading.{is_from_1_to, read_two, read_four, read_eight, read_node, read_count}
+use Rattle.lk_codec.specs.FieldReading.{read_total, read_ballot, read_any_ballot, read_members, read_vote, read_pair}
 use Rattle.lk_types.specs.Votes.{are_votes_above}
 use Rattle.lk_store_format.specs.Entries.{are_pairs_above}
 use Rattle.lk_store_format.specs.Values.{HeaderValue, StandingValue, BaseValue}

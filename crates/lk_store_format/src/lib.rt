@@ -18,7 +18,7 @@ pub use base::Base;
 pub use entry_fault::EntryFault;
 pub use formats::{format_of, is_mixed};
 pub use header::Header;
-pub use lk_fields::put_members;
+pub use lk_codec::put_members;
 pub use reading::first_entry;
 pub use standing::Standing;
 pub use stored::Stored;

@@ -2,8 +2,8 @@
 // it, and fails if the bytes do not begin with a valid one.
 ghost use Rattle.std.specs.Prelude.{◌≡◌, ◌++◌, IfSome, IfOk, Err};
 ghost use Rattle.lk_types.specs.Ranges.{IsAlpha};
-ghost use Rattle.lk_fields.specs.FieldReading.{read_vote, read_pair};
-ghost use Rattle.lk_fields.specs.Parser.{Finds, many, whole};
+ghost use Rattle.lk_codec.specs.FieldReading.{read_vote, read_pair};
+ghost use Rattle.lk_codec.specs.Parser.{Finds, many, whole};
 ghost use Rattle.lk_types.specs.Votes.{are_votes_above};
 ghost use Rattle.lk_store_format.specs.Entries.{are_pairs_above, spelling, IsStored};
 ghost use Rattle.lk_store_format.specs.Files.{NoneBegins};
@@ -17,7 +17,7 @@ use crate::entry_fault::EntryFault;
 use crate::header::Header;
 use crate::standing::Standing;
 use crate::stored::Stored;
-use lk_fields::{
+use lk_codec::{
     read_any_ballot, read_ballot, read_command, read_executed, read_members, read_node,
     read_position, read_u8, read_u16, read_u32, read_u64, read_vote,
 };
@@ -122,7 +122,7 @@ fn read_votes(alloc: Global, bytes: &[u8]) -> Result<(Vec<Vote>, &[u8]), EntryFa
     many_votes(alloc, count, rest)
 }
 
-#[tactic(auto, unfolding(lk_fields::specs::FieldReading::read_pair))]
+#[tactic(auto, unfolding(lk_codec::specs::FieldReading::read_pair))]
 fn read_pair(bytes: &[u8]) -> Option<((Position, Command), &[u8])>
     ensures { Finds (λ x. (x.0, x.1.now)) result (read_pair bytes.now) }
 {

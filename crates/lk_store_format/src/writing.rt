@@ -5,14 +5,14 @@ ghost use Rattle.std.specs.List.{AllByRecursion};
 ghost use Rattle.lk_types.specs.Limits.{max_votes, max_base};
 ghost use Rattle.lk_store_format.specs.Entries.{header, snapshot, votes, pairs, standing, base, body, spelling};
 ghost use Rattle.lk_store_format.specs.Entries.{spelling_of_all, IsStanding, IsBase, IsEntry, IsStored, plain};
-ghost use Rattle.lk_fields.specs.Fields.{four, pair};
+ghost use Rattle.lk_codec.specs.Fields.{four, pair};
 ghost use Rattle.lk_store_format.specs.declared.stored.Stored.TheVariants.{Base as base_entry, Plain};
 
 use crate::base::Base;
 use crate::header::Header;
 use crate::standing::Standing;
 use bytes::{BufMut, BytesMut};
-use lk_fields::{
+use lk_codec::{
     put_any_ballot, put_ballot, put_command, put_executed, put_members, put_node, put_position,
     put_u8, put_u16, put_u32, put_u64, put_vote,
 };

@@ -17,7 +17,7 @@ impl Post for Falters {
 
     ghost sent = { λ p. [] };
 
-    ghost is_telling = { ⊥ };
+    ghost is_observable = { ⊥ };
 
     ghost failures = { λ p. p.failures };
 

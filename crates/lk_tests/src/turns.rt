@@ -63,7 +63,7 @@ impl ServedReplica for NotingReplica {
 
     ghost IsRaised = { λ _ _. ⊤ };
 
-    fn begin(&self, alloc: Global) -> Group {
+    fn begin_group(&self, alloc: Global) -> Group {
         Group::new(alloc)
     }
 

@@ -3,8 +3,8 @@ use Rattle.std.specs.Prelude.{◌≡◌, ◌≢◌, ◌⊎◌, ◌++◌, ℕ, Li
 use Rattle.std.specs.declared.net.socket_addr.SocketAddr.{SocketAddr}
 use Rattle.lk_probe.specs.Grammar.{SpellsProbe, node_in}
 use Rattle.lk_probe.specs.declared.probe.Probe.{Probe}
-use Rattle.lk_seal.specs.Seals.{key_list, heard}
-use Rattle.lk_seal.specs.declared.seals.Seals.{Seals}
+use Rattle.lk_auth.specs.Seals.{key_list, heard}
+use Rattle.lk_auth.specs.declared.seals.Seals.{Seals}
 use Rattle.lk_node_io.specs.declared.to.To.{To}
 use Rattle.lk_node_io.specs.declared.to.To.TheVariants.{Node, Client}
 use Rattle.lk_transport.specs.Posts.{Tray, Loses, frame_of, keys_for}

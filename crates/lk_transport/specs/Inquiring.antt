@@ -11,8 +11,8 @@ use Rattle.lk_probe.specs.declared.neighbours.Neighbour.{Neighbour}
 use Rattle.lk_probe.specs.declared.neighbours.Origin.{Origin}
 use Rattle.lk_probe.specs.declared.probe.Probe.{Probe}
 use Rattle.lk_probe.specs.declared.reported.Reported.{Reported}
-use Rattle.lk_seal.specs.Seals.{key_list, heard}
-use Rattle.lk_seal.specs.declared.seals.Seals.{Seals}
+use Rattle.lk_auth.specs.Seals.{key_list, heard}
+use Rattle.lk_auth.specs.declared.seals.Seals.{Seals}
 use Rattle.lk_transport.specs.Addresses.{AddressBook}
 use Rattle.lk_transport.specs.Askers.{SendsTo}
 use Rattle.lk_transport.specs.Posts.{Tray, Loses}

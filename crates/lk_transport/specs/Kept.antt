@@ -3,7 +3,7 @@
 use Rattle.std.specs.Prelude.{◌≡◌, ◌++◌, ℕ, List, ◌∷◌, Option, Some, None}
 use Rattle.std.specs.List.{AllByRecursion}
 use Rattle.std.specs.declared.net.socket_addr.SocketAddr.{SocketAddr}
-use Rattle.lk_seal.specs.declared.seals.Seals.{Seals}
+use Rattle.lk_auth.specs.declared.seals.Seals.{Seals}
 use Rattle.lk_transport.specs.Askers.{BringsProbe}
 use Rattle.lk_transport.specs.ReceiveBuffers.{BufferValue}
 use Rattle.lk_transport.specs.Inquiring.{IsToldBy}
@@ -47,7 +47,7 @@ module _ {K : Type 0} (Brings : SocketAddr × List ℕ → Option K → Type 0) 
 -- ---- what the buffer of the node of that number keeps
 
 -- of the frame that came last
-pub record Keeps (node : ℕ) (s : Seals) (old new : BufferValue) : Type 0 where
+pub record KeepsProbes (node : ℕ) (s : Seals) (old new : BufferValue) : Type 0 where
   pub last : new.last ≡ old.last
   pub asked : KeepsFirst (BringsProbe s) old.last old.asked new.asked
   pub reported : KeepsFirst (IsToldBy node s) old.last old.reported new.reported

@@ -15,9 +15,9 @@ use Rattle.lk_node_io.specs.Letters.{LetterValue}
 use Rattle.lk_node_io.specs.declared.to.To.{To}
 use Rattle.lk_node_io.specs.declared.to.To.TheVariants.{Node, Client}
 use Rattle.lk_probe.specs.Neighbours.{Meets}
-use Rattle.lk_seal.specs.Clients.{client_keys}
-use Rattle.lk_seal.specs.Seals.{key_list, to_node, replying, framed_by, heard}
-use Rattle.lk_seal.specs.declared.seals.Seals.{Seals}
+use Rattle.lk_auth.specs.Clients.{client_keys}
+use Rattle.lk_auth.specs.Seals.{key_list, to_node, replying, framed_by, heard}
+use Rattle.lk_auth.specs.declared.seals.Seals.{Seals}
 use Rattle.lk_transport.specs.Addresses.{AddressBook, Filter, client_at, node_at, moved_up, IsSameFilter}
 use Rattle.lk_transport.specs.Hosts.{host_of}
 
@@ -30,7 +30,7 @@ pub record PostValue : Type 0 where
   pub sent : List (SocketAddr × List ℕ)
   pub socket_failures : ℕ
   pub failures : ℕ
-  pub coming : List (SocketAddr × List ℕ)
+  pub incoming : List (SocketAddr × List ℕ)
 
 -- what a letter may change: the kept letters of the node to itself, what the socket has sent, and how many of its
 -- sends have failed
@@ -97,7 +97,7 @@ IsBoundFor node (Client c) = ⊥
 IsBoundFor node (Node n port) = n ≡ node
 
 -- a letter of the node to itself is kept after the others, and nothing is sent
-pub record Keeps (node : ℕ) (l : LetterValue) (old new : Tray) : Type 0 where
+pub record KeepsOwnLetter (node : ℕ) (l : LetterValue) (old new : Tray) : Type 0 where
   pub bound : IsBoundFor node l.to
   pub own : new.own ≡ old.own ++ l ∷ []
   pub sent : new.sent ≡ old.sent
@@ -119,7 +119,7 @@ pub record Loses (tells : Type 0) (keys : List (List ℕ)) (old new : Tray) : Ty
 
 -- the fate of a letter of that node with these addresses: kept, sent, or lost by a failed send
 abbrev pub Becomes : Type 0 → ℕ → AddressBook → Tray → LetterValue → Bool → Tray → Type 0
-Becomes tells node book old l true new = Keeps node l old new ⊎ Sends tells book l old new
+Becomes tells node book old l true new = KeepsOwnLetter node l old new ⊎ Sends tells book l old new
 Becomes tells node book old l false new = Loses tells (keys_for book.seals l.to) old new
 
 -- the same at a post, of which a letter changes nothing else but the count of failed sends in this step
@@ -127,7 +127,7 @@ pub record CarriesLetter (tells : Type 0) (old : PostValue) (l : LetterValue) (i
     (new : PostValue) : Type 0 where
   pub node : new.node ≡ old.node
   pub addresses : new.addresses ≡ old.addresses
-  pub still : tells → new.coming ≡ old.coming
+  pub still : tells → new.incoming ≡ old.incoming
   pub becomes : Becomes tells old.node old.addresses (tray_of old) l is_sent (tray_of new)
 
 -- a node that accepts this message follows its sender: a Prepare, an Accept, a Decided or a Lead

@@ -37,4 +37,4 @@ first_of (d ∷ ds) = Some d
 
 -- what arrives next at a socket with these datagrams to come
 abbrev pub next_of : {S : Type 0} → (S → List (SocketAddr × List ℕ)) → S → Option (SocketAddr × List ℕ)
-next_of coming s = first_of (coming s)
+next_of incoming s = first_of (incoming s)

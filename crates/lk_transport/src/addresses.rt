@@ -9,8 +9,8 @@ ghost use Rattle.lk_transport.specs.Hosts.{host_of};
 
 use crate::hosts::Hosts;
 use crate::network::Network;
+use lk_auth::Seals;
 use lk_probe::neighbours::Neighbours;
-use lk_seal::Seals;
 use lk_types::{ClientNo, NodeNo};
 use std::marker::Model;
 use std::net::{IpAddr, SocketAddr};

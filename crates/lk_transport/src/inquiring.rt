@@ -96,14 +96,14 @@ impl<S: DatagramSocket + Drop> SocketPost<S> {
 
     // Sends the question of this node to an address.
     fn send_question(&mut self, place: SocketAddr) -> Result<(), SendFault>
-        ensures sends { SendsProbe S.is_telling (question_by self.old.addresses.seals self.old.node) (Some place)
+        ensures sends { SendsProbe S.is_observable (question_by self.old.addresses.seals self.old.node) (Some place)
             (tray_of self.old) (tray_of self.new) }
-        ensures still { S.is_telling → self.new.coming ≡ self.old.coming }
+        ensures still { S.is_observable → self.new.incoming ≡ self.old.incoming }
         ensures others { self.new
             ≡ record self.old {
               sent = self.new.sent;
               socket_failures = self.new.socket_failures;
-              coming = self.new.coming;
+              incoming = self.new.incoming;
             } }
     {
         let datagram = self.question().datagram();
@@ -113,16 +113,16 @@ impl<S: DatagramSocket + Drop> SocketPost<S> {
     /// Sends this node's question to one address at which it is due, if there is one. `now` is the count of ticks. A
     /// question whose send fails counts as asked.
     pub fn probe_next(&mut self, now: u64) -> Result<(), SendFault>
-        ensures asks { AsksOne S.is_telling now self.old.node self.old.addresses self.new.addresses
+        ensures asks { AsksOne S.is_observable now self.old.node self.old.addresses self.new.addresses
             (tray_of self.old) (tray_of self.new) }
         ensures network { IsSameNetwork self.old.addresses self.new.addresses }
-        ensures still { S.is_telling → self.new.coming ≡ self.old.coming }
+        ensures still { S.is_observable → self.new.incoming ≡ self.old.incoming }
         ensures others { self.new
             ≡ record self.old {
               addresses = self.new.addresses;
               sent = self.new.sent;
               socket_failures = self.new.socket_failures;
-              coming = self.new.coming;
+              incoming = self.new.incoming;
             } }
     {
         match self.addresses.next_to_probe(now) {

@@ -1,7 +1,7 @@
 //! What a node knows of other machines: where the nodes live, and the keys that identify a sender.
 
 use crate::hosts::Hosts;
-use lk_seal::{DIGEST, Keys, Masters, Seals};
+use lk_auth::{DIGEST, Keys, Masters, Seals};
 use lk_types::NodeNo;
 
 /// Where the nodes live, and the keys that identify a sender.

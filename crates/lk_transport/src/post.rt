@@ -6,7 +6,7 @@ ghost use Rattle.lk_types.specs.Ranges.{IsClient};
 ghost use Rattle.lk_disk.specs.Disk.{HasCause, one_more};
 ghost use Rattle.lk_transport.specs.Addresses.{client_at, node_at, IsSameFilter};
 ghost use Rattle.lk_transport.specs.ReceiveBuffers.{listed};
-ghost use Rattle.lk_seal.specs.Seals.{heard};
+ghost use Rattle.lk_auth.specs.Seals.{heard};
 ghost use Rattle.lk_transport.specs.Posts.{IsRoute, IsBoundFor, Becomes, Hears, tray_of, frame_of, keys_for};
 ghost use Rattle.lk_transport.specs.Askers.{BringsProbe, Replies, asker, frame_for, keys_to};
 
@@ -16,8 +16,8 @@ use crate::network::Network;
 use crate::receive_buffer::ReceiveBuffer;
 use crate::received_probe::ReceivedProbe;
 use crate::socket::DatagramSocket;
+use lk_auth::{DIGEST, Seals};
 use lk_node_io::{Letter, Post, SendFault, To};
-use lk_seal::{DIGEST, Seals};
 use lk_types::{NoMemory, NodeNo};
 use lk_wire::Datagram;
 use std::alloc::{AllocError, Global};
@@ -87,7 +87,7 @@ impl<S: DatagramSocket + Drop> Model for SocketPost<S> {
       sent = S.sent p.socket;
       socket_failures = S.failures p.socket;
       failures = p.failures;
-      coming = S.coming p.socket;
+      incoming = S.incoming p.socket;
     } };
 }
 
@@ -150,7 +150,7 @@ impl<S: DatagramSocket + Drop> SocketPost<S> {
         ensures failures { result.failures ≡ 0 }
         ensures hosts { result.addresses.hosts ≡ network.hosts }
         ensures seals { result.addresses.seals ≡ network.seals }
-        ensures coming { result.coming ≡ S.coming socket }
+        ensures incoming { result.incoming ≡ S.incoming socket }
     {
         SocketPost {
             alloc,
@@ -198,22 +198,22 @@ impl<S: DatagramSocket + Drop> SocketPost<S> {
 
     /// Receives the next datagram of the socket into the buffer, if one arrives within the timeout.
     pub fn receive(&mut self, buffer: &mut ReceiveBuffer)
-        ensures comes { S.is_telling → self.old.coming ≡ listed buffer.new.last ++ self.new.coming }
-        ensures none { S.is_telling → buffer.new.last ≡ None → self.old.coming ≡ [] }
+        ensures comes { S.is_observable → self.old.incoming ≡ listed buffer.new.last ++ self.new.incoming }
+        ensures none { S.is_observable → buffer.new.last ≡ None → self.old.incoming ≡ [] }
         ensures asked { buffer.new.asked ≡ buffer.old.asked }
         ensures reported { buffer.new.reported ≡ buffer.old.reported }
-        ensures others { self.new ≡ record self.old { coming = self.new.coming } }
+        ensures others { self.new ≡ record self.old { incoming = self.new.incoming } }
     {
         buffer.receive(&mut self.socket);
     }
 
     /// Receives the next datagram into the buffer if one is already waiting, and does not wait for one.
     pub fn try_receive(&mut self, buffer: &mut ReceiveBuffer)
-        ensures comes { S.is_telling → self.old.coming ≡ listed buffer.new.last ++ self.new.coming }
-        ensures none { S.is_telling → buffer.new.last ≡ None → self.old.coming ≡ [] }
+        ensures comes { S.is_observable → self.old.incoming ≡ listed buffer.new.last ++ self.new.incoming }
+        ensures none { S.is_observable → buffer.new.last ≡ None → self.old.incoming ≡ [] }
         ensures asked { buffer.new.asked ≡ buffer.old.asked }
         ensures reported { buffer.new.reported ≡ buffer.old.reported }
-        ensures others { self.new ≡ record self.old { coming = self.new.coming } }
+        ensures others { self.new ≡ record self.old { incoming = self.new.incoming } }
     {
         buffer.try_receive(&mut self.socket);
     }
@@ -223,7 +223,7 @@ impl<S: DatagramSocket + Drop> SocketPost<S> {
     pub fn open<'a>(&self, frame: &'a [u8]) -> &'a [u8]
         ensures { result.now ≡ heard self.now.addresses.seals frame.now }
     {
-        self.addresses.seals().heard(frame)
+        self.addresses.seals().unseal(frame)
     }
 
     /// Parses the probe in a datagram, which was opened from a frame that arrived from an address; `None` if it is not
@@ -329,12 +329,12 @@ impl<S: DatagramSocket + Drop> SocketPost<S> {
     // Frames a letter and sends it over the socket, even one to this node. A letter with no known address is dropped,
     // which is no failure; a failed send, or no memory for the frame, is counted.
     fn transmit(&mut self, to: To, bytes: &[u8]) -> Result<(), SendFault>
-        ensures becomes { Becomes S.is_telling self.old.node self.old.addresses (tray_of self.old)
+        ensures becomes { Becomes S.is_observable self.old.node self.old.addresses (tray_of self.old)
             (record { to = to; bytes = bytes.now }) (is_ok result) (tray_of self.new) }
         ensures own { self.new.own ≡ self.old.own }
         ensures node { self.new.node ≡ self.old.node }
         ensures addresses { self.new.addresses ≡ self.old.addresses }
-        ensures still { S.is_telling → self.new.coming ≡ self.old.coming }
+        ensures still { S.is_observable → self.new.incoming ≡ self.old.incoming }
         ensures cause { HasCause self.old.failures self.new.failures result }
     {
         let Some(place) = route(&self.addresses, &to) else {
@@ -359,14 +359,14 @@ impl<S: DatagramSocket + Drop> SocketPost<S> {
     /// Sends a report to the address from which its probe came, framed for the asker if the probe names one. A failure
     /// is not counted in the group.
     pub fn reply(&mut self, asked: &ReceivedProbe, report: &[u8]) -> Result<(), SendFault>
-        ensures replies { Replies S.is_telling self.old.addresses.seals asked.now report.now
+        ensures replies { Replies S.is_observable self.old.addresses.seals asked.now report.now
             (tray_of self.old) (tray_of self.new) }
-        ensures still { S.is_telling → self.new.coming ≡ self.old.coming }
+        ensures still { S.is_observable → self.new.incoming ≡ self.old.incoming }
         ensures others { self.new
             ≡ record self.old {
               sent = self.new.sent;
               socket_failures = self.new.socket_failures;
-              coming = self.new.coming;
+              incoming = self.new.incoming;
             } }
     {
         let Ok(framed) = framed_for(
@@ -387,11 +387,11 @@ impl<S: DatagramSocket + Drop> Post for SocketPost<S> {
 
     ghost sent = { λ _. [] };
 
-    ghost is_telling = { ⊥ };
+    ghost is_observable = { ⊥ };
 
     ghost failures = { λ p. p.failures };
 
-    ghost Carries = { CarriesLetter S.is_telling };
+    ghost Carries = { CarriesLetter S.is_observable };
 
     // Out of memory for its queue, a letter to this node goes through the socket.
     fn send(&mut self, to: To, bytes: &[u8]) -> Result<(), SendFault> {

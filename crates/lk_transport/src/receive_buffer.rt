@@ -5,8 +5,8 @@ ghost use Rattle.lk_transport.specs.ReceiveBuffers.{first_asked, first_reported,
 
 use crate::received_probe::ReceivedProbe;
 use crate::socket::DatagramSocket;
+use lk_auth::OVERHEAD;
 use lk_probe::reported::Reported;
-use lk_seal::OVERHEAD;
 use lk_types::limits::MAX_DATAGRAM;
 use std::marker::Model;
 use std::net::SocketAddr;
@@ -50,8 +50,8 @@ impl ReceiveBuffer {
     /// Receives the next datagram of a socket: exactly its bytes, or nothing if none arrived within the socket's
     /// timeout or the receive failed.
     pub fn receive<S: DatagramSocket>(&mut self, socket: &mut S)
-        ensures comes { S.is_telling → S.coming socket.old ≡ listed self.new.last ++ S.coming socket.new }
-        ensures next { S.is_telling → next_of S.coming socket.old ≡ self.new.last }
+        ensures comes { S.is_observable → S.incoming socket.old ≡ listed self.new.last ++ S.incoming socket.new }
+        ensures next { S.is_observable → next_of S.incoming socket.old ≡ self.new.last }
         ensures asked { self.new.asked ≡ self.old.asked }
         ensures reported { self.new.reported ≡ self.old.reported }
         ensures unchanged { S.sent socket.new ≡ S.sent socket.old }
@@ -62,8 +62,8 @@ impl ReceiveBuffer {
 
     /// Receives a datagram that is already waiting, without waiting for one; nothing if there is none.
     pub fn try_receive<S: DatagramSocket>(&mut self, socket: &mut S)
-        ensures comes { S.is_telling → S.coming socket.old ≡ listed self.new.last ++ S.coming socket.new }
-        ensures next { S.is_telling → next_of S.coming socket.old ≡ self.new.last }
+        ensures comes { S.is_observable → S.incoming socket.old ≡ listed self.new.last ++ S.incoming socket.new }
+        ensures next { S.is_observable → next_of S.incoming socket.old ≡ self.new.last }
         ensures asked { self.new.asked ≡ self.old.asked }
         ensures reported { self.new.reported ≡ self.old.reported }
         ensures unchanged { S.sent socket.new ≡ S.sent socket.old }

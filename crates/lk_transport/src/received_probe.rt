@@ -1,14 +1,14 @@
 //! Probes that arrive at a server. They are not part of the protocol: the server answers them, and no replica gets one.
 
 ghost use Rattle.std.specs.Prelude.{◌≡◌, ◌≢◌, ◌↔◌, [], length, IsTrue, IsSome};
-ghost use Rattle.lk_seal.specs.Seals.{key_list, heard};
+ghost use Rattle.lk_auth.specs.Seals.{key_list, heard};
 ghost use Rattle.lk_transport.specs.Posts.{is_beside};
 ghost use Rattle.lk_transport.specs.Askers.{asker, BringsProbe, IsSealedAsNamed};
 ghost use Rattle.lk_transport.specs.Inquiring.{is_of};
 
+use lk_auth::{DIGEST, Seals};
 use lk_node_io::To;
 use lk_probe::Probe;
-use lk_seal::{DIGEST, Seals};
 use std::net::SocketAddr;
 
 /// A probe that a node is to answer, and its source.

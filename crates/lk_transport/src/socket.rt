@@ -30,27 +30,27 @@ pub trait DatagramSocket {
     ghost sent: { Self → List (Address × List ℕ) };
 
     /// What arrives, in order: each datagram's source and bytes.
-    ghost coming: { Self → List (Address × List ℕ) };
+    ghost incoming: { Self → List (Address × List ℕ) };
 
     /// How many sends have failed.
     ghost failures: { Self → ℕ };
 
     /// Its contract reveals what was sent, how many sends failed, and what arrives. This is a property of its type, so
     /// no call can change it.
-    ghost is_telling: { Type 0 };
+    ghost is_observable: { Type 0 };
 
     /// Sends a datagram. A failed call sends nothing, and is counted.
     fn send_to(&mut self, to: SocketAddr, bytes: &[u8]) -> Result<(), SendFault>
-        ensures ok { is_telling → OnOk result (sent self.new ≡ sent self.old ++ (to, bytes.now) ∷ []) }
-        ensures err { is_telling → OnErr result (sent self.new ≡ sent self.old) }
-        ensures still { is_telling → coming self.new ≡ coming self.old }
-        ensures cause { is_telling → HasCause (failures self.old) (failures self.new) result };
+        ensures ok { is_observable → OnOk result (sent self.new ≡ sent self.old ++ (to, bytes.now) ∷ []) }
+        ensures err { is_observable → OnErr result (sent self.new ≡ sent self.old) }
+        ensures still { is_observable → incoming self.new ≡ incoming self.old }
+        ensures cause { is_observable → HasCause (failures self.old) (failures self.new) result };
 
     /// Sets how long a receive waits at most; it may wait up to 10 ms longer. Before the first call it is 100 ms.
     fn set_timeout(&mut self, time: Duration)
         ensures unchanged { sent self.new ≡ sent self.old }
         ensures spares { failures self.new ≡ failures self.old }
-        ensures still { coming self.new ≡ coming self.old };
+        ensures still { incoming self.new ≡ incoming self.old };
 
     /// Puts the next datagram into the buffer, and returns its length and its source. Bytes that do not fit are lost.
     /// `None` if none arrived within the timeout, or the receive failed.
@@ -58,9 +58,9 @@ pub trait DatagramSocket {
         // The buffer has room for the longest frame and one byte more.
         requires room { 8229 ≤ length buffer.old }
         ensures within { IfSome result (λ r. r.0 ≤ length buffer.new) }
-        ensures some { is_telling
-            → IfSome result (λ r. coming self.old ≡ (r.1, take r.0 buffer.new) ∷ coming self.new) }
-        ensures none { is_telling → IsNone result → (coming self.old ≡ []) × (coming self.new ≡ []) }
+        ensures some { is_observable
+            → IfSome result (λ r. incoming self.old ≡ (r.1, take r.0 buffer.new) ∷ incoming self.new) }
+        ensures none { is_observable → IsNone result → (incoming self.old ≡ []) × (incoming self.new ≡ []) }
         ensures unchanged { sent self.new ≡ sent self.old }
         ensures spares { failures self.new ≡ failures self.old };
 
@@ -68,9 +68,9 @@ pub trait DatagramSocket {
     fn try_receive(&mut self, buffer: &mut [u8]) -> Option<(usize, SocketAddr)>
         requires room { 8229 ≤ length buffer.old }
         ensures within { IfSome result (λ r. r.0 ≤ length buffer.new) }
-        ensures some { is_telling
-            → IfSome result (λ r. coming self.old ≡ (r.1, take r.0 buffer.new) ∷ coming self.new) }
-        ensures none { is_telling → IsNone result → (coming self.old ≡ []) × (coming self.new ≡ []) }
+        ensures some { is_observable
+            → IfSome result (λ r. incoming self.old ≡ (r.1, take r.0 buffer.new) ∷ incoming self.new) }
+        ensures none { is_observable → IsNone result → (incoming self.old ≡ []) × (incoming self.new ≡ []) }
         ensures unchanged { sent self.new ≡ sent self.old }
         ensures spares { failures self.new ≡ failures self.old };
 
@@ -175,11 +175,11 @@ impl LocalSocket {
 impl DatagramSocket for LocalSocket {
     ghost sent = { λ _. [] };
 
-    ghost coming = { λ _. [] };
+    ghost incoming = { λ _. [] };
 
     ghost failures = { λ _. 0 };
 
-    ghost is_telling = { ⊥ };
+    ghost is_observable = { ⊥ };
 
     fn send_to(&mut self, to: SocketAddr, bytes: &[u8]) -> Result<(), SendFault> {
         match self.socket.send_to(bytes, to) {

@@ -6,10 +6,10 @@ use Rattle.lk_messages.specs.declared.message.NodeMessage.TheVariants as kinds
 use Rattle.lk_messages.specs.declared.message.Content.{Content}
 use Rattle.lk_messages.specs.declared.message.Content.TheVariants as content
 use Rattle.lk_messages.specs.declared.message.Message.{Message}
-use Rattle.lk_fields.specs.Fields.{two, four, eight, ballot}
+use Rattle.lk_codec.specs.Fields.{two, four, eight, ballot}
 use Rattle.lk_messages.specs.Grammar.{fields, header, kind, sender, Spells}
 use Rattle.lk_wire.specs.Shown.{LieAtTheirPlaces}
-use Rattle.lk_fields.proofs.Spellings.{length-two, length-four, length-eight}
+use Rattle.lk_codec.proofs.Spellings.{length-two, length-four, length-eight}
 use Rattle.lk_messages.proofs.Spellings.{length-ballot}
 
 -- what lies so far into the rest lies that much further into all

@@ -1,6 +1,6 @@
 -- The most bytes that a datagram takes.
 use Rattle.std.specs.Prelude.{ℕ, ◌+◌, ◌*◌, length}
-use Rattle.lk_fields.specs.Rooms.{mark_room, request_room, command_room, vote_room}
+use Rattle.lk_codec.specs.Rooms.{mark_room, request_room, command_room, vote_room}
 use Rattle.lk_messages.specs.declared.message.NodeMessage.{NodeMessage}
 use Rattle.lk_messages.specs.declared.message.NodeMessage.TheVariants as kinds
 use Rattle.lk_messages.specs.declared.message.Content.{Content}

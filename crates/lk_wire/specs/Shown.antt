@@ -11,7 +11,7 @@ use Rattle.lk_wire.specs.declared.viewing.message.NodeMessageRef.TheVariants as 
 use Rattle.lk_wire.specs.declared.viewing.message.ContentRef.{ContentRef}
 use Rattle.lk_wire.specs.declared.viewing.message.ContentRef.TheVariants as seen
 use Rattle.lk_wire.specs.declared.viewing.message.MessageRef.{MessageRef}
-use Rattle.lk_fields.specs.Fields.{request, command, vote}
+use Rattle.lk_codec.specs.Fields.{request, command, vote}
 
 abbrev pub shown_node : NodeMessageRef → NodeMessage
 shown_node (viewed.Prepare b first) = kinds.Prepare b first

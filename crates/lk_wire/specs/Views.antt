@@ -4,8 +4,8 @@ use Rattle.lk_types.specs.declared.command.Op.TheVariants.{Raise}
 use Rattle.lk_types.specs.declared.command.Request.{Request}
 use Rattle.lk_types.specs.declared.command.Command.{Command}
 use Rattle.lk_types.specs.declared.command.Command.TheVariants.{Noop}
-use Rattle.lk_fields.specs.Parser.{many}
-use Rattle.lk_fields.specs.FieldReading.{read_request, read_command}
+use Rattle.lk_codec.specs.Parser.{many}
+use Rattle.lk_codec.specs.FieldReading.{read_request, read_command}
 use Rattle.lk_messages.specs.Views.{IsAll, value_or}
 
 -- the commands that the bytes spell, this many

@@ -5,7 +5,7 @@ ghost use Rattle.std.specs.Prelude.{◌≡◌, ◌⊎◌, List, ℕ, Ok, Err, If
 ghost use Rattle.lk_messages.specs.declared.message.Message.{Message};
 ghost use Rattle.lk_messages.specs.declared.message.NodeMessage.TheVariants as kinds;
 ghost use Rattle.lk_messages.specs.Grammar.{Spells};
-ghost use Rattle.lk_fields.specs.Parser.{Finds, made};
+ghost use Rattle.lk_codec.specs.Parser.{Finds, made};
 ghost use Rattle.lk_messages.specs.Reading.{read_prepare, read_promise, read_proposal, read_nack, read_decided};
 ghost use Rattle.lk_messages.specs.Reading.{read_want, read_part, read_answered, read_elsewhere, read_passed};
 ghost use Rattle.lk_messages.specs.Reading.{read_lead, node_of, read_asked, content_of, read_header, read_message};
@@ -19,7 +19,7 @@ pub(crate) mod message;
 use crate::fault::{Bad, ReadFault};
 use command::{RequestRef, VoteRef};
 use decided::DecidedRef;
-use lk_fields::{
+use lk_codec::{
     read_answer, read_any_ballot, read_ballot, read_client, read_executed, read_member,
     read_number, read_position, read_u8, read_u32, read_u64,
 };

@@ -1,13 +1,13 @@
 // Writing a message as a datagram. Each `put_` function appends one part of it; the clauses `room` bound the reserved
 // bytes that it uses.
 ghost use Rattle.std.specs.Prelude.{◌≡◌, ◌<◌, ◌+◌, ◌*◌, ◌++◌, length, OnOk, OnErr};
-ghost use Rattle.lk_fields.specs.Rooms.{UsesRoom, mark_room, command_room, vote_room};
+ghost use Rattle.lk_codec.specs.Rooms.{UsesRoom, mark_room, command_room, vote_room};
 ghost use Rattle.lk_wire.specs.Rooms.{header_room, node_fields_room, fields_room};
 ghost use Rattle.lk_messages.specs.Grammar.{votes, promise, proposal, nack, commands, decided, part, node_kind};
 ghost use Rattle.lk_messages.specs.Grammar.{node_fields, fields, header, kind, spelling, Spells};
 
 use bytes::{BufMut, BytesMut};
-use lk_fields::{
+use lk_codec::{
     put_answer, put_any_ballot, put_ballot, put_client, put_command, put_executed, put_member,
     put_number, put_position, put_request, put_u8, put_u16, put_u32, put_u64, put_vote, room,
 };

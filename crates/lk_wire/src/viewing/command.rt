@@ -1,11 +1,11 @@
 ghost use Rattle.std.specs.Prelude.{◌≡◌};
 ghost use Rattle.lk_types.specs.Commands.{IsCommand, IsRequest};
 ghost use Rattle.lk_types.specs.Votes.{IsVote};
-ghost use Rattle.lk_fields.specs.FieldReading.{read_request, read_command};
-ghost use Rattle.lk_fields.specs.Parser.{Finds};
+ghost use Rattle.lk_codec.specs.FieldReading.{read_request, read_command};
+ghost use Rattle.lk_codec.specs.Parser.{Finds};
 ghost use Rattle.lk_messages.specs.Reading.{read_proposal};
 
-use lk_fields::{
+use lk_codec::{
     front_of, read_ballot, read_command, read_position, read_request, skip_command, skip_request,
 };
 use lk_types::{Command, Position, RealBallot, Request, Vote};

@@ -1,13 +1,13 @@
 ghost use Rattle.std.specs.Prelude.{◌≡◌, ◌∷◌, [], length, IfSome, IfOk};
 ghost use Rattle.std.specs.List.{AllByRecursion};
 ghost use Rattle.lk_types.specs.Commands.{IsCommand};
-ghost use Rattle.lk_fields.specs.FieldReading.{read_command};
-ghost use Rattle.lk_fields.specs.Parser.{Finds, many, past};
+ghost use Rattle.lk_codec.specs.FieldReading.{read_command};
+ghost use Rattle.lk_codec.specs.Parser.{Finds, many, past};
 ghost use Rattle.lk_messages.specs.Reading.{read_decided};
 ghost use Rattle.lk_messages.specs.Values.{IsDecided};
 ghost use Rattle.lk_wire.specs.Views.{commands_in, AreCommands};
 
-use lk_fields::{front_of, read_command, read_position, read_u8, skip_command};
+use lk_codec::{front_of, read_command, read_position, read_u8, skip_command};
 use lk_messages::Decided;
 use lk_types::{Command, NoMemory, Position};
 use std::alloc::Global;

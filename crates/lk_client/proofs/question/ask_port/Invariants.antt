@@ -10,7 +10,7 @@ invariant-receives g l =
     let sent = g.S.DatagramSocket.sent in
     let failures = g.S.DatagramSocket.failures in
     (l.followed ≤ 20)
-    × (g.S.DatagramSocket.is_telling
-    → Repeats (Receives sent failures (next_of g.S.DatagramSocket.coming) l.question l.bytes None) l.counter
+    × (g.S.DatagramSocket.is_observable
+    → Repeats (Receives sent failures (next_of g.S.DatagramSocket.incoming) l.question l.bytes None) l.counter
     (record { socket = l.initial.socket; followed = l.initial.followed })
     (record { socket = l.socket; followed = l.followed }))

@@ -9,7 +9,7 @@ invariant-ports g l =
     let sent = g.S.DatagramSocket.sent in
     let failures = g.S.DatagramSocket.failures in
     (l.followed ≤ 20)
-    × (g.S.DatagramSocket.is_telling
-    → TriesInVain sent failures (next_of g.S.DatagramSocket.coming) l.question l.patience
+    × (g.S.DatagramSocket.is_observable
+    → TriesInVain sent failures (next_of g.S.DatagramSocket.incoming) l.question l.patience
     (take l.port-index l.ports) l.bytes.items
     (record { socket = l.initial.socket; followed = 0 }) (record { socket = l.socket; followed = l.followed }))

@@ -8,7 +8,7 @@ use Rattle.lk_cluster.proofs.laws.a_cluster_keeps_the_promise.Goals as goal
 
 pub returns : goal.returns
 returns g c genesis cluster all =
-    let w = (reachable_sound ForgesNothing g.D.LogDisk.is_metered g.S.DatagramSocket.is_telling forges_nothing
+    let w = (reachable_sound ForgesNothing g.D.LogDisk.is_metered g.S.DatagramSocket.is_observable forges_nothing
     genesis cluster all).holds in
     promised (scene_of cluster)
     (promises_of ReplicaStands locks_behave (λ r. r.node.learner.whole) table_meaning

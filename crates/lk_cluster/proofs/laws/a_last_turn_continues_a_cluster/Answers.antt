@@ -5,5 +5,5 @@ use Rattle.lk_cluster.proofs.laws.a_last_turn_continues_a_cluster.Goals as goal
 
 pub returns : goal.returns
 returns g c genesis cluster all place n server at after =
-    last_turn_continues ForgesNothing g.D.LogDisk.is_metered g.S.DatagramSocket.is_telling forges_nothing
+    last_turn_continues ForgesNothing g.D.LogDisk.is_metered g.S.DatagramSocket.is_observable forges_nothing
     genesis cluster all place n server after at

@@ -5,4 +5,5 @@ use Rattle.lk_cluster.proofs.laws.a_restart_comes_back.Goals as goal
 
 pub returns : goal.returns
 returns g c =
-    comes_back ForgesNothing g.D.LogDisk.is_metered g.S.DatagramSocket.is_telling forges_nothing g.D.LogDisk.is_honest
+    comes_back ForgesNothing g.D.LogDisk.is_metered g.S.DatagramSocket.is_observable forges_nothing
+    g.D.LogDisk.is_honest

@@ -5,7 +5,7 @@ use Rattle.lk_cluster.proofs.laws.a_sealed_service_continues_a_cluster.Goals as 
 
 pub returns : goal.returns
 returns g c honest genesis cluster all place n device at disks same count seals served key only =
-    let tells = g.S.DatagramSocket.is_telling in
+    let tells = g.S.DatagramSocket.is_observable in
     service_continues IsSealed g.D.LogDisk.is_metered tells
     (seals_forge_nothing c.is_told_by_a_node.ensures) g.D.LogDisk.is_honest _ (λ old o letters new says. says honest)
     honest genesis cluster all place n count device at disks same

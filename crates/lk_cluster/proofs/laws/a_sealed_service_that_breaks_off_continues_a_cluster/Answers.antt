@@ -9,7 +9,7 @@ use Rattle.lk_cluster.proofs.laws.a_sealed_service_that_breaks_off_continues_a_c
 pub returns : goal.returns
 returns g c honest genesis cluster all place n device at disks same most seals served key only
     last_only left same_left =
-    let tells = g.S.DatagramSocket.is_telling in
+    let tells = g.S.DatagramSocket.is_observable in
     let b = served.breaks in
     let since = cluster.sent ++ batch_of n (letters_of _ tells served.begun b.turns.states b.last b.turns.chain) in
     let still = still_sealed _ tells seals served.begun b.turns.states b.last b.turns.chain served.sealed.are in

@@ -4,5 +4,5 @@ use Rattle.lk_cluster.proofs.laws.an_idle_turn_continues_a_cluster.Goals as goal
 
 pub returns : goal.returns
 returns g c genesis cluster all place n server at after =
-    idle_continues ForgesNothing g.D.LogDisk.is_metered g.S.DatagramSocket.is_telling
+    idle_continues ForgesNothing g.D.LogDisk.is_metered g.S.DatagramSocket.is_observable
     genesis cluster all place n server after at

@@ -2,7 +2,7 @@
 use Rattle.std.proofs.Common.{◌∙◌, nat_le, ◌&&◌, ◌∷◌, [], ◌==◌, sym, arith, length-append}
 use Rattle.std.specs.List.{list_any}
 use Rattle.lk_types.specs.declared.member.Member.{Member}
-use Rattle.lk_leader.specs.Terms.{Report}
+use Rattle.lk_leader.specs.Terms.{ReceivedPromise}
 use Rattle.lk_leader.proofs.MemberLaws.{passing-more, passing-same}
 use Rattle.lk_leader.proofs.term.promisers.Goals.{then-is_promiser_of, else-is_promiser_of}
 use Rattle.lk_leader.proofs.term.promisers.Goals as goal
@@ -10,7 +10,7 @@ use Rattle.lk_leader.proofs.term.promisers.Goals as goal
 pub loop-member-preserved : goal.loop-member-preserved
 loop-member-preserved c =
     let p = λ (m : Member). list_any
-    (λ (r : Report). r.node == m.node && nat_le r.first c.args.position) c.args.reports.now in
+    (λ (r : ReceivedPromise). r.node == m.node && nat_le r.first c.args.position) c.args.reports.now in
     elim c.if-is_promiser_of.branch [
       | then-is_promiser_of w ↦ record {
         among = rw (w.among-is, w.push.ensures.items, c.loop-member.invariant.among)

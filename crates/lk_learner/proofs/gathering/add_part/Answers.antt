@@ -8,8 +8,8 @@ returns-in_err-begun_by-clause-memory c = search rules
 pub returns-then-begins-clause-ok : goal.returns-then-begins-clause-ok
 returns-then-begins-clause-ok c = search rules
 
-pub returns-in_err-join-clause-memory : goal.returns-in_err-join-clause-memory
-returns-in_err-join-clause-memory c = search rules
+pub returns-in_err-append_part-clause-memory : goal.returns-in_err-append_part-clause-memory
+returns-in_err-append_part-clause-memory c = search rules
 
 pub returns-clause-ok : goal.returns-clause-ok
 returns-clause-ok c = search rules

@@ -1,8 +1,8 @@
 -- Reading goes on where it stopped.
 use Rattle.std.proofs.Common.{◌≡◌, ℕ, ◌+◌, ◌-◌, List, [], ◌∷◌, ◌++◌, length, ap, sym, subst, ◌∙◌, length-append}
-use Rattle.lk_fields.specs.Parser.{many}
-use Rattle.lk_fields.specs.FieldReading.{read_client}
-use Rattle.lk_fields.proofs.Spellings.{with_front, goes_on, ends}
+use Rattle.lk_codec.specs.Parser.{many}
+use Rattle.lk_codec.specs.FieldReading.{read_client}
+use Rattle.lk_codec.proofs.Spellings.{with_front, goes_on, ends}
 use Rattle.lk_locks.proofs.entry.many_clients.Goals as goal
 
 one_longer : (cs ds : List ℕ) (c i : ℕ) → ds ≡ cs ++ c ∷ [] → length cs ≡ i → length ds ≡ i + 1

@@ -6,8 +6,8 @@ use Rattle.std.proofs.lemmas.Result.{err_from_is_err_and}
 use Rattle.std.specs.Cmp.Lexicographic.{slice_cmp}
 use Rattle.std.specs.Ordering.{nat_cmp}
 use Rattle.std.specs.FinMap as map
-use Rattle.lk_fields.specs.Parser.{many}
-use Rattle.lk_fields.proofs.Spellings.{goes_on}
+use Rattle.lk_codec.specs.Parser.{many}
+use Rattle.lk_codec.proofs.Spellings.{goes_on}
 use Rattle.std.proofs.Common.{Bool}
 use Rattle.lk_locks.specs.Holders.{is_kept}
 use Rattle.lk_locks.specs.Packed.{read_entry}

@@ -1,7 +1,7 @@
 use Rattle.std.proofs.Common.{◌≡◌, ◌-◌}
 use Rattle.std.specs.FinMap as map
-use Rattle.lk_fields.specs.Parser.{many}
-use Rattle.lk_fields.proofs.Spellings.{with_front}
+use Rattle.lk_codec.specs.Parser.{many}
+use Rattle.lk_codec.proofs.Spellings.{with_front}
 use Rattle.lk_locks.specs.Packed.{read_entry}
 use Rattle.lk_locks.proofs.machine.read_entries.Given as goal
 

@@ -1,6 +1,6 @@
 use Rattle.std.proofs.Common.{rules, ◌≡◌, ◌∙◌, ◌&&◌, ℕ, Some, ap, sym, ltb}
-use Rattle.lk_fields.specs.FieldReading.{read_vote}
-use Rattle.lk_fields.specs.Parser.{many}
+use Rattle.lk_codec.specs.FieldReading.{read_vote}
+use Rattle.lk_codec.specs.Parser.{many}
 use Rattle.lk_messages.proofs.Walks.{passed}
 use Rattle.lk_messages.proofs.promise.end_of.Goals as goal
 use Rattle.lk_messages.proofs.promise.end_of.Goals.{then-rising, else-rising}

@@ -1,10 +1,10 @@
 -- Some votes were passed; with those still to be read they are what all is, and rise where all do.
 use Rattle.std.proofs.Common.{◌≡◌, ◌++◌, ◌-◌, ◌&&◌, List}
 use Rattle.lk_types.specs.declared.vote.Vote.{Vote}
-use Rattle.lk_fields.specs.FieldReading.{read_vote}
-use Rattle.lk_fields.specs.Parser.{many}
+use Rattle.lk_codec.specs.FieldReading.{read_vote}
+use Rattle.lk_codec.specs.Parser.{many}
 use Rattle.lk_types.specs.Votes.{are_votes_above}
-use Rattle.lk_fields.proofs.Spellings.{with_front}
+use Rattle.lk_codec.proofs.Spellings.{with_front}
 use Rattle.lk_messages.proofs.promise.end_of.Given as goal
 
 abbrev pub invariant-loop : goal.invariant-loop

@@ -20,7 +20,7 @@ turns-preserved g c =
     let i = c.turns.invariant in
     let e = c.in_ok-take_turn.ensures in
     let turn = subst₂ (λ (kept : Option ReceivedProbe) (told : Option Reported). TakesTurnWith
-    _ g.S.DatagramSocket.is_telling kept told HasFollowedNoStranger c.turns.server c.take_turn.new.server) i.0 i.1
+    _ g.S.DatagramSocket.is_observable kept told HasFollowedNoStranger c.turns.server c.take_turn.new.server) i.0 i.1
     e.turn in
     let warning = subst (λ (before : Option (List ℕ)). Warns c.args.plan.now.header.node c.args.plan.now.port
     c.take_turn.new.server c.turns.reminder c.warn_if_due.new.reminder before
@@ -40,7 +40,7 @@ returns-clause-warns g c =
 pub returns-in_err-take_turn-clause-err : goal.returns-in_err-take_turn-clause-err
 returns-in_err-take_turn-clause-err g c =
     let i = c.turns.invariant in
-    let tells = g.S.DatagramSocket.is_telling in
+    let tells = g.S.DatagramSocket.is_observable in
     on_err c.from_residual.result (turns_end 281474976710656 c.turns-test.true i.2
     (subst₂ (λ (kept : Option ReceivedProbe) (told : Option Reported). EndsTurn _ tells c.turns.server
     c.take_turn.new.server ⊎ TakesTurnWith _ tells kept told HasFollowedStranger c.turns.server
@@ -50,7 +50,7 @@ returns-in_err-take_turn-clause-err g c =
 pub returns-in_err-take_turn-clause-warned : goal.returns-in_err-take_turn-clause-warned
 returns-in_err-take_turn-clause-warned g c =
     let i = c.turns.invariant in
-    let tells = g.S.DatagramSocket.is_telling in
+    let tells = g.S.DatagramSocket.is_observable in
     on_err c.from_residual.result (record {
       count = c.turns.counter;
       fewer = c.turns-test.true;

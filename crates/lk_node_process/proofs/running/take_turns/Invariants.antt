@@ -12,9 +12,9 @@ invariant-turns g l =
     let device = g.D.LogDisk in
     (l.buffer.asked ≡ None) × (l.buffer.reported ≡ None)
     × Repeats (TakesTurn (SaysOn device.is_honest device.is_metered g.M.Machine.meaning g.M.Machine.IsText)
-    g.S.DatagramSocket.is_telling) l.counter l.fn.server l.server
+    g.S.DatagramSocket.is_observable) l.counter l.fn.server l.server
     × Repeats (TakesTurnAndWarns
-    (SaysOn device.is_honest device.is_metered g.M.Machine.meaning g.M.Machine.IsText) g.S.DatagramSocket.is_telling
+    (SaysOn device.is_honest device.is_metered g.M.Machine.meaning g.M.Machine.IsText) g.S.DatagramSocket.is_observable
     l.fn.plan.header.node l.fn.plan.port) l.counter
     (reminded l.fn.server l.fn.reminder (g.E.Write.contents l.fn.err))
     (reminded l.server l.reminder (g.E.Write.contents l.err))

@@ -6,6 +6,6 @@ use Rattle.lk_node_resources.proofs.own_probe.comes_back.Given as goal
 abbrev pub invariant-receives : goal.invariant-receives
 invariant-receives g l =
     let socket = g.S.DatagramSocket in
-    (socket.is_telling → StaysAway l.frame l.counter (socket.coming l.fn.socket) (socket.coming l.socket))
+    (socket.is_observable → StaysAway l.frame l.counter (socket.incoming l.fn.socket) (socket.incoming l.socket))
     × (socket.sent l.socket ≡ socket.sent l.fn.socket)
     × (socket.failures l.socket ≡ socket.failures l.fn.socket)

@@ -1,7 +1,7 @@
 use Rattle.std.proofs.Common.{◌≡◌, ◌+◌, ◌*◌, ◌++◌, ◌∷◌, length, take}
 use Rattle.std.specs.List.{flat_map}
 use Rattle.arrayvec.specs.ArrayVec.{array_vec_len}
-use Rattle.lk_fields.specs.Fields.{member}
+use Rattle.lk_codec.specs.Fields.{member}
 use Rattle.lk_probe.proofs.writing.put_members.Given as goal
 
 -- the count stands there, and the members so far

@@ -1,6 +1,6 @@
 use Rattle.std.proofs.Common.{rules, []}
 use Rattle.std.proofs.lemmas.Result.{on_ok_weaker}
-use Rattle.lk_world_nodes.specs.declared.refused.Refused.TheVariants.{NotUp}
+use Rattle.lk_sim_nodes.specs.declared.refused.Refused.TheVariants.{NotUp}
 use Rattle.lk_random_schedules.proofs.Adding.{adds_on}
 use Rattle.lk_random_schedules.proofs.Happening.{passes_again}
 use Rattle.lk_random_schedules.proofs.fuzzing.pass_by.Goals as goal

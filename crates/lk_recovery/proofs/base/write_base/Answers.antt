@@ -2,7 +2,7 @@ use Rattle.std.proofs.Common.{◌≡◌, rules, arith, [], ◌∷◌, refl, sym,
 use Rattle.lk_store_format.specs.Values.{StandingValue}
 use Rattle.lk_store_format.specs.declared.stored.Stored.TheVariants.{Base}
 use Rattle.lk_log.specs.StoreValue.{disks}
-use Rattle.lk_log.specs.Stores.{Holds, MayBegin, next_base, KeepsOrIs}
+use Rattle.lk_log.specs.Stores.{HoldsEntries, MayBegin, next_base, KeepsOrIs}
 use Rattle.lk_state.specs.Meanings.{Meaning}
 use Rattle.lk_learner.specs.Learners.{Command, IsNext}
 use Rattle.lk_node.specs.NodeValue.{NodeValue}
@@ -32,7 +32,7 @@ returns-clause-done g c honest =
     (λ ks ls holds. subst (λ (s : StandingValue). KeepsOrIs (disks c.rebase.new.self) ks ls
     (next_base c.args.store.now s)) is (c.rebase.ensures.any honest ks ls holds)) g.D.LogDisk.is_metered
     c.in_ok-rebase.ensures.file.0
-    (λ ks ls holds. subst (λ (s : StandingValue). Holds c.rebase.new.self
+    (λ ks ls holds. subst (λ (s : StandingValue). HoldsEntries c.rebase.new.self
     (Base (next_base c.args.store.now s) ∷ []) []) is (c.in_ok-rebase.ensures.base honest ks ls holds))
     (λ metered. c.in_ok-rebase.ensures.metered metered honest) (c.in_ok-rebase.ensures.left honest).1)
 

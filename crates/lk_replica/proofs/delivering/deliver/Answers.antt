@@ -16,7 +16,7 @@ loop-letter-preserved g c =
     (omega (arith, c.loop-letter-test.true)) c.letter-item.is in (
       elim c.if-not-is_sent.branch [
         | then-not-is_sent w ↦
-            after_lost g.P.Post.is_telling c.args.letters.now c.loop-letter.letter-index c.letter-item.result
+            after_lost g.P.Post.is_observable c.args.letters.now c.loop-letter.letter-index c.letter-item.result
             (g.P.Post.sent c.args.post.now) (g.P.Post.sent c.loop-letter.post) (g.P.Post.sent c.is_sent.new.post)
             (g.P.Post.failures c.args.post.now) (g.P.Post.failures c.loop-letter.post)
             (g.P.Post.failures c.is_sent.new.post) c.loop-letter.lost c.if-not-is_sent.lost
@@ -24,7 +24,7 @@ loop-letter-preserved g c =
             (λ telling. c.is_sent.ensures.lost telling (cc w.if-not-is_sent.true))
             (c.is_sent.ensures.rises (cc w.if-not-is_sent.true))
         | else-not-is_sent w ↦
-            after_sent g.P.Post.is_telling c.args.letters.now c.loop-letter.letter-index c.letter-item.result
+            after_sent g.P.Post.is_observable c.args.letters.now c.loop-letter.letter-index c.letter-item.result
             (g.P.Post.sent c.args.post.now) (g.P.Post.sent c.loop-letter.post) (g.P.Post.sent c.is_sent.new.post)
             (g.P.Post.failures c.args.post.now) (g.P.Post.failures c.loop-letter.post)
             (g.P.Post.failures c.is_sent.new.post) c.loop-letter.lost c.if-not-is_sent.lost
@@ -41,7 +41,7 @@ loop-letter-preserved g c =
 
 pub returns-clause-all : goal.returns-clause-all
 returns-clause-all g c telling =
-    all_sent g.P.Post.is_telling c.args.letters.now
+    all_sent g.P.Post.is_observable c.args.letters.now
     (take c.loop-letter.letter-index c.args.letters.now) _ _ _ _ c.loop-letter.lost
     (take_all c.loop-letter.letter-index c.args.letters.now (omega (arith, c.loop-letter-test.false)))
     (search rules) c.loop-letter.invariant.0 telling

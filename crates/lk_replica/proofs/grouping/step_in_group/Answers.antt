@@ -4,7 +4,8 @@ use Rattle.lk_log.proofs.Room.{refused_room, within_first}
 use Rattle.lk_node_io.specs.Letters.{batch_of}
 use Rattle.lk_node.specs.Histories.{Genesis}
 use Rattle.lk_node.specs.Leavings.{AllCover}
-use Rattle.lk_replica.specs.Groups.{GroupValue, MakesRoom, as_sent, Recalls, GroupFits, GroupGoes, GroupStays}
+use Rattle.lk_replica.specs.Groups.{GroupValue, MakesRoom, as_sent, RemembersInGroup, GroupFits, GroupLeavesFit}
+use Rattle.lk_replica.specs.Groups.{GroupStays}
 use Rattle.lk_disk.proofs.Devices.{passes_on}
 use Rattle.lk_node_io.specs.declared.fault.ReplicaFault.TheVariants as fault
 use Rattle.lk_recovery.proofs.Recoveries.{err_as, refused_on, grown_base, grown_then, spared_all, second_after}
@@ -22,7 +23,8 @@ returns-clause-goes g c honest =
       noted = ap (λ (x : GroupValue). x.notes) is;
       said = ap (λ (x : GroupValue). x.letters) is;
       are = λ h n f heard sent among. subst
-          (λ (x : GroupValue). GroupGoes m h n c.step_to_file.new.node c.step_to_file.new.store x.needs_sync o.notes
+          (λ (x : GroupValue). GroupLeavesFit m h n c.step_to_file.new.node c.step_to_file.new.store x.needs_sync
+          o.notes
           (batch_of n sent)) (sym is)
           (c.in_ok-outbox.ensures.goes honest h n
           (c.in_ok-needs_sync.ensures.fits honest h n
@@ -39,9 +41,10 @@ returns-clause-keeps g c honest =
     let room = c.in_ok-needs_sync.ensures in
     let step = c.in_ok-outbox.ensures in
     let w = sym (ap (λ (y : GroupValue). y.needs_sync) c.group.view_is) in
-    let mine : (genesis : Genesis) (n : ℕ) → Recalls c.args.node.now c.args.store.now before.needs_sync genesis n
-    → Recalls c.args.node.now c.args.store.now c.group.inside.needs_sync genesis n =
-    λ genesis n r. subst (λ (w : Bool). Recalls c.args.node.now c.args.store.now w genesis n) w r in
+    let mine : (genesis : Genesis) (n : ℕ) → RemembersInGroup c.args.node.now c.args.store.now before.needs_sync
+    genesis n
+    → RemembersInGroup c.args.node.now c.args.store.now c.group.inside.needs_sync genesis n =
+    λ genesis n r. subst (λ (w : Bool). RemembersInGroup c.args.node.now c.args.store.now w genesis n) w r in
     record {
       stays = λ h n s heard.
           subst (λ (x : GroupValue). GroupStays m h n c.step_to_file.new.node c.step_to_file.new.store x.needs_sync)
@@ -49,7 +52,8 @@ returns-clause-keeps g c honest =
           (step.stays honest h n (room.stays honest h n
           (subst (λ (w : Bool). GroupStays m h n c.args.node.now c.args.store.now w) w s)) heard);
       recalls = λ genesis n r.
-          subst (λ (x : GroupValue). Recalls c.step_to_file.new.node c.step_to_file.new.store x.needs_sync genesis n)
+          subst (λ (x : GroupValue). RemembersInGroup c.step_to_file.new.node c.step_to_file.new.store x.needs_sync
+          genesis n)
           (sym is)
           (step.recalls honest genesis n (room.recalls honest genesis n (mine genesis n r)));
       said = λ genesis n r was.
@@ -85,7 +89,7 @@ returns-in_err-needs_sync-clause-disks g c honest =
       ends = λ h n s heard. c.make_room.ensures.ends honest h n
           (subst (λ (w : Bool). GroupStays m h n c.args.node.now c.args.store.now w) w s);
       covers = λ genesis n x r every. c.make_room.ensures.covers honest genesis n x
-          (subst (λ (w : Bool). Recalls c.args.node.now c.args.store.now w genesis n) w r) every;
+          (subst (λ (w : Bool). RemembersInGroup c.args.node.now c.args.store.now w genesis n) w r) every;
       room = refused_room (disks c.args.store.now) (disks c.make_room.new.store) (c.make_room.ensures.room honest);
     }
 
@@ -102,7 +106,7 @@ returns-in_err-outbox-clause-disks g c honest =
           (c.in_ok-needs_sync.ensures.stays honest h n
           (subst (λ (w : Bool). GroupStays m h n c.args.node.now c.args.store.now w) w s)) heard;
       covers = λ genesis n x r every.
-          let mine = subst (λ (w : Bool). Recalls c.args.node.now c.args.store.now w genesis n) w r in
+          let mine = subst (λ (w : Bool). RemembersInGroup c.args.node.now c.args.store.now w genesis n) w r in
           c.step_to_file.ensures.covers honest genesis n x (c.in_ok-needs_sync.ensures.recalls honest genesis n mine)
           (c.make_room.ensures.covers honest genesis n x mine every);
       room = within_first 132704 (disks c.args.store.now) (disks c.make_room.new.store)
@@ -125,7 +129,7 @@ returns-in_err-add-clause-disks g c honest =
           (c.in_ok-needs_sync.ensures.stays honest h n
           (subst (λ (w : Bool). GroupStays m h n c.args.node.now c.args.store.now w) w s)) heard;
       covers = λ genesis n x r every.
-          let mine = subst (λ (w : Bool). Recalls c.args.node.now c.args.store.now w genesis n) w r in
+          let mine = subst (λ (w : Bool). RemembersInGroup c.args.node.now c.args.store.now w genesis n) w r in
           c.step_to_file.ensures.covers honest genesis n x (c.in_ok-needs_sync.ensures.recalls honest genesis n mine)
           (c.make_room.ensures.covers honest genesis n x mine every);
       room = within_first 132704 (disks c.args.store.now) (disks c.make_room.new.store)
@@ -148,7 +152,7 @@ returns-clause-disks g c honest =
           (c.in_ok-needs_sync.ensures.stays honest h n
           (subst (λ (w : Bool). GroupStays m h n c.args.node.now c.args.store.now w) w s)) heard;
       covers = λ genesis n x r every.
-          let mine = subst (λ (w : Bool). Recalls c.args.node.now c.args.store.now w genesis n) w r in
+          let mine = subst (λ (w : Bool). RemembersInGroup c.args.node.now c.args.store.now w genesis n) w r in
           c.step_to_file.ensures.covers honest genesis n x (c.in_ok-needs_sync.ensures.recalls honest genesis n mine)
           (c.make_room.ensures.covers honest genesis n x mine every);
       room = within_first 132704 (disks c.args.store.now) (disks c.make_room.new.store)

@@ -2,14 +2,14 @@ use Rattle.std.proofs.Common.{◌≡◌, ◌≤◌, true, false, List, ◌++◌,
 use Rattle.lk_types.specs.declared.entry.Entry.{Entry}
 use Rattle.lk_store_format.specs.Entries.{plain}
 use Rattle.lk_log.specs.StoreValue.{disks}
-use Rattle.lk_log.specs.Stores.{Holds, KeepsAtLeast}
+use Rattle.lk_log.specs.Stores.{HoldsEntries, KeepsAtLeast}
 use Rattle.lk_log.proofs.Room.{within_same, within_first, within_more, behind_room, refused_room}
 use Rattle.lk_node.proofs.Nodes.{few_entries, step_told}
 use Rattle.lk_state.specs.Meanings.{Meaning}
 use Rattle.lk_node_io.specs.Letters.{batch_of}
 use Rattle.lk_node_io.specs.Outboxes.{OutboxValue}
 use Rattle.lk_node.specs.NodeValue.{NodeValue}
-use Rattle.lk_replica.specs.Groups.{needs_sync_after, GroupGoes, GroupStays}
+use Rattle.lk_replica.specs.Groups.{needs_sync_after, GroupLeavesFit, GroupStays}
 use Rattle.lk_replica.proofs.Behind.{still_keeps, still_remembers, sent_is_covered, stepped_fits}
 use Rattle.lk_replica.proofs.Grouped.{gather_goes, group_leaves, group_stays, gather_recalls, gather_syncs}
 use Rattle.lk_replica.proofs.Grouped.{gather_covers, gather_still_covers, gathered_put, gathered_base, settled_rebases}
@@ -33,7 +33,8 @@ returns-clause-goes g c honest h n f heard =
     gather_goes _ h n c.args.node.now c.step.new.self c.args.store.now c.put.new.self c.args.needs_sync c.args.input
     c.in_ok-outbox.outbox f heard c.in_ok-outbox.ensures.goes_on
     (step_told _ _ c.args.node.now _ c.step.new.self c.in_ok-outbox.outbox c.in_ok-outbox.ensures.steps not_so) not_so
-    (subst (λ (es : List Entry). Holds c.put.new.self f.shown.keeps.entries (plain f.shown.keeps.loose ++ plain es)) is
+    (subst (λ (es : List Entry). HoldsEntries c.put.new.self f.shown.keeps.entries (plain f.shown.keeps.loose
+    ++ plain es)) is
     (c.in_ok-put.ensures.added honest refl f.shown.keeps.entries (plain f.shown.keeps.loose) f.shown.keeps.holds))
 
 pub returns-clause-ends : goal.returns-clause-ends
@@ -61,7 +62,7 @@ returns-clause-stays g c honest h n s heard =
     (step_told _ _ c.args.node.now _ c.step.new.self c.in_ok-outbox.outbox c.in_ok-outbox.ensures.steps not_so) not_so
     (subst (λ (es : List Entry). KeepsAtLeast c.put.new.self k.entries (plain k.loose ++ plain es)) is
     (c.put.ensures.any honest k.entries (plain k.loose) k.holds))
-    (subst (λ (es : List Entry). Holds c.put.new.self k.entries (plain k.loose ++ plain es)) is
+    (subst (λ (es : List Entry). HoldsEntries c.put.new.self k.entries (plain k.loose ++ plain es)) is
     (c.in_ok-put.ensures.added honest refl k.entries (plain k.loose) k.holds))
 
 pub returns-clause-syncs : goal.returns-clause-syncs
@@ -72,7 +73,7 @@ returns-clause-syncs g c honest genesis n x r d listed said =
     ∙ c.if-outbox.false in
     gather_syncs _ genesis n c.args.node.now c.step.new.self c.args.store.now c.put.new.self c.args.needs_sync
     _ c.in_ok-outbox.outbox r c.in_ok-outbox.ensures.goes_on not_so
-    (subst (λ (es : List Entry). Holds c.put.new.self r.keeps.entries (plain r.keeps.loose ++ plain es)) is
+    (subst (λ (es : List Entry). HoldsEntries c.put.new.self r.keeps.entries (plain r.keeps.loose ++ plain es)) is
     (c.in_ok-put.ensures.added honest refl r.keeps.entries (plain r.keeps.loose) r.keeps.holds))
     x d listed said
 
@@ -84,7 +85,7 @@ returns-clause-still g c honest genesis n x r every =
     ∙ c.if-outbox.false in
     gather_covers _ genesis n c.args.node.now c.step.new.self c.args.store.now c.put.new.self c.args.needs_sync
     _ c.in_ok-outbox.outbox r c.in_ok-outbox.ensures.goes_on not_so
-    (subst (λ (es : List Entry). Holds c.put.new.self r.keeps.entries (plain r.keeps.loose ++ plain es)) is
+    (subst (λ (es : List Entry). HoldsEntries c.put.new.self r.keeps.entries (plain r.keeps.loose ++ plain es)) is
     (c.in_ok-put.ensures.added honest refl r.keeps.entries (plain r.keeps.loose) r.keeps.holds))
     x every
 
@@ -96,7 +97,7 @@ returns-clause-recalls g c honest genesis n r =
     ∙ c.if-outbox.false in
     gather_recalls g.M.Machine.meaning genesis n c.args.node.now c.step.new.self c.args.store.now c.put.new.self
     c.args.needs_sync _ c.in_ok-outbox.outbox r c.in_ok-outbox.ensures.goes_on not_so
-    (subst (λ (es : List Entry). Holds c.put.new.self r.keeps.entries (plain r.keeps.loose ++ plain es)) is
+    (subst (λ (es : List Entry). HoldsEntries c.put.new.self r.keeps.entries (plain r.keeps.loose ++ plain es)) is
     (c.in_ok-put.ensures.added honest refl r.keeps.entries (plain r.keeps.loose) r.keeps.holds))
 
 pub returns-clause-covers : goal.returns-clause-covers
@@ -114,7 +115,7 @@ returns-then-outbox-clause-goes g c honest h n f heard sent among =
     let base = c.in_ok-write_base.ensures.becomes in
     let mid = settled_fits m h n c.args.node.now c.args.store.now c.sync_if_waiting.new.store c.args.needs_sync
     (c.in_ok-sync_if_waiting.ensures.settles honest) f in
-    subst (λ (k : NodeValue). GroupGoes m h n k c.write_base.new.store
+    subst (λ (k : NodeValue). GroupLeavesFit m h n k c.write_base.new.store
     (needs_sync_after c.args.needs_sync c.in_ok-outbox.outbox) c.in_ok-outbox.outbox.notes (batch_of n sent))
     (sym base.becomes)
     (based_goes m h n c.args.node.now c.step.new.self c.sync_if_waiting.new.store c.write_base.new.store
@@ -373,7 +374,7 @@ returns-clause-exact g c honest =
       rebases = λ yes. absurd (let both : false ≡ true = sym not_so ∙ yes in cc both);
       puts = λ no. (
         refl,
-        λ ks ls holds. subst (λ (es : List Entry). Holds c.put.new.self ks (ls ++ plain es)) is
+        λ ks ls holds. subst (λ (es : List Entry). HoldsEntries c.put.new.self ks (ls ++ plain es)) is
             (c.in_ok-put.ensures.added honest refl ks ls holds),
       );
       grows = λ no. grown_put c.args.store.now c.put.new.self c.put.ensures.file.0

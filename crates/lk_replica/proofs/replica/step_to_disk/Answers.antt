@@ -2,13 +2,13 @@ use Rattle.std.proofs.Common.{◌≡◌, true, false, List, [], ◌++◌, ◌∙
 use Rattle.lk_types.specs.declared.entry.Entry.{Entry}
 use Rattle.lk_store_format.specs.Entries.{plain}
 use Rattle.lk_log.specs.StoreValue.{disks}
-use Rattle.lk_log.specs.Stores.{Holds, KeepsAtLeast}
+use Rattle.lk_log.specs.Stores.{HoldsEntries, KeepsAtLeast}
 use Rattle.lk_log.proofs.Room.{within_same, behind_room, refused_room}
 use Rattle.lk_state.specs.Meanings.{Meaning}
 use Rattle.lk_node_io.specs.Letters.{batch_of}
 use Rattle.lk_node_io.specs.Outboxes.{OutboxValue}
-use Rattle.lk_node.specs.Calls.{Goes}
-use Rattle.lk_node.specs.Keeping.{Stands}
+use Rattle.lk_node.specs.Calls.{LeavesFit}
+use Rattle.lk_node.specs.Keeping.{ReplicaHolds}
 use Rattle.lk_node.specs.NodeValue.{NodeValue}
 use Rattle.lk_replica.proofs.Behind.{still_keeps, still_remembers, sent_is_covered, stepped_fits, installed_goes}
 use Rattle.lk_replica.proofs.Going.{put_leaves, put_goes, remembered, step_keeps, step_remembers, step_syncs}
@@ -34,11 +34,11 @@ returns-clause-goes g c honest h n f heard =
     (step_told _ _ c.args.node.now _ c.step.new.self c.in_ok-outbox.outbox c.in_ok-outbox.ensures.steps not_so)
     (step_keeps _ h.genesis n c.args.node.now c.step.new.self c.args.store.now c.put.new.self _ c.in_ok-outbox.outbox
     (remembered _ h.genesis n f.holding c.args.node.now c.args.store.now f.shown) c.in_ok-outbox.ensures.goes_on
-    (λ no'. subst (λ (es : List Entry). Holds c.put.new.self f.shown.keeps.entries
+    (λ no'. subst (λ (es : List Entry). HoldsEntries c.put.new.self f.shown.keeps.entries
     (plain f.shown.keeps.loose ++ plain es)) is
     (c.in_ok-put.ensures.added honest (ap (λ (o : OutboxValue). o.sync) c.outbox.view_is ∙ no') f.shown.keeps.entries
     (plain f.shown.keeps.loose) f.shown.keeps.holds))
-    (λ yes'. subst (λ (es : List Entry). Holds c.put.new.self
+    (λ yes'. subst (λ (es : List Entry). HoldsEntries c.put.new.self
     (f.shown.keeps.entries ++ (plain f.shown.keeps.loose ++ plain es)) []) is
     (c.in_ok-put.ensures.synced honest (ap (λ (o : OutboxValue). o.sync) c.outbox.view_is ∙ yes') f.shown.keeps.entries
     (plain f.shown.keeps.loose) f.shown.keeps.holds)))
@@ -57,10 +57,11 @@ returns-clause-syncs g c honest genesis n x shown d listed said =
     shown c.in_ok-outbox.ensures.goes_on
     (step_keeps _ genesis n c.args.node.now c.step.new.self c.args.store.now c.put.new.self _ c.in_ok-outbox.outbox
     shown c.in_ok-outbox.ensures.goes_on
-    (λ no'. subst (λ (es : List Entry). Holds c.put.new.self shown.keeps.entries (plain shown.keeps.loose ++ plain es))
+    (λ no'. subst (λ (es : List Entry). HoldsEntries c.put.new.self shown.keeps.entries (plain shown.keeps.loose
+    ++ plain es))
     is (c.in_ok-put.ensures.added honest (ap (λ (o : OutboxValue). o.sync) c.outbox.view_is ∙ no') shown.keeps.entries
     (plain shown.keeps.loose) shown.keeps.holds))
-    (λ yes'. subst (λ (es : List Entry). Holds c.put.new.self
+    (λ yes'. subst (λ (es : List Entry). HoldsEntries c.put.new.self
     (shown.keeps.entries ++ (plain shown.keeps.loose ++ plain es)) []) is
     (c.in_ok-put.ensures.synced honest (ap (λ (o : OutboxValue). o.sync) c.outbox.view_is ∙ yes') shown.keeps.entries
     (plain shown.keeps.loose) shown.keeps.holds))).keeps
@@ -81,10 +82,10 @@ returns-clause-exact g c honest =
         puts = λ no. (
           refl,
           λ ks ls holds. (
-            λ no'. subst (λ (es : List Entry). Holds c.put.new.self ks (ls ++ plain es)) is
+            λ no'. subst (λ (es : List Entry). HoldsEntries c.put.new.self ks (ls ++ plain es)) is
                 (c.in_ok-put.ensures.added honest
                 (ap (λ (o : OutboxValue). o.sync) c.outbox.view_is ∙ no') ks ls holds),
-            λ yes'. subst (λ (es : List Entry). Holds c.put.new.self (ks ++ (ls ++ plain es)) []) is
+            λ yes'. subst (λ (es : List Entry). HoldsEntries c.put.new.self (ks ++ (ls ++ plain es)) []) is
                 (c.in_ok-put.ensures.synced honest
                 (ap (λ (o : OutboxValue). o.sync) c.outbox.view_is ∙ yes') ks ls holds),
           ),
@@ -111,12 +112,12 @@ returns-clause-alive g c =
           _ c.in_ok-outbox.outbox shown c.in_ok-outbox.ensures.goes_on
           (step_keeps _ genesis n c.args.node.now c.step.new.self c.args.store.now c.put.new.self
           _ c.in_ok-outbox.outbox shown c.in_ok-outbox.ensures.goes_on
-          (λ no'. subst (λ (es : List Entry). Holds c.put.new.self shown.keeps.entries
+          (λ no'. subst (λ (es : List Entry). HoldsEntries c.put.new.self shown.keeps.entries
           (plain shown.keeps.loose ++ plain es)) is
           (c.in_ok-put.ensures.added honest
           (ap (λ (o : OutboxValue). o.sync) c.outbox.view_is ∙ no') shown.keeps.entries
           (plain shown.keeps.loose) shown.keeps.holds))
-          (λ yes'. subst (λ (es : List Entry). Holds c.put.new.self
+          (λ yes'. subst (λ (es : List Entry). HoldsEntries c.put.new.self
           (shown.keeps.entries ++ (plain shown.keeps.loose ++ plain es)) []) is
           (c.in_ok-put.ensures.synced honest
           (ap (λ (o : OutboxValue). o.sync) c.outbox.view_is ∙ yes') shown.keeps.entries
@@ -133,7 +134,7 @@ returns-then-outbox-clause-goes g c honest h n f heard sent among =
     let base = c.in_ok-write_base.ensures.becomes in
     let holds = (c.in_ok-write_base.ensures.done honest).rebases.writes f.shown.keeps.entries
     (plain f.shown.keeps.loose) f.shown.keeps.holds in
-    subst (λ (k : NodeValue). Goes m h n (Stands m k c.write_base.new.store h.genesis n)
+    subst (λ (k : NodeValue). LeavesFit m h n (ReplicaHolds m k c.write_base.new.store h.genesis n)
     (disks c.write_base.new.store) c.in_ok-outbox.outbox.notes (batch_of n sent)) (sym base.becomes)
     (installed_goes m h n c.args.node.now c.step.new.self c.args.store.now c.args.input c.in_ok-outbox.outbox f heard
     c.in_ok-outbox.ensures.goes_on is c.write_base.new.store base.begins c.write_base.ensures.near holds sent among)

@@ -14,7 +14,7 @@ returns-then-not-branch-clause-turn g c =
 pub returns-clause-turn : goal.returns-clause-turn
 returns-clause-turn g c =
     let r = g.R.ServedReplica in
-    let tells = g.S.DatagramSocket.is_telling in
+    let tells = g.S.DatagramSocket.is_observable in
     let o = c.fill_group.ensures.others in
     let t = c.in_ok-fill_group.ensures.takes (cc c.if-not-branch.false) in
     let e = c.end_group.ensures in
@@ -35,7 +35,7 @@ returns-clause-turn g c =
 pub returns-in_err-end_group-clause-ends : goal.returns-in_err-end_group-clause-ends
 returns-in_err-end_group-clause-ends g c =
     let r = g.R.ServedReplica in
-    let tells = g.S.DatagramSocket.is_telling in
+    let tells = g.S.DatagramSocket.is_observable in
     let o = c.fill_group.ensures.others in
     let t = c.in_ok-fill_group.ensures.takes (cc c.if-not-branch.false) in
     let e = c.end_group.ensures in
@@ -57,7 +57,7 @@ returns-in_err-fill_group-clause-ends g c =
     on_err c.from_residual.result (
       e.0,
       e.1.received,
-      last_within r.Says r.Gathers g.S.DatagramSocket.is_telling e.0 c.begin_group-group.result c.args.server.now
+      last_within r.Says r.Gathers g.S.DatagramSocket.is_observable e.0 c.begin_group-group.result c.args.server.now
           c.fill_group.new.self c.begin_group-group.ensures e.1
           (ap (λ (s : ServerValue _). s.sent) o) (ap (λ (s : ServerValue _). s.socket_failures) o)
           (same_by c.args.server.now c.fill_group.new.self o) c.in_err-fill_group.ensures.broken,

@@ -1,11 +1,11 @@
 use Rattle.std.proofs.Common.{rules, refl, inl, inr, sym, subst, subst₂}
 use Rattle.lk_agreement.specs.Worlds.{IsClientRequest}
 use Rattle.lk_sim.specs.Refusals.{HasRoom, IsFull}
-use Rattle.lk_world_nodes.specs.Seats.{IsSeatOf}
+use Rattle.lk_sim_nodes.specs.Seats.{IsSeatOf}
 use Rattle.lk_sim.specs.Events.{IsRefused}
-use Rattle.lk_sim.specs.Worlds.{Holds, scene_of}
+use Rattle.lk_sim.specs.Worlds.{WorldInvariant, scene_of}
 use Rattle.lk_sim.specs.declared.event.Event.TheVariants as event
-use Rattle.lk_world_nodes.specs.declared.refused.Refused.TheVariants.{WorldMemory}
+use Rattle.lk_sim_nodes.specs.declared.refused.Refused.TheVariants.{WorldMemory}
 use Rattle.lk_sim.proofs.Asking.{asked_holds}
 use Rattle.lk_sim.proofs.client.client.Goals as goal
 use Rattle.lk_replica.specs.Behaviours.{disks_by}
@@ -23,11 +23,11 @@ returns-clause-holds g c =
       from = a.from;
       spelled = a.spelled;
     } in
-    subst (λ z. Holds g.R.MemoryReplica.Shows
+    subst (λ z. WorldInvariant g.R.MemoryReplica.Shows
     (disks_by g.R.MemoryReplica.behaves) g.R.MemoryReplica.meaning z q.seats q.sent q.trace) (sym a.adds.genesis)
-    (subst (λ z. Holds g.R.MemoryReplica.Shows
+    (subst (λ z. WorldInvariant g.R.MemoryReplica.Shows
     (disks_by g.R.MemoryReplica.behaves) g.R.MemoryReplica.meaning p.genesis z q.sent q.trace) (sym a.seats)
-    (subst₂ (λ l k. Holds g.R.MemoryReplica.Shows
+    (subst₂ (λ l k. WorldInvariant g.R.MemoryReplica.Shows
     (disks_by g.R.MemoryReplica.behaves) g.R.MemoryReplica.meaning p.genesis p.seats.items l k)
     (sym a.adds.sent) (sym a.adds.trace)
     (asked_holds _ _ _ p.genesis p.seats.items p.sent.items p.trace.items c.requires

@@ -1,8 +1,8 @@
 use Rattle.std.proofs.Common.{◌≡◌, rules, None, sym}
-use Rattle.lk_world_nodes.specs.Ends.{FailsToCompact}
+use Rattle.lk_sim_nodes.specs.Ends.{FailsToCompact}
 use Rattle.lk_sim.specs.Events.{LeftByCompacting}
-use Rattle.lk_world_nodes.specs.Seats.{At}
-use Rattle.lk_world_nodes.specs.declared.seat.Life.TheVariants.{Up}
+use Rattle.lk_sim_nodes.specs.Seats.{At}
+use Rattle.lk_sim_nodes.specs.declared.seat.Life.TheVariants.{Up}
 use Rattle.lk_sim.specs.Worlds.{scene_of}
 use Rattle.lk_sim.proofs.Explaining.{lawful}
 use Rattle.lk_sim.proofs.Doing.{at_same, compacted, packed_cases, packed_none, wanted, since, halted_holds}

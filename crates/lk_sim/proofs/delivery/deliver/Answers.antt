@@ -3,10 +3,10 @@ use Rattle.lk_agreement.specs.Datagrams.{Datagram}
 use Rattle.lk_agreement.specs.declared.party.Party.TheVariants as party
 use Rattle.lk_sim.specs.Events.{IsGiven, IsHalted, IsRefused, LeftBy}
 use Rattle.lk_sim.specs.Refusals.{HasRoom, datagram_at}
-use Rattle.lk_world_nodes.specs.Seats.{IsUpAt}
+use Rattle.lk_sim_nodes.specs.Seats.{IsUpAt}
 use Rattle.lk_sim.specs.Worlds.{scene_of}
 use Rattle.lk_sim.specs.declared.event.Event.TheVariants as event
-use Rattle.lk_world_nodes.specs.declared.refused.Refused.TheVariants.{WorldMemory}
+use Rattle.lk_sim_nodes.specs.declared.refused.Refused.TheVariants.{WorldMemory}
 use Rattle.lk_sim.proofs.Hearing.{heard_delivered, one_datagram}
 use Rattle.lk_sim.proofs.delivery.deliver.Goals as goal
 

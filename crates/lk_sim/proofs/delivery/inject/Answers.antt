@@ -4,10 +4,10 @@ use Rattle.lk_node_io.specs.declared.note.Note.{Note}
 use Rattle.lk_sim.specs.Heard.{Asks}
 use Rattle.lk_sim.specs.Refusals.{HasRoom}
 use Rattle.lk_sim.specs.Scenes.{Scene}
-use Rattle.lk_world_nodes.specs.Seats.{IsUpAt}
+use Rattle.lk_sim_nodes.specs.Seats.{IsUpAt}
 use Rattle.lk_sim.specs.Traces.{asked_note}
 use Rattle.lk_sim.specs.Worlds.{scene_of}
-use Rattle.lk_world_nodes.specs.declared.refused.Refused.TheVariants.{WorldMemory}
+use Rattle.lk_sim_nodes.specs.declared.refused.Refused.TheVariants.{WorldMemory}
 use Rattle.lk_sim.proofs.Hearing.{heard_asked, asked_unforged}
 use Rattle.lk_sim.proofs.Running.{err_as}
 use Rattle.lk_sim.proofs.delivery.inject.Goals as goal

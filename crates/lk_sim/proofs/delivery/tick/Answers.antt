@@ -1,10 +1,10 @@
 use Rattle.std.proofs.Common.{rules, refl, inr}
 use Rattle.lk_sim.specs.Events.{IsRefused}
 use Rattle.lk_sim.specs.Refusals.{HasRoom}
-use Rattle.lk_world_nodes.specs.Seats.{IsUpAt}
+use Rattle.lk_sim_nodes.specs.Seats.{IsUpAt}
 use Rattle.lk_sim.specs.Worlds.{scene_of}
 use Rattle.lk_sim.specs.declared.event.Event.TheVariants as event
-use Rattle.lk_world_nodes.specs.declared.refused.Refused.TheVariants.{WorldMemory}
+use Rattle.lk_sim_nodes.specs.declared.refused.Refused.TheVariants.{WorldMemory}
 use Rattle.lk_sim.proofs.delivery.tick.Goals as goal
 
 pub returns-in_err-give-clause-err : goal.returns-in_err-give-clause-err

@@ -1,9 +1,9 @@
 use Rattle.std.proofs.Common.{◌≡◌, rules, None, Err, refl, sym, subst}
 use Rattle.lk_node.specs.Leavings.{header_of}
-use Rattle.lk_world_nodes.specs.Ends.{StaysDown}
+use Rattle.lk_sim_nodes.specs.Ends.{StaysDown}
 use Rattle.lk_sim.specs.Events.{LeftByRevival}
-use Rattle.lk_world_nodes.specs.Seats.{At}
-use Rattle.lk_world_nodes.specs.declared.seat.Life.TheVariants.{Down}
+use Rattle.lk_sim_nodes.specs.Seats.{At}
+use Rattle.lk_sim_nodes.specs.declared.seat.Life.TheVariants.{Down}
 use Rattle.lk_sim.specs.Worlds.{scene_of}
 use Rattle.lk_sim.proofs.Explaining.{lawful}
 use Rattle.lk_sim.proofs.Doing.{StopsOn, at_same, back, revived_cases, revived_left, wanted, since, halted_holds}

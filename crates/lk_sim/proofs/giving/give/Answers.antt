@@ -1,9 +1,9 @@
 use Rattle.std.proofs.Common.{◌≡◌, rules, sym, Err}
 use Rattle.lk_node.specs.Calls.{heard_by}
-use Rattle.lk_world_nodes.specs.Ends.{Breaks}
+use Rattle.lk_sim_nodes.specs.Ends.{Breaks}
 use Rattle.lk_sim.specs.Events.{LeftBy}
-use Rattle.lk_world_nodes.specs.Seats.{At}
-use Rattle.lk_world_nodes.specs.declared.seat.Life.TheVariants.{Up}
+use Rattle.lk_sim_nodes.specs.Seats.{At}
+use Rattle.lk_sim_nodes.specs.declared.seat.Life.TheVariants.{Up}
 use Rattle.lk_sim.specs.Worlds.{scene_of}
 use Rattle.lk_sim.proofs.Explaining.{lawful}
 use Rattle.lk_sim.proofs.Doing.{at_same, given, taken_cases, taken_left, wanted, since, halted_holds, settled_holds}

@@ -2,13 +2,13 @@ use Rattle.std.proofs.Common.{◌≡◌, rules, sym, subst, Err, None, [], map}
 use Rattle.lk_simulated_disk.specs.Memory.{disk_of}
 use Rattle.lk_node.specs.Calls.{heard_by}
 use Rattle.lk_node.specs.Leavings.{DisksFit}
-use Rattle.lk_world_nodes.specs.Ends.{BreaksTogether}
+use Rattle.lk_sim_nodes.specs.Ends.{BreaksTogether}
 use Rattle.lk_sim.specs.Events.{LeftByGroup}
-use Rattle.lk_world_nodes.specs.Rooms.{AreShort}
-use Rattle.lk_world_nodes.specs.Seats.{At, device_in}
+use Rattle.lk_sim_nodes.specs.Rooms.{AreShort}
+use Rattle.lk_sim_nodes.specs.Seats.{At, device_in}
 use Rattle.lk_sim.specs.Traces.{happened}
-use Rattle.lk_world_nodes.specs.declared.seat.Life.{Life}
-use Rattle.lk_world_nodes.specs.declared.seat.Life.TheVariants.{Up}
+use Rattle.lk_sim_nodes.specs.declared.seat.Life.{Life}
+use Rattle.lk_sim_nodes.specs.declared.seat.Life.TheVariants.{Up}
 use Rattle.lk_sim.specs.Worlds.{scene_of}
 use Rattle.lk_sim.proofs.Explaining.{lawful}
 use Rattle.lk_sim.proofs.Doing.{at_same, wanted, given_up}

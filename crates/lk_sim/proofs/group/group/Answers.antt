@@ -4,9 +4,9 @@ use Rattle.lk_node.specs.Histories.{Datagram}
 use Rattle.lk_sim.specs.Events.{IsGivenTogether, IsHalted, IsNotGrouped, LeftByGroup}
 use Rattle.lk_sim.specs.Groups.{copied, given_by}
 use Rattle.lk_sim.specs.Refusals.{AreFor, HasRoom}
-use Rattle.lk_world_nodes.specs.Seats.{IsUpAt}
+use Rattle.lk_sim_nodes.specs.Seats.{IsUpAt}
 use Rattle.lk_sim.specs.Worlds.{scene_of}
-use Rattle.lk_world_nodes.specs.declared.refused.Refused.TheVariants.{WorldMemory}
+use Rattle.lk_sim_nodes.specs.declared.refused.Refused.TheVariants.{WorldMemory}
 use Rattle.lk_sim.proofs.GivenTogether.{were_brought}
 use Rattle.lk_sim.proofs.Running.{err_as}
 use Rattle.lk_sim.proofs.group.group.Goals as goal

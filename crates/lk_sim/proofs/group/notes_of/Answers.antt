@@ -6,7 +6,7 @@ use Rattle.lk_node.specs.Histories.{Datagram}
 use Rattle.lk_replica.specs.Together.{parts_of}
 use Rattle.lk_replica.specs.declared.taken.Step.{Step}
 use Rattle.lk_sim.specs.Groups.{AreNotesOf}
-use Rattle.lk_world_nodes.specs.Told.{Tells}
+use Rattle.lk_sim_nodes.specs.Told.{Tells}
 use Rattle.lk_sim.proofs.GivenTogether.{take_min, drop_min}
 use Rattle.lk_sim.proofs.group.notes_of.Goals as goal
 

@@ -1,5 +1,5 @@
 use Rattle.std.proofs.Common.{rules, ◌≡◌, refl, sym, append-nil}
-use Rattle.lk_world_nodes.specs.Seats.{At, IsSeatOf}
+use Rattle.lk_sim_nodes.specs.Seats.{At, IsSeatOf}
 use Rattle.lk_sim.proofs.Doing.{at_same}
 use Rattle.lk_sim.proofs.Given.{went_down}
 use Rattle.lk_sim.proofs.lives.arm.Goals as goal

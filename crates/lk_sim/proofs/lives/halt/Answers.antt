@@ -1,7 +1,7 @@
 use Rattle.std.proofs.Common.{rules, ◌≡◌, ◌∙◌, refl, ap, sym, append-nil}
-use Rattle.lk_world_nodes.specs.Seats.{At, IsUpAt, stopped_on, device_in}
-use Rattle.lk_world_nodes.specs.declared.seat.Life.{Life}
-use Rattle.lk_world_nodes.specs.declared.seat.Life.TheVariants.{Up, Down}
+use Rattle.lk_sim_nodes.specs.Seats.{At, IsUpAt, stopped_on, device_in}
+use Rattle.lk_sim_nodes.specs.declared.seat.Life.{Life}
+use Rattle.lk_sim_nodes.specs.declared.seat.Life.TheVariants.{Up, Down}
 use Rattle.lk_sim.proofs.Doing.{at_same}
 use Rattle.lk_sim.proofs.Given.{went_down}
 use Rattle.lk_sim.proofs.lives.halt.Goals as goal

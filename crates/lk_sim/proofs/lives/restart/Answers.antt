@@ -1,9 +1,9 @@
 use Rattle.std.proofs.Common.{rules, refl, inr}
 use Rattle.lk_sim.specs.Events.{IsRefused}
-use Rattle.lk_world_nodes.specs.Seats.{IsDownAt}
+use Rattle.lk_sim_nodes.specs.Seats.{IsDownAt}
 use Rattle.lk_sim.specs.Worlds.{scene_of}
 use Rattle.lk_sim.specs.declared.event.Event.TheVariants as event
-use Rattle.lk_world_nodes.specs.declared.refused.Refused.TheVariants.{WorldMemory}
+use Rattle.lk_sim_nodes.specs.declared.refused.Refused.TheVariants.{WorldMemory}
 use Rattle.lk_sim.proofs.lives.restart.Goals as goal
 
 pub come_up-requires-clause-down : goal.come_up-requires-clause-down

@@ -1,6 +1,6 @@
 use Rattle.std.proofs.lemmas.Grind.{common_steps}
 use Rattle.std.proofs.Common.{rules, refl, inl, arith}
-use Rattle.lk_world_nodes.specs.Seats.{IsSeatOf}
+use Rattle.lk_sim_nodes.specs.Seats.{IsSeatOf}
 use Rattle.lk_sim.proofs.lives.start.Goals as goal
 
 pub returns-in-Some-clause-err : goal.returns-in-Some-clause-err

@@ -1,8 +1,8 @@
 -- Reading goes on where it stopped.
 use Rattle.std.proofs.Common.{ap, ◌∙◌, length-append, ◌+◌}
-use Rattle.lk_fields.specs.Parser.{many}
-use Rattle.lk_fields.specs.FieldReading.{read_members}
-use Rattle.lk_fields.proofs.Spellings.{goes_on}
+use Rattle.lk_codec.specs.Parser.{many}
+use Rattle.lk_codec.specs.FieldReading.{read_members}
+use Rattle.lk_codec.proofs.Spellings.{goes_on}
 use Rattle.lk_state.proofs.unpacking.many_sets.Goals as goal
 
 pub loop-preserved : goal.loop-preserved

@@ -1,8 +1,8 @@
 -- What is read already, and what is still to be read, are what all is.
 use Rattle.std.proofs.Common.{◌≡◌, ◌-◌, length}
-use Rattle.lk_fields.specs.Parser.{many}
-use Rattle.lk_fields.specs.FieldReading.{read_members}
-use Rattle.lk_fields.proofs.Spellings.{with_front}
+use Rattle.lk_codec.specs.Parser.{many}
+use Rattle.lk_codec.specs.FieldReading.{read_members}
+use Rattle.lk_codec.proofs.Spellings.{with_front}
 use Rattle.lk_state.proofs.unpacking.many_sets.Given as goal
 
 abbrev pub invariant-loop : goal.invariant-loop

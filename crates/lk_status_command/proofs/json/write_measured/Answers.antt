@@ -1,7 +1,7 @@
 use Rattle.std.proofs.Common.{ℕ, List, length, subst}
 use Rattle.std.specs.Io.KnownBytes.{Appends}
 use Rattle.lk_types.specs.declared.member.Member.{Member}
-use Rattle.lk_probe_round.specs.Verdicts.{count_reporting}
+use Rattle.lk_status.specs.Verdicts.{count_reporting}
 use Rattle.lk_status_command.specs.Json.{counts_part}
 use Rattle.lk_status_command.proofs.json.write_measured.Goals as goal
 

@@ -1,5 +1,5 @@
 use Rattle.std.proofs.Common.{◌∷◌, ℕ, drop}
-use Rattle.lk_probe_round.specs.declared.target.Target.{Target}
+use Rattle.lk_status.specs.declared.target.Target.{Target}
 use Rattle.lk_status_command.specs.Json.{object_of, more_objects}
 use Rattle.lk_status_command.proofs.Writing.{SoFar}
 use Rattle.lk_status_command.proofs.json.write_more_targets.Given as goal

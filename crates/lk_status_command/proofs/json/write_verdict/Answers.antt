@@ -1,6 +1,6 @@
 use Rattle.std.proofs.Common.{Bool, subst}
 use Rattle.std.specs.Io.KnownBytes.{Appends}
-use Rattle.lk_probe_round.specs.Verdicts.{is_served}
+use Rattle.lk_status.specs.Verdicts.{is_served}
 use Rattle.lk_status_command.specs.Json.{head_part}
 use Rattle.lk_status_command.proofs.json.write_verdict.Goals as goal
 

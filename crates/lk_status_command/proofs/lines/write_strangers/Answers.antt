@@ -2,7 +2,7 @@ use Rattle.std.proofs.Common.{◌≡◌, ◌∙◌, ◌∷◌, ◌++◌, [], fal
 use Rattle.std.proofs.lemmas.List.{take_more, take_all}
 use Rattle.std.specs.Prelude.{codes}
 use Rattle.lk_probe.specs.declared.probe.Report.{Report}
-use Rattle.lk_probe_round.specs.Verdicts.{one_genesis}
+use Rattle.lk_status.specs.Verdicts.{one_genesis}
 use Rattle.lk_status_command.specs.Lines.{stranger_word}
 use Rattle.lk_status_command.proofs.Writing.{writes_more, strangers_as}
 use Rattle.lk_status_command.proofs.lines.write_strangers.Goals as goal

@@ -1,8 +1,8 @@
 use Rattle.std.proofs.Common.{rules, ◌≡◌, ◌∙◌, ◌∷◌, ◌++◌, ◌+◌, ◌%◌, ◌^◌, ℕ, List, drop, suc, sym, ap, append_assoc}
 use Rattle.std.proofs.Common.{drop-cons, arith}
 use Rattle.std.specs.Io.KnownBytes.{Appends}
-use Rattle.lk_probe_round.specs.Rounds.{report_of}
-use Rattle.lk_probe_round.specs.declared.target.Target.{Target}
+use Rattle.lk_status.specs.Rounds.{report_of}
+use Rattle.lk_status.specs.declared.target.Target.{Target}
 use Rattle.lk_status_command.specs.Lines.{target_line, target_lines}
 use Rattle.lk_status_command.proofs.Writing.{appends_more}
 use Rattle.lk_status_command.proofs.lines.write_targets.Goals as goal

@@ -1,7 +1,7 @@
 use Rattle.std.proofs.Common.{Bool, [], ℕ, refl, subst}
 use Rattle.std.specs.Io.KnownBytes.{Appends}
-use Rattle.lk_probe_round.specs.Rounds.{has_token}
-use Rattle.lk_probe_round.specs.declared.target.Target.{Target}
+use Rattle.lk_status.specs.Rounds.{has_token}
+use Rattle.lk_status.specs.declared.target.Target.{Target}
 use Rattle.lk_status_command.specs.Metrics.{up_line}
 use Rattle.lk_status_command.proofs.Writing.{appends_nothing, next_target, targets_more, targets_done}
 use Rattle.lk_status_command.proofs.prometheus.write_up_lines.Goals as goal

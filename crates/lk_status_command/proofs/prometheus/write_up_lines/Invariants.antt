@@ -1,6 +1,6 @@
 use Rattle.std.proofs.Common.{ℕ, drop}
-use Rattle.lk_probe_round.specs.Rounds.{has_token}
-use Rattle.lk_probe_round.specs.declared.target.Target.{Target}
+use Rattle.lk_status.specs.Rounds.{has_token}
+use Rattle.lk_status.specs.declared.target.Target.{Target}
 use Rattle.lk_status_command.specs.Metrics.{up_line, up_lines}
 use Rattle.lk_status_command.proofs.Writing.{SoFar}
 use Rattle.lk_status_command.proofs.prometheus.write_up_lines.Given as goal

@@ -1,6 +1,6 @@
-use Rattle.lk_fields.specs.FieldReading.{read_pair}
-use Rattle.lk_fields.specs.Parser.{many}
-use Rattle.lk_fields.proofs.Spellings.{goes_on, ends}
+use Rattle.lk_codec.specs.FieldReading.{read_pair}
+use Rattle.lk_codec.specs.Parser.{many}
+use Rattle.lk_codec.proofs.Spellings.{goes_on, ends}
 use Rattle.lk_store_format.proofs.reading.many_pairs.Goals as goal
 
 pub returns-in_default : goal.returns-in_default

@@ -1,7 +1,7 @@
 use Rattle.std.proofs.Common.{◌≡◌, ◌-◌}
-use Rattle.lk_fields.specs.FieldReading.{read_vote}
-use Rattle.lk_fields.specs.Parser.{many}
-use Rattle.lk_fields.proofs.Spellings.{with_front}
+use Rattle.lk_codec.specs.FieldReading.{read_vote}
+use Rattle.lk_codec.specs.Parser.{many}
+use Rattle.lk_codec.proofs.Spellings.{with_front}
 use Rattle.lk_store_format.proofs.reading.many_votes.Given as goal
 
 abbrev pub invariant-loop : goal.invariant-loop

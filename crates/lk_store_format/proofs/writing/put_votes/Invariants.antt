@@ -1,6 +1,6 @@
 use Rattle.std.proofs.Common.{◌≡◌, ◌++◌, length, take}
 use Rattle.std.specs.List.{flat_map}
-use Rattle.lk_fields.specs.Fields.{two, vote}
+use Rattle.lk_codec.specs.Fields.{two, vote}
 use Rattle.lk_store_format.proofs.writing.put_votes.Given as goal
 
 abbrev pub invariant-loop-vote : goal.invariant-loop-vote

@@ -1,6 +1,6 @@
 use Rattle.std.proofs.Common.{◌∙◌, sym, arith}
 use Rattle.lk_wire.specs.Shown.{shown}
-use Rattle.lk_fields.proofs.Spellings.{some_is}
+use Rattle.lk_codec.proofs.Spellings.{some_is}
 use Rattle.lk_messages.proofs.Spellings.{again, is_found}
 use Rattle.lk_wire.proofs.PlaceLaws.{lie_at_their_places}
 use Rattle.lk_wire.proofs.viewing.view.Goals as goal

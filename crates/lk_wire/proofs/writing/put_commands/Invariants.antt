@@ -1,7 +1,7 @@
 use Rattle.std.proofs.Common.{◌≡◌, ◌≤◌, ◌+◌, ◌*◌, ◌++◌, ◌∷◌, length, take}
 use Rattle.std.specs.List.{flat_map}
-use Rattle.lk_fields.specs.Fields.{command}
-use Rattle.lk_fields.specs.Rooms.{command_room}
+use Rattle.lk_codec.specs.Fields.{command}
+use Rattle.lk_codec.specs.Rooms.{command_room}
 use Rattle.lk_wire.proofs.writing.put_commands.Given as goal
 
 -- the count stands there, and the commands so far

@@ -1,7 +1,7 @@
 use Rattle.std.proofs.Common.{◌≡◌, ◌≤◌, ◌+◌, ◌*◌, ◌++◌, ◌∷◌, length, take}
 use Rattle.std.specs.List.{flat_map}
-use Rattle.lk_fields.specs.Fields.{vote}
-use Rattle.lk_fields.specs.Rooms.{vote_room}
+use Rattle.lk_codec.specs.Fields.{vote}
+use Rattle.lk_codec.specs.Rooms.{vote_room}
 use Rattle.lk_wire.proofs.writing.put_votes.Given as goal
 
 -- the count stands there, and the votes so far

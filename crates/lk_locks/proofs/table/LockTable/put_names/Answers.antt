@@ -2,8 +2,8 @@ use Rattle.std.proofs.Common.{◌≡◌, ◌++◌, ap, sym, refl, List, ℕ, ◌
 use Rattle.std.specs.List.{flat_map}
 use Rattle.std.specs.Cmp.Lexicographic.{nat_list_cmp_total}
 use Rattle.std.specs.FinMap as map
-use Rattle.lk_fields.specs.Fields.{two}
-use Rattle.lk_fields.proofs.Spellings.{keeps_same, keeps_behind}
+use Rattle.lk_codec.specs.Fields.{two}
+use Rattle.lk_codec.proofs.Spellings.{keeps_same, keeps_behind}
 use Rattle.lk_locks.specs.Packed.{entry}
 use Rattle.lk_locks.specs.Plain.{Table}
 use Rattle.lk_locks.proofs.Maps.{entries_are}

@@ -1,7 +1,7 @@
 use Rattle.std.proofs.Common.{◌≡◌, ◌≤◌, ◌+◌, false, [], ◌∷◌, length, refl, sym, ◌∙◌, ap, subst, arith}
 use Rattle.lk_store_format.specs.Values.{BaseValue}
 use Rattle.lk_store_format.specs.declared.stored.Stored.TheVariants.{Base}
-use Rattle.lk_log.specs.Stores.{Holds, next_base, KeepsOrIs}
+use Rattle.lk_log.specs.Stores.{HoldsEntries, next_base, KeepsOrIs}
 use Rattle.lk_log.specs.StoreValue.{StoreValue, pick, disks}
 use Rattle.lk_disk.specs.Disk.{other, contents}
 use Rattle.lk_disk.specs.declared.device.Side.{Side}
@@ -32,14 +32,14 @@ spelled_parts-requires g c =
 
 pub returns-in_err-bytes-clause-any : goal.returns-in_err-bytes-clause-any
 returns-in_err-bytes-clause-any g c honest ks ls holds =
-    let mine = subst (λ (s : StoreValue). Holds s ks ls) (sym c.self.view_is) holds in
+    let mine = subst (λ (s : StoreValue). HoldsEntries s ks ls) (sym c.self.view_is) holds in
     keeps_still c.self.inside.live (g.D.LogDisk.disk c.self.inside.device c.self.inside.live)
     (g.D.LogDisk.disk c.self.inside.device (other c.self.inside.live)) ks ls
     (next_base c.args.self.now c.args.standing.now) mine.on
 
 pub returns-in_err-switch_files-clause-any : goal.returns-in_err-switch_files-clause-any
 returns-in_err-switch_files-clause-any g c honest ks ls holds =
-    let mine = subst (λ (s : StoreValue). Holds s ks ls) (sym c.self.view_is) holds in
+    let mine = subst (λ (s : StoreValue). HoldsEntries s ks ls) (sym c.self.view_is) holds in
     let new = g.D.LogDisk.disk c.switch_files.new.device in
     let b : BaseValue = record {
       generation = c.self.inside.generation + 1;
@@ -71,7 +71,7 @@ returns-clause-base g c honest ks ls holds =
     c.facts-2.ensures.position c.facts-2.ensures.votes c.facts-2.ensures.pairs c.requires in
     let is : b ≡ next_base c.args.self.now c.args.standing.now =
     ap (λ (s : StoreValue). next_base s c.args.standing.now) c.self.view_is in
-    subst (λ (x : BaseValue). Holds (record {
+    subst (λ (x : BaseValue). HoldsEntries (record {
       live_disk = new c.other-self-inside.result;
       other_disk = new (other c.other-self-inside.result);
       failures = g.D.LogDisk.failures c.switch_files.new.device;
@@ -92,7 +92,7 @@ returns-clause-base g c honest ks ls holds =
 
 pub returns-clause-any : goal.returns-clause-any
 returns-clause-any g c honest ks ls holds =
-    let mine = subst (λ (s : StoreValue). Holds s ks ls) (sym c.self.view_is) holds in
+    let mine = subst (λ (s : StoreValue). HoldsEntries s ks ls) (sym c.self.view_is) holds in
     let new = g.D.LogDisk.disk c.switch_files.new.device in
     let b : BaseValue = record {
       generation = c.self.inside.generation + 1;

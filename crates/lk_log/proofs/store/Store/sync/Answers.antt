@@ -6,7 +6,7 @@ use Rattle.lk_store_format.specs.Bases.{generation}
 use Rattle.lk_store_format.proofs.Mixed.{format-append}
 use Rattle.lk_log.specs.Causes.{IsMetered}
 use Rattle.lk_log.specs.StoreValue.{StoreValue}
-use Rattle.lk_log.specs.Stores.{Holds}
+use Rattle.lk_log.specs.Stores.{HoldsEntries}
 use Rattle.lk_log.specs.declared.fault.StoreFault.TheVariants.{Device}
 use Rattle.lk_disk.specs.Meters.{Passes}
 use Rattle.lk_log.proofs.ImageLaws.{generation-append}
@@ -23,7 +23,7 @@ returns-then-self-clause-metered g c metered = (0, start)
 
 pub returns-in_err-sync-clause-any : goal.returns-in_err-sync-clause-any
 returns-in_err-sync-clause-any g c honest ks ls holds =
-    let mine = subst (λ (s : StoreValue). Holds s ks ls) (sym c.self.view_is) holds in
+    let mine = subst (λ (s : StoreValue). HoldsEntries s ks ls) (sym c.self.view_is) holds in
     let old = g.D.LogDisk.disk c.self.inside.device in
     let new = g.D.LogDisk.disk c.sync.new.self in
     let live = c.self.inside.live in
@@ -40,7 +40,7 @@ returns-in_err-sync-clause-metered g c metered =
 
 pub returns-clause-synced : goal.returns-clause-synced
 returns-clause-synced g c honest ks ls holds =
-    let mine = subst (λ (s : StoreValue). Holds s ks ls) (sym c.self.view_is) holds in
+    let mine = subst (λ (s : StoreValue). HoldsEntries s ks ls) (sym c.self.view_is) holds in
     let old = g.D.LogDisk.disk c.self.inside.device in
     let new = g.D.LogDisk.disk c.sync.new.self in
     let live = c.self.inside.live in
@@ -55,7 +55,7 @@ returns-clause-synced g c honest ks ls holds =
 
 pub returns-clause-any : goal.returns-clause-any
 returns-clause-any g c honest ks ls holds =
-    let mine = subst (λ (s : StoreValue). Holds s ks ls) (sym c.self.view_is) holds in
+    let mine = subst (λ (s : StoreValue). HoldsEntries s ks ls) (sym c.self.view_is) holds in
     let old = g.D.LogDisk.disk c.self.inside.device in
     let new = g.D.LogDisk.disk c.sync.new.self in
     let live = c.self.inside.live in

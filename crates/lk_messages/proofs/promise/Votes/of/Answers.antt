@@ -1,7 +1,7 @@
 use Rattle.std.proofs.Common.{◌∙◌, [], List, length, ap, sym, arith}
 use Rattle.lk_types.specs.declared.vote.Vote.{Vote}
-use Rattle.lk_fields.specs.FieldReading.{read_vote}
-use Rattle.lk_fields.specs.Parser.{many}
+use Rattle.lk_codec.specs.FieldReading.{read_vote}
+use Rattle.lk_codec.specs.Parser.{many}
 use Rattle.lk_types.specs.Votes.{are_votes_above}
 use Rattle.lk_messages.proofs.Walks.{cut, unmade, votes_read}
 use Rattle.lk_messages.proofs.promise.Votes.of.Goals as goal

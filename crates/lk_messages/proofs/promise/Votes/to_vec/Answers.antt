@@ -1,8 +1,8 @@
 use Rattle.std.proofs.Common.{◌∙◌, ◌+◌, ◌-◌, [], List, Some, ap}
 use Rattle.lk_types.specs.declared.vote.Vote.{Vote}
-use Rattle.lk_fields.specs.FieldReading.{read_vote}
-use Rattle.lk_fields.specs.Parser.{many}
-use Rattle.lk_fields.proofs.Spellings.{goes_on, with_front}
+use Rattle.lk_codec.specs.FieldReading.{read_vote}
+use Rattle.lk_codec.specs.Parser.{many}
+use Rattle.lk_codec.proofs.Spellings.{goes_on, with_front}
 use Rattle.lk_messages.proofs.promise.Votes.to_vec.Goals as goal
 
 pub loop-preserved : goal.loop-preserved

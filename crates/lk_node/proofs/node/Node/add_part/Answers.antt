@@ -1,7 +1,7 @@
 use Rattle.std.proofs.Common.{◌∙◌, refl, sym, subst}
 use Rattle.lk_learner.specs.Installing.{Installs}
 use Rattle.lk_learner.specs.Learners.{LearnerValue}
-use Rattle.lk_node.specs.Installing.{Gathers}
+use Rattle.lk_node.specs.Installing.{GathersPart}
 use Rattle.lk_node.specs.Learning.{with_learner}
 use Rattle.lk_node.specs.Nearness.{AreNear}
 use Rattle.lk_node.specs.NodeValue.{NodeValue}
@@ -37,7 +37,7 @@ returns g c =
       known = c.self.inside.known;
       halted = c.self.inside.halted;
     } in
-    subst (λ (k : NodeValue). Gathers g.M.Machine.IsText c.in_ok-went.went c.args.part.now k
+    subst (λ (k : NodeValue). GathersPart g.M.Machine.IsText c.in_ok-went.went c.args.part.now k
     (with_learner was c.install.new.self)) c.self.view_is (
       c.install.new.self,
       subst (λ (l : LearnerValue). Installs g.M.Machine.IsText c.in_ok-went.went l c.install.new.self)

@@ -5,8 +5,8 @@ use Rattle.lk_replica.specs.ReplicaValue.{device_of}
 use Rattle.lk_simulated_disk.specs.Memory.{disk_of}
 use Rattle.lk_learner.specs.Learners.{executed}
 use Rattle.lk_state.specs.Meanings.{Meaning}
-use Rattle.lk_node.specs.Calls.{NodeFits, Goes}
-use Rattle.lk_node.specs.Keeping.{Stands}
+use Rattle.lk_node.specs.Calls.{NodeFits, LeavesFit}
+use Rattle.lk_node.specs.Keeping.{ReplicaHolds}
 use Rattle.lk_node.specs.Leavings.{DisksFit, AllCover}
 use Rattle.lk_recovery.specs.Compacting.{AllStandAt}
 use Rattle.lk_replica.proofs.Compactions.{compacted, refused, told, calls_ok, calls_err}
@@ -24,9 +24,9 @@ returns-clause-goes g c h n fits =
     let m : Meaning = g.M.Machine.meaning in
     let own = c.args.self.now in
     on_ok _ _ c.compact.result
-    (λ done. on_device (λ d. Goes m h n
-    (Stands m c.compact.new.self.node c.compact.new.self.store h.genesis n) d [] []) c.compact.new.self.store
-    (done.goes h n (off_device (λ d. NodeFits m h n (Stands m own.node own.store h.genesis n) d) own.store fits)))
+    (λ done. on_device (λ d. LeavesFit m h n
+    (ReplicaHolds m c.compact.new.self.node c.compact.new.self.store h.genesis n) d [] []) c.compact.new.self.store
+    (done.goes h n (off_device (λ d. NodeFits m h n (ReplicaHolds m own.node own.store h.genesis n) d) own.store fits)))
     (c.compact.ensures.done tt)
 
 pub returns-clause-ends : goal.returns-clause-ends
@@ -35,7 +35,7 @@ returns-clause-ends g c h n fits =
     let own = c.args.self.now in
     on_device (DisksFit m h n) c.compact.new.self.store
     ((c.compact.ensures.disks tt).ends h n
-    (off_device (λ d. NodeFits m h n (Stands m own.node own.store h.genesis n) d) own.store fits) tt)
+    (off_device (λ d. NodeFits m h n (ReplicaHolds m own.node own.store h.genesis n) d) own.store fits) tt)
 
 pub returns-clause-covers : goal.returns-clause-covers
 returns-clause-covers g c genesis n held x shown every =

@@ -9,8 +9,8 @@ use Rattle.lk_disk.specs.Meters.{Passes}
 use Rattle.lk_disk.specs.declared.device.Side.{Side}
 use Rattle.lk_disk.specs.declared.meter.Meter.{Meter}
 use Rattle.lk_state.specs.Meanings.{Meaning}
-use Rattle.lk_node.specs.Calls.{Goes}
-use Rattle.lk_node.specs.Keeping.{Stands}
+use Rattle.lk_node.specs.Calls.{LeavesFit}
+use Rattle.lk_node.specs.Keeping.{ReplicaHolds}
 use Rattle.lk_node.specs.Leavings.{AllCover}
 use Rattle.lk_node_io.specs.Faults.{fault_number, failures_by, RefusedAfter}
 use Rattle.lk_recovery.specs.Revivals.{IsRefusedFor, CallsOfRevival}
@@ -62,7 +62,8 @@ pub returns-clause-up : goal.returns-clause-up
 returns-clause-up g c h n whose lawful fits =
     let m : Meaning = g.M.Machine.meaning in
     if_ok _ _ _ c.revive.result
-    (λ r goes. on_device (λ d. Goes m h n (Stands m r.replica.node r.replica.store h.genesis n) d r.notes.items [])
+    (λ r goes. on_device (λ d. LeavesFit m h n
+    (ReplicaHolds m r.replica.node r.replica.store h.genesis n) d r.notes.items [])
     r.replica.store goes)
     (c.revive.ensures.fits tt h n whose lawful fits)
 

@@ -5,9 +5,9 @@ use Rattle.lk_replica.specs.ReplicaValue.{device_of}
 use Rattle.lk_simulated_disk.specs.Memory.{disk_of}
 use Rattle.lk_state.specs.Meanings.{Meaning}
 use Rattle.lk_node_io.specs.Letters.{batch_of}
-use Rattle.lk_node.specs.Calls.{NodeFits, Goes}
+use Rattle.lk_node.specs.Calls.{NodeFits, LeavesFit}
 use Rattle.lk_node.specs.Histories.{Datagram}
-use Rattle.lk_node.specs.Keeping.{Stands}
+use Rattle.lk_node.specs.Keeping.{ReplicaHolds}
 use Rattle.lk_node.specs.Leavings.{DisksFit, AllCover}
 use Rattle.lk_node_io.specs.Faults.{fault_number, IsNumberOfCalls}
 use Rattle.lk_replica.specs.Posts.{MemoryPostValue}
@@ -28,15 +28,17 @@ returns-in-Ok-clause-goes g c h n fits heard =
     let all = c.in_ok-notes.ensures.gives.letters in
     let by = c.in_ok-notes.ensures.gives.holds tt in
     let went = by.goes h n (off_device
-    (λ d. NodeFits m h n (Stands m own.node own.store h.genesis n) d) own.store fits) heard in
+    (λ d. NodeFits m h n (ReplicaHolds m own.node own.store h.genesis n) d) own.store fits) heard in
     let letters : c.take.new.post.letters ≡ all = by.taken.sent.1 tt
     ∙ ap (λ (p : MemoryPostValue). p.letters ++ by.taken.out.letters) c.empty_post-post.ensures ∙ by.taken.sent.0 in
     let is : c.number-node.result ≡ n = c.number-node.ensures ∙ ap (λ (w : HeaderValue). w.node) fits.shown.whose in
     let batch : c.in-Ok.sent.items ≡ batch_of n all = c.in-Ok.ensures.ok ∙ (λ i. batch_of (is i) (letters i)) in
-    subst (λ (ds : List Datagram). Goes m h n (Stands m c.take.new.self.node c.take.new.self.store h.genesis n)
+    subst (λ (ds : List Datagram). LeavesFit m h n
+    (ReplicaHolds m c.take.new.self.node c.take.new.self.store h.genesis n)
     (disk_of (device_of c.take.new.self.store)) c.in_ok-notes.notes.items ds) (sym batch)
-    (on_device (λ d. Goes m h n
-    (Stands m c.take.new.self.node c.take.new.self.store h.genesis n) d c.in_ok-notes.notes.items (batch_of n all))
+    (on_device (λ d. LeavesFit m h n
+    (ReplicaHolds m c.take.new.self.node c.take.new.self.store h.genesis n) d c.in_ok-notes.notes.items
+    (batch_of n all))
     c.take.new.self.store went)
 
 pub returns-in-Ok-clause-syncs : goal.returns-in-Ok-clause-syncs
@@ -87,7 +89,7 @@ returns-in_err-notes-clause-ends g c h n fits heard =
     let own = c.args.self.now in
     on_err c.from_residual.result _ (on_device (DisksFit m h n) c.take.new.self.store
     ((c.take.ensures.disks tt).ends h n
-    (off_device (λ d. NodeFits m h n (Stands m own.node own.store h.genesis n) d) own.store fits) heard))
+    (off_device (λ d. NodeFits m h n (ReplicaHolds m own.node own.store h.genesis n) d) own.store fits) heard))
 
 pub returns-in-Err-clause-ends : goal.returns-in-Err-clause-ends
 returns-in-Err-clause-ends g c h n fits heard =
@@ -95,7 +97,7 @@ returns-in-Err-clause-ends g c h n fits heard =
     let own = c.args.self.now in
     on_device (DisksFit m h n) c.take.new.self.store
     ((c.take.ensures.disks tt).ends h n
-    (off_device (λ d. NodeFits m h n (Stands m own.node own.store h.genesis n) d) own.store fits) heard)
+    (off_device (λ d. NodeFits m h n (ReplicaHolds m own.node own.store h.genesis n) d) own.store fits) heard)
 
 pub returns-in_err-notes-clause-covers : goal.returns-in_err-notes-clause-covers
 returns-in_err-notes-clause-covers g c genesis n held x shown every =

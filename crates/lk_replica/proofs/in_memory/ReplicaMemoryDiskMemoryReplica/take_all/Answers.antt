@@ -13,7 +13,7 @@ use Rattle.lk_disk.specs.declared.meter.Meter.{Meter}
 use Rattle.lk_node_io.specs.Letters.{batch_of, LetterValue}
 use Rattle.lk_node_io.specs.declared.input.Input.{Input}
 use Rattle.lk_node.specs.Calls.{heard_by, InputFits, NodeFits}
-use Rattle.lk_node.specs.Keeping.{Stands}
+use Rattle.lk_node.specs.Keeping.{ReplicaHolds}
 use Rattle.lk_node.specs.Leavings.{DisksFit, AllCover}
 use Rattle.lk_node_io.specs.Faults.{fault_number, RefusedAfter, IsNumberOfCalls}
 use Rattle.lk_replica.specs.Groups.{GroupValue, IsSettled, LeavesInGroup, gather_calls, settle_calls}
@@ -70,7 +70,7 @@ returns-in_err-gather-clause-ends g c h n fits heard =
     let m = g.M.Machine.meaning in
     let own = c.args.self.now in
     let k = c.inputs.invariant.stays h n
-    (off_device (λ d. NodeFits m h n (Stands m own.node own.store h.genesis n) d) own.store fits) heard in
+    (off_device (λ d. NodeFits m h n (ReplicaHolds m own.node own.store h.genesis n) d) own.store fits) heard in
     let rest : AllByRecursion (InputFits h) (c.in-Some.input ∷ c.next.new.self.rest.items) =
     subst (λ (l : List Input). AllByRecursion (InputFits h) l) c.in-Some.ensures.steps.0 k.1 in
     on_device (DisksFit m h n) c.gather.new.self.store ((c.gather.ensures.disks tt).ends h n k.0 rest.0)
@@ -120,7 +120,7 @@ returns-in_err-keep-clause-ends g c h n fits heard =
     let m = g.M.Machine.meaning in
     let own = c.args.self.now in
     let k = c.inputs.invariant.stays h n
-    (off_device (λ d. NodeFits m h n (Stands m own.node own.store h.genesis n) d) own.store fits) heard in
+    (off_device (λ d. NodeFits m h n (ReplicaHolds m own.node own.store h.genesis n) d) own.store fits) heard in
     let rest : AllByRecursion (InputFits h) (c.in-Some.input ∷ c.next.new.self.rest.items) =
     subst (λ (l : List Input). AllByRecursion (InputFits h) l) c.in-Some.ensures.steps.0 k.1 in
     on_device (DisksFit m h n) c.keep.new.self.store
@@ -196,7 +196,7 @@ returns-in_err-sync_group-clause-ends g c h n fits heard =
     let m = g.M.Machine.meaning in
     let own = c.args.self.now in
     let k = c.inputs.invariant.stays h n
-    (off_device (λ d. NodeFits m h n (Stands m own.node own.store h.genesis n) d) own.store fits) heard in
+    (off_device (λ d. NodeFits m h n (ReplicaHolds m own.node own.store h.genesis n) d) own.store fits) heard in
     let ended = subst (λ (w : Bool). LeavesInGroup g.M.Machine.meaning
     (λ h. ⊤) 0 c.inputs.self.node c.inputs.self.store w (disks c.sync_group.new.self.store)) c.needs_sync.ensures
     (c.sync_group.ensures.disks tt) in
@@ -250,7 +250,7 @@ returns-in-Err-clause-ends g c h n fits heard =
     let m = g.M.Machine.meaning in
     let own = c.args.self.now in
     let k = c.inputs.invariant.stays h n
-    (off_device (λ d. NodeFits m h n (Stands m own.node own.store h.genesis n) d) own.store fits) heard in
+    (off_device (λ d. NodeFits m h n (ReplicaHolds m own.node own.store h.genesis n) d) own.store fits) heard in
     let ended = subst (λ (w : Bool). LeavesInGroup g.M.Machine.meaning
     (λ h. ⊤) 0 c.inputs.self.node c.inputs.self.store w (disks c.sync_group.new.self.store)) c.needs_sync.ensures
     (c.sync_group.ensures.disks tt) in
@@ -303,7 +303,7 @@ returns-in-Ok-clause-ends g c h n fits heard =
     let m = g.M.Machine.meaning in
     let own = c.args.self.now in
     let k = c.inputs.invariant.stays h n
-    (off_device (λ d. NodeFits m h n (Stands m own.node own.store h.genesis n) d) own.store fits) heard in
+    (off_device (λ d. NodeFits m h n (ReplicaHolds m own.node own.store h.genesis n) d) own.store fits) heard in
     let ended = subst (λ (w : Bool). LeavesInGroup g.M.Machine.meaning
     (λ h. ⊤) 0 c.inputs.self.node c.inputs.self.store w (disks c.sync_group.new.self.store)) c.needs_sync.ensures
     (c.sync_group.ensures.disks tt) in

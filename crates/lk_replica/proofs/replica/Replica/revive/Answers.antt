@@ -7,7 +7,7 @@ use Rattle.lk_log.proofs.StoreLaws.{opens_holds}
 use Rattle.lk_log.specs.Images.{seen}
 use Rattle.lk_log.specs.StoreValue.{disks}
 use Rattle.lk_state.specs.Meanings.{Meaning}
-use Rattle.lk_node.specs.Keeping.{Stands}
+use Rattle.lk_node.specs.Keeping.{ReplicaHolds}
 use Rattle.lk_node.specs.Packing.{standing_of}
 use Rattle.lk_node.specs.Served.{text}
 use Rattle.lk_node_io.specs.Faults.{fault_number, RefusedAfter}
@@ -24,10 +24,10 @@ pub returns-in-Ok-renew-clause-fits : goal.returns-in-Ok-renew-clause-fits
 returns-in-Ok-renew-clause-fits g c honest h n is lawful before =
     let m : Meaning = g.M.Machine.meaning in
     let goes = c.in-Ok.ensures.fits honest h n is lawful before in
-    let fits = goes_fit m h n (Stands m c.in-Ok.up.node c.in-Ok.up.store h.genesis n)
+    let fits = goes_fit m h n (ReplicaHolds m c.in-Ok.up.node c.in-Ok.up.store h.genesis n)
     (disks c.in-Ok.up.store) c.in-Ok.up.notes.items lawful goes in
-    then_goes m h n (Stands m c.in-Ok.up.node c.in-Ok.up.store h.genesis n)
-    (Stands m c.renew.new.node c.renew.new.store h.genesis n) (disks c.in-Ok.up.store)
+    then_goes m h n (ReplicaHolds m c.in-Ok.up.node c.in-Ok.up.store h.genesis n)
+    (ReplicaHolds m c.renew.new.node c.renew.new.store h.genesis n) (disks c.in-Ok.up.store)
     (disks c.renew.new.store) c.in-Ok.up.notes.items goes
     ((c.in-Ok-renew.ensures.renewed honest).goes h n fits)
 
@@ -86,7 +86,7 @@ returns-in-Ok-renew-clause-ready g c = record {
 pub returns-in-Err-renew-clause-fits : goal.returns-in-Err-renew-clause-fits
 returns-in-Err-renew-clause-fits g c honest h n is lawful before =
     let m : Meaning = g.M.Machine.meaning in
-    let fits = goes_fit m h n (Stands m c.in-Ok.up.node c.in-Ok.up.store h.genesis n)
+    let fits = goes_fit m h n (ReplicaHolds m c.in-Ok.up.node c.in-Ok.up.store h.genesis n)
     (disks c.in-Ok.up.store) c.in-Ok.up.notes.items lawful (c.in-Ok.ensures.fits honest h n is lawful before) in (
       c.in-Err-renew.ensures.refused.of_store,
       given_fit m h n c.renew.new.store

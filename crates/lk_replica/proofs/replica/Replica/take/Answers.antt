@@ -3,8 +3,8 @@ use Rattle.lk_log.specs.StoreValue.{disks}
 use Rattle.lk_node_io.specs.Letters.{LetterValue, batch_of}
 use Rattle.lk_node_io.specs.Outboxes.{OutboxValue}
 use Rattle.lk_node_io.specs.declared.note.Note.{Note}
-use Rattle.lk_node.specs.Calls.{InputFits, NodeFits, Goes}
-use Rattle.lk_node.specs.Keeping.{Stands}
+use Rattle.lk_node.specs.Calls.{InputFits, NodeFits, LeavesFit}
+use Rattle.lk_node.specs.Keeping.{ReplicaHolds}
 use Rattle.lk_replica.specs.Posts.{CarriesAll, SendsSome}
 use Rattle.lk_replica.specs.ReplicaValue.{ReplicaValue}
 use Rattle.lk_recovery.specs.Compacting.{RebasesWhereDue}
@@ -16,7 +16,7 @@ use Rattle.lk_replica.proofs.Refusals.{refused_by_parts}
 use Rattle.lk_log.proofs.Room.{within_same}
 use Rattle.lk_replica.proofs.replica.Replica.take.Goals as goal
 use Rattle.lk_disk.specs.Meters.{start}
-use Rattle.lk_recovery.specs.Remembering.{Remembers}
+use Rattle.lk_recovery.specs.Remembering.{ReplicaRemembers}
 use Rattle.lk_node_io.specs.Faults.{fault_number}
 
 pub returns-then-self-clause-gives : goal.returns-then-self-clause-gives
@@ -74,18 +74,19 @@ returns-in-Ok-clause-gives g c =
           awake = c.in_ok-outbox.ensures.alive.awake;
         };
         goes = λ h n f heard.
-            let fits : NodeFits m h n (Stands m c.self.inside.node c.self.inside.store h.genesis n)
+            let fits : NodeFits m h n (ReplicaHolds m c.self.inside.node c.self.inside.store h.genesis n)
             (disks c.self.inside.store) =
-            subst (λ (r : ReplicaValue). NodeFits m h n (Stands m r.node r.store h.genesis n) (disks r.store))
+            subst (λ (r : ReplicaValue). NodeFits m h n (ReplicaHolds m r.node r.store h.genesis n) (disks r.store))
             (sym c.self.view_is) f in
-            subst (λ (notes : List Note). Goes m h n
-            (Stands m c.rebase_and_step.new.node c.rebase_and_step.new.store h.genesis n)
+            subst (λ (notes : List Note). LeavesFit m h n
+            (ReplicaHolds m c.rebase_and_step.new.node c.rebase_and_step.new.store h.genesis n)
             (disks c.rebase_and_step.new.store) notes (batch_of n c.in_ok-outbox.outbox.letters))
             (sym (ap (λ (o : OutboxValue). o.notes) c.outbox.view_is))
             (c.in_ok-outbox.ensures.goes honest h n fits heard c.in_ok-outbox.outbox.letters (λ l listed. listed));
         syncs = λ genesis n x shown d listed said.
             c.in_ok-outbox.ensures.syncs honest genesis n x
-            (subst (λ (r : ReplicaValue). Remembers r.node r.store genesis n) (sym c.self.view_is) shown) d listed said;
+            (subst (λ (r : ReplicaValue). ReplicaRemembers r.node r.store genesis n)
+            (sym c.self.view_is) shown) d listed said;
       };
     }
 
@@ -124,18 +125,19 @@ returns-clause-gives g c =
           awake = c.in_ok-outbox.ensures.alive.awake;
         };
         goes = λ h n f heard.
-            let fits : NodeFits m h n (Stands m c.self.inside.node c.self.inside.store h.genesis n)
+            let fits : NodeFits m h n (ReplicaHolds m c.self.inside.node c.self.inside.store h.genesis n)
             (disks c.self.inside.store) =
-            subst (λ (r : ReplicaValue). NodeFits m h n (Stands m r.node r.store h.genesis n) (disks r.store))
+            subst (λ (r : ReplicaValue). NodeFits m h n (ReplicaHolds m r.node r.store h.genesis n) (disks r.store))
             (sym c.self.view_is) f in
-            subst (λ (notes : List Note). Goes m h n
-            (Stands m c.rebase_and_step.new.node c.rebase_and_step.new.store h.genesis n)
+            subst (λ (notes : List Note). LeavesFit m h n
+            (ReplicaHolds m c.rebase_and_step.new.node c.rebase_and_step.new.store h.genesis n)
             (disks c.rebase_and_step.new.store) notes (batch_of n c.in_ok-outbox.outbox.letters))
             (sym (ap (λ (o : OutboxValue). o.notes) c.outbox.view_is))
             (c.in_ok-outbox.ensures.goes honest h n fits heard c.in_ok-outbox.outbox.letters (λ l listed. listed));
         syncs = λ genesis n x shown d listed said.
             c.in_ok-outbox.ensures.syncs honest genesis n x
-            (subst (λ (r : ReplicaValue). Remembers r.node r.store genesis n) (sym c.self.view_is) shown) d listed said;
+            (subst (λ (r : ReplicaValue). ReplicaRemembers r.node r.store genesis n)
+            (sym c.self.view_is) shown) d listed said;
       };
     }
 
@@ -156,7 +158,7 @@ returns-in-Ok-clause-alive g c = record {
   awake = c.in_ok-outbox.ensures.alive.awake;
   runs = c.in_ok-outbox.ensures.alive.runs (c.self.invariant.0 c.if-self.false);
   remembers = λ honest genesis n shown. c.in_ok-outbox.ensures.alive.remembers honest genesis n
-      (subst (λ (r : ReplicaValue). Remembers r.node r.store genesis n) (sym c.self.view_is) shown);
+      (subst (λ (r : ReplicaValue). ReplicaRemembers r.node r.store genesis n) (sym c.self.view_is) shown);
 }
 
 pub returns-clause-alive : goal.returns-clause-alive
@@ -166,7 +168,7 @@ returns-clause-alive g c = record {
   awake = c.in_ok-outbox.ensures.alive.awake;
   runs = c.in_ok-outbox.ensures.alive.runs (c.self.invariant.0 c.if-self.false);
   remembers = λ honest genesis n shown. c.in_ok-outbox.ensures.alive.remembers honest genesis n
-      (subst (λ (r : ReplicaValue). Remembers r.node r.store genesis n) (sym c.self.view_is) shown);
+      (subst (λ (r : ReplicaValue). ReplicaRemembers r.node r.store genesis n) (sym c.self.view_is) shown);
 }
 
 pub returns-in_err-outbox-clause-alive : goal.returns-in_err-outbox-clause-alive

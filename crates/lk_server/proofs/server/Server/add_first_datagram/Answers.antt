@@ -19,9 +19,10 @@ returns-clause-takes g c =
     let same = rest (λ is. let both : Something ≡ Filtered = sym yes ∙ is in cc both) in (
       t.0,
       apart,
-      socket_one g.R.ServedReplica.Gathers g.S.DatagramSocket.is_telling c.receive.new.buffer.last t.0 c.args.group.now
+      socket_one g.R.ServedReplica.Gathers g.S.DatagramSocket.is_observable c.receive.new.buffer.last t.0
+          c.args.group.now
           c.add_received.new.group c.args.self.now c.receive.new.self c.add_received.new.self t.1 l.comes l.others
-          (ap (λ (s : ServerValue _). s.coming) h.others) t.3,
+          (ap (λ (s : ServerValue _). s.incoming) h.others) t.3,
       keeps_given c.args.self.now.node c.args.self.now.addresses.seals t.0 c.args.buffer.now c.add_received.new.buffer
           (not_beside (filter_of c.args.self.now.addresses) t.0 apart)
           (ap (λ (b : BufferValue). b.asked) same ∙ l.asked) (ap (λ (b : BufferValue). b.reported) same ∙ l.reported),
@@ -32,7 +33,7 @@ returns-clause-none g c =
     let h = c.add_received.ensures in
     let l = c.receive.ensures in
     if_ok_four c.add_received.result (λ found none beside kept rest apart.
-    let f = finds g.S.DatagramSocket.is_telling found c.receive.new.buffer.last c.args.group.now
+    let f = finds g.S.DatagramSocket.is_observable found c.receive.new.buffer.last c.args.group.now
     c.add_received.new.group c.args.self.now c.receive.new.self c.add_received.new.self l.comes l.none
     l.others none beside apart in (
       listed c.receive.new.buffer.last,
@@ -52,8 +53,8 @@ returns-clause-ends g c =
     if_err_on c.add_received.result (λ e. (
       e.0,
       still_not_out c.args.self.now c.receive.new.self e.0 l.others e.2,
-      ends_socket g.R.ServedReplica.Says g.R.ServedReplica.Gathers g.S.DatagramSocket.is_telling
+      ends_socket g.R.ServedReplica.Says g.R.ServedReplica.Gathers g.S.DatagramSocket.is_observable
           c.receive.new.buffer.last e.0 c.args.group.now c.args.self.now c.receive.new.self
           c.add_received.new.self e.1 l.comes l.others
-          (ap (λ (s : ServerValue _). s.coming) h.others) e.3,
+          (ap (λ (s : ServerValue _). s.incoming) h.others) e.3,
     )) h.ends

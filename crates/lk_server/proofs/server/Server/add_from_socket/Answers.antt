@@ -19,7 +19,7 @@ returns-then-not-is_something-clause-none g c = λ apart. let n = c.in_ok-found.
 pub returns-clause-takes : goal.returns-clause-takes
 returns-clause-takes g c = λ yes.
     let r = g.R.ServedReplica in
-    let tells = g.S.DatagramSocket.is_telling in
+    let tells = g.S.DatagramSocket.is_observable in
     let first = c.in_ok-found.ensures.takes (c.is_something.ensures.0 (cc c.if-not-is_something.false)) in
     let more = c.in_ok-add_further_datagrams.ensures.takes in
     let one = c.add_first_datagram.ensures.others in
@@ -45,7 +45,7 @@ returns-in_err-found-clause-ends g c =
     let e = c.in_err-found.ensures.ends in
     on_err c.from_residual.result (
       e.0 ∷ [],
-      socket_ends r.Says r.Gathers g.S.DatagramSocket.is_telling e.0 [] c.args.group.now c.args.self.now
+      socket_ends r.Says r.Gathers g.S.DatagramSocket.is_observable e.0 [] c.args.group.now c.args.self.now
           c.add_first_datagram.new.self c.requires
           (ap (λ (s : ServerValue _). s.own) c.add_first_datagram.ensures.others) (omega arith) e.1 e.2,
     )
@@ -53,7 +53,7 @@ returns-in_err-found-clause-ends g c =
 pub returns-in_err-add_further_datagrams-clause-ends : goal.returns-in_err-add_further_datagrams-clause-ends
 returns-in_err-add_further_datagrams-clause-ends g c =
     let r = g.R.ServedReplica in
-    let tells = g.S.DatagramSocket.is_telling in
+    let tells = g.S.DatagramSocket.is_observable in
     let first = c.in_ok-found.ensures.takes (c.is_something.ensures.0 (cc c.if-not-is_something.false)) in
     let e = c.in_err-add_further_datagrams.ensures.ends in
     let one = c.add_first_datagram.ensures.others in

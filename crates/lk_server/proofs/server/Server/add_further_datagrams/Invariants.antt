@@ -8,13 +8,13 @@ use Rattle.lk_server.proofs.server.Server.add_further_datagrams.Given as goal
 abbrev pub invariant-datagrams : goal.invariant-datagrams
 invariant-datagrams g l =
     (frames : List (SocketAddr × List ℕ)) × (length frames ≡ l.counter)
-    × TakesSocket g.R.ServedReplica.Gathers g.S.DatagramSocket.is_telling frames l.fn.group l.group l.fn.self l.self
+    × TakesSocket g.R.ServedReplica.Gathers g.S.DatagramSocket.is_observable frames l.fn.group l.group l.fn.self l.self
     × (l.self ≡ record l.fn.self {
       replica = l.self.replica;
       failed = l.self.failed;
       received = l.self.received;
       ticks = l.self.ticks;
       addresses = l.self.addresses;
-      coming = l.self.coming;
+      incoming = l.self.incoming;
     })
     × KeepsOf l.fn.self.node l.fn.self.addresses.seals frames l.fn.buffer l.buffer

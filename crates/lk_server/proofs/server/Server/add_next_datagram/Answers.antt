@@ -14,10 +14,10 @@ returns-in-Something-clause-takes g c = λ came.
     let t = c.in_ok-add_received.ensures.takes (search rules) in
     let same = c.in_ok-add_received.ensures.rest (λ is. cc is) in (
       t.0,
-      socket_one g.R.ServedReplica.Gathers g.S.DatagramSocket.is_telling c.receive_or_pause.new.buffer.last t.0
+      socket_one g.R.ServedReplica.Gathers g.S.DatagramSocket.is_observable c.receive_or_pause.new.buffer.last t.0
           c.args.group.now c.add_received.new.group c.args.self.now c.receive_or_pause.new.self
           c.add_received.new.self t.1 l.comes l.others
-          (ap (λ (s : ServerValue _). s.coming) c.add_received.ensures.others) t.3,
+          (ap (λ (s : ServerValue _). s.incoming) c.add_received.ensures.others) t.3,
       keeps_given c.args.self.now.node c.args.self.now.addresses.seals t.0 c.args.buffer.now c.add_received.new.buffer
           (not_beside (filter_of c.args.self.now.addresses) t.0
           (still_not_out c.args.self.now c.receive_or_pause.new.self t.0 l.others t.2))
@@ -29,7 +29,7 @@ returns-in-Filtered-clause-takes g c = λ came.
     let l = c.receive_or_pause.ensures in
     let b = c.in_ok-add_received.ensures.beside (search rules) in (
       b.0,
-      socket_beside g.R.ServedReplica.Gathers g.S.DatagramSocket.is_telling c.receive_or_pause.new.buffer.last b.0
+      socket_beside g.R.ServedReplica.Gathers g.S.DatagramSocket.is_observable c.receive_or_pause.new.buffer.last b.0
           c.args.group.now c.add_received.new.group c.args.self.now c.receive_or_pause.new.self c.add_received.new.self
           b.1 l.comes l.others b.2 b.3 b.4,
       keeps_beside c.args.self.now.node c.receive_or_pause.new.self.node c.args.self.now.addresses.seals
@@ -44,7 +44,7 @@ pub returns-in-Nothing-clause-none : goal.returns-in-Nothing-clause-none
 returns-in-Nothing-clause-none g c = λ came.
     let l = c.receive_or_pause.ensures in
     let n = c.in_ok-add_received.ensures.none (search rules) in
-    let so = none_came g.S.DatagramSocket.is_telling c.receive_or_pause.new.buffer.last c.args.self.now
+    let so = none_came g.S.DatagramSocket.is_observable c.receive_or_pause.new.buffer.last c.args.self.now
     c.receive_or_pause.new.self c.add_received.new.self n.0 l.comes l.others n.1 in
     let same = c.in_ok-add_received.ensures.rest (λ is. cc is) in (
       so.0,
@@ -60,8 +60,8 @@ returns-in_err-add_received-clause-ends g c =
     let e = c.in_err-add_received.ensures.ends in
     on_err c.from_residual.result (
       e.0,
-      ends_socket g.R.ServedReplica.Says g.R.ServedReplica.Gathers g.S.DatagramSocket.is_telling
+      ends_socket g.R.ServedReplica.Says g.R.ServedReplica.Gathers g.S.DatagramSocket.is_observable
           c.receive_or_pause.new.buffer.last e.0 c.args.group.now c.args.self.now c.receive_or_pause.new.self
           c.add_received.new.self e.1 l.comes l.others
-          (ap (λ (s : ServerValue _). s.coming) c.add_received.ensures.others) e.3,
+          (ap (λ (s : ServerValue _). s.incoming) c.add_received.ensures.others) e.3,
     )

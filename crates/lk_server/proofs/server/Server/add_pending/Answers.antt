@@ -17,7 +17,7 @@ returns-then-not-branch-clause-takes g c =
     subst₂ (λ (x : GroupValue) (s : ServerValue _). IfOk c.add_from_socket.result
     (λ found. found ≡ Something
     → (frames : List (SocketAddr × List ℕ))
-    × TakesWaiting g.R.ServedReplica.Gathers g.S.DatagramSocket.is_telling frames x c.add_from_socket.new.group s
+    × TakesWaiting g.R.ServedReplica.Gathers g.S.DatagramSocket.is_observable frames x c.add_from_socket.new.group s
     c.add_from_socket.new.self
     × KeepsOf s.node s.addresses.seals frames c.args.buffer.now c.add_from_socket.new.buffer))
     n.2 n.1 c.add_from_socket.ensures.takes
@@ -28,7 +28,8 @@ returns-then-not-branch-clause-none g c =
     subst₂ (λ (x : GroupValue) (s : ServerValue _). IfOk c.add_from_socket.result
     (λ found. (found ≡ Something → ⊥)
     → (s.own ≡ []) × (frames : List (SocketAddr × List ℕ))
-    × Finds g.S.DatagramSocket.is_telling found frames s c.add_from_socket.new.self × (c.add_from_socket.new.group ≡ x)
+    × Finds g.S.DatagramSocket.is_observable found frames s c.add_from_socket.new.self
+    × (c.add_from_socket.new.group ≡ x)
     × KeepsOf s.node s.addresses.seals frames c.args.buffer.now c.add_from_socket.new.buffer))
     n.2 n.1 c.add_from_socket.ensures.none
 
@@ -37,7 +38,7 @@ returns-then-not-branch-clause-ends g c =
     let n = c.in_ok-add_own_letter.ensures.none (cc c.if-not-branch.true) in
     subst₂ (λ (x : GroupValue) (s : ServerValue _). OnErr c.add_from_socket.result
     ((frames : List (SocketAddr × List ℕ))
-    × EndsGroup g.R.ServedReplica.Says g.R.ServedReplica.Gathers g.S.DatagramSocket.is_telling frames x s
+    × EndsGroup g.R.ServedReplica.Says g.R.ServedReplica.Gathers g.S.DatagramSocket.is_observable frames x s
     c.add_from_socket.new.self))
     n.2 n.1 c.add_from_socket.ensures.ends
 
@@ -46,12 +47,12 @@ returns-clause-takes g c = λ yes.
     let r = g.R.ServedReplica in
     let first = c.in_ok-add_own_letter.ensures.takes (cc c.if-not-branch.false) in (
       [],
-      own_group r.Says r.Gathers g.S.DatagramSocket.is_telling first.0 c.args.group.now c.add_own_letter.new.group
+      own_group r.Says r.Gathers g.S.DatagramSocket.is_observable first.0 c.args.group.now c.add_own_letter.new.group
           c.add_own_letters.new.group c.args.self.now c.add_own_letter.new.self c.add_own_letters.new.self first.1
           (ap (λ (s : ServerValue _). s.addresses) c.add_own_letters.ensures.others
           ∙ ap (λ (s : ServerValue _). s.addresses) c.add_own_letter.ensures.others)
-          (ap (λ (s : ServerValue _). s.coming) c.add_own_letters.ensures.others
-          ∙ ap (λ (s : ServerValue _). s.coming) c.add_own_letter.ensures.others) first.2
+          (ap (λ (s : ServerValue _). s.incoming) c.add_own_letters.ensures.others
+          ∙ ap (λ (s : ServerValue _). s.incoming) c.add_own_letter.ensures.others) first.2
           c.in_ok-add_own_letters.ensures.takes,
       keeps_still c.args.self.now.node c.args.self.now.addresses.seals c.args.buffer.now c.args.buffer.now refl refl,
     )
@@ -62,9 +63,9 @@ returns-in_err-add_own_letter-clause-ends g c =
     let e = c.in_err-add_own_letter.ensures.ends in
     on_err c.from_residual.result (
       [],
-      own_ends_first r.Says r.Gathers g.S.DatagramSocket.is_telling e.0 c.args.group.now c.args.self.now
+      own_ends_first r.Says r.Gathers g.S.DatagramSocket.is_observable e.0 c.args.group.now c.args.self.now
           c.add_own_letter.new.self e.1 (ap (λ (s : ServerValue _). s.addresses) c.add_own_letter.ensures.others)
-          (ap (λ (s : ServerValue _). s.coming) c.add_own_letter.ensures.others) e.2,
+          (ap (λ (s : ServerValue _). s.incoming) c.add_own_letter.ensures.others) e.2,
     )
 
 pub returns-in_err-add_own_letters-clause-ends : goal.returns-in_err-add_own_letters-clause-ends
@@ -73,11 +74,11 @@ returns-in_err-add_own_letters-clause-ends g c =
     let first = c.in_ok-add_own_letter.ensures.takes (cc c.if-not-branch.false) in
     on_err c.from_residual-in_err-add_own_letters.result (
       [],
-      own_ends r.Says r.Gathers g.S.DatagramSocket.is_telling first.0 c.args.group.now c.add_own_letter.new.group
+      own_ends r.Says r.Gathers g.S.DatagramSocket.is_observable first.0 c.args.group.now c.add_own_letter.new.group
           c.args.self.now c.add_own_letter.new.self c.add_own_letters.new.self first.1
           (ap (λ (s : ServerValue _). s.addresses) c.add_own_letters.ensures.others
           ∙ ap (λ (s : ServerValue _). s.addresses) c.add_own_letter.ensures.others)
-          (ap (λ (s : ServerValue _). s.coming) c.add_own_letters.ensures.others
-          ∙ ap (λ (s : ServerValue _). s.coming) c.add_own_letter.ensures.others) first.2
+          (ap (λ (s : ServerValue _). s.incoming) c.add_own_letters.ensures.others
+          ∙ ap (λ (s : ServerValue _). s.incoming) c.add_own_letter.ensures.others) first.2
           c.in_err-add_own_letters.ensures.ends,
     )

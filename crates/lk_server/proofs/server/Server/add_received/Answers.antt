@@ -1,6 +1,6 @@
 use Rattle.std.proofs.Common.{rules, ◌≡◌, false}
 use Rattle.lk_probe.specs.Neighbours.{is_stranger}
-use Rattle.lk_seal.specs.Seals.{heard}
+use Rattle.lk_auth.specs.Seals.{heard}
 use Rattle.lk_transport.specs.Addresses.{filter_of}
 use Rattle.lk_transport.specs.Posts.{is_filtered_out, is_beside}
 use Rattle.lk_server.proofs.FilteredOut.{is_not_out}

@@ -10,7 +10,7 @@ use Rattle.lk_transport.specs.Kept.{KeepsOf}
 pub returns-then-not-is_due-clause-takes : goal.returns-then-not-is_due-clause-takes
 returns-then-not-is_due-clause-takes g c = λ is.
     let r = g.R.ServedReplica in
-    let tells = g.S.DatagramSocket.is_telling in
+    let tells = g.S.DatagramSocket.is_observable in
     subst (λ (s : ServerValue _). (frames : List (SocketAddr × List ℕ))
     × TakesGroup r.Gathers tells frames c.args.group.now c.add_pending.new.group s c.add_pending.new.self
     × KeepsOf s.node s.addresses.seals frames c.args.buffer.now c.add_pending.new.buffer) c.set_timeout.ensures
@@ -22,7 +22,7 @@ returns-then-not-is_due-clause-takes g c = λ is.
 pub returns-then-not-is_due-clause-idle : goal.returns-then-not-is_due-clause-idle
 returns-then-not-is_due-clause-idle g c = λ isnt.
     let r = g.R.ServedReplica in
-    let tells = g.S.DatagramSocket.is_telling in
+    let tells = g.S.DatagramSocket.is_observable in
     let pace : c.self.inside.pace ≡ c.add_pending.new.self.pace = search rules in
     let apart = apart_by isnt c.is_something.ensures.1 in
     subst (λ (s : ServerValue _). (frames : List (SocketAddr × List ℕ))
@@ -38,7 +38,7 @@ returns-then-not-is_due-clause-idle g c = λ isnt.
 pub returns-clause-takes : goal.returns-clause-takes
 returns-clause-takes g c = λ is.
     let r = g.R.ServedReplica in
-    let tells = g.S.DatagramSocket.is_telling in
+    let tells = g.S.DatagramSocket.is_observable in
     let a = c.in_ok-found.ensures in
     let pace : c.self.inside.pace ≡ c.add_pending.new.self.pace = search rules in
     subst (λ (s : ServerValue _). (frames : List (SocketAddr × List ℕ))
@@ -54,7 +54,7 @@ returns-clause-takes g c = λ is.
 pub returns-in_err-found-clause-ends : goal.returns-in_err-found-clause-ends
 returns-in_err-found-clause-ends g c =
     let r = g.R.ServedReplica in
-    let tells = g.S.DatagramSocket.is_telling in
+    let tells = g.S.DatagramSocket.is_observable in
     on_err c.from_residual.result
     (subst (λ (s : ServerValue _). (frames : List (SocketAddr × List ℕ))
     × EndsGroup r.Says r.Gathers tells frames c.args.group.now s c.add_pending.new.self) c.set_timeout.ensures
@@ -63,7 +63,7 @@ returns-in_err-found-clause-ends g c =
 pub returns-in_err-add_tick-clause-ends : goal.returns-in_err-add_tick-clause-ends
 returns-in_err-add_tick-clause-ends g c =
     let r = g.R.ServedReplica in
-    let tells = g.S.DatagramSocket.is_telling in
+    let tells = g.S.DatagramSocket.is_observable in
     let a = c.in_ok-found.ensures in
     let pace : c.self.inside.pace ≡ c.add_pending.new.self.pace = search rules in
     on_err c.from_residual-in_err-add_tick.result

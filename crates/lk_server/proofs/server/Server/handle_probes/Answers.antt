@@ -10,7 +10,7 @@ use Rattle.lk_server.proofs.server.Server.handle_probes.Goals as goal
 pub returns-clause-acts : goal.returns-clause-acts
 returns-clause-acts g c =
     let shows = g.R.ServedReplica.Shows in
-    let tells = g.S.DatagramSocket.is_telling in
+    let tells = g.S.DatagramSocket.is_observable in
     let t = c.take_probe-asked.ensures in
     let a = c.answer.ensures in
     let r = c.readmit.ensures in

@@ -7,7 +7,7 @@ use Rattle.lk_server.proofs.server.Server.serve_next.Goals as goal
 pub returns-clause-turn : goal.returns-clause-turn
 returns-clause-turn g c = λ yes.
     let r = g.R.ServedReplica in
-    let tells = g.S.DatagramSocket.is_telling in
+    let tells = g.S.DatagramSocket.is_observable in
     let o = c.add_pending.ensures.others in
     let t = c.in_ok-found.ensures.takes (c.is_something.ensures.0 (cc c.if-not-is_something.false)) in
     let e = c.end_group.ensures in (
@@ -26,7 +26,7 @@ returns-clause-turn g c = λ yes.
 pub returns-in_err-end_group-clause-ends : goal.returns-in_err-end_group-clause-ends
 returns-in_err-end_group-clause-ends g c =
     let r = g.R.ServedReplica in
-    let tells = g.S.DatagramSocket.is_telling in
+    let tells = g.S.DatagramSocket.is_observable in
     let o = c.add_pending.ensures.others in
     let t = c.in_ok-found.ensures.takes (c.is_something.ensures.0 (cc c.if-not-is_something.false)) in
     let e = c.end_group.ensures in
@@ -50,7 +50,7 @@ returns-in_err-found-clause-ends g c =
     on_err c.from_residual.result (
       e.0,
       e.1.received,
-      last_within r.Says r.Gathers g.S.DatagramSocket.is_telling e.0 c.begin_group-group.result c.args.self.now
+      last_within r.Says r.Gathers g.S.DatagramSocket.is_observable e.0 c.begin_group-group.result c.args.self.now
           c.add_pending.new.self c.begin_group-group.ensures e.1
           (ap (λ (s : ServerValue _). s.sent) o) (ap (λ (s : ServerValue _). s.socket_failures) o)
           (same_by c.args.self.now c.add_pending.new.self o) c.in_err-found.ensures.broken,

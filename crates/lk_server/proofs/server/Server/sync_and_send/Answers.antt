@@ -8,7 +8,7 @@ pub returns-clause-addresses : goal.returns-clause-addresses
 returns-clause-addresses g c =
     let e = c.release-released.ensures in
     let begun : c.begin_group.new.self.addresses ≡ c.args.self.now.addresses = search rules in
-    (same_post g.S.DatagramSocket.is_telling c.release-released.result _ c.begin_group.new.self
+    (same_post g.S.DatagramSocket.is_observable c.release-released.result _ c.begin_group.new.self
     c.release-released.new.post e.hands e.unsent).1 ∙ begun
 
 pub returns-clause-same : goal.returns-clause-same
@@ -17,7 +17,7 @@ returns-clause-same g c =
     let begun : c.begin_group.new.self.node ≡ c.args.self.now.node = search rules in
     record {
       cluster = search rules;
-      node = (same_post g.S.DatagramSocket.is_telling c.release-released.result _ c.begin_group.new.self
+      node = (same_post g.S.DatagramSocket.is_observable c.release-released.result _ c.begin_group.new.self
           c.release-released.new.post e.hands e.unsent).0 ∙ begun;
       pace = search rules;
     }
@@ -25,15 +25,15 @@ returns-clause-same g c =
 pub returns-clause-still : goal.returns-clause-still
 returns-clause-still g c tells =
     let e = c.release-released.ensures in
-    let begun : c.begin_group.new.self.coming ≡ c.args.self.now.coming = search rules in
-    (same_post g.S.DatagramSocket.is_telling c.release-released.result _ c.begin_group.new.self
+    let begun : c.begin_group.new.self.incoming ≡ c.args.self.now.incoming = search rules in
+    (same_post g.S.DatagramSocket.is_observable c.release-released.result _ c.begin_group.new.self
     c.release-released.new.post e.hands e.unsent).2 tells ∙ begun
 
 pub returns-clause-gives : goal.returns-clause-gives
 returns-clause-gives g c =
     let e = c.release-released.ensures in
     let r = g.R.ServedReplica in
-    let tells = g.S.DatagramSocket.is_telling in
+    let tells = g.S.DatagramSocket.is_observable in
     let same = same_post tells c.release-released.result _ c.begin_group.new.self
     c.release-released.new.post e.hands e.unsent in
     let mine : c.self.inside.replica ≡ c.args.self.now.replica = search rules in
@@ -45,5 +45,5 @@ pub returns-clause-silent : goal.returns-clause-silent
 returns-clause-silent g c =
     let e = c.release-released.ensures in
     let r = g.R.ServedReplica in
-    rw (← c.self.view_is) (says_nothing r.Says r.Gathers g.S.DatagramSocket.is_telling _ _ c.begin_group.new.self
+    rw (← c.self.view_is) (says_nothing r.Says r.Gathers g.S.DatagramSocket.is_observable _ _ c.begin_group.new.self
     c.release-released.new.post c.args.group.now c.release-released.result e.silent e.unsent (search rules) refl)

@@ -8,7 +8,7 @@ pub returns-clause-hands_on : goal.returns-clause-hands_on
 returns-clause-hands_on g c =
     let r = g.R.ServedReplica in
     let o = c.add_tick.ensures.others in
-    tick_of r.Says r.Gathers g.S.DatagramSocket.is_telling c.end_group.result c.begin_group-group.result
+    tick_of r.Says r.Gathers g.S.DatagramSocket.is_observable c.end_group.result c.begin_group-group.result
     c.add_tick.new.group c.args.self.now c.add_tick.new.self c.end_group.new.self c.begin_group-group.ensures
     c.in_ok-add_tick.ensures.gathers
     (ap (λ (s : ServerValue _). s.own) o) (ap (λ (s : ServerValue _). s.sent) o)
@@ -18,7 +18,7 @@ pub returns-clause-ends : goal.returns-clause-ends
 returns-clause-ends g c =
     let r = g.R.ServedReplica in
     let o = c.add_tick.ensures.others in
-    tick_ends r.Says r.Gathers g.S.DatagramSocket.is_telling c.end_group.result c.begin_group-group.result
+    tick_ends r.Says r.Gathers g.S.DatagramSocket.is_observable c.end_group.result c.begin_group-group.result
     c.add_tick.new.group c.args.self.now c.add_tick.new.self c.end_group.new.self c.begin_group-group.ensures
     c.in_ok-add_tick.ensures.gathers
     (ap (λ (s : ServerValue _). s.own) o) (ap (λ (s : ServerValue _). s.sent) o)
@@ -29,7 +29,7 @@ returns-in_err-add_tick-clause-ends g c =
     let r = g.R.ServedReplica in
     let o = c.add_tick.ensures.others in
     on_err c.from_residual.result
-    (tick_silent r.Says r.Gathers g.S.DatagramSocket.is_telling c.begin_group-group.result c.args.self.now
+    (tick_silent r.Says r.Gathers g.S.DatagramSocket.is_observable c.begin_group-group.result c.args.self.now
     c.add_tick.new.self c.begin_group-group.ensures c.in_err-add_tick.ensures.silent
     (ap (λ (s : ServerValue _). s.own) o) (ap (λ (s : ServerValue _). s.sent) o)
     (ap (λ (s : ServerValue _). s.socket_failures) o))

@@ -1,7 +1,7 @@
 use Rattle.std.proofs.Common.{[], ◌∷◌, ◌++◌}
-use Rattle.lk_fields.specs.FieldReading.{read_command}
-use Rattle.lk_fields.specs.Parser.{many}
-use Rattle.lk_fields.proofs.Spellings.{goes_on}
+use Rattle.lk_codec.specs.FieldReading.{read_command}
+use Rattle.lk_codec.specs.Parser.{many}
+use Rattle.lk_codec.proofs.Spellings.{goes_on}
 use Rattle.lk_messages.proofs.Spellings.{stepped}
 use Rattle.lk_wire.proofs.viewing.decided.end_of.Goals as goal
 

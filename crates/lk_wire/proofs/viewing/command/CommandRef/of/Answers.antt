@@ -1,6 +1,6 @@
 use Rattle.std.proofs.Common.{arith}
-use Rattle.lk_fields.specs.FieldReading.{read_command}
-use Rattle.lk_fields.proofs.Spellings.{command_reads}
+use Rattle.lk_codec.specs.FieldReading.{read_command}
+use Rattle.lk_codec.proofs.Spellings.{command_reads}
 use Rattle.lk_messages.proofs.Spellings.{cut, stepped}
 use Rattle.lk_wire.proofs.viewing.command.CommandRef.of.Goals as goal
 

@@ -1,6 +1,6 @@
 use Rattle.std.proofs.Common.{arith}
-use Rattle.lk_fields.specs.FieldReading.{read_request}
-use Rattle.lk_fields.proofs.Spellings.{request_reads}
+use Rattle.lk_codec.specs.FieldReading.{read_request}
+use Rattle.lk_codec.proofs.Spellings.{request_reads}
 use Rattle.lk_messages.proofs.Spellings.{cut, stepped}
 use Rattle.lk_wire.proofs.viewing.command.RequestRef.of.Goals as goal
 

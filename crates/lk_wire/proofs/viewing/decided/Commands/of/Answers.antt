@@ -1,6 +1,6 @@
 use Rattle.std.proofs.Common.{[], arith}
-use Rattle.lk_fields.specs.FieldReading.{read_command}
-use Rattle.lk_fields.specs.Parser.{many}
+use Rattle.lk_codec.specs.FieldReading.{read_command}
+use Rattle.lk_codec.specs.Parser.{many}
 use Rattle.lk_messages.proofs.Spellings.{cut, stepped, commands_read}
 use Rattle.lk_wire.proofs.viewing.decided.Commands.of.Goals as goal
 

@@ -1,5 +1,5 @@
 use Rattle.std.proofs.Common.{rules, ◌≡◌, Some}
-use Rattle.lk_fields.specs.FieldReading.{read_command}
+use Rattle.lk_codec.specs.FieldReading.{read_command}
 use Rattle.lk_messages.proofs.Spellings.{stepped}
 use Rattle.lk_wire.proofs.viewing.decided.Commands.skip.Goals as goal
 

@@ -1,0 +1,12 @@
+use Rattle.std.proofs.Common.{rules, arith}
+use Rattle.lk_codec.specs.FieldReading.{read_eight}
+use Rattle.lk_codec.proofs.FrontLaws.{eight_front}
+use Rattle.lk_codec.proofs.read.read_u64.Goals as goal
+
+pub returns-in_err-number-clause-front : goal.returns-in_err-number-clause-front
+unfolding read_eight
+returns-in_err-number-clause-front c = eight_front _ _ _ (λ i. omega (arith, c.type_inv.bytes i)) (search rules)
+
+pub returns-clause-front : goal.returns-clause-front
+unfolding read_eight
+returns-clause-front c = eight_front _ _ _ (λ i. omega (arith, c.type_inv.bytes i)) (search rules)

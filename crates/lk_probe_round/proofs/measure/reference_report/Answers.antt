@@ -1,8 +1,0 @@
-use Rattle.std.specs.Option.{option_copied}
-use Rattle.lk_probe_round.proofs.Measuring.{by_furthest}
-use Rattle.lk_probe_round.proofs.measure.reference_report.Goals as goal
-
-pub returns : goal.returns
-returns c =
-    by_furthest c.args.reports.now c.in-Some.told.now
-    (option_copied c.furthest_in.result) c.in-Some.ensures c.if-told.false c.furthest_in.ensures

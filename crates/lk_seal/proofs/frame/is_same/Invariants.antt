@@ -1,5 +1,0 @@
-use Rattle.lk_seal.proofs.Bits.{Tells}
-use Rattle.lk_seal.proofs.frame.is_same.Given as goal
-
-abbrev pub invariant-bytes : goal.invariant-bytes
-invariant-bytes l = Tells l.difference l.i l.left l.right

@@ -1,5 +1,0 @@
-use Rattle.lk_seal.proofs.VouchLaws.{opened_among as law}
-use Rattle.lk_seal.proofs.laws.is_opened.Goals as goal
-
-pub returns : goal.returns
-returns c = law

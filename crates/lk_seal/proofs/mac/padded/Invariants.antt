@@ -1,6 +1,0 @@
-use Rattle.std.proofs.Common.{◌≡◌, length, take}
-use Rattle.lk_seal.specs.Hmac.{with_pad}
-use Rattle.lk_seal.proofs.mac.padded.Given as goal
-
-abbrev pub invariant-bytes : goal.invariant-bytes
-invariant-bytes l = (length l.mixed ≡ 64) × (take l.i l.mixed ≡ with_pad l.pad (take l.i l.block))

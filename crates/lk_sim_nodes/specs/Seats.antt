@@ -1,0 +1,113 @@
+-- The nodes of a world.
+use Rattle.std.specs.Prelude.{◌≡◌, ℕ, ◌<◌, ◌⊎◌, Option, Some, None, List, length, get_or}
+use Rattle.lk_disk.specs.Disk.{Disk}
+use Rattle.lk_simulated_disk.specs.Memory.{Memory, disk_of, stopped}
+use Rattle.lk_disk.specs.Meters.{trapped, disarmed}
+use Rattle.lk_disk.specs.declared.device.Side.{Side}
+use Rattle.lk_disk.specs.declared.trap.Trap.{Trap}
+use Rattle.lk_disk.specs.declared.trap.Trap.TheVariants.{Off}
+use Rattle.lk_state.specs.Meanings.{Meaning}
+use Rattle.lk_agreement.specs.Nodes.{View}
+use Rattle.lk_node_io.specs.declared.note.Note.{Note}
+use Rattle.lk_node.specs.Histories.{History, Genesis, Datagram}
+use Rattle.lk_node.specs.Calls.{LeavesFit}
+use Rattle.lk_node.specs.Holdings.{Holding, HoldingFits}
+use Rattle.lk_node.specs.Leavings.{DisksFit}
+use Rattle.lk_replica.specs.Behaviours.{Behaviour}
+use Rattle.lk_sim_nodes.specs.Rooms.{AreShort}
+use Rattle.lk_sim_nodes.specs.declared.seat.Seat.{Seat}
+use Rattle.lk_sim_nodes.specs.declared.seat.Life.{Life}
+use Rattle.lk_sim_nodes.specs.declared.seat.Life.TheVariants.{Up, Down}
+
+-- it is at this place
+abbrev pub At : {X : Type 0} → List X → ℕ → X → Type 0
+At xs k x = (k < length xs) × (get_or xs k x ≡ x)
+
+-- the node of this number was started, and is in this state
+abbrev pub Sits : {R : Type 0} → List (Seat R) → ℕ → Life R → Type 0
+Sits {R = R} seats number life = (k : ℕ) × (s : Seat R) × At seats k s × (s.number ≡ number) × (s.life ≡ life)
+
+abbrev pub IsStarted : {R : Type 0} → List (Seat R) → ℕ → Type 0
+IsStarted {R = R} seats number = (life : Life R) × Sits seats number life
+
+abbrev pub IsUp : {R : Type 0} → List (Seat R) → ℕ → Type 0
+IsUp {R = R} seats number = (r : R) × Sits seats number (Up r)
+
+abbrev pub IsDown : {R : Type 0} → List (Seat R) → ℕ → Type 0
+IsDown {R = R} seats number = (d : Memory) × Sits seats number (Down d)
+
+-- no node of this number was ever started
+abbrev pub HasNo : {R : Type 0} → List (Seat R) → ℕ → Type 0
+HasNo {R = R} seats number = (k : ℕ) (s : Seat R) → At seats k s → s.number ≡ number → ⊥
+
+-- ---- the device of a node that is down
+
+-- a stop that keeps up to this many unsynced bytes of each disk has left it, and nothing is pending
+abbrev pub stopped_on : ℕ → ℕ → Memory → Memory
+stopped_on x y m = record (stopped x y m) { meter = trapped Off (disarmed m.meter) }
+
+-- a fault has left it unchanged, and no trap is pending
+abbrev pub fallen_on : Memory → Memory
+fallen_on m = record m { meter = trapped Off m.meter }
+
+-- a fault has left it; or, if the node has reached an armed stop for this many bytes, that stop has
+abbrev pub rested_on : Option ℕ → Memory → Memory
+rested_on None m = fallen_on m
+rested_on (Some bytes) m = stopped_on bytes bytes m
+
+-- the device of a node, up or down
+abbrev pub device_in : {R : Type 0} → Behaviour R → Life R → Memory
+device_in b (Up r) = b.memory r
+device_in b (Down d) = d
+
+-- its disks
+abbrev pub disks_of : {R : Type 0} → (R → Side → Disk) → Life R → Side → Disk
+disks_of disks (Up r) = disks r
+disks_of disks (Down d) = disk_of d
+
+-- a trap was set at the device of the node, and nothing else changed
+abbrev pub IsTrapped : {R : Type 0} → Behaviour R → Seat R → Seat R → Trap → Type 0
+IsTrapped {R = R} b s t trap =
+    ((r : R) × (s.life ≡ Up r) × (t.life ≡ Up (b.with_trap trap r)))
+    ⊎ ((d : Memory) × (s.life ≡ Down d) × (t.life ≡ Down (record d { meter = trapped trap d.meter })))
+
+-- ---- how a node fits what has happened
+
+-- a replica that is up holds this view and what fits, and so does whatever a stop may leave of it; its files are short
+pub record UpFits {R : Type 0} (Shows : R → Genesis → ℕ → Holding → Type 0) (disks : R → Side → Disk) (m : Meaning)
+    (h : History) (w : View) (n : ℕ) (r : R) : Type 0 where
+  pub holding : Holding
+  pub view : holding.view ≡ w
+  pub shown : Shows r h.genesis n holding
+  pub fits : HoldingFits m h n holding
+  pub left : DisksFit m h n (disks r)
+  pub room : AreShort (disks r)
+
+-- a node is up like this, or its disks fit
+pub record SeatFits {R : Type 0} (Shows : R → Genesis → ℕ → Holding → Type 0) (disks : R → Side → Disk) (m : Meaning)
+    (h : History) (w : View) (s : Seat R) : Type 0 where
+  pub up : (r : R) → s.life ≡ Up r → UpFits Shows disks m h w s.number r
+  pub down : (d : Memory) → s.life ≡ Down d → DisksFit m h s.number (disk_of d)
+  pub room : (d : Memory) → s.life ≡ Down d → AreShort (disk_of d)
+
+-- a node has started, or gone on
+pub record SeatGoes {R : Type 0} (Shows : R → Genesis → ℕ → Holding → Type 0) (disks : R → Side → Disk) (m : Meaning)
+    (h : History) (s : Seat R) (notes : List Note) (batch : List Datagram) : Type 0 where
+  pub replica : R
+  pub up : s.life ≡ Up replica
+  pub goes : LeavesFit m h s.number (Shows replica h.genesis s.number) (disks replica) notes batch
+  pub room : AreShort (disks replica)
+
+-- ---- where a node is
+
+-- the node of this number is at this place
+abbrev pub IsSeatOf : {R : Type 0} → List (Seat R) → ℕ → ℕ → Type 0
+IsSeatOf {R = R} seats i number = (s : Seat R) × At seats i s × (s.number ≡ number)
+
+-- and is up
+abbrev pub IsUpAt : {R : Type 0} → List (Seat R) → ℕ → ℕ → Type 0
+IsUpAt {R = R} seats i number = (s : Seat R) × (r : R) × At seats i s × (s.number ≡ number) × (s.life ≡ Up r)
+
+-- and is down
+abbrev pub IsDownAt : {R : Type 0} → List (Seat R) → ℕ → ℕ → Type 0
+IsDownAt {R = R} seats i number = (s : Seat R) × (d : Memory) × At seats i s × (s.number ≡ number) × (s.life ≡ Down d)

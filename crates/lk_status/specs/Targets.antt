@@ -1,0 +1,31 @@
+-- The targets of a round: the words that spell them, and their addresses.
+use Rattle.std.specs.Prelude.{◌≡◌, ⊤, ℕ, Option, Some, None, List, [], ◌∷◌}
+use Rattle.std.specs.Fmt.{decimal}
+use Rattle.std.specs.declared.net.ip_addr.IpAddr.{IpAddr}
+use Rattle.lk_types.specs.Ranges.{IsPort}
+use Rattle.lk_parsers.specs.Geneses.{IsMemberWord}
+use Rattle.lk_transport.specs.Hosts.{host_of}
+use Rattle.lk_client.specs.Questions.{known_or}
+use Rattle.lk_status.specs.declared.target.Inquiry.{Inquiry}
+use Rattle.lk_status.specs.declared.target.Target.{Target}
+
+-- the word spells a node and its port, or a port alone
+abbrev pub SpellsPlace : List ℕ → Option ℕ → ℕ → Type 0
+SpellsPlace word (Some node) port = IsMemberWord (record { node = node; port = port }) word
+SpellsPlace word None port = IsPort port × (word ≡ decimal port)
+
+-- each word spells the place of its target
+abbrev pub SpellTargets : List (List ℕ) → List Target → Type 0
+SpellTargets [] [] = ⊤
+SpellTargets [] (t ∷ ts) = ⊥
+SpellTargets (w ∷ ws) [] = ⊥
+SpellTargets (w ∷ ws) (t ∷ ts) = SpellsPlace w t.node t.port × SpellTargets ws ts
+
+-- the address at which a node lives, if there is one and that is known
+abbrev pub host_if : Inquiry → Option ℕ → Option IpAddr
+host_if i None = None
+host_if i (Some node) = host_of i.destination.hosts node
+
+-- where a target is asked: at the address of its node, or at that of the inquiry
+abbrev pub target_address : Inquiry → Target → IpAddr
+target_address i t = known_or (host_if i t.node) i.destination.address
