@@ -24,6 +24,7 @@ use Rattle.lk_sim.specs.Events.{IsExecuted}
 use Rattle.lk_sim.specs.Events as doing
 use Rattle.lk_sim.specs.Packed.{LeavesPacked}
 use Rattle.lk_sim.specs.Promises.{Promises}
+use Rattle.lk_sim.specs.Promises as world
 use Rattle.lk_sim.specs.Runs.{Runs}
 use Rattle.lk_sim.specs.Scenes.{Scene}
 use Rattle.lk_sim_nodes.specs.Seats.{At}
@@ -115,12 +116,22 @@ snapshots : (genesis : Genesis) (seats : List (Seat ReplicaValue)) (sent : List 
     → HaveSnapshots genesis seats sent
 snapshots genesis seats sent all s here = has_snapshots genesis sent s (all here.0 s (here.1, here.2))
 
+used_once : (genesis : Genesis) (sent : List Datagram) → world.UsesBallotsOnce genesis sent
+    → promise.UsesBallotsOnce genesis sent
+used_once genesis sent u = record {
+  own = λ n x says. u.own n x (has_sent genesis sent n (message.Accept x) says);
+  once = λ n k i b v w says said.
+      u.once b i v w (record { sender = n; has_sent = has_sent genesis sent n _ says })
+      (record { sender = k; has_sent = has_sent genesis sent k _ said });
+}
+
 -- what a world promises is the promise
 pub promised : (w : Scene ReplicaValue)
     → Promises locks_behave (λ r. r.node.learner.whole) table_meaning w → KeepsPromise w
 promised w p = record {
   explained = explained w.genesis w.sent w.trace p.explained;
   agree = agreed w.genesis w.sent p.agree;
+  ballots = used_once w.genesis w.sent p.ballots;
   executed = executed w.genesis w.seats w.sent p.states;
   told = told w.sent w.trace p.told;
   order = ordered w.genesis w.sent w.trace p.order;

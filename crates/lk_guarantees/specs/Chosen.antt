@@ -4,6 +4,7 @@ use Rattle.lk_types.specs.BallotValue.{BallotValue as Ballot}
 use Rattle.lk_types.specs.declared.command.Command.{Command}
 use Rattle.lk_types.specs.declared.genesis.Genesis.{Genesis}
 use Rattle.lk_types.specs.declared.member.Member.{Member}
+use Rattle.lk_types.specs.declared.vote.Vote.{Vote}
 use Rattle.lk_messages.specs.Grammar.{Spells}
 use Rattle.lk_messages.specs.declared.message.Content.TheVariants as content
 use Rattle.lk_messages.specs.declared.message.NodeMessage.{NodeMessage}
@@ -18,6 +19,14 @@ pub record Says (genesis : Genesis) (sent : List Datagram) (node : ℕ) (m : Nod
   pub is_sent : Contains sent datagram
   pub by_node : datagram.from ≡ party.Node node
   pub in_words : Spells (record { cluster = genesis.cluster; content = content.Node node m }) datagram.bytes
+
+-- A ballot is used once: only the node that it names proposes in it, and at each position one command. (Lamport, Paxos
+-- Made Simple, 2001, section 2.2: different proposals have different numbers)
+pub record UsesBallotsOnce (genesis : Genesis) (sent : List Datagram) : Type 0 where
+  pub own : (node : ℕ) (x : Vote) → Says genesis sent node (message.Accept x) → x.ballot.node ≡ node
+  pub once : (node other i : ℕ) (ballot : Ballot) (v w : Command)
+      → Says genesis sent node (message.Accept (record { position = i; ballot = ballot; command = v }))
+      → Says genesis sent other (message.Accept (record { position = i; ballot = ballot; command = w })) → v ≡ w
 
 -- more than half of these members have accepted the command at position i in the ballot
 pub record IsAcceptedBy (genesis : Genesis) (sent : List Datagram) (set : List Member) (i : ℕ) (v : Command)

@@ -35,7 +35,7 @@ use Rattle.lk_sim.specs.Scenes.{Scene}
 use Rattle.lk_sim_nodes.specs.declared.seat.Life.TheVariants.{Up}
 use Rattle.lk_sim_nodes.specs.declared.seat.Seat.{Seat}
 use Rattle.lk_guarantees.specs.Plain.{at, members, IsAnswered, TakesEffectAt, Kept, IsKeptOf}
-pub use Rattle.lk_guarantees.specs.Chosen.{Says, IsAcceptedBy, IsChosen, IsPrefix, Agree}
+pub use Rattle.lk_guarantees.specs.Chosen.{Says, UsesBallotsOnce, IsAcceptedBy, IsChosen, IsPrefix, Agree}
 pub use Rattle.lk_guarantees.specs.Disks.{members_text, session_text, kept_text, IsSnapshot, device_in, MayRemain}
 pub use Rattle.lk_guarantees.specs.Disks.{MayRemainOf, Remembers, EachImage, HasSnapshot, HaveSnapshots, HasVote}
 pub use Rattle.lk_guarantees.specs.Disks.{IsCovered, AreCovered, IsRemembered, IsKeptBy, AreKept, IsShort, AreShort}
@@ -171,6 +171,8 @@ pub record KeepsPromise (world : Scene ReplicaValue) : Type 0 where
   pub explained : IsExplained world.genesis world.sent world.trace
   -- of two chosen lists one is a prefix of the other
   pub agree : Agree world.genesis world.sent
+  -- each ballot is used once
+  pub ballots : UsesBallotsOnce world.genesis world.sent
   -- each node that is up has executed a chosen list
   pub executed : HaveExecuted world.genesis world.seats world.sent
   -- the trace has, in order, each answer that was sent

@@ -253,5 +253,6 @@ promises_of Shows b whole m sums w h = record {
   kept = λ L i v chosen. kept Shows (disks_by b) m w.genesis w.seats w.sent w.trace h L chosen i v;
   order = ordered Shows (disks_by b) m w.genesis w.seats w.sent w.trace h;
   told_in_time = told_in_time Shows (disks_by b) m w.genesis w.seats w.sent w.trace h;
+  ballots = record { own = h.world.sound.owned; once = h.world.sound.one_value };
   room = room Shows (disks_by b) m w.genesis w.seats w.sent w.trace h;
 }

@@ -1,6 +1,8 @@
 -- What is promised of every world, whatever has happened in it.
 use Rattle.std.specs.Prelude.{◌≡◌, ℕ, ◌⊎◌, Some, List}
+use Rattle.lk_agreement.specs.Ballots.{BallotValue}
 use Rattle.lk_agreement.specs.Chosen.{command_at, Chosen, IsBeginning}
+use Rattle.lk_agreement.specs.Datagrams.{Genesis, Datagram, Vote, Accept, HasSent, WasSent}
 use Rattle.lk_node.specs.Histories.{Command}
 use Rattle.lk_replica.specs.Behaviours.{Behaviour, disks_by}
 use Rattle.lk_sim.specs.Explained.{Explains}
@@ -15,6 +17,13 @@ use Rattle.lk_sim.specs.Traces.{told_in}
 use Rattle.lk_sim_nodes.specs.declared.seat.Seat.{Seat}
 use Rattle.lk_state.specs.Meanings.{Meaning}
 use Rattle.lk_state.specs.States.{WholeValue}
+
+-- a ballot is used once: only the node that it names proposes in it, and at each position one command
+pub record UsesBallotsOnce (genesis : Genesis) (sent : List Datagram) : Type 0 where
+  pub own : (n : ℕ) (x : Vote) → HasSent genesis sent n (Accept x) → x.ballot.node ≡ n
+  pub once : (b : BallotValue) (i : ℕ) (v w : Command)
+      → WasSent genesis sent (Accept (record { position = i; ballot = b; command = v }))
+      → WasSent genesis sent (Accept (record { position = i; ballot = b; command = w })) → v ≡ w
 
 pub record Promises {R : Type 0} (b : Behaviour R) (whole : R → WholeValue) (m : Meaning) (w : Scene R) : Type 0 where
   -- some chosen list of no-ops and asked requests explains everything that was noted and sent
@@ -35,5 +44,7 @@ pub record Promises {R : Type 0} (b : Behaviour R) (whole : R → WholeValue) (m
   pub order : InOrder w.genesis w.sent w.trace
   -- a greater number of which a client was told was asked before
   pub told_in_time : ToldInTime w.trace
+  -- each ballot is used once
+  pub ballots : UsesBallotsOnce w.genesis w.sent
   -- no file of a node is ever longer than 262,144 bytes
   pub room : (k : ℕ) (s : Seat R) → At w.seats k s → AreShort (disks_of (disks_by b) s.life)
