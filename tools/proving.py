@@ -2,12 +2,13 @@
 """Runs `rt ci` in the current folder, in less time: `./prove` calls it in a copy of the crates.
 
 `rt ci` gives a proof the processors that no other proof waits for, often a single one. Here the crate with the longest
-chain of crates above it gets all processors. Others run beside it with one processor each, at a lower priority. A crate
-that is proved is kept in the folder KEPT, by a hash of its sources and of those below it, and is not proved again. The
-hash of a crate is computed once: `rt ci` computes it for each path through crates.txt, of which there are thousands.
-What has to be proved, and how, is left to `rt ci`.
+chain of crates above it gets all processors. Others run beside it at a lower priority: two processors for a crate whose
+chain is nearly as long, one for any other. A crate that is proved is kept in the folder KEPT, by a hash of its sources
+and of those below it, and is not proved again. The hash of a crate is computed once: `rt ci` computes it for each path
+through crates.txt, of which there are thousands. What has to be proved, and how, is left to `rt ci`.
 
 The kit does not promise the functions that are replaced here. Where it has no such functions, this is plain `rt ci`."""
+import contextlib
 import functools
 import hashlib
 import importlib.machinery
@@ -21,10 +22,11 @@ from concurrent.futures import FIRST_COMPLETED, ThreadPoolExecutor, wait
 
 from scripting import need, parser
 
-READING = 200  # lines of code that cost as much as reading the libraries of a crate
+READING = 20  # lines of code that cost as much as reading a library
+NEARLY = 2 / 3
 MEMORY = 0.85  # the share of the free memory that proofs may take, as in `rt ci`
 EACH_JOB = 0.6  # the memory of one more job of a proof, as a share of that of the first
-NICE = 10
+NICE = (0, 5, 10)  # of the longest chain, of one nearly as long, of the others
 NAME = "name"  # a file with the name of what a proof has made
 
 
@@ -105,7 +107,7 @@ def chains(tasks):
     behind = dict.fromkeys(tasks, 0)
     for key in reversed([*tasks]):  # a task comes after those that it waits for
         waits, lines, *_ = tasks[key]
-        behind[key] += lines + READING
+        behind[key] += lines + READING * (5 + len(waits))
         for it in waits:
             behind[it] = max(behind[it], behind[key])
     return behind
@@ -122,31 +124,37 @@ class Lanes:
 
     def run(self):
         """Runs all tasks, and returns what each has given."""
-        niced = ThreadPoolExecutor(self.processors, initializer=os.nice, initargs=[NICE])
-        with ThreadPoolExecutor(2) as first, niced as others:
+        with contextlib.ExitStack() as stack:
+            pools = [stack.enter_context(self.pool(it)) for it in NICE]
             while self.left or self.running:
                 for key in self.ready():
-                    self.start(key, first, others)
+                    self.start(key, pools)
                 for it in wait(self.running, return_when=FIRST_COMPLETED).done:
                     self.given[self.running.pop(it)[0]] = it.result()
         return self.given
+
+    def pool(self, niceness):
+        """Threads that start what they run with this niceness."""
+        return ThreadPoolExecutor(self.processors + 1, initializer=os.nice, initargs=[niceness])
 
     def ready(self):
         """The tasks whose turn may have come, those with the longest chain first."""
         return [it for it in self.left if all(below in self.given for below in self.tasks[it][0])]
 
-    def start(self, key, first, others):
+    def rank(self, key):
+        """0 for the task with the longest chain of all that have not ended, 1 for one nearly as long, or else 2."""
+        longest = max(map(self.behind.get, [*self.left, *(it for it, *_ in self.running.values())]))
+        return 0 if self.behind[key] == longest else 1 if self.behind[key] >= NEARLY * longest else 2
+
+    def start(self, key, pools):
         """Starts a task if it has the longest chain of all, or if a processor and memory are free."""
-        unfinished = [*self.left, *(it for it, *_ in self.running.values())]
-        is_first = self.behind[key] == max(map(self.behind.get, unfinished))
-        beside = [it for it in self.running.values() if not it[2]]
-        jobs = self.processors if is_first else 1
+        rank = self.rank(key)
+        jobs = min((self.processors, 2, 1)[rank], self.processors)
         memory = self.tasks[key][2] * (1 + EACH_JOB * (jobs - 1))
-        room = self.memory - sum(it[1] for it in self.running.values())
-        if not self.running or is_first or (len(beside) < self.processors and memory <= room):
+        room = self.memory - sum(it for _, it in self.running.values())
+        if not self.running or rank == 0 or (len(self.running) <= self.processors and memory <= room):
             self.left.remove(key)
-            pool = first if is_first else others
-            self.running[pool.submit(self.task, key, jobs)] = key, memory, is_first
+            self.running[pools[rank].submit(self.task, key, jobs)] = key, memory
 
     def task(self, key, jobs):
         """Proves a crate, or takes what is kept of it. Tests are left out."""
