@@ -25,7 +25,7 @@ from scripting import need, parser
 READING = 20  # lines of code that cost as much as reading a library
 NEARLY = 2 / 3
 MEMORY = 0.85  # the share of the free memory that proofs may take, as in `rt ci`
-EACH_JOB = 0.6  # the memory of one more job of a proof, as a share of that of the first
+EACH_JOB = 0.3  # the memory of one more job of a proof, as a share of that of the first: they are forks of it
 NICE = (0, 5, 10)  # of the longest chain, of one nearly as long, of the others
 NAME = "name"  # a file with the name of what a proof has made
 
