@@ -1,30 +1,28 @@
 #!/usr/bin/env python3
-"""Gives `rt check`, `rt plant` and `rt must-fail` the libraries below the named crates, from what ./prove has kept.
+"""Gives `rt check`, `rt plant` and `rt must-fail` the libraries below the named crates, from what ./prove or `rt ci`
+has kept.
 
 Without them `rt` first builds each library below a crate that is not there or has changed, which can take half an hour.
-A library that has changed since ./prove proved it is not given, nor is any above it: `rt` builds these. The last line
-says how many were given. Only `rt ci` gives a verdict."""
+A library that has changed since it was proved is not given, nor is any above it: `rt` builds these. The last line says
+how many were given. Only `rt ci` gives a verdict."""
 import functools
 import os
 import pathlib
-import shutil
 import sys
 
-from proving import Store, gate, is_known, linked
+from keeping import KitStore, OwnStore, command_of, keeps
+from proving import is_known
 from scripting import KEPT, TOP, need, parser
 
 
 def give(store, name):
-    """Puts the library of a crate in its place, if it is kept. Whether it is."""
-    kept = store.find(name)
-    if not kept:
-        return False
+    """Puts the library of a crate in its place, if it is kept, with the stamp by which `rt check` takes it. Whether it
+    is."""
     crate = store.crates[name]
-    place = pathlib.Path(crate.folder, "out/rlib")
-    shutil.rmtree(place, ignore_errors=True)
-    shutil.copytree(kept / "rlib", place, copy_function=linked)
-    (place / "stamp").write_text(crate.stamp())
-    return True
+    given = store.give(name)
+    if given:
+        pathlib.Path(crate.folder, "out/rlib/stamp").write_text(crate.stamp())
+    return given
 
 
 def main():
@@ -34,11 +32,11 @@ def main():
     named = arguments.parse_args().crates
     need("rt")
     os.chdir(TOP)
-    rt = gate()
+    rt = command_of("rt")
     if not is_known(rt):
         sys.exit("libraries.py: this kit's `rt` has another form; run `rt check`, which builds the libraries")
     rt.rtlib.Crate.stamp = functools.cache(rt.rtlib.Crate.stamp)
-    store = Store(KEPT, rt)
+    store = KitStore(rt) if keeps(rt) else OwnStore(KEPT, rt)
     wanted = {below.name for name in named for below in store.crates[name].below()}
     given = [name for name in store.crates if name in wanted and give(store, name)]
     print(f"{len(given)} of {len(wanted)} libraries given")

@@ -3,23 +3,18 @@
 
 `rt ci` gives a proof the processors that no other proof waits for, often a single one. Here the crate with the longest
 chain of crates above it gets all processors. Others run beside it at a lower priority: two processors for a crate whose
-chain is nearly as long, one for any other. A crate that is proved is kept in the folder KEPT, by a hash of its sources
-and of those below it, and is not proved again. The hash of a crate is computed once: `rt ci` computes it for each path
-through crates.txt, of which there are thousands. What has to be proved, and how, is left to `rt ci`.
+chain is nearly as long, one for any other. What has to be proved, and how, is left to `rt ci`, and where the kit keeps
+what it has proved, that as well. Where it does not, tools/keeping.py keeps it in the folder KEPT, and the hash of a
+crate is computed once: such a kit computes it for each path through crates.txt, of which there are thousands.
 
 The kit does not promise the functions that are replaced here. Where it has no such functions, this is plain `rt ci`."""
 import contextlib
 import functools
-import hashlib
-import importlib.machinery
-import importlib.util
 import os
-import pathlib
-import shutil
 import sys
-import uuid
 from concurrent.futures import FIRST_COMPLETED, ThreadPoolExecutor, wait
 
+from keeping import OwnStore, command_of, keeps
 from scripting import need, parser
 
 READING = 20  # lines of code that cost as much as reading a library
@@ -27,16 +22,6 @@ NEARLY = 2 / 3
 MEMORY = 0.85  # the share of the free memory that proofs may take, as in `rt ci`
 EACH_JOB = 0.3  # the memory of one more job of a proof, as a share of that of the first: they are forks of it
 NICE = (0, 5, 10)  # of the longest chain, of one nearly as long, of the others
-NAME = "name"  # a file with the name of what a proof has made
-
-
-def gate():
-    """The module of the command `rt`."""
-    file = os.path.realpath(shutil.which("rt"))
-    loader = importlib.machinery.SourceFileLoader("gate", file)
-    made = importlib.util.module_from_spec(importlib.util.spec_from_loader("gate", loader))
-    loader.exec_module(made)
-    return made
 
 
 def is_known(rt):
@@ -49,57 +34,6 @@ def is_known(rt):
 def are_known(tasks):
     """Whether the tasks of `rt ci` have the form that is expected here."""
     return all(len(key) == 2 and len(task) == 4 for key, task in tasks.items())
-
-
-class Store:
-    """The folder of what was proved. A proof fits only the very libraries that it was made over, so each has a name of
-    its own, and what is kept of a crate is found by its sources and the names of the libraries below it."""
-
-    def __init__(self, folder, rt):
-        self.folder = pathlib.Path(folder)
-        self.crates = {it.name: it for it in rt.rtlib.crates_below(os.getcwd())}
-        self.made = {}
-
-    def place(self, name):
-        """The folder for a crate with its present sources, over the libraries of this run."""
-        crate = self.crates[name]
-        over = [crate.stamp(), *(self.made[it.name] for it in crate.below())]
-        return self.folder / f"{name}-{hashlib.sha256(repr(over).encode()).hexdigest()[:32]}"
-
-    def find(self, name):
-        """The folder of what the proof of a crate has made, if it is kept, and with it all libraries below."""
-        if any(it.name not in self.made for it in self.crates[name].below()):
-            return None
-        kept = self.place(name)
-        if not kept.is_dir():
-            return None
-        self.made[name] = (kept / NAME).read_text()
-        return kept
-
-    def take(self, name):
-        """Puts back what the proof of a crate has made, if it is kept."""
-        kept = self.find(name)
-        if kept:
-            shutil.copytree(kept, f"{self.crates[name].folder}/out", copy_function=linked, dirs_exist_ok=True)
-        return bool(kept)
-
-    def put(self, name):
-        """Keeps what the proof of a crate has made, in place of what is kept of the crate."""
-        out, new = pathlib.Path(self.crates[name].folder, "out"), self.folder / f"new-{uuid.uuid4()}"
-        self.made[name] = new.name
-        (out / NAME).write_text(new.name)
-        shutil.copytree(out, new, copy_function=linked)
-        for it in self.folder.glob(f"{name}-*"):
-            shutil.rmtree(it, ignore_errors=True)
-        new.replace(self.place(name))
-
-
-def linked(source, to):
-    """Links a file, or copies it to another file system."""
-    try:
-        os.link(source, to)
-    except OSError:
-        shutil.copy2(source, to)
 
 
 def chains(tasks):
@@ -147,12 +81,14 @@ class Lanes:
         return 0 if self.behind[key] == longest else 1 if self.behind[key] >= NEARLY * longest else 2
 
     def start(self, key, pools):
-        """Starts a task if it has the longest chain of all, or if a processor and memory are free."""
+        """Starts a task if it has the longest chain of all, or if there is memory and, unless its chain is nearly as
+        long, a processor."""
         rank = self.rank(key)
         jobs = min((self.processors, 2, 1)[rank], self.processors)
         memory = self.tasks[key][2] * (1 + EACH_JOB * (jobs - 1))
         room = self.memory - sum(it for _, it in self.running.values())
-        if not self.running or rank == 0 or (len(self.running) <= self.processors and memory <= room):
+        is_free = memory <= room and (rank == 1 or len(self.running) <= self.processors)
+        if not self.running or rank == 0 or is_free:
             self.left.remove(key)
             self.running[pools[rank].submit(self.task, key, jobs)] = key, memory
 
@@ -161,6 +97,8 @@ class Lanes:
         (name, kind), call = key, self.tasks[key][3]
         if kind != "proof":
             return kind == "tests" or call(self.given, jobs)
+        if not self.store:
+            return call(self.given, jobs)
         if self.store.take(name):
             print(f"rt: {name} is kept", flush=True)
             return True
@@ -172,16 +110,18 @@ class Lanes:
 
 def main():
     arguments = parser(__doc__)
-    arguments.add_argument("kept", metavar="KEPT", help="the folder of what was proved")
-    folder = arguments.parse_args().kept
+    arguments.add_argument("--anew", action="store_true", help="prove each crate, also those that are kept")
+    arguments.add_argument("kept", metavar="KEPT", help="the folder of what was proved, where the kit keeps nothing")
+    chosen = arguments.parse_args()
     need("rt")
-    rt = gate()
+    rt = command_of("rt")
     if not is_known(rt):
         os.execvp("rt", ["rt", "ci"])
     in_lanes = rt.in_lanes
     rt.rtlib.Crate.stamp = functools.cache(rt.rtlib.Crate.stamp)
-    rt.in_lanes = lambda tasks: Lanes(rt, Store(folder, rt), tasks).run() if are_known(tasks) else in_lanes(tasks)
-    sys.exit(rt.main(["ci"]))
+    store_of = (lambda: None) if keeps(rt) else (lambda: OwnStore(chosen.kept, rt, chosen.anew))
+    rt.in_lanes = lambda tasks: Lanes(rt, store_of(), tasks).run() if are_known(tasks) else in_lanes(tasks)
+    sys.exit(rt.main(["ci", "--anew"] if chosen.anew and keeps(rt) else ["ci"]))
 
 
 if __name__ == "__main__":
