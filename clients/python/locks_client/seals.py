@@ -51,10 +51,10 @@ def read_keys(path: str | os.PathLike[str]) -> list[bytes]:
     """The one key or two of a file that only its owner may have; else ValueError."""
     with open(path, "rb") as file:
         if stat.S_IMODE(os.fstat(file.fileno()).st_mode) & 0o077:
-            raise ValueError(f"{path}: others than its owner may have it")
+            raise ValueError(f"{path}: readable by users other than its owner; set its mode to 600")
         found = [line for _, line in lines(file.read())]
     if not 1 <= len(found) <= 2 or not all(is_key(line) for line in found):
-        raise ValueError(f"{path}: its lines are not one key or two")
+        raise ValueError(f"{path}: a key file has one key or two, each 64 hex digits on its own line")
     return [bytes.fromhex(line) for line in found]
 
 

@@ -56,9 +56,9 @@ class FilesTest(unittest.TestCase):
         one, two = "11" * 32, "22" * 32
         self.assertEqual(read_keys(self.file(f"# old\n{one}\n\n{two}\n")), [bytes.fromhex(it) for it in (one, two)])
         for text in ("", "#\n", f"{one}\n{two}\n{one}\n", one[1:], f"{one} ", "11 " * 21 + "1"):
-            with self.subTest(text=text), self.assertRaisesRegex(ValueError, "its lines are not one key or two"):
+            with self.subTest(text=text), self.assertRaisesRegex(ValueError, "a key file has one key or two"):
                 read_keys(self.file(text))
-        with self.assertRaisesRegex(ValueError, "others than its owner may have it"):
+        with self.assertRaisesRegex(ValueError, "readable by users other than its owner; set its mode to 600"):
             read_keys(self.file(one, 0o640))
 
     def test_hosts_rise_and_are_of_one_family(self):
