@@ -181,7 +181,7 @@ class StatusTest(unittest.TestCase):
     def test_a_node_that_seeks_votes_is_named_and_follows_nobody(self):
         seeks = node(1, leader=3, silence=0)
         answers = [seeks, node(2, leads=1), node(3, leader=2)]
-        lines = self.tells(answers, 0, "why: node 1 seeks votes: if that lasts, see")
+        lines = self.tells(answers, 0, "why: node 1 seeks votes: if that lasts, check")
         self.assertIn("node 1, port a: seeks votes, executed 10", lines[0])
         self.tells([seeks, node(2, leader=0), silent], 1, "if it lasts, the members do not hear each other")
 

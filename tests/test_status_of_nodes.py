@@ -105,7 +105,7 @@ class NodesStatusTest(unittest.TestCase):
         self.assertIn(self.ask("join", "4", str(free_ports(1)[0])), ("joined", "used"))
         [self.cluster.ports[4]] = free_ports(1)
         self.cluster.start(4)
-        why = "why: node 4 hears nobody: see its --port, the hosts and the keys\n"
+        why = "why: node 4 hears nobody: check its --port, the hosts and the keys\n"
         text = self.comes(0, "majority: 4 of 4 up\n", why)
         line = r"node 4, port \d+: knows no leader for 28 ticks, executed 0 \(\d+ behind\), promised 0\.0,"
         self.assertRegex(text, line)

@@ -8,11 +8,11 @@ use Rattle.lk_types.specs.declared.entry.Entry.{Entry}
 use Rattle.lk_types.specs.declared.entry.Entry.TheVariants as entry
 use Rattle.lk_types.specs.declared.vote.Vote.{Vote}
 use Rattle.lk_types.proofs.Values.{test_of_below}
-use Rattle.lk_agreement.specs.Acceptors.{AcceptorState, Covers}
-use Rattle.lk_agreement.specs.Changes.{with_promise}
-use Rattle.lk_agreement.specs.Datagrams.{Genesis, Datagram}
-use Rattle.lk_agreement.specs.Nodes.{View, MayPromise, MaySend}
-use Rattle.lk_agreement.proofs.Histories.{below_self, filtered_may_promise}
+use Rattle.lk_agreement_laws.specs.Acceptors.{AcceptorState, Covers}
+use Rattle.lk_agreement_laws.specs.Changes.{with_promise}
+use Rattle.lk_agreement_laws.specs.Datagrams.{Genesis, Datagram}
+use Rattle.lk_agreement_laws.specs.Nodes.{View, MayPromise, MaySend}
+use Rattle.lk_agreement_laws.proofs.Histories.{below_self, filtered_may_promise}
 use Rattle.lk_acceptor.specs.AcceptorValue.{AcceptorValue}
 use Rattle.lk_acceptor.specs.Answers.{Refuses, AnswersPrepare, AnswersAccept}
 use Rattle.lk_acceptor.specs.States.{IsOrdered, greater, with_vote, acceptor_with, with_written}

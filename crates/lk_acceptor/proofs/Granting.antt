@@ -7,7 +7,7 @@ use Rattle.lk_types.specs.BallotValue.{BallotValue}
 use Rattle.lk_types.specs.Ballots.{IsAtMost, is_below}
 use Rattle.lk_types.specs.declared.vote.Vote.{Vote}
 use Rattle.lk_types.proofs.Values.{at_most_by_test}
-use Rattle.lk_agreement.proofs.Histories.{cons_cases, contains_more}
+use Rattle.lk_agreement_laws.proofs.Histories.{cons_cases, contains_more}
 use Rattle.lk_acceptor.proofs.Rising.{first}
 use Rattle.lk_acceptor.specs.AcceptorValue.{AcceptorValue}
 use Rattle.lk_acceptor.specs.Answers.{GrantsPrepare, GrantsAccept, Agrees}

@@ -8,10 +8,10 @@ use Rattle.lk_types.specs.Ballots.{IsBelow, IsAtMost, is_below}
 use Rattle.lk_types.specs.declared.vote.Vote.{Vote}
 use Rattle.lk_types.proofs.Values.{test_of_below}
 use Rattle.lk_types.specs.Votes.{are_votes_above}
-use Rattle.lk_agreement.specs.Acceptors.{AcceptorState, TakesVote, TakesSnapshot}
-use Rattle.lk_agreement.specs.Changes.{with_promise}
-use Rattle.lk_agreement.proofs.Histories.{at_most_trans, below_at_most, below_self, cons_cases, contains_more}
-use Rattle.lk_agreement.proofs.Histories.{filter_from, filtered_takes_snapshot, only}
+use Rattle.lk_agreement_laws.specs.Acceptors.{AcceptorState, TakesVote, TakesSnapshot}
+use Rattle.lk_agreement_laws.specs.Changes.{with_promise}
+use Rattle.lk_agreement_laws.proofs.Histories.{at_most_trans, below_at_most, below_self, cons_cases, contains_more}
+use Rattle.lk_agreement_laws.proofs.Histories.{filter_from, filtered_takes_snapshot, only}
 use Rattle.lk_acceptor.specs.Answers.{Agrees}
 use Rattle.lk_acceptor.specs.States.{IsOrdered, with_vote, without_votes_to}
 use Rattle.lk_store_format.specs.VoteLists.{votes_with}

@@ -8,7 +8,7 @@ use Rattle.lk_types.specs.Ballots.{is_below}
 use Rattle.lk_types.specs.declared.vote.Vote.{Vote}
 use Rattle.lk_types.specs.Votes.{are_votes_above}
 use Rattle.lk_messages.specs.Values.{are_votes_from}
-use Rattle.lk_agreement.proofs.Histories.{cons_cases, contains_more, filter_from, filter_passes_at}
+use Rattle.lk_agreement_laws.proofs.Histories.{cons_cases, contains_more, filter_from, filter_passes_at}
 use Rattle.lk_store_format.specs.VoteLists.{votes_with}
 use Rattle.lk_store_format.proofs.VoteParts.{rising_parts}
 use Rattle.lk_acceptor.specs.VoteLists.{votes_from, votes_above}

@@ -14,8 +14,8 @@ use Rattle.std.proofs.lemmas.Option.{slice_get_within, get_or_from_slice_get}
 use Rattle.lk_types.specs.Ballots.{is_below}
 use Rattle.lk_types.specs.Votes.{IsVote, are_votes_above}
 use Rattle.lk_types.specs.declared.vote.Vote.{Vote}
-use Rattle.lk_agreement.proofs.Histories.{cons_cases, contains_more, filter_from}
-use Rattle.lk_store_format.specs.VoteLists.{AreRising, votes_below, votes_with}
+use Rattle.lk_agreement_laws.proofs.Histories.{cons_cases, contains_more, filter_from}
+use Rattle.lk_store_format.specs.VoteLists.{AreRising, count_below, votes_with}
 use Rattle.lk_store_format.proofs.VoteParts.{rising_parts}
 use Rattle.lk_acceptor.specs.Answers.{Agrees}
 use Rattle.lk_acceptor.specs.VoteLists.{IsVoteAt, HasVoteFrom, votes_from, votes_above}
@@ -24,7 +24,7 @@ use Rattle.lk_acceptor.proofs.Rising.{first, rising_all, from_is_from}
 -- ---- the vote at a position
 
 found_from : (low i : ℕ) (vs : List Vote) (v : Vote) → are_votes_above low vs ≡ true → IsVoteAt i vs v
-    → slice_get vs (votes_below i vs) ≡ Some v
+    → slice_get vs (count_below i vs) ≡ Some v
 found_from low i [] v e at = absurd (omega (arith, at.0.1))
 found_from low i (w ∷ ws) v e at =
     let b = rising_parts low w ws e in
@@ -41,7 +41,7 @@ found_from low i (w ∷ ws) v e at =
 
 -- it stands after those below it
 pub found : (i : ℕ) (vs : List Vote) (v : Vote) → AreRising vs → IsVoteAt i vs v
-    → slice_get vs (votes_below i vs) ≡ Some v
+    → slice_get vs (count_below i vs) ≡ Some v
 found i vs v rising at = found_from rising.0 i vs v rising.1 at
 
 -- there is one vote at a position
@@ -52,13 +52,13 @@ found_once i vs v w rising at other = cc (found i vs v rising at, found i vs w r
 stands : (i n : ℕ) (vs : List Vote) (v : Vote) → slice_get vs n ≡ Some v → v.position ≡ i → IsVoteAt i vs v
 stands i n vs v e at = ((n, slice_get_within vs n v e, get_or_from_slice_get vs n v v e), at)
 
-pub none_stands : (i n : ℕ) (vs : List Vote) → AreRising vs → n ≡ votes_below i vs → length vs ≤ n
+pub none_stands : (i n : ℕ) (vs : List Vote) → AreRising vs → n ≡ count_below i vs → length vs ≤ n
     → (v : Vote) → IsVoteAt i vs v → ⊥
 none_stands i n vs rising is past v at =
-    let short = slice_get_within vs (votes_below i vs) v (found i vs v rising at) in omega (arith, is, past, short)
+    let short = slice_get_within vs (count_below i vs) v (found i vs v rising at) in omega (arith, is, past, short)
 
 -- it is the vote at the position, if its position is that
-pub one_stands : (i n : ℕ) (vs : List Vote) (b : Bor Vote) (t : Bool) → AreRising vs → n ≡ votes_below i vs
+pub one_stands : (i n : ℕ) (vs : List Vote) (b : Bor Vote) (t : Bool) → AreRising vs → n ≡ count_below i vs
     → slice_get vs n ≡ Some b.now → t ≡ eqb b.now.position i
     → MatchOption (then_some t b) ((v : Vote) → IsVoteAt i vs v → ⊥)
     (λ v. IsVoteAt i vs v.now × ((w : Vote) → IsVoteAt i vs w → w ≡ v.now))
@@ -127,7 +127,7 @@ last_tells end vs v rising is = last_from rising.0 end vs v rising.1 is
 -- ---- the votes from a position on
 
 -- they stand after those below it
-rest_from : (low i : ℕ) (vs : List Vote) → are_votes_above low vs ≡ true → drop (votes_below i vs) vs ≡ votes_from i vs
+rest_from : (low i : ℕ) (vs : List Vote) → are_votes_above low vs ≡ true → drop (count_below i vs) vs ≡ votes_from i vs
 rest_from low i [] e = refl
 rest_from low i (w ∷ ws) e =
     let b = rising_parts low w ws e in
@@ -149,14 +149,14 @@ rest_from low i (w ∷ ws) e =
         rw in' (ap (λ (l : List Vote). v ∷ l) (all_from low i vs (λ w h. all w (contains_more v vs w h))))
 
 -- as the code takes them
-pub rest_is_from : (i n : ℕ) (vs : List Vote) → AreRising vs → n ≡ votes_below i vs
+pub rest_is_from : (i n : ℕ) (vs : List Vote) → AreRising vs → n ≡ count_below i vs
     → take (length vs - n) (drop n vs) ≡ votes_from i vs
 rest_is_from i n vs rising is =
     take_all (length vs - n) (drop n vs) (omega (arith, length-drop n vs)) ∙ ap (λ (k : ℕ). drop k vs) is
     ∙ rest_from rising.0 i vs rising.1
 
 -- each of them is at the position or above it
-pub rest_has : (i n k : ℕ) (vs : List Vote) (v : Vote) → AreRising vs → n ≡ votes_below i vs
+pub rest_has : (i n k : ℕ) (vs : List Vote) (v : Vote) → AreRising vs → n ≡ count_below i vs
     → k < length (take (length vs - n) (drop n vs))
     → get_or (take (length vs - n) (drop n vs)) k v ≡ v → HasVoteFrom i vs
 rest_has i n k vs v rising is short at =

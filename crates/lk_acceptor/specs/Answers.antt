@@ -6,7 +6,7 @@ use Rattle.lk_types.specs.Ballots.{IsBelow, IsAtMost}
 use Rattle.lk_types.specs.declared.entry.Entry.TheVariants as entry
 use Rattle.lk_types.specs.declared.vote.Vote.{Vote}
 use Rattle.lk_messages.specs.declared.message.NodeMessage.TheVariants as message
-use Rattle.lk_agreement.specs.Changes.{with_promise}
+use Rattle.lk_agreement_laws.specs.Changes.{with_promise}
 use Rattle.lk_acceptor.specs.AcceptorValue.{AcceptorValue}
 use Rattle.lk_acceptor.specs.States.{with_vote, with_state}
 use Rattle.lk_acceptor.specs.VoteLists.{votes_from}

@@ -5,7 +5,7 @@ ghost use Rattle.lk_types.specs.Ranges.{IsAlpha};
 ghost use Rattle.lk_types.specs.Votes.{IsVote};
 ghost use Rattle.lk_types.specs.declared.entry.Entry.TheVariants as entry;
 ghost use Rattle.lk_types.specs.declared.vote.Vote.{Vote as VoteValue};
-ghost use Rattle.lk_agreement.specs.Changes.{with_promise};
+ghost use Rattle.lk_agreement_laws.specs.Changes.{with_promise};
 ghost use Rattle.lk_acceptor.specs.Answers.{GrantsPrepare, GrantsAccept, Refuses, AnswersPrepare, AnswersAccept};
 ghost use Rattle.lk_acceptor.specs.VoteLists.{HasVoteFrom};
 ghost use Rattle.lk_acceptor.specs.States.{IsOrdered, IsAcceptor, with_vote, without_votes_to, with_state};

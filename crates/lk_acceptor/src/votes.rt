@@ -6,7 +6,7 @@ ghost use Rattle.lk_acceptor.specs.Answers.{Agrees};
 ghost use Rattle.lk_store_format.specs.VoteLists.{AreRising};
 ghost use Rattle.lk_acceptor.specs.VoteLists.{IsVoteAt, votes_from, votes_above, HasVoteFrom};
 
-use lk_store_format::votes_below;
+use lk_store_format::count_below;
 use lk_types::{Executed, NoMemory, Position, Vote};
 use std::alloc::Global;
 
@@ -16,7 +16,7 @@ fn vote_at(votes: &[Vote], position: Position) -> Option<&Vote>
     ensures { MatchOption result ((v : VoteValue) → IsVoteAt position votes.now v → ⊥)
         (λ v. IsVoteAt position votes.now v.now × ((w : VoteValue) → IsVoteAt position votes.now w → w ≡ v.now)) }
 {
-    let vote = votes.get(votes_below(position, votes))?;
+    let vote = votes.get(count_below(position, votes))?;
     (vote.position == position).then_some(vote)
 }
 
@@ -26,7 +26,7 @@ pub fn votes_from(alloc: Global, votes: &[Vote], first: Position) -> Result<Vec<
     ensures ok { IfOk result (λ vs. vs.items ≡ votes_from first votes.now) }
     ensures memory { OnErr result (HasVoteFrom first votes.now) }
 {
-    let rest = &votes[votes_below(first, votes)..];
+    let rest = &votes[count_below(first, votes)..];
     let mut from = Vec::new(alloc);
     for vote in rest {
         from.push(vote.copy())?;

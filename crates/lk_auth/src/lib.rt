@@ -19,6 +19,3 @@ pub use keys::Keys;
 pub use mac::{TAG, tag};
 pub use masters::Masters;
 pub use seals::Seals;
-
-#[cfg(test)]
-mod tests;

@@ -225,21 +225,21 @@ pub fn exchange<S: DatagramSocket>(
     alloc: Global,
     socket: &mut S,
     question: &Question,
-    turns: &[Port],
+    ports: &[Port],
 ) -> Result<Option<Reply>, ServiceFault>
     // Whether it fails or not, it has sent nothing but that request.
     ensures same { S.is_observable → SendsOnly question.now (S.sent socket.old) (S.sent socket.new) }
     // It keeps the rule of a client that asks one request.
     ensures rule { S.is_observable
         → IfOk result (λ told. Asks S.sent S.failures
-        (next_of S.incoming) question.now turns.now told socket.old socket.new) }
+        (next_of S.incoming) question.now ports.now told socket.old socket.new) }
     ensures told { IfOk result (λ reply. IfSome reply IsTold) }
     ensures unchanged { OnErr result (socket.new ≡ socket.old) }
     ensures only { IfErr result (λ f. f ≡ ServiceFault.NoMemory) }
 {
-    match turns {
+    match ports {
         [] => exchange_in_turn(alloc, socket, question, &[question.port], ALONE),
-        turns => exchange_in_turn(alloc, socket, question, turns, EACH),
+        ports => exchange_in_turn(alloc, socket, question, ports, EACH),
     }
 }
 
@@ -276,7 +276,7 @@ fn ask_and_write<S: DatagramSocket, W: Write>(
     alloc: Global,
     socket: &mut S,
     question: &Question,
-    turns: &[Port],
+    ports: &[Port],
     out: &mut W,
 ) -> Result<bool, ServiceFault>
     // Whether it fails or not, it has sent nothing but that request.
@@ -284,10 +284,10 @@ fn ask_and_write<S: DatagramSocket, W: Write>(
     // It learned the fate exactly if the exchange got a reply.
     ensures told { S.is_observable
         → IfOk result (λ is_told. Comes S.sent S.failures
-        (next_of S.incoming) question.now turns.now is_told socket.old socket.new) }
+        (next_of S.incoming) question.now ports.now is_told socket.old socket.new) }
     ensures only { IfErr result (λ f. (f ≡ ServiceFault.NoMemory) ⊎ (f ≡ ServiceFault.Write)) }
 {
-    let reply = exchange(alloc, socket, question, turns)?;
+    let reply = exchange(alloc, socket, question, ports)?;
     match (write_reply(reply, out), out.flush()) {
         (Ok(is_told), Ok(())) => Ok(is_told),
         _ => Err(ServiceFault::Write),
@@ -300,7 +300,7 @@ pub fn ask<S: DatagramSocket, W: Write, E: Write>(
     alloc: Global,
     socket: &mut S,
     question: &Question,
-    turns: &[Port],
+    ports: &[Port],
     out: &mut W,
     err: &mut E,
 ) -> u8
@@ -309,10 +309,10 @@ pub fn ask<S: DatagramSocket, W: Write, E: Write>(
     ensures same { S.is_observable → SendsOnly question.now (S.sent socket.old) (S.sent socket.new) }
     // Status 0 only if it has sent the request and learned its fate.
     ensures asked { S.is_observable → result ≡ 0
-        → (reply : ReplyValue) × Asks S.sent S.failures (next_of S.incoming) question.now turns.now
+        → (reply : ReplyValue) × Asks S.sent S.failures (next_of S.incoming) question.now ports.now
         (Some reply) socket.old socket.new }
 {
-    match ask_and_write(alloc, socket, question, turns, out) {
+    match ask_and_write(alloc, socket, question, ports, out) {
         Ok(true) => 0,
         Ok(false) => 1,
         Err(fault) => fault.write_to(err),

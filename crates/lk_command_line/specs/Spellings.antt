@@ -4,7 +4,7 @@ use Rattle.std.specs.Fmt.{decimal}
 use Rattle.std.specs.Net.Grammar.{IsIpText}
 use Rattle.std.specs.declared.net.ip_addr.IpAddr.{IpAddr}
 use Rattle.lk_types.specs.declared.member.Member.{Member}
-use Rattle.lk_parsers.specs.Geneses.{SpellsGenesis}
+use Rattle.lk_word_parsers.specs.Geneses.{SpellsGenesis}
 use Rattle.lk_command_line.specs.Arguments.{Names}
 use Rattle.lk_command_line.specs.declared.argument_error.ArgumentError.{ArgumentError}
 

@@ -4,10 +4,10 @@ ghost use Rattle.std.specs.Prelude.{codes};
 ghost use Rattle.lk_command_line.specs.Arguments.{word_of, Names};
 
 use clap::ArgMatches;
-use lk_parsers::member::{member_of, read_members};
-use lk_parsers::number::read_number;
-use lk_parsers::word::split_once;
 use lk_types::limits::MAX_ALPHA;
+use lk_word_parsers::member::{member_of, read_members};
+use lk_word_parsers::number::read_number;
+use lk_word_parsers::word::split_once;
 use std::fmt;
 
 /// An invalid value, its argument, and what the value has to be.

@@ -36,11 +36,11 @@ const ROUNDS: u32 = 3;
 // Appends the ports that these words spell. The inner error is that of an invalid port, the outer one out of memory.
 fn add_ports<'a>(
     words: &[&'a str],
-    turns: &mut Vec<Port>,
+    ports: &mut Vec<Port>,
 ) -> Result<Result<(), ArgumentError<'a>>, AllocError> {
     for word in words {
         match read_port(word) {
-            Ok(port) => turns.push(port)?,
+            Ok(port) => ports.push(port)?,
             Err(error) => return Ok(Err(error)),
         }
     }
@@ -54,14 +54,14 @@ pub fn turns_of<'a>(
     matches: &ArgMatches<'a>,
 ) -> Result<Result<Vec<Port>, ArgumentError<'a>>, AllocError> {
     let words = matches.get_strs("port").unwrap_or(&[]);
-    let mut turns = Vec::new(alloc);
+    let mut ports = Vec::new(alloc);
     if words.len() < 2 {
-        return Ok(Ok(turns));
+        return Ok(Ok(ports));
     }
     for _ in 0..ROUNDS {
-        if let Err(error) = add_ports(words, &mut turns)? {
+        if let Err(error) = add_ports(words, &mut ports)? {
             return Ok(Err(error));
         }
     }
-    Ok(Ok(turns))
+    Ok(Ok(ports))
 }

@@ -62,7 +62,7 @@ const SUBCOMMANDS: &[Usage] = &[
     ("ask", "sends a request to a node, and prints the reply", &[
         (Kind::Word, "cluster", "the number of the cluster"),
         (Kind::Several, "port", "the port of a node; with several, the next one is asked if no reply comes"),
-        (Kind::Given, "address", "the address of that node"),
+        (Kind::Given, "address", "the address of the node asked first; 127.0.0.1 by default"),
         (Kind::Given, "hosts", "a file of lines NODE ADDRESS: where each node lives"),
         (Kind::Given, "client-key", "the file of the client's key"),
         (Kind::Word, "client", "the number of the client, 1 to 256"),

@@ -13,11 +13,11 @@ use crate::argument_error::{ArgumentError, invalid_word};
 use crate::values::{number_in, read_client, read_number_up_to};
 use clap::ArgMatches;
 use lk_client::destination::Destination;
-use lk_parsers::number::read_number;
 use lk_status::target::{Inquiry, Target, targets_of};
 use lk_status_command::status::{Form, Plan};
 use lk_transport::fault::ServiceFault;
 use lk_types::ClientNo;
+use lk_word_parsers::number::read_number;
 use std::alloc::Global;
 
 // How long a receive waits, in milliseconds.

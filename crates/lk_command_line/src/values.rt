@@ -3,17 +3,17 @@
 ghost use Rattle.std.specs.Net.Grammar.{IsIpText};
 ghost use Rattle.std.specs.Prelude.{◌≡◌, ◌≤◌, IfOk, IfErr, IfSome, IsNone, is_some, codes};
 ghost use Rattle.lk_types.specs.Ranges.{IsClient, IsCount, IsNode, IsPort};
-ghost use Rattle.lk_parsers.specs.Geneses.{SpellsGenesis};
+ghost use Rattle.lk_word_parsers.specs.Geneses.{SpellsGenesis};
 ghost use Rattle.lk_command_line.specs.Arguments.{is_given, word_of};
 ghost use Rattle.lk_command_line.specs.Spellings.{IsNoAddress, IsNoGenesis, IsRefused, Spells, SpellsNone};
 
 use crate::argument_error::{ArgumentError, invalid_genesis, invalid_word};
 use clap::ArgMatches;
-use lk_parsers::genesis::read_genesis;
-use lk_parsers::number::read_number;
-use lk_parsers::operation::{node_of, port_of};
 use lk_types::limits::{MAX_CLIENT, MAX_COUNT};
 use lk_types::{ClientNo, Genesis, NodeNo, Port, RequestNumber};
+use lk_word_parsers::genesis::read_genesis;
+use lk_word_parsers::number::read_number;
+use lk_word_parsers::operation::{node_of, port_of};
 use std::net::IpAddr;
 
 /// Returns the first word of an argument, empty if it was not given.

@@ -161,11 +161,11 @@ impl<F: AppendFile + Drop> LogDisk for FileDisk<F> {
         ensures file { IsCaused (used_at self.old side) (used_at self.new side) result }
         ensures apart { used_at self.new (other side) ≡ used_at self.old (other side) }
     {
-        let fully_synced = match side {
+        let flushed = match side {
             Side::A => self.a.flush(),
             Side::B => self.b.flush(),
         };
-        match fully_synced {
+        match flushed {
             Ok(()) => Ok(()),
             Err(FileFault) => Err(self.fail()),
         }

@@ -3,7 +3,7 @@ use Rattle.std.proofs.Common.{◌≡◌, ℕ, ◌-◌, ◌==◌, ◌||◌, Bool,
 use Rattle.std.proofs.Common.{Contains, refl, ap, sym, ◌∙◌, subst, inl, inr}
 use Rattle.std.specs.Prelude.{MatchBool, is_some}
 use Rattle.lk_types.specs.declared.genesis.Genesis.{Genesis}
-use Rattle.lk_simulated_disk.specs.Memory.{Memory, disk_of}
+use Rattle.lk_memory_disk.specs.Memory.{Memory, disk_of}
 use Rattle.lk_disk.specs.Meters.{Passes, start, call, read, Breaks, called, asked, is_failing, is_unread, is_blown}
 use Rattle.lk_disk.specs.Meters.{fuse_after, fuse_at, stopping}
 use Rattle.lk_disk.specs.Traps.{fails_next, stops_next, trap_after, armed_for}
@@ -11,7 +11,7 @@ use Rattle.lk_disk.specs.declared.meter.Meter.{Meter}
 use Rattle.lk_disk.specs.declared.trap.Trap.{Trap}
 use Rattle.lk_disk.specs.declared.trap.Trap.TheVariants.{Off}
 use Rattle.lk_log.specs.Images.{seen}
-use Rattle.lk_node_io.specs.Faults.{RefusedAfter}
+use Rattle.lk_node_interface.specs.Faults.{RefusedAfter}
 use Rattle.lk_recovery.specs.Revivals.{IsLastOld}
 use Rattle.lk_replica.specs.ReplicaValue.{ReplicaValue}
 use Rattle.lk_sim.specs.Scenes.{Scene}

@@ -7,14 +7,14 @@ use Rattle.lk_types.specs.declared.command.Command.TheVariants.{Request}
 use Rattle.lk_types.specs.declared.command.Request.{Request as Asking}
 use Rattle.lk_types.specs.declared.genesis.Genesis.{Genesis}
 use Rattle.lk_types.specs.declared.member.Member.{Member}
-use Rattle.lk_agreement.proofs.Histories.{cons_cases, contains_more}
+use Rattle.lk_agreement_laws.proofs.Histories.{cons_cases, contains_more}
 use Rattle.lk_replica.specs.ReplicaValue.{ReplicaValue}
 use Rattle.lk_sim.specs.Scenes.{Scene}
 use Rattle.lk_state.specs.declared.session.Session.{Session}
 use Rattle.lk_guarantees.specs.Converging.{Converges}
 use Rattle.lk_guarantees.specs.Disks.{kept_text}
 use Rattle.lk_guarantees.specs.Plain.{after, at, serve, IsAnswered, Kept, IsKeptOf}
-use Rattle.lk_guarantees.specs.Promise.{IsChosen, IsPrefix, after_stop, KeepsPromise}
+use Rattle.lk_guarantees.specs.Promise.{IsChosen, IsPrefix, kept_by_replica, KeepsPromise}
 use Rattle.lk_guarantees.proofs.Once.{once}
 use Rattle.lk_guarantees.proofs.Placing.{placed}
 use Rattle.lk_guarantees.proofs.Rising.{Rise}
@@ -194,7 +194,7 @@ module _ (world : Scene ReplicaValue) (p : KeepsPromise world) where
         let y = p.executed t there r up in
         λ as_much.
         let same = same_kept x.0 y.0 x.1 y.1 (sym x.2.executed ∙ as_much ∙ y.2.executed)
-        (after_stop q) (after_stop r) x.2 y.2 in
+        (kept_by_replica q) (kept_by_replica r) x.2 y.2 in
         (same, ap kept_text same);
     snapshots = λ K L k l e a b x y. x.2 ∙ ap kept_text (same_kept K L k l e x.0 y.0 x.1 y.1) ∙ sym y.2;
   }

@@ -2,7 +2,7 @@
 use Rattle.std.proofs.Common.{◌≡◌, ℕ, zero, suc, ◌⊎◌, List, [], ◌∷◌, ◌++◌, map, take, set, Option, Some, None, Result}
 use Rattle.std.proofs.Common.{refl, sym, ap, ◌∙◌, inl, inr, append-nil, arith}
 use Rattle.std.proofs.lemmas.List.Elements.{filter_map-append}
-use Rattle.lk_simulated_disk.specs.Memory.{Memory, empty}
+use Rattle.lk_memory_disk.specs.Memory.{Memory, empty}
 use Rattle.lk_disk.specs.declared.trap.Trap.{Trap}
 use Rattle.lk_store_format.specs.Values.{HeaderValue}
 use Rattle.lk_locks.specs.Meaning.{table_meaning}
@@ -11,16 +11,16 @@ use Rattle.lk_replica.specs.Taking.{ComesTo}
 use Rattle.lk_messages.specs.declared.message.Content.{Content}
 use Rattle.lk_messages.specs.declared.message.Content.TheVariants as content
 use Rattle.lk_messages.specs.declared.message.NodeMessage.TheVariants as message
-use Rattle.lk_agreement.specs.declared.party.Party.TheVariants as party
-use Rattle.lk_node_io.specs.declared.note.Note.{Note}
-use Rattle.lk_node_io.specs.declared.note.Note.TheVariants as note
+use Rattle.lk_agreement_laws.specs.declared.party.Party.TheVariants as party
+use Rattle.lk_node_interface.specs.declared.note.Note.{Note}
+use Rattle.lk_node_interface.specs.declared.note.Note.TheVariants as note
 use Rattle.lk_node.specs.Histories.{Datagram, RequestValue}
 use Rattle.lk_node.specs.Leavings.{header_of}
 use Rattle.lk_node.specs.Served.{IsOfNode}
 use Rattle.lk_replica.specs.Behaviours.{Behaviour}
 use Rattle.lk_replica.specs.ReplicaValue.{ReplicaValue, device_of}
 use Rattle.lk_replica.specs.Revived.{RevivesTo}
-use Rattle.lk_sim.specs.Events.{Turns, AreOwn, AreAllOwn, Adds, IsGiven, IsGivenTogether, ComesUp, IsCompacted}
+use Rattle.lk_sim.specs.Events.{ReplacesSeat, AreOwn, AreAllOwn, Adds, IsGiven, IsGivenTogether, ComesUp, IsCompacted}
 use Rattle.lk_sim.specs.Events.{HasEffect}
 use Rattle.lk_sim.specs.Events.{IsExecuted, IsHalted, LeftBy, LeftByGroup, LeftByRevival, LeftByCompacting, Wants}
 use Rattle.lk_sim.specs.Events.{IsRefused}
@@ -170,7 +170,7 @@ asked_in bytes None a = inr (
 
 -- ---- the node that an event is for
 
-turned : (old new : List (Seat ReplicaValue)) (n : ℕ) (s t : Seat ReplicaValue) → Turns old new s t
+turned : (old new : List (Seat ReplicaValue)) (n : ℕ) (s t : Seat ReplicaValue) → ReplacesSeat old new s t
     → s.number ≡ n → ChangesOnly n old new
 turned old new n s t k number = inr (inl (k.place, s, t, stands_at old new s t k, number, k.number ∙ number, k.seats))
 

@@ -10,9 +10,9 @@ use Rattle.lk_members.specs.Effects.{Command, RequestValue, Request, is_of_anoth
 use Rattle.lk_members.specs.Rosters.{PlainRoster, roster_of, last_change}
 use Rattle.lk_members.specs.Windows.{RosterValue, roster_after}
 use Rattle.lk_members.proofs.Memberships.{length_of_window, set_of_window}
-use Rattle.lk_agreement.specs.Chosen.{Chosen}
-use Rattle.lk_agreement.specs.Datagrams.{Datagram}
-use Rattle.lk_agreement.proofs.Histories.{cons_cases, contains_more}
+use Rattle.lk_agreement_laws.specs.Chosen.{Chosen}
+use Rattle.lk_agreement_laws.specs.Datagrams.{Datagram}
+use Rattle.lk_agreement_laws.proofs.Histories.{cons_cases, contains_more}
 use Rattle.lk_state.specs.Sessions.{session_of}
 use Rattle.lk_state.specs.declared.session.Session.{Session}
 use Rattle.lk_state.specs.States.{WholeValue, whole_after, SumsUp, last_served, sessions_of, text_of}

@@ -15,9 +15,9 @@ use Rattle.lk_state.specs.Meanings.{Running, Raising}
 use Rattle.lk_state.specs.States.{text_of, op_answer, session_in, reply}
 use Rattle.lk_state.specs.declared.session.Session.{Session}
 use Rattle.lk_state.proofs.Wholes.{replies_stand}
-use Rattle.lk_agreement.specs.Datagrams.{Datagram}
-use Rattle.lk_agreement.specs.Chosen.{Chosen}
-use Rattle.lk_agreement.proofs.Histories.{chosen_fits, contains_more}
+use Rattle.lk_agreement_laws.specs.Datagrams.{Datagram}
+use Rattle.lk_agreement_laws.specs.Chosen.{Chosen}
+use Rattle.lk_agreement_laws.proofs.Histories.{chosen_fits, contains_more}
 use Rattle.lk_locks.specs.Bodies.{body_of}
 use Rattle.lk_locks.specs.Plain as plain
 use Rattle.lk_locks.specs.Meaning.{table_meaning}

@@ -2,13 +2,13 @@
 use Rattle.std.proofs.Common.{◌≡◌, ℕ, List, [], ◌∷◌, map, Option, Some, None, Contains, refl, sym, ◌∙◌, subst, inl, inr}
 use Rattle.std.proofs.Common.{arith}
 use Rattle.std.proofs.lemmas.List.Elements.{Contains-append_right}
-use Rattle.lk_simulated_disk.specs.Memory.{Memory}
+use Rattle.lk_memory_disk.specs.Memory.{Memory}
 use Rattle.lk_disk.specs.Meters.{stopping}
-use Rattle.lk_node_io.specs.declared.note.Note.{Note}
+use Rattle.lk_node_interface.specs.declared.note.Note.{Note}
 use Rattle.lk_replica.specs.Behaviours.{Behaviour}
 use Rattle.lk_replica.specs.ReplicaValue.{ReplicaValue}
 use Rattle.lk_sim_nodes.specs.Ends.{IsToldEnd, end_by}
-use Rattle.lk_sim.specs.Events.{Turns, EndsByFault, IsGiven, IsGivenTogether, HasEffect}
+use Rattle.lk_sim.specs.Events.{ReplacesSeat, EndsByFault, IsGiven, IsGivenTogether, HasEffect}
 use Rattle.lk_sim.specs.Groups.{given_by}
 use Rattle.lk_sim.specs.Scenes.{Scene}
 use Rattle.lk_sim.specs.Traces.{asked_note}
@@ -45,7 +45,7 @@ module _ (old new : Scene ReplicaValue) where
   none_ended : (e : Event) → new.ended ≡ None → LeavesDown old e new
   none_ended e none y is = absurd (cc (none, is))
 
-  sits : (s t : Seat ReplicaValue) (n : ℕ) (device : Memory) → Turns old.seats new.seats s t → s.number ≡ n
+  sits : (s t : Seat ReplicaValue) (n : ℕ) (device : Memory) → ReplacesSeat old.seats new.seats s t → s.number ≡ n
       → t.life ≡ Down device → IsDown new.seats n
   sits s t n device k number life =
       let here = at_set_here old.seats k.place t k.at.0 in (

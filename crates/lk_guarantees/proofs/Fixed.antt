@@ -8,7 +8,7 @@ use Rattle.lk_types.specs.declared.command.Op.{Op}
 use Rattle.lk_types.specs.declared.command.Op.TheVariants.{Table, Join, Leave, Raise}
 use Rattle.lk_types.specs.declared.genesis.Genesis.{Genesis}
 use Rattle.lk_guarantees.specs.Plain.{State, serve, takes_effect, after_one, begin, after, changes, asks_change}
-use Rattle.lk_guarantees.specs.Plain.{HasFixedMembers}
+use Rattle.lk_guarantees.specs.Plain.{FixedUnlessChanged}
 
 op_fixed : (client : ℕ) (op : Op) (s : State) → changes op ≡ false → (serve client op s).1.members ≡ s.members
 op_fixed client (Table body) s e = refl
@@ -31,6 +31,6 @@ all_fixed (suc n) (c ∷ L) s e =
     let parts = or_parts (asks_change c) (list_any asks_change L) e in
     all_fixed n L (after_one s c) parts.1 ∙ one_fixed s c parts.0
 
-pub fixed_members : (genesis : Genesis) (L : List Command) → HasFixedMembers genesis L
+pub fixed_members : (genesis : Genesis) (L : List Command) → FixedUnlessChanged genesis L
 unfolding after
 fixed_members genesis L e i = all_fixed (i - genesis.alpha) L (begin genesis) e

@@ -20,15 +20,15 @@ use Rattle.lk_types.specs.declared.command.Command.TheVariants.{Noop, Request}
 use Rattle.lk_types.specs.declared.command.Op.{Op}
 use Rattle.lk_types.specs.declared.command.Op.TheVariants.{Table, Join, Leave, Raise}
 use Rattle.lk_types.specs.declared.genesis.Genesis.{Genesis}
-use Rattle.lk_agreement.proofs.Histories.{cons_cases}
+use Rattle.lk_agreement_laws.proofs.Histories.{cons_cases}
 use Rattle.lk_locks.specs.Bodies.{body_of}
 use Rattle.lk_locks.specs.declared.body.Body.{Body}
 use Rattle.lk_locks.specs.declared.body.Body.TheVariants.{Acquire, Release, Ask, Check, Share, Break}
 use Rattle.lk_locks.specs.declared.slot.Holders.{Holders}
 use Rattle.lk_locks.specs.declared.slot.Holders.TheVariants.{Nobody, Alone, Together}
 use Rattle.lk_locks.specs.declared.slot.Slot.{Slot as Lock}
-use Rattle.lk_agreement.specs.Datagrams.{Datagram}
-use Rattle.lk_node_io.specs.declared.note.Note.{Note}
+use Rattle.lk_agreement_laws.specs.Datagrams.{Datagram}
+use Rattle.lk_node_interface.specs.declared.note.Note.{Note}
 use Rattle.lk_guarantees.specs.Promise.{IsExplained}
 use Rattle.lk_guarantees.specs.Guarded.{Write, accepted, IsUnder, IsGuarded, AreListed}
 use Rattle.lk_guarantees.specs.Plain.{Locks, State, hold, give_again, give_first, acquire_known, acquire, and_one}

@@ -2,16 +2,16 @@
 use Rattle.std.proofs.Common.{◌≡◌, ℕ, List, [], Some, Contains, refl, subst, sym, ◌∙◌, inl, inr}
 use Rattle.lk_types.specs.declared.genesis.Genesis.{Genesis}
 use Rattle.lk_disk.specs.Disk.{Disk}
-use Rattle.lk_simulated_disk.specs.Memory.{disk_of}
+use Rattle.lk_memory_disk.specs.Memory.{disk_of}
 use Rattle.lk_disk.specs.declared.device.Side.{Side}
 use Rattle.lk_disk.specs.declared.device.Side.TheVariants.{A, B}
 use Rattle.lk_store_format.specs.Values.{StandingValue}
 use Rattle.lk_log.specs.Images.{Image, MayLeaveBoth}
 use Rattle.lk_messages.specs.declared.message.NodeMessage.{NodeMessage}
 use Rattle.lk_messages.specs.declared.message.NodeMessage.TheVariants as message
-use Rattle.lk_agreement.specs.Acceptors.{CoversSent, Covers}
-use Rattle.lk_agreement.specs.Chosen.{Command, command_at, Chosen}
-use Rattle.lk_agreement.specs.Datagrams.{Datagram}
+use Rattle.lk_agreement_laws.specs.Acceptors.{CoversSent, Covers}
+use Rattle.lk_agreement_laws.specs.Chosen.{Command, command_at, Chosen}
+use Rattle.lk_agreement_laws.specs.Datagrams.{Datagram}
 use Rattle.lk_locks.specs.Meaning.{table_meaning}
 use Rattle.lk_node.specs.Leavings.{header_of, acceptor_of, StandsAs}
 use Rattle.lk_node.specs.Served.{text}

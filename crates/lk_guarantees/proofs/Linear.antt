@@ -13,10 +13,10 @@ use Rattle.lk_types.specs.declared.command.Op.{Op}
 use Rattle.lk_types.specs.declared.command.Op.TheVariants.{Table, Join, Leave, Raise}
 use Rattle.lk_types.specs.declared.command.Request.{Request as Asking}
 use Rattle.lk_types.specs.declared.genesis.Genesis.{Genesis}
-use Rattle.lk_agreement.specs.Datagrams.{Datagram}
-use Rattle.lk_agreement.proofs.Histories.{cons_cases}
-use Rattle.lk_node_io.specs.declared.note.Note.{Note}
-use Rattle.lk_node_io.specs.declared.note.Note.TheVariants as note
+use Rattle.lk_agreement_laws.specs.Datagrams.{Datagram}
+use Rattle.lk_agreement_laws.proofs.Histories.{cons_cases}
+use Rattle.lk_node_interface.specs.declared.note.Note.{Note}
+use Rattle.lk_node_interface.specs.declared.note.Note.TheVariants as note
 use Rattle.lk_guarantees.specs.Linear.{Object, object, alone, Sequence, IsLegal, Linearizes, IsLinearizable}
 use Rattle.lk_guarantees.specs.Plain.{State, begin, serve, takes_effect, used, after_one, after, at, IsAnswered}
 use Rattle.lk_guarantees.specs.Plain.{TakesEffectAt}

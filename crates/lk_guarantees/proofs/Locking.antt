@@ -16,7 +16,7 @@ use Rattle.lk_locks.specs.Plain as plain
 use Rattle.lk_locks.specs.Sharers.{with_client, least}
 use Rattle.lk_locks.specs.declared.body.Body.{Body}
 use Rattle.lk_locks.specs.declared.body.Body.TheVariants.{Acquire, Release, Ask, Check, Share, Break}
-use Rattle.lk_locks.specs.declared.row.Row.{Row}
+use Rattle.lk_locks.specs.declared.transition.Transition.{Transition}
 use Rattle.lk_locks.specs.declared.slot.Holders.{Holders}
 use Rattle.lk_locks.specs.declared.slot.Holders.TheVariants.{Nobody, Alone, Together}
 use Rattle.lk_locks.specs.declared.slot.Slot.{Slot}
@@ -27,8 +27,8 @@ use Rattle.lk_guarantees.specs.Plain.{break_lock, asks, told_of, checks, use_loc
 -- ---- the lock table
 
 -- the same answer, and the same locks after it
-abbrev Agrees : List ℕ → Row → Locks → Answer × Locks → Type 0
-Agrees name row m came = (row.answer ≡ came.0) × (plain.changed name row.change m ≡ came.1)
+abbrev Agrees : List ℕ → Transition → Locks → Answer × Locks → Type 0
+Agrees name next m came = (next.answer ≡ came.0) × (plain.changed name next.change m ≡ came.1)
 
 again_agrees : (given : ℕ → Answer) (holders : Holders) (name : List ℕ) (last : ℕ) (m : Locks)
     → Agrees name (plain.given given holders (plain.fence_after last)) m (give_again given holders name last m)

@@ -5,7 +5,7 @@ use Rattle.std.specs.List.{list_all}
 use Rattle.std.proofs.lemmas.Bool.{and_parts, cases_lt}
 use Rattle.lk_types.specs.declared.genesis.Genesis.{Genesis}
 use Rattle.lk_members.specs.Effects.{Command, RequestValue, Request, is_older}
-use Rattle.lk_agreement.proofs.Histories.{cons_cases, contains_more}
+use Rattle.lk_agreement_laws.proofs.Histories.{cons_cases, contains_more}
 use Rattle.lk_guarantees.specs.Plain.{at, TakesEffectAt, TakesEffectOnce}
 use Rattle.lk_guarantees.proofs.Effects.{leaves}
 

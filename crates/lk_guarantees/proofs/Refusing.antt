@@ -13,16 +13,16 @@ use Rattle.lk_messages.specs.Grammar.{Spells}
 use Rattle.lk_messages.specs.declared.message.Content.{Content}
 use Rattle.lk_messages.specs.declared.message.Content.TheVariants as content
 use Rattle.lk_messages.specs.declared.message.Message.{Message}
-use Rattle.lk_agreement.specs.declared.party.Party.{Party}
-use Rattle.lk_agreement.specs.declared.party.Party.TheVariants as party
-use Rattle.lk_agreement.proofs.Histories.{contains_more}
-use Rattle.lk_node_io.specs.declared.note.Note.{Note}
+use Rattle.lk_agreement_laws.specs.declared.party.Party.{Party}
+use Rattle.lk_agreement_laws.specs.declared.party.Party.TheVariants as party
+use Rattle.lk_agreement_laws.proofs.Histories.{contains_more}
+use Rattle.lk_node_interface.specs.declared.note.Note.{Note}
 use Rattle.lk_node.specs.Histories.{Datagram, RequestValue}
 use Rattle.lk_replica.specs.Behaviours.{Behaviour}
 use Rattle.lk_replica.specs.ReplicaValue.{ReplicaValue}
 use Rattle.lk_replica.specs.Taking.{ComesTo}
 use Rattle.lk_replica.specs.Together.{Said, sent_of, ComesToAll}
-use Rattle.lk_sim.specs.Events.{Turns, IsGiven, IsGivenTogether, ComesUp, HasEffect, Wants}
+use Rattle.lk_sim.specs.Events.{ReplacesSeat, IsGiven, IsGivenTogether, ComesUp, HasEffect, Wants}
 use Rattle.lk_sim_nodes.specs.Sends as sending
 use Rattle.lk_sim.specs.Events as doing
 use Rattle.lk_sim.specs.Groups.{bytes_of, given_by}
@@ -36,8 +36,8 @@ use Rattle.lk_sim.specs.Traces.{asked_note}
 use Rattle.lk_sim_nodes.specs.declared.end.End.{End}
 use Rattle.lk_sim.specs.declared.event.Event.{Event}
 use Rattle.lk_sim.specs.declared.event.Event.TheVariants as event
-use Rattle.lk_sim.specs.declared.event.Turn.{Turn}
-use Rattle.lk_sim.specs.declared.event.Turn.TheVariants as turn
+use Rattle.lk_sim.specs.declared.event.GroupInput.{GroupInput}
+use Rattle.lk_sim.specs.declared.event.GroupInput.TheVariants as turn
 use Rattle.lk_sim_nodes.specs.declared.refused.Refused.{Refused}
 use Rattle.lk_sim_nodes.specs.declared.refused.Refused.TheVariants.{NoSuchNode, NotUp, AlreadyUp, NoSuchDatagram}
 use Rattle.lk_sim_nodes.specs.declared.refused.Refused.TheVariants.{Forged, WorldFull, WorldMemory}
@@ -83,7 +83,7 @@ no_client a b o n c first second to other = cc (ap (λ (d : Datagram). d.to) (sa
     same e = cc e
 
 -- each turn of a group is for its node, where each of its datagrams is
-are_for : (sent : List Datagram) (n : ℕ) (turns : List Turn)
+are_for : (sent : List Datagram) (n : ℕ) (turns : List GroupInput)
     → ((k : ℕ) → Contains turns (turn.Deliver k) → IsFor sent (event.Deliver k) n) → AreFor sent n turns
 are_for sent n [] each = tt
 are_for sent n (turn.Tick ∷ turns) each =
@@ -203,7 +203,7 @@ module _ (old : Scene ReplicaValue) where
       (λ n f. nobody (datagram_at old.sent i) f.1 (stands_there old.sent i f.0 f.1 f.2 f.3) e)
   no_delivery i (Some d) r e k = no_bound i d d.to r e refl k
 
-  no_group : (n : ℕ) (turns : Vec Turn Global) (r : Refused) → NoGroup old.seats old.sent n turns.items r
+  no_group : (n : ℕ) (turns : Vec GroupInput Global) (r : Refused) → NoGroup old.seats old.sent n turns.items r
       → HasCause old (event.Group n turns) r
   no_group n turns NoSuchNode k = (n, refl, none_started old.seats n k)
   no_group n turns NotUp k = (n, refl, down old.seats n k)
@@ -259,7 +259,8 @@ module _ (old : Scene ReplicaValue) where
     not_ended : (x : End) → new.ended ≡ Some x → new.ended ≡ None → ⊥
     not_ended x some none = cc (some, none)
 
-    sits : (s t : Seat ReplicaValue) (n : ℕ) (replica : ReplicaValue) → Turns old.seats new.seats s t → s.number ≡ n
+    sits : (s t : Seat ReplicaValue) (n : ℕ) (replica : ReplicaValue) → ReplacesSeat old.seats new.seats s t
+        → s.number ≡ n
         → t.life ≡ Up replica → IsUp new.seats n
     sits s t n replica k number life =
         let here = at_set_here old.seats k.place t k.at.0 in (
@@ -327,7 +328,7 @@ module _ (old : Scene ReplicaValue) where
 
 -- ---- what is taken
 
-brought : (sent : List Datagram) (n : ℕ) (turns : List Turn) → AreFor sent n turns
+brought : (sent : List Datagram) (n : ℕ) (turns : List GroupInput) → AreFor sent n turns
     → AreGiven sent turns (map (given_by sent) turns)
 brought sent n [] are = refl
 brought sent n (turn.Tick ∷ turns) are = (map (given_by sent) turns, refl, brought sent n turns are.1)
@@ -386,7 +387,7 @@ module _ (b : Behaviour ReplicaValue) (node_stays : (t : Trap) (r : ReplicaValue
     | inr (inr f) ↦ absurd (not_ended old b new _ f.ended none)
   ]
 
-  taken_together : (old new : Scene ReplicaValue) (n : ℕ) (turns : List Turn) → AreFor old.sent n turns
+  taken_together : (old new : Scene ReplicaValue) (n : ℕ) (turns : List GroupInput) → AreFor old.sent n turns
       → IsGivenTogether b old new n (map (given_by old.sent) turns) → new.ended ≡ None → AreTaken old n turns new
   taken_together old new n turns are k none = elim k.comes_to [
     | inl r ↦ (

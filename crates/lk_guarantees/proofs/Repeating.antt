@@ -2,11 +2,11 @@
 use Rattle.std.proofs.Common.{◌≡◌, ℕ, List, [], ◌∷◌, ◌++◌, set, slice_get, Some, Ok, refl, ap, sym, ◌∙◌, subst, inl}
 use Rattle.std.proofs.Common.{inr, append-nil, append_assoc}
 use Rattle.lk_types.specs.declared.genesis.Genesis.{Genesis}
-use Rattle.lk_simulated_disk.specs.Memory.{Memory}
+use Rattle.lk_memory_disk.specs.Memory.{Memory}
 use Rattle.lk_store_format.specs.Values.{HeaderValue}
 use Rattle.lk_locks.specs.Meaning.{table_meaning}
 use Rattle.lk_locks.specs.Packed.{IsTableText}
-use Rattle.lk_node_io.specs.declared.note.Note.{Note}
+use Rattle.lk_node_interface.specs.declared.note.Note.{Note}
 use Rattle.lk_node.specs.Leavings.{header_of}
 use Rattle.lk_replica.specs.ReplicaValue.{ReplicaValue, device_of}
 use Rattle.lk_replica.specs.Revived.{RevivesTo}

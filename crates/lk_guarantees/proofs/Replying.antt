@@ -9,10 +9,10 @@ use Rattle.lk_messages.specs.declared.message.Content.TheVariants as content
 use Rattle.lk_messages.specs.declared.message.Message.{Message}
 use Rattle.lk_messages.specs.declared.message.NodeMessage.TheVariants as message
 use Rattle.lk_messages.proofs.Spellings.{one_message}
-use Rattle.lk_agreement.specs.Datagrams.{Datagram}
-use Rattle.lk_agreement.proofs.Histories.{cons_cases, contains_more}
-use Rattle.lk_node_io.specs.declared.note.Note.{Note}
-use Rattle.lk_node_io.specs.declared.note.Note.TheVariants as note
+use Rattle.lk_agreement_laws.specs.Datagrams.{Datagram}
+use Rattle.lk_agreement_laws.proofs.Histories.{cons_cases, contains_more}
+use Rattle.lk_node_interface.specs.declared.note.Note.{Note}
+use Rattle.lk_node_interface.specs.declared.note.Note.TheVariants as note
 use Rattle.lk_sim_nodes.specs.Told.{told_by}
 use Rattle.lk_guarantees.specs.Promise.{is_reply, AreReplies, nothing_more, an_answer, a_pass, no_reply, is_told}
 use Rattle.lk_guarantees.specs.Promise.{AreTold}

@@ -3,14 +3,14 @@ use Rattle.std.proofs.Common.{◌≡◌, ℕ, ◌⊎◌, List, [], ◌∷◌, �
 use Rattle.std.proofs.Common.{arith}
 use Rattle.std.proofs.lemmas.Bool.{cases_eq}
 use Rattle.lk_disk.specs.Disk.{Disk}
-use Rattle.lk_simulated_disk.specs.Memory.{Memory, disk_of}
+use Rattle.lk_memory_disk.specs.Memory.{Memory, disk_of}
 use Rattle.lk_disk.specs.declared.device.Side.TheVariants.{A, B}
 use Rattle.lk_store_format.specs.Entries.{spelling_of_all}
 use Rattle.lk_store_format.specs.Formats.{format}
 use Rattle.lk_store_format.specs.Standings.{HasHeader, StandsFor}
 use Rattle.lk_store_format.specs.Values.{HeaderValue, StandingValue}
 use Rattle.lk_store_format.specs.declared.stored.Stored.{Stored}
-use Rattle.lk_agreement.proofs.Histories.{cons_cases}
+use Rattle.lk_agreement_laws.proofs.Histories.{cons_cases}
 use Rattle.lk_locks.specs.Meaning.{table_meaning}
 use Rattle.lk_locks.specs.Packed.{IsTableText}
 use Rattle.lk_log.specs.Images.{Image, MayLeaveBoth, IsLive, seen}
@@ -23,7 +23,7 @@ use Rattle.lk_recovery.specs.Revivals.{MayRevive, revived, notes_of, run_from}
 use Rattle.lk_replica.specs.Revived.{Revives}
 use Rattle.lk_state.specs.Packed.{Packs}
 use Rattle.lk_state.specs.States.{WholeValue}
-use Rattle.lk_node_io.specs.declared.note.Note.{Note}
+use Rattle.lk_node_interface.specs.declared.note.Note.{Note}
 use Rattle.lk_guarantees.specs.Restarting.{ComesUp, StaysDown, IsLeftBy, Restarts, last_up, ReadsFormatTwo}
 use Rattle.lk_guarantees.specs.Restarting.{IsIdempotent}
 

@@ -2,18 +2,18 @@
 use Rattle.std.proofs.Common.{◌≡◌, ℕ, ◌⊎◌, List, [], set, slice_get, Option, Some, None, Result, Ok, Err, refl, ap, ◌∙◌}
 use Rattle.std.proofs.Common.{subst, inl, inr, append-nil}
 use Rattle.std.proofs.lemmas.Option.{slice_get-get_or}
-use Rattle.lk_simulated_disk.specs.Memory.{Memory}
+use Rattle.lk_memory_disk.specs.Memory.{Memory}
 use Rattle.lk_disk.specs.Meters.{stopping}
 use Rattle.lk_store_format.specs.Values.{HeaderValue}
 use Rattle.lk_locks.specs.Meaning.{table_meaning}
 use Rattle.lk_locks.specs.Packed.{IsTableText}
-use Rattle.lk_node_io.specs.declared.note.Note.{Note}
+use Rattle.lk_node_interface.specs.declared.note.Note.{Note}
 use Rattle.lk_node.specs.Leavings.{header_of}
 use Rattle.lk_replica.specs.Behaviours.{Behaviour}
 use Rattle.lk_replica.specs.ReplicaValue.{ReplicaValue}
 use Rattle.lk_replica.specs.Revived.{RevivesTo}
 use Rattle.lk_sim_nodes.specs.Ends.{StaysDown, end_by}
-use Rattle.lk_sim.specs.Events.{Turns, EndsByFault, IsRevived, IsBack, HasEffect}
+use Rattle.lk_sim.specs.Events.{ReplacesSeat, EndsByFault, IsRevived, IsBack, HasEffect}
 use Rattle.lk_sim.specs.Scenes.{Scene}
 use Rattle.lk_sim_nodes.specs.Seats.{rested_on}
 use Rattle.lk_sim_nodes.specs.declared.end.End.{End}
@@ -30,7 +30,7 @@ same_seat s n life number is =
     let made : ℕ → Life ReplicaValue → Seat ReplicaValue = λ k l. record { number = k; life = l } in
     ap (λ (k : ℕ). made k s.life) number ∙ ap (made n) is
 
-pub stands_at : (old new : List (Seat ReplicaValue)) (s t : Seat ReplicaValue) (k : Turns old new s t)
+pub stands_at : (old new : List (Seat ReplicaValue)) (s t : Seat ReplicaValue) (k : ReplacesSeat old new s t)
     → slice_get old k.place ≡ Some s
 stands_at old new s t k = slice_get-get_or old k.place s k.at.0 ∙ ap Some k.at.1
 

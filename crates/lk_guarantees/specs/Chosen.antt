@@ -9,8 +9,8 @@ use Rattle.lk_messages.specs.Grammar.{Spells}
 use Rattle.lk_messages.specs.declared.message.Content.TheVariants as content
 use Rattle.lk_messages.specs.declared.message.NodeMessage.{NodeMessage}
 use Rattle.lk_messages.specs.declared.message.NodeMessage.TheVariants as message
-use Rattle.lk_agreement.specs.Datagrams.{Datagram}
-use Rattle.lk_agreement.specs.declared.party.Party.TheVariants as party
+use Rattle.lk_agreement_laws.specs.Datagrams.{Datagram}
+use Rattle.lk_agreement_laws.specs.declared.party.Party.TheVariants as party
 use Rattle.lk_guarantees.specs.Plain.{at, members}
 
 -- the node has sent the message, in the cluster of the genesis

@@ -6,7 +6,7 @@
 -- System, 2015.
 use Rattle.std.specs.Prelude.{◌≡◌, ℕ, ◌⊎◌, Some, None, Contains}
 use Rattle.lk_disk.specs.Disk.{Disk}
-use Rattle.lk_simulated_disk.specs.Memory.{Memory, disk_of}
+use Rattle.lk_memory_disk.specs.Memory.{Memory, disk_of}
 use Rattle.lk_disk.specs.declared.device.Side.{Side}
 use Rattle.lk_disk.specs.declared.meter.Meter.{Meter}
 use Rattle.lk_disk.specs.declared.trap.Trap.TheVariants.{Off}

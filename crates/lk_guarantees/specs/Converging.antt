@@ -8,14 +8,14 @@ use Rattle.lk_sim.specs.Scenes.{Scene}
 use Rattle.lk_sim_nodes.specs.declared.seat.Life.TheVariants.{Up}
 use Rattle.lk_sim_nodes.specs.declared.seat.Seat.{Seat}
 use Rattle.lk_guarantees.specs.Disks.{kept_text, IsSnapshot}
-use Rattle.lk_guarantees.specs.Promise.{IsChosen, after_stop}
+use Rattle.lk_guarantees.specs.Promise.{IsChosen, kept_by_replica}
 
 pub record Converges (world : Scene ReplicaValue) : Type 0 where
   -- two nodes that are up and have executed as much keep the same, and pack it into the same bytes
   pub nodes : (s t : Seat ReplicaValue) → Contains world.seats s → Contains world.seats t → (q r : ReplicaValue)
       → s.life ≡ Up q → t.life ≡ Up r
-      → (after_stop q).executed ≡ (after_stop r).executed
-      → (after_stop q ≡ after_stop r) × (kept_text (after_stop q) ≡ kept_text (after_stop r))
+      → (kept_by_replica q).executed ≡ (kept_by_replica r).executed
+      → (kept_by_replica q ≡ kept_by_replica r) × (kept_text (kept_by_replica q) ≡ kept_text (kept_by_replica r))
   -- two snapshots of chosen lists of one length, on any disks and in any datagrams, are the same bytes
   pub snapshots : (K L : List Command) → IsChosen world.genesis world.sent K
       → IsChosen world.genesis world.sent L → length K ≡ length L

@@ -9,7 +9,7 @@ use Rattle.lk_types.specs.declared.genesis.Genesis.{Genesis}
 use Rattle.lk_types.specs.declared.member.Member.{Member}
 use Rattle.lk_types.specs.declared.vote.Vote.{Vote}
 use Rattle.lk_disk.specs.Disk.{Disk}
-use Rattle.lk_simulated_disk.specs.Memory.{Memory}
+use Rattle.lk_memory_disk.specs.Memory.{Memory}
 use Rattle.lk_disk.specs.declared.device.Side.{Side}
 use Rattle.lk_disk.specs.declared.device.Side.TheVariants.{A, B}
 use Rattle.lk_messages.specs.declared.message.NodeMessage.{NodeMessage}
@@ -20,7 +20,7 @@ use Rattle.lk_store_format.specs.declared.stored.Stored.{Stored}
 use Rattle.lk_store_format.specs.declared.stored.Stored.TheVariants.{Base}
 use Rattle.lk_log.specs.Images.{IsLive, IsEmpty}
 use Rattle.lk_log.specs.Stores.{first_base}
-use Rattle.lk_agreement.specs.Datagrams.{Datagram}
+use Rattle.lk_agreement_laws.specs.Datagrams.{Datagram}
 use Rattle.lk_replica.specs.ReplicaValue.{ReplicaValue, device_of}
 use Rattle.lk_sim_nodes.specs.declared.seat.Life.{Life}
 use Rattle.lk_sim_nodes.specs.declared.seat.Life.TheVariants.{Up, Down}

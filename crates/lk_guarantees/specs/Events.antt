@@ -7,16 +7,16 @@ use Rattle.std.specs.List.{filter_map, flat_map}
 use Rattle.lk_types.specs.declared.command.Request.{Request as Asking}
 use Rattle.lk_types.specs.declared.genesis.Genesis.{Genesis}
 use Rattle.lk_disk.specs.Disk.{Disk}
-use Rattle.lk_simulated_disk.specs.Memory.{Memory}
+use Rattle.lk_memory_disk.specs.Memory.{Memory}
 use Rattle.lk_disk.specs.Meters.{stopping}
 use Rattle.lk_disk.specs.declared.trap.Trap.TheVariants.{Off}
 use Rattle.lk_messages.specs.Grammar.{Spells}
 use Rattle.lk_messages.specs.declared.message.Content.TheVariants as content
 use Rattle.lk_messages.specs.declared.message.NodeMessage.{NodeMessage}
-use Rattle.lk_agreement.specs.Datagrams.{Datagram}
-use Rattle.lk_agreement.specs.declared.party.Party.TheVariants as party
-use Rattle.lk_node_io.specs.declared.note.Note.{Note}
-use Rattle.lk_node_io.specs.declared.note.Note.TheVariants as note
+use Rattle.lk_agreement_laws.specs.Datagrams.{Datagram}
+use Rattle.lk_agreement_laws.specs.declared.party.Party.TheVariants as party
+use Rattle.lk_node_interface.specs.declared.note.Note.{Note}
+use Rattle.lk_node_interface.specs.declared.note.Note.TheVariants as note
 use Rattle.lk_locks.specs.Meaning.{table_meaning}
 use Rattle.lk_locks.specs.Packed.{IsTableText}
 use Rattle.lk_node.specs.Leavings.{header_of}
@@ -31,14 +31,14 @@ use Rattle.lk_sim.specs.declared.end.RunEnd.{RunEnd}
 use Rattle.lk_sim.specs.declared.event.Event.{Event}
 use Rattle.lk_sim_nodes.specs.declared.refused.Refused.{Refused}
 use Rattle.lk_sim.specs.declared.event.Event.TheVariants as event
-use Rattle.lk_sim.specs.declared.event.Turn.{Turn}
-use Rattle.lk_sim.specs.declared.event.Turn.TheVariants as turn
+use Rattle.lk_sim.specs.declared.event.GroupInput.{GroupInput}
+use Rattle.lk_sim.specs.declared.event.GroupInput.TheVariants as turn
 use Rattle.lk_sim_nodes.specs.declared.refused.Refused.TheVariants.{NoSuchNode, NotUp, AlreadyUp, NoSuchDatagram}
 use Rattle.lk_sim_nodes.specs.declared.refused.Refused.TheVariants.{Forged, WorldFull, WorldMemory}
 use Rattle.lk_sim_nodes.specs.declared.seat.Life.TheVariants.{Up, Down}
 use Rattle.lk_sim_nodes.specs.declared.seat.Seat.{Seat}
 use Rattle.lk_guarantees.specs.Disks.{EachImage, HasSnapshot}
-use Rattle.lk_guarantees.specs.Promise.{after_stop}
+use Rattle.lk_guarantees.specs.Promise.{kept_by_replica}
 
 -- ---- how a world begins
 
@@ -243,7 +243,7 @@ abbrev pub IsEnding : End → Type 0
 IsEnding (Fault n number) = (number ≡ 7) ⊎ (number ≡ 11)
 IsEnding (Stopped n) = Unit {0}
 
--- where it ended a node, that is the one that it is for, and it is down
+-- if the event ended a node, that is the node that it is for, and it is down
 abbrev pub LeavesDown : Scene ReplicaValue → Event → Scene ReplicaValue → Type 0
 LeavesDown old e new =
     (x : End) → new.ended ≡ Some x → IsFor old.sent e (ended_node x) × IsDown new.seats (ended_node x) × IsEnding x
@@ -262,7 +262,7 @@ pub record IsTaken (old : Scene ReplicaValue) (n : ℕ) (given : Option (List �
   pub sent : new.sent ≡ old.sent ++ batch
 
 -- what the turns of a group give: nothing but the time at a tick, and else the bytes of the datagram at that place
-abbrev pub AreGiven : List Datagram → List Turn → List (Option (List ℕ)) → Type 0
+abbrev pub AreGiven : List Datagram → List GroupInput → List (Option (List ℕ)) → Type 0
 AreGiven sent [] given = given ≡ []
 AreGiven sent (turn.Tick ∷ turns) given =
     (rest : List (Option (List ℕ))) × (given ≡ None ∷ rest) × AreGiven sent turns rest
@@ -271,7 +271,8 @@ AreGiven sent (turn.Deliver k ∷ turns) given =
     × ((rest : List (Option (List ℕ))) × (given ≡ Some d.bytes ∷ rest) × AreGiven sent turns rest)
 
 -- so a replica took these together
-pub record AreTaken (old : Scene ReplicaValue) (n : ℕ) (turns : List Turn) (new : Scene ReplicaValue) : Type 0 where
+pub record AreTaken (old : Scene ReplicaValue) (n : ℕ) (turns : List GroupInput)
+    (new : Scene ReplicaValue) : Type 0 where
   pub before : ReplicaValue
   pub after : ReplicaValue
   pub was_up : IsUpWith old.seats n (λ replica. replica ≡ before)
@@ -282,7 +283,7 @@ pub record AreTaken (old : Scene ReplicaValue) (n : ℕ) (turns : List Turn) (ne
   pub took : ComesToAll table_meaning IsTableText before given after (Ok said)
   pub sent : new.sent ≡ old.sent ++ flat_map (λ x. x.1) said
 
--- so it does, where that ended no node
+-- unless the event ended the node, its replica took the input as its contract says
 abbrev pub TakesAsTold : Scene ReplicaValue → Event → Scene ReplicaValue → Type 0
 TakesAsTold old (event.Tick n) new = new.ended ≡ None → IsTaken old n None new
 TakesAsTold old (event.Inject n bytes) new = new.ended ≡ None → IsTaken old n (Some bytes.items) new
@@ -351,7 +352,7 @@ Compacts (event.Compact n) new =
     new.ended ≡ None
     → (s : Seat ReplicaValue) × (replica : ReplicaValue) × Contains new.seats s × (s.number ≡ n) × (s.life ≡ Up replica)
     × EachImage new.genesis s
-    (λ memory. (memory.position ≡ (after_stop replica).executed) × HasSnapshot new.genesis new.sent memory)
+    (λ memory. (memory.position ≡ (kept_by_replica replica).executed) × HasSnapshot new.genesis new.sent memory)
 Compacts _ new = Unit {0}
 
 -- an event that is refused has a cause and changes nothing. When out of memory it notes and sends nothing, and the

@@ -8,9 +8,9 @@ use Rattle.lk_types.specs.declared.command.Request.{Request as Asking}
 use Rattle.lk_types.specs.declared.genesis.Genesis.{Genesis}
 use Rattle.lk_locks.specs.Bodies.{body_of}
 use Rattle.lk_locks.specs.declared.body.Body.TheVariants.{Acquire}
-use Rattle.lk_agreement.specs.Datagrams.{Datagram}
-use Rattle.lk_node_io.specs.declared.note.Note.{Note}
-use Rattle.lk_node_io.specs.declared.note.Note.TheVariants as note
+use Rattle.lk_agreement_laws.specs.Datagrams.{Datagram}
+use Rattle.lk_node_interface.specs.declared.note.Note.{Note}
+use Rattle.lk_node_interface.specs.declared.note.Note.TheVariants as note
 use Rattle.lk_guarantees.specs.Plain.{after, serve, TakesEffectAt}
 use Rattle.lk_guarantees.specs.Promise.{IsChosen}
 

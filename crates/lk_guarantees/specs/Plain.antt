@@ -294,8 +294,8 @@ asks_change Noop = false
 asks_change (Request r) = changes r.op
 
 -- a list in which nobody asks to join or to leave names the members of the genesis at each position
-abbrev pub HasFixedMembers : Genesis → List Command → Type 0
-HasFixedMembers genesis L = list_any asks_change L ≡ false → (i : ℕ) → members genesis L i ≡ genesis.members
+abbrev pub FixedUnlessChanged : Genesis → List Command → Type 0
+FixedUnlessChanged genesis L = list_any asks_change L ≡ false → (i : ℕ) → members genesis L i ≡ genesis.members
 
 -- ---- what is kept of a list
 

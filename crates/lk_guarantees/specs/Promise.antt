@@ -6,7 +6,7 @@
 --
 -- All of that is stated here a second time, in words of its own. Of the crates below, these files import the values,
 -- the order of ballots, the grammar of bytes, bodies and files, the packed text of a lock table, and what a world
--- shows (its genesis, its nodes, its datagrams, its trace). Of the definitions of lk_members, lk_agreement, lk_state,
+-- shows (its genesis, its nodes, its datagrams, its trace). Of the definitions of lk_members, lk_agreement_laws,
 -- lk_sim_nodes and lk_sim they import none but such values: so a definition that is weakened there breaks a proof of
 -- this crate.
 --
@@ -27,9 +27,9 @@ use Rattle.lk_messages.specs.declared.message.Content.{Content}
 use Rattle.lk_messages.specs.declared.message.Content.TheVariants as content
 use Rattle.lk_messages.specs.declared.message.Message.{Message}
 use Rattle.lk_messages.specs.declared.message.NodeMessage.TheVariants as message
-use Rattle.lk_agreement.specs.Datagrams.{Datagram}
-use Rattle.lk_node_io.specs.declared.note.Note.{Note}
-use Rattle.lk_node_io.specs.declared.note.Note.TheVariants as note
+use Rattle.lk_agreement_laws.specs.Datagrams.{Datagram}
+use Rattle.lk_node_interface.specs.declared.note.Note.{Note}
+use Rattle.lk_node_interface.specs.declared.note.Note.TheVariants as note
 use Rattle.lk_replica.specs.ReplicaValue.{ReplicaValue}
 use Rattle.lk_sim.specs.Scenes.{Scene}
 use Rattle.lk_sim_nodes.specs.declared.seat.Life.TheVariants.{Up}
@@ -141,8 +141,8 @@ AreToldInTime trace =
 -- ---- what a node that is up has executed
 
 -- what the replica keeps of the commands that it has executed
-abbrev pub after_stop : ReplicaValue → Kept
-after_stop replica = record {
+abbrev pub kept_by_replica : ReplicaValue → Kept
+kept_by_replica replica = record {
   executed = replica.node.learner.whole.roster.executed;
   incoming = replica.node.learner.whole.roster.sets;
   greatest = replica.node.learner.whole.roster.greatest;
@@ -154,7 +154,7 @@ after_stop replica = record {
 -- it has executed a chosen list, of which it keeps everything that takes effect
 abbrev pub HasExecuted : Genesis → List Datagram → ReplicaValue → Type 0
 HasExecuted genesis sent replica = (L : List Command) × IsChosen genesis sent L
-    × IsKeptOf genesis L (after_stop replica)
+    × IsKeptOf genesis L (kept_by_replica replica)
 
 -- each node that is up
 abbrev pub HaveExecuted : Genesis → List (Seat ReplicaValue) → List Datagram → Type 0

@@ -6,7 +6,7 @@ use Rattle.lk_types.specs.declared.genesis.Genesis.{Genesis}
 use Rattle.lk_messages.specs.Values.{PassedValue}
 use Rattle.lk_messages.specs.declared.message.Answered.{Answered}
 use Rattle.lk_messages.specs.declared.message.NodeMessage.TheVariants as message
-use Rattle.lk_agreement.specs.Datagrams.{Datagram}
+use Rattle.lk_agreement_laws.specs.Datagrams.{Datagram}
 use Rattle.lk_guarantees.specs.Chosen.{Says}
 use Rattle.lk_guarantees.specs.Plain.{IsAnswered}
 

@@ -3,7 +3,7 @@
 --
 -- That a recovery may be repeated: Mohan et al., ARIES, 1992.
 use Rattle.std.specs.Prelude.{◌≡◌, ℕ, ◌⊎◌, Some, Ok, Err, List, [], ◌∷◌, ◌++◌, set, slice_get, Contains}
-use Rattle.lk_simulated_disk.specs.Memory.{Memory, disk_of}
+use Rattle.lk_memory_disk.specs.Memory.{Memory, disk_of}
 use Rattle.lk_store_format.specs.Formats.{format}
 use Rattle.lk_store_format.specs.Values.{HeaderValue}
 use Rattle.lk_store_format.specs.declared.stored.Stored.{Stored}
@@ -16,7 +16,7 @@ use Rattle.lk_sim.specs.Scenes.{Scene}
 use Rattle.lk_sim.specs.declared.event.Event.{Event}
 use Rattle.lk_sim.specs.declared.event.Event.TheVariants as event
 use Rattle.lk_sim_nodes.specs.declared.seat.Life.TheVariants.{Up, Down}
-use Rattle.lk_node_io.specs.declared.note.Note.{Note}
+use Rattle.lk_node_interface.specs.declared.note.Note.{Note}
 use Rattle.lk_guarantees.specs.Events.{remaining}
 
 -- a restart on this device came to this replica and these notes

@@ -1,8 +1,8 @@
 //! Laws that follow from the definitions of the promise: linearizability, fencing, exactly once, convergence, restarts.
 ghost use Rattle.std.specs.Prelude.{ℕ, List};
-ghost use Rattle.lk_simulated_disk.specs.Memory.{Memory};
+ghost use Rattle.lk_memory_disk.specs.Memory.{Memory};
 ghost use Rattle.lk_store_format.specs.Values.{HeaderValue};
-ghost use Rattle.lk_node_io.specs.declared.note.Note.{Note};
+ghost use Rattle.lk_node_interface.specs.declared.note.Note.{Note};
 ghost use Rattle.lk_types.specs.declared.command.Command.{Command};
 ghost use Rattle.lk_types.specs.declared.genesis.Genesis.{Genesis};
 ghost use Rattle.lk_replica.specs.ReplicaValue.{ReplicaValue};
@@ -16,7 +16,7 @@ ghost use Rattle.lk_guarantees.specs.Events.{AreDone, IsDone, IsReachable, IsRun
 ghost use Rattle.lk_guarantees.specs.ExactlyOnce.{AreServedOnce};
 ghost use Rattle.lk_guarantees.specs.Guarded.{AreListed, IsGuarded, Write};
 ghost use Rattle.lk_guarantees.specs.Linear.{IsLinearizable};
-ghost use Rattle.lk_guarantees.specs.Plain.{HasFixedMembers, TakesEffectOnce};
+ghost use Rattle.lk_guarantees.specs.Plain.{FixedUnlessChanged, TakesEffectOnce};
 ghost use Rattle.lk_guarantees.specs.Promise.{Explains, KeepsPromise};
 ghost use Rattle.lk_guarantees.specs.Replies.{ExplainsReplies};
 ghost use Rattle.lk_guarantees.specs.Restarting.{ComesUp, FindsFormatTwo, IsIdempotent, IsTheSame, ReadsFormatTwo};
@@ -24,7 +24,7 @@ ghost use Rattle.lk_guarantees.specs.Restarting.{stops_and_restarts};
 
 /// A list in which nobody asks to join or to leave names the members of the genesis at each position.
 pub fn members_stay_fixed()
-    ensures { (genesis : Genesis) (L : List Command) → HasFixedMembers genesis L }
+    ensures { (genesis : Genesis) (L : List Command) → FixedUnlessChanged genesis L }
 {}
 
 /// Each number of a client takes effect at most at one position of a list.

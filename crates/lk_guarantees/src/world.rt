@@ -4,9 +4,9 @@ ghost use Rattle.lk_guarantees.specs.Promise.{KeepsPromise};
 ghost use Rattle.std.specs.Prelude.{◌≡◌, OnOk, IfErr};
 
 use lk_locks::LockTable;
+use lk_memory_disk::MemoryDisk;
 use lk_replica::Replica;
 use lk_sim::{Event, Refused, RunEnd, World};
-use lk_simulated_disk::MemoryDisk;
 use lk_types::Genesis;
 use std::alloc::Global;
 

@@ -15,9 +15,9 @@ use Rattle.lk_members.specs.Rosters.{Genesis, is_member, members}
 use Rattle.lk_members.specs.Majorities.{IsMajority}
 use Rattle.lk_members.specs.Windows.{RosterValue, RosterSumsUp, roster_after}
 use Rattle.lk_members.proofs.Memberships.{length_of_window, set_of_window}
-use Rattle.lk_agreement.specs.Soundness.{IsReported, IsReporter}
-use Rattle.lk_agreement.specs.Nodes.{Term, new_term, Acceptance}
-use Rattle.lk_agreement.specs.Changes.{MayPropose, with_report, with_proposal, with_acceptance}
+use Rattle.lk_agreement_laws.specs.Soundness.{IsReported, IsReporter}
+use Rattle.lk_agreement_laws.specs.Nodes.{Term, new_term, Acceptance}
+use Rattle.lk_agreement_laws.specs.Changes.{MayPropose, with_report, with_proposal, with_acceptance}
 use Rattle.lk_leader.specs.Terms as terms
 use Rattle.lk_leader.specs.Terms.{ReceivedPromise, ProposalValue, TermValue, proposal_at, in_window, with_proposals}
 use Rattle.lk_leader.specs.Terms.{begun}

@@ -1,6 +1,6 @@
 -- When a leader's state agrees with a term of the history.
 use Rattle.std.specs.Prelude.{◌≡◌, ℕ, ◌+◌, ◌<◌, ◌≤◌, Contains}
-use Rattle.lk_agreement.specs.Nodes.{Term}
+use Rattle.lk_agreement_laws.specs.Nodes.{Term}
 use Rattle.lk_leader.specs.Terms.{Command, ReceivedPromise, ProposalValue, TermValue}
 
 -- a leader that keeps this much leads the term, with this many executed positions and a window of this size. The

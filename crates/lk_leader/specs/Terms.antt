@@ -1,7 +1,7 @@
 -- What a contract sees of a leader.
 pub use Rattle.lk_types.specs.BallotValue.{BallotValue}
 pub use Rattle.lk_members.specs.Effects.{Command, RequestValue}
-pub use Rattle.lk_agreement.specs.Soundness.{ReceivedPromise}
+pub use Rattle.lk_agreement_laws.specs.Soundness.{ReceivedPromise}
 use Rattle.std.specs.List.{list_any}
 use Rattle.lk_members.specs.Ports.{is_named}
 use Rattle.lk_members.specs.Windows.{RosterValue}

@@ -7,9 +7,9 @@ ghost use Rattle.lk_members.specs.Effects.{Command, RequestValue, Noop, Request}
 ghost use Rattle.lk_members.specs.Rosters.{Genesis, members};
 ghost use Rattle.lk_members.specs.Majorities.{IsMajority};
 ghost use Rattle.lk_members.specs.Windows.{RosterValue, RosterSumsUp};
-ghost use Rattle.lk_agreement.specs.Soundness.{IsReported};
-ghost use Rattle.lk_agreement.specs.Nodes.{Term, new_term};
-ghost use Rattle.lk_agreement.specs.Changes.{MayPropose, with_report, with_proposal, with_acceptance};
+ghost use Rattle.lk_agreement_laws.specs.Soundness.{IsReported};
+ghost use Rattle.lk_agreement_laws.specs.Nodes.{Term, new_term};
+ghost use Rattle.lk_agreement_laws.specs.Changes.{MayPropose, with_report, with_proposal, with_acceptance};
 ghost use Rattle.lk_leader.specs.Terms.{ReceivedPromise, ProposalValue, TermValue, begun, with_proposals};
 ghost use Rattle.lk_leader.specs.Terms as terms;
 ghost use Rattle.lk_leader.specs.Values.{IsLeadersValue};

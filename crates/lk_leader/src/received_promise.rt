@@ -18,7 +18,7 @@ pub(crate) struct ReceivedPromise {
 }
 
 impl Model for ReceivedPromise {
-    ghost use Rattle.lk_agreement.specs.Soundness.{ReceivedPromise as ReceivedPromiseValue};
+    ghost use Rattle.lk_agreement_laws.specs.Soundness.{ReceivedPromise as ReceivedPromiseValue};
 
     ghost Value = { ReceivedPromiseValue };
 

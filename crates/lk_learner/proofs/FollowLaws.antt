@@ -6,13 +6,13 @@ use Rattle.std.proofs.Common.{sym, subst, inl, inr, arith, length-append}
 use Rattle.std.specs.Prelude.{slice_get}
 use Rattle.std.proofs.lemmas.List.{drop-append-le, take-append-le}
 use Rattle.std.proofs.lemmas.List.Elements.{Contains-append_left, Contains-push, Contains-push_cases}
-use Rattle.lk_agreement.specs.Datagrams.{Genesis, Datagram}
-use Rattle.lk_agreement.specs.Chosen.{command_at, Chosen, ChosenAt, AreChosenFrom}
-use Rattle.lk_agreement.specs.Soundness.{Sound}
-use Rattle.lk_agreement.specs.Nodes.{View, Stems}
-use Rattle.lk_agreement.specs.Changes.{AreAmong, with_done, Changes, learns, executes}
-use Rattle.lk_agreement.proofs.Histories.{entry_chosen, chosen_push, cons_cases, contains_more, filter_from}
-use Rattle.lk_agreement.proofs.Histories.{filter_passes_at}
+use Rattle.lk_agreement_laws.specs.Datagrams.{Genesis, Datagram}
+use Rattle.lk_agreement_laws.specs.Chosen.{command_at, Chosen, ChosenAt, AreChosenFrom}
+use Rattle.lk_agreement_laws.specs.Soundness.{Sound}
+use Rattle.lk_agreement_laws.specs.Nodes.{View, Stems}
+use Rattle.lk_agreement_laws.specs.Changes.{AreAmong, with_done, Changes, learns, executes}
+use Rattle.lk_agreement_laws.proofs.Histories.{entry_chosen, chosen_push, cons_cases, contains_more, filter_from}
+use Rattle.lk_agreement_laws.proofs.Histories.{filter_passes_at}
 use Rattle.lk_members.specs.Windows.{roster_after}
 use Rattle.lk_state.specs.Meanings.{Meaning}
 use Rattle.lk_state.specs.Packed.{packed}

@@ -10,7 +10,7 @@ use Rattle.std.proofs.lemmas.Bool.{eq-eqb, ne_eqb}
 use Rattle.std.proofs.lemmas.List.Sums.{prefix_len-le-length, prefix_len_is}
 use Rattle.std.proofs.lemmas.List.Edits.{length-insert}
 use Rattle.lk_types.specs.declared.command.Command.TheVariants.{Noop}
-use Rattle.lk_agreement.proofs.Histories.{cons_cases, contains_more, filter_from}
+use Rattle.lk_agreement_laws.proofs.Histories.{cons_cases, contains_more, filter_from}
 use Rattle.lk_learner.specs.Pairs.{Command, Pair, are_pairs_above, AreKept, with_pair, without}
 
 pub first : (p : Pair) (ps : List Pair) → Contains (p ∷ ps) p

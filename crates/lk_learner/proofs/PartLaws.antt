@@ -4,11 +4,11 @@ use Rattle.std.proofs.Common.{◌∷◌, ◌++◌, length, take, drop, Option, S
 use Rattle.std.specs.Prelude.{slice_get}
 use Rattle.std.proofs.lemmas.Bool.{and_parts}
 use Rattle.lk_messages.specs.Values.{PartValue}
-use Rattle.lk_agreement.specs.Chosen.{Command}
-use Rattle.lk_agreement.specs.Datagrams.{Genesis, Datagram}
-use Rattle.lk_agreement.specs.Snapshots.{IsSlice}
-use Rattle.lk_agreement.specs.Soundness.{Sound}
-use Rattle.lk_agreement.proofs.Histories.{slices_join}
+use Rattle.lk_agreement_laws.specs.Chosen.{Command}
+use Rattle.lk_agreement_laws.specs.Datagrams.{Genesis, Datagram}
+use Rattle.lk_agreement_laws.specs.Snapshots.{IsSlice}
+use Rattle.lk_agreement_laws.specs.Soundness.{Sound}
+use Rattle.lk_agreement_laws.proofs.Histories.{slices_join}
 use Rattle.lk_learner.specs.Gathering.{begun_by, joined, joined_any, begins, heard}
 use Rattle.lk_learner.specs.Learners.{GatheredValue}
 use Rattle.lk_learner.specs.Parts.{part_of, AreParts}

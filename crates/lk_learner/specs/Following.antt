@@ -1,7 +1,7 @@
 -- When a learner's state is that of an executed list.
 use Rattle.std.specs.Prelude.{◌≡◌, ◌≤◌, List, length, take, drop}
-use Rattle.lk_agreement.specs.Changes.{AreAmong}
-use Rattle.lk_agreement.specs.Datagrams.{Genesis}
+use Rattle.lk_agreement_laws.specs.Changes.{AreAmong}
+use Rattle.lk_agreement_laws.specs.Datagrams.{Genesis}
 use Rattle.lk_state.specs.Meanings.{Meaning}
 use Rattle.lk_state.specs.Packed.{packed}
 use Rattle.lk_state.specs.States.{SumsUp, whole_after}

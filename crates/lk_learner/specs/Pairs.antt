@@ -1,6 +1,6 @@
 -- Decided pairs in order of their positions.
-pub use Rattle.lk_agreement.specs.Chosen.{Command}
-pub use Rattle.lk_agreement.specs.Nodes.{Pair}
+pub use Rattle.lk_agreement_laws.specs.Chosen.{Command}
+pub use Rattle.lk_agreement_laws.specs.Nodes.{Pair}
 use Rattle.std.specs.Prelude.{ℕ, ◌+◌, ◌*◌, ◌≤◌, Bool, true, not, ◌==◌, nat_lt, ◌&&◌, if◌then◌else◌, List, [], ◌∷◌}
 use Rattle.std.specs.Prelude.{filter, Contains, IsTrue}
 

@@ -1,13 +1,13 @@
 //! Laws of a learner's calls, about the definitions alone: each is the contract of a function without a body.
 ghost use Rattle.std.specs.Prelude.{◌≡◌, ◌+◌, ◌-◌, ◌*◌, ◌<◌, ◌≤◌, ℕ, suc, List, [], ◌∷◌, ◌++◌, length, take, drop};
 ghost use Rattle.std.specs.Prelude.{Contains, Option, Some, slice_get};
-ghost use Rattle.lk_agreement.specs.Datagrams.{Genesis, Datagram, Decided};
-ghost use Rattle.lk_agreement.specs.Chosen.{command_at, Chosen, ChosenAt};
-ghost use Rattle.lk_agreement.specs.Soundness.{Sound};
-ghost use Rattle.lk_agreement.specs.Snapshots.{IsSlice};
+ghost use Rattle.lk_agreement_laws.specs.Datagrams.{Genesis, Datagram, Decided};
+ghost use Rattle.lk_agreement_laws.specs.Chosen.{command_at, Chosen, ChosenAt};
+ghost use Rattle.lk_agreement_laws.specs.Soundness.{Sound};
+ghost use Rattle.lk_agreement_laws.specs.Snapshots.{IsSlice};
 ghost use Rattle.lk_messages.specs.Values.{PartValue};
-ghost use Rattle.lk_agreement.specs.Nodes.{View, Stems, MaySend};
-ghost use Rattle.lk_agreement.specs.Changes.{with_done, Changes};
+ghost use Rattle.lk_agreement_laws.specs.Nodes.{View, Stems, MaySend};
+ghost use Rattle.lk_agreement_laws.specs.Changes.{with_done, Changes};
 ghost use Rattle.lk_state.specs.Meanings.{Meaning};
 ghost use Rattle.lk_state.specs.States.{SumsUp};
 ghost use Rattle.lk_learner.specs.Pairs.{AreKept, without};

@@ -21,14 +21,15 @@ use Rattle.lk_members.proofs.Memberships.{added, effects-push}
 use Rattle.lk_state.specs.Meanings.{Task, Running, Raising}
 use Rattle.lk_locks.specs.declared.body.Body.{Body}
 use Rattle.lk_locks.specs.declared.body.Body.TheVariants.{Acquire, Release, Ask, Check, Share, Break}
-use Rattle.lk_locks.specs.declared.row.Row.{Row}
+use Rattle.lk_locks.specs.declared.transition.Transition.{Transition}
 use Rattle.lk_locks.specs.declared.slot.Holders.{Holders}
 use Rattle.lk_locks.specs.declared.slot.Holders.TheVariants.{Nobody, Alone, Together}
 use Rattle.lk_locks.specs.declared.slot.Slot.{Slot}
 use Rattle.lk_locks.specs.Bodies.{body_of, name_of, is_known, known}
 use Rattle.lk_locks.specs.Holders.{is_held, left_by}
 use Rattle.lk_locks.specs.Sharers.{is_among}
-use Rattle.lk_locks.specs.Plain.{Names, Table, empty, row, row_in, changed, answer_to, answer, next_by, next, raised}
+use Rattle.lk_locks.specs.Plain.{Names, Table, empty, transition, transition_in, changed, answer_to, answer, next_by}
+use Rattle.lk_locks.specs.Plain.{next, raised}
 use Rattle.lk_locks.specs.Plain.{given, fence_after, first_fence, acquired_at, acquired, joined, shared_at, shared}
 use Rattle.lk_locks.specs.Plain.{left_at, released, is_held_at, broken, asked, asked_at, checked}
 use Rattle.lk_locks.specs.Meaning.{next_by_task, task_answer}
@@ -43,7 +44,7 @@ abbrev pub last_fence : Option Slot → ℕ
 last_fence None = 0
 last_fence (Some s) = s.fence
 
--- what a name has after a row
+-- what a name has after a transition
 abbrev after : Option Slot → Option Slot → Option Slot
 after s None = s
 after s (Some t) = Some t
@@ -57,7 +58,7 @@ Goes old new told =
 stays : (n : ℕ) (told : List ℕ) → told ≡ [] → Goes n n told
 stays n told e = inl (e, refl)
 
-abbrev RowGoes : Option Slot → Row → Type 0
+abbrev RowGoes : Option Slot → Transition → Type 0
 RowGoes s r = Goes (last_fence s) (last_fence (after s r.change)) (fences r.answer)
 
 -- ---- each kind of body, at its own name
@@ -136,7 +137,7 @@ ask_goes (Some s) = by s.fence s.holders
 pub check_goes : (fence : ℕ) (s : Option Slot) → fences (checked fence s) ≡ []
 check_goes fence s = elim (is_held_at fence s) as (λ b. fences (cond b Valid Stale) ≡ []) [ true ↦ refl | false ↦ refl ]
 
-row_goes : (client : ℕ) (body : Body) (s : Option Slot) (names : ℕ) → RowGoes s (row client body s names)
+row_goes : (client : ℕ) (body : Body) (s : Option Slot) (names : ℕ) → RowGoes s (transition client body s names)
 row_goes client (Acquire name) s names = acquire_goes client s names
 row_goes client (Release name fence) s names = release_goes client fence s
 row_goes client (Ask name) s names = stays _ _ (ask_goes s)
@@ -175,12 +176,12 @@ one_goes : (client : ℕ) (body : Option Body) (m : Names) (q : List ℕ)
     (cond (is_for q body) (fences (answer_to client body m)) [])
 one_goes client None m q = stays _ _ refl
 one_goes client (Some body) m q =
-    let now = get-changed (name_of body) (row_in client body m).change m q in
+    let now = get-changed (name_of body) (transition_in client body m).change m q in
     elim (same_or_not q (name_of body)) [
       | inl e ↦ rw (now, e.0) (subst
           (λ (x : List ℕ). Goes (last_fence (map.get m x))
-          (last_fence (after (map.get m (name_of body)) (row_in client body m).change))
-          (fences (row_in client body m).answer)) (sym e.1)
+          (last_fence (after (map.get m (name_of body)) (transition_in client body m).change))
+          (fences (transition_in client body m).answer)) (sym e.1)
           (row_goes client body (map.get m (name_of body)) (map.len m)))
       | inr e ↦ rw (now, e) (stays _ _ refl)
     ]
@@ -368,6 +369,6 @@ breaks_free_all client bytes name fence t holders is_raised asks held at =
     ≡ record { answer = Broken; change = Some (record { fence = fence; holders = Nobody }) } =
     ap (broken fence) at ∙ rw (held, eq-eqb fence fence refl) refl in
     ap (λ (b : Option Body). map.get (next_by client b t.names) name) what
-    ∙ ap (λ (r : Row). map.get (changed name r.change t.names) name) row_is
+    ∙ ap (λ (r : Transition). map.get (changed name r.change t.names) name) row_is
     ∙ map.get-insert nat_list_cmp_total t.names name (record { fence = fence; holders = Nobody }) name
     ∙ rw ((eq_by_cmp_equiv nat_list_cmp_total).refl name) refl

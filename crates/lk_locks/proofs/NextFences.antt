@@ -18,7 +18,7 @@ use Rattle.lk_locks.specs.Bodies.{body_of, name_of, is_known, known}
 use Rattle.lk_locks.specs.Held.{IsFree}
 use Rattle.lk_locks.specs.Holders.{is_held, left_by}
 use Rattle.lk_locks.specs.Sharers.{is_among}
-use Rattle.lk_locks.specs.Plain.{Names, Table, empty, row, answer_to, answer, given, fence_after, first_fence}
+use Rattle.lk_locks.specs.Plain.{Names, Table, empty, transition, answer_to, answer, given, fence_after, first_fence}
 use Rattle.lk_locks.specs.Plain.{acquired_at, acquired, joined, shared_at, shared, left_at, released, is_held_at}
 use Rattle.lk_locks.specs.Plain.{broken, asked, checked}
 use Rattle.lk_locks.specs.Meaning.{next_by_task, task_answer}
@@ -79,7 +79,7 @@ break_gives : (fence : ℕ) (s : Option Slot) → fences (broken fence s).answer
 break_gives fence s = elim (decided (is_held_at fence s)) [ inl e ↦ rw e refl | inr e ↦ rw e refl ]
 
 free_gives : (client : ℕ) (body : Body) (s : Option Slot) (names : ℕ) → IsFree s
-    → GivesNext (last_fence s) (fences (row client body s names).answer)
+    → GivesNext (last_fence s) (fences (transition client body s names).answer)
 free_gives client (Acquire name) None names free = first_gives Granted (Alone client) names (λ n. refl)
 free_gives client (Acquire name) (Some s) names free = rw free (after_gives Granted (Alone client) s.fence (λ n. refl))
 free_gives client (Share name) None names free = first_gives Shared (Together (client ∷ [])) names (λ n. refl)
@@ -94,9 +94,9 @@ free_gives client (Break name fence) s names free = inl (break_gives fence s)
 not_given : {a : Answer} {fence : ℕ} → fences a ≡ [] → a ≡ Granted fence → ⊥
 not_given none e = let given = sym none ∙ ap fences e in cc
 
--- what a client's bytes are answered is what their row says, or nothing is given
+-- what a client's bytes are answered is what their transition says, or nothing is given
 answer_is : (client : ℕ) (bytes : List ℕ) (t : Table) (body : Body) → body_of bytes ≡ Some body
-    → (answer client bytes t ≡ (row client body (map.get t.names (name_of body)) (map.len t.names)).answer)
+    → (answer client bytes t ≡ (transition client body (map.get t.names (name_of body)) (map.len t.names)).answer)
     ⊎ (fences (answer client bytes t) ≡ [])
 answer_is client bytes t body asks = elim (decided (is_known t.raised body)) [
   | inl e ↦ inl (ap (λ (b : Option Body). answer_to client (known t.raised b) t.names) asks ∙ rw e refl)
@@ -135,9 +135,9 @@ next_of_free client bytes body fence L asks free told =
 
 -- ---- granted to one
 
--- the row grants the name to one client alone only where nobody holds it
+-- the transition grants the name to one client alone only where nobody holds it
 granted_free : (client : ℕ) (body : Body) (s : Option Slot) (names : ℕ) (fence : ℕ)
-    → (row client body s names).answer ≡ Granted fence → IsFree s
+    → (transition client body s names).answer ≡ Granted fence → IsFree s
 granted_free client body None names fence e = tt
 granted_free client (Acquire name) (Some s) names fence e = by s.holders e
   where

@@ -17,7 +17,8 @@ use Rattle.lk_locks.specs.Bodies.{read_name, read_name_and_fence, fields_of, bod
 use Rattle.lk_locks.specs.Holders.{is_held, held_by, left_by, is_kept, IsHolders}
 use Rattle.lk_locks.specs.Sharers.{AreSharers, is_among, without}
 use Rattle.lk_locks.specs.SharerLaws.{with_client-fits, held_by-fits, one_sharer, least-fits}
-use Rattle.lk_locks.specs.Plain.{Names, Table, row, row_in, changed, next_by, next, answer_to, raised, given}
+use Rattle.lk_locks.specs.Plain.{Names, Table, transition, transition_in, changed, next_by, next, answer_to, raised}
+use Rattle.lk_locks.specs.Plain.{given}
 use Rattle.lk_locks.specs.Plain.{fence_after, first_fence, acquired_at, acquired, joined, shared_at, shared, left_at}
 use Rattle.lk_locks.specs.Plain.{released, is_held_at, broken, asked_at, asked, checked}
 use Rattle.lk_locks.specs.Packed.{Entry, IsSlotIn, IsTableEntry, AreNames, IsTable, IsTableText, table_in}
@@ -231,7 +232,7 @@ module _ (raised_now : Bool) where
   ]
 
   row_may : (client : ℕ) (body : Body) (old : Option Slot) (names : ℕ) → is_known raised_now body ≡ true
-      → IsClient client → IsKept old → MayStand old names (row client body old names).change
+      → IsClient client → IsKept old → MayStand old names (transition client body old names).change
   row_may client (Acquire name) old names is_known is_client fits = acquired_may client old names is_client fits
   row_may client (Release name fence) old names is_known is_client fits = released_may client fence old names fits
   row_may client (Ask name) old names is_known is_client fits = tt
@@ -260,9 +261,9 @@ module _ (raised_now : Bool) where
   changed_are_names m name None fits named may = fits
   changed_are_names m name (Some s) fits named may = insert_are_names raised_now m name s fits (named, may.0) may.1
 
-  -- what a row writes may be in a table
+  -- what a transition writes may be in a table
   pub row_in_may : (client : ℕ) (body : Body) (m : Names) → is_known raised_now body ≡ true → IsClient client
-      → AreNames raised_now m → MayStand (map.get m (name_of body)) (map.len m) (row_in client body m).change
+      → AreNames raised_now m → MayStand (map.get m (name_of body)) (map.len m) (transition_in client body m).change
   row_in_may client body m is_known is_client fits =
       row_may client body (map.get m (name_of body)) (map.len m) is_known is_client (kept m (name_of body) fits)
 
@@ -274,7 +275,7 @@ module _ (raised_now : Bool) where
       → AreNames raised_now m → AreNames raised_now (next_by client body m)
   after_are_names client None m is_client known fits = fits
   after_are_names client (Some b) m is_client known fits =
-      changed_are_names m (name_of b) (row_in client b m).change fits known.0
+      changed_are_names m (name_of b) (transition_in client b m).change fits known.0
       (row_in_may client b m known.1 is_client fits)
 
   known_is : (body : Option Body) → ((b : Body) → body ≡ Some b → IsName (name_of b))
@@ -387,7 +388,7 @@ module _ (raised_now : Bool) where
   checked_answers fence old = elim (decided (is_held_at fence old)) [ inl e ↦ rw e tt | inr e ↦ rw e tt ]
 
   row_answers : (client : ℕ) (body : Body) (old : Option Slot) (names : ℕ) → IsKept raised_now old
-      → IsAnswer (row client body old names).answer
+      → IsAnswer (transition client body old names).answer
   row_answers client (Acquire name) old names fits = acquired_answers client old names fits
   row_answers client (Release name fence) old names fits = released_answers client fence old
   row_answers client (Ask name) old names fits = asked_answers old fits

@@ -16,7 +16,7 @@ use Rattle.lk_locks.specs.Sharers.{is_among, with_client, least}
 use Rattle.lk_locks.specs.Slots.{slot_code}
 use Rattle.lk_locks.specs.declared.body.Body.{Body}
 use Rattle.lk_locks.specs.declared.body.Body.TheVariants.{Acquire, Release, Ask, Check, Share, Break}
-use Rattle.lk_locks.specs.declared.row.Row.{Row}
+use Rattle.lk_locks.specs.declared.transition.Transition.{Transition}
 use Rattle.lk_locks.specs.declared.slot.Holders.{Holders}
 use Rattle.lk_locks.specs.declared.slot.Holders.TheVariants.{Nobody, Alone, Together}
 use Rattle.lk_locks.specs.declared.slot.Slot.{Slot}
@@ -37,7 +37,7 @@ table_code = code_by (Bool × Names) (coded× coded_bool (map.code (coded_list c
 abbrev pub empty : Table
 empty = record { raised = false; names = map.empty }
 
-abbrev pub unchanged : Answer → Row
+abbrev pub unchanged : Answer → Transition
 unchanged a = record { answer = a; change = None }
 
 -- ---- Acquire and Share
@@ -51,22 +51,22 @@ abbrev pub first_fence : ℕ → Result ℕ Answer
 first_fence names = if nat_lt names max_names then Ok 1 else Err NoRoom
 
 -- a grant: the answer has the fence, and the name is held at it from then on; without a fence the refusal
-abbrev pub given : (ℕ → Answer) → Holders → Result ℕ Answer → Row
+abbrev pub given : (ℕ → Answer) → Holders → Result ℕ Answer → Transition
 given told holders (Ok fence) =
     record { answer = told fence; change = Some (record { fence = fence; holders = holders }) }
 given told holders (Err refusal) = unchanged refusal
 
-abbrev pub acquired_at : ℕ → ℕ → Holders → Row
+abbrev pub acquired_at : ℕ → ℕ → Holders → Transition
 acquired_at client fence Nobody = given Granted (Alone client) (fence_after fence)
 acquired_at client fence (Alone holder) = unchanged (Busy holder fence)
 acquired_at client fence (Together clients) = unchanged (Busy (least clients) fence)
 
-abbrev pub acquired : ℕ → Option Slot → ℕ → Row
+abbrev pub acquired : ℕ → Option Slot → ℕ → Transition
 acquired client None names = given Granted (Alone client) (first_fence names)
 acquired client (Some s) names = acquired_at client s.fence s.holders
 
 -- joining those who share the name takes no new fence
-abbrev pub joined : ℕ → ℕ → List ℕ → Row
+abbrev pub joined : ℕ → ℕ → List ℕ → Transition
 joined client fence clients =
     if is_among client clients then unchanged (Shared fence)
     else if nat_lt (length clients) max_sharers then
@@ -76,22 +76,22 @@ joined client fence clients =
     }
     else unchanged (Busy (least clients) fence)
 
-abbrev pub shared_at : ℕ → ℕ → Holders → Row
+abbrev pub shared_at : ℕ → ℕ → Holders → Transition
 shared_at client fence Nobody = given Shared (Together (client ∷ [])) (fence_after fence)
 shared_at client fence (Alone holder) = unchanged (Busy holder fence)
 shared_at client fence (Together clients) = joined client fence clients
 
-abbrev pub shared : ℕ → Option Slot → ℕ → Row
+abbrev pub shared : ℕ → Option Slot → ℕ → Transition
 shared client None names = given Shared (Together (client ∷ [])) (first_fence names)
 shared client (Some s) names = shared_at client s.fence s.holders
 
 -- ---- Release and Break: the fence stays
 
-abbrev pub left_at : ℕ → Option Holders → Row
+abbrev pub left_at : ℕ → Option Holders → Transition
 left_at fence None = unchanged NotHeld
 left_at fence (Some holders) = record { answer = Released; change = Some (record { fence = fence; holders = holders }) }
 
-abbrev pub released : ℕ → ℕ → Option Slot → Row
+abbrev pub released : ℕ → ℕ → Option Slot → Transition
 released client fence None = unchanged NotHeld
 released client fence (Some s) =
     if s.fence == fence then left_at fence (left_by client s.holders) else unchanged NotHeld
@@ -100,7 +100,7 @@ abbrev pub is_held_at : ℕ → Option Slot → Bool
 is_held_at fence None = false
 is_held_at fence (Some s) = is_held s.holders && s.fence == fence
 
-abbrev pub broken : ℕ → Option Slot → Row
+abbrev pub broken : ℕ → Option Slot → Transition
 broken fence s =
     if is_held_at fence s then record { answer = Broken; change = Some (record { fence = fence; holders = Nobody }) }
     else unchanged Stale
@@ -122,16 +122,16 @@ checked fence s = if is_held_at fence s then Valid else Stale
 -- ---- all bodies
 
 -- given the name's slot, and how many names there are
-abbrev pub row : ℕ → Body → Option Slot → ℕ → Row
-row client (Acquire name) s names = acquired client s names
-row client (Release name fence) s names = released client fence s
-row client (Ask name) s names = unchanged (asked s)
-row client (Check name fence) s names = unchanged (checked fence s)
-row client (Share name) s names = shared client s names
-row client (Break name fence) s names = broken fence s
+abbrev pub transition : ℕ → Body → Option Slot → ℕ → Transition
+transition client (Acquire name) s names = acquired client s names
+transition client (Release name fence) s names = released client fence s
+transition client (Ask name) s names = unchanged (asked s)
+transition client (Check name fence) s names = unchanged (checked fence s)
+transition client (Share name) s names = shared client s names
+transition client (Break name fence) s names = broken fence s
 
-abbrev pub row_in : ℕ → Body → Names → Row
-row_in client body m = row client body (map.get m (name_of body)) (map.len m)
+abbrev pub transition_in : ℕ → Body → Names → Transition
+transition_in client body m = transition client body (map.get m (name_of body)) (map.len m)
 
 abbrev pub changed : List ℕ → Option Slot → Names → Names
 changed name None m = m
@@ -139,11 +139,11 @@ changed name (Some s) m = map.insert m name s
 
 abbrev pub answer_to : ℕ → Option Body → Names → Answer
 answer_to client None m = Bad
-answer_to client (Some body) m = (row_in client body m).answer
+answer_to client (Some body) m = (transition_in client body m).answer
 
 abbrev pub next_by : ℕ → Option Body → Names → Names
 next_by client None m = m
-next_by client (Some body) m = changed (name_of body) (row_in client body m).change m
+next_by client (Some body) m = changed (name_of body) (transition_in client body m).change m
 
 -- the answer to a client's bytes
 abbrev pub answer : ℕ → List ℕ → Table → Answer

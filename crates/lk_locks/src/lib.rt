@@ -6,11 +6,11 @@ mod entry;
 pub mod laws;
 mod machine;
 mod name;
-mod row;
-mod rows;
 mod sharers;
 mod slot;
 mod table;
+mod transition;
+mod transitions;
 
 pub use body::Body;
 pub use name::Name;

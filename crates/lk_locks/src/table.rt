@@ -10,14 +10,14 @@ ghost use Rattle.lk_locks.specs.Held.{held_in};
 ghost use Rattle.lk_locks.specs.Packed.{IsTable, rise, entries, table_text};
 ghost use Rattle.lk_locks.specs.declared.slot.Slot.{Slot};
 ghost use Rattle.lk_codec.specs.Fronts.{KeepsFront};
-ghost use Rattle.lk_locks.specs.Plain.{row_in, next_by, answer, next, raise_answer, raised, IsNewName};
+ghost use Rattle.lk_locks.specs.Plain.{transition_in, next_by, answer, next, raise_answer, raised, IsNewName};
 
 use crate::body::Body;
 use crate::entry::put_entry;
 use crate::name::Name;
-use crate::row::Row;
-use crate::rows::row;
 use crate::slot::Slot;
+use crate::transition::Transition;
+use crate::transitions::transition;
 use bytes::BytesMut;
 use lk_codec::put_u16;
 use lk_state::UnpackFault;
@@ -178,7 +178,7 @@ impl LockTable {
     // nothing.
     fn serve(&mut self, client: ClientNo, body: Body) -> Result<Answer, NoMemory>
         requires { is_known self.old.raised body ≡ true }
-        ensures answer { IfOk result (λ a. a ≡ (row_in client body self.old.names).answer) }
+        ensures answer { IfOk result (λ a. a ≡ (transition_in client body self.old.names).answer) }
         ensures ok { OnOk result
             (self.new ≡ record { raised = self.old.raised; names = next_by client (Some body) self.old.names }) }
         ensures err { OnErr result (self.new ≡ self.old) }
@@ -187,7 +187,7 @@ impl LockTable {
         let _ = client.get();
         self.facts();
         let name = body.name();
-        let Row { answer, change } = row(client, &body, self.slot(name), self.len());
+        let Transition { answer, change } = transition(client, &body, self.slot(name), self.len());
         if let Some(slot) = change {
             self.set(name.copy(), slot)?;
         }

@@ -24,7 +24,8 @@ abbrev pub unless_damaged : Bool → Verdict → Verdict
 unless_damaged is_damaged v = if is_damaged then Damaged else v
 
 -- The verdict on files with these whole entries and this damage: the file whose Base has the greater generation is
--- live, and damage in the other one does not matter. Without a Base they are empty.
+-- live, and damage after the other one's whole entries does not matter; a Base that is not the first entry is damage in
+-- either file. Without a Base they are empty.
 abbrev pub verdict : List Stored → List Stored → Bool → Bool → Verdict
 verdict a b a_damaged b_damaged =
     if is_misplaced a || is_misplaced b then Damaged

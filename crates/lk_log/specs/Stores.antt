@@ -164,7 +164,7 @@ pub record MayStand (es : List Stored) : Type 0 where
   pub placed : is_misplaced es ≡ false
   pub based : 0 < generation es
 
--- the live file is another node's or another cluster's
+-- the live file is another node's or of another genesis
 abbrev pub IsWrong : Image → HeaderValue → Type 0
 IsWrong before h = (es : List Stored) × IsLive before es × (HasHeader es h → ⊥)
 
@@ -172,7 +172,7 @@ IsWrong before h = (es : List Stored) × IsLive before es × (HasHeader es h →
 abbrev pub StaysDamaged : (Side → Disk) → (Side → Disk) → Type 0
 StaysDamaged old new = IsDamaged (seen old) × ((s : Side) → new s ≡ old s)
 
--- the live file is another node's or another cluster's, and the files are unchanged
+-- the live file is another node's or of another genesis, and the files are unchanged
 abbrev pub StaysWrong : (Side → Disk) → (Side → Disk) → HeaderValue → Type 0
 StaysWrong old new h = IsWrong (seen old) h × ((s : Side) → new s ≡ old s)
 

@@ -68,7 +68,7 @@ pub enum OpenFault {
     NoMemory,
     #[error("the store is damaged")]
     Damaged,
-    #[error("the store is another node's or another cluster's")]
+    #[error("the store is another node's or of another genesis")]
     WrongStore,
 }
 

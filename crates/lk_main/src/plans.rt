@@ -8,14 +8,14 @@ use lk_command_line::operation::invalid_operation;
 use lk_command_line::values::{
     address_in, client_in, genesis_in, node_in, number_in, port_in, word,
 };
-use lk_node_resources::network::NetworkOptions;
-use lk_node_resources::resources::NodePlan;
-use lk_parsers::command_line::operation_of;
+use lk_node_setup::network::NetworkOptions;
+use lk_node_setup::resources::NodePlan;
+use lk_pacing::pace::Pace;
 use lk_random_schedules::fuzzing::MAX_EVENTS;
 use lk_random_schedules::plan::Plan;
 use lk_store_format::Header;
-use lk_timing::pace::Pace;
 use lk_types::{ClientNo, Op, Port};
+use lk_word_parsers::command_line::operation_of;
 use std::alloc::{AllocError, Global};
 
 // Reads the options about other machines; `name` is the option with the address.
@@ -85,7 +85,7 @@ pub fn client_key_plan<'a>(
 #[derive(Drop)]
 pub struct AskPlan<'a> {
     pub question: Question,
-    pub turns: Vec<Port>,
+    pub ports: Vec<Port>,
     pub options: NetworkOptions<'a>,
 }
 
@@ -93,13 +93,13 @@ pub struct AskPlan<'a> {
 fn ask_plan_of<'a>(
     matches: &ArgMatches<'a>,
     op: Op,
-    turns: Vec<Port>,
+    ports: Vec<Port>,
 ) -> Result<AskPlan<'a>, ArgumentError<'a>> {
     let options = ask_options(matches)?;
     let question = question_of(matches, op)?;
     Ok(AskPlan {
         question,
-        turns,
+        ports,
         options,
     })
 }
@@ -115,7 +115,7 @@ pub fn ask_plan<'a>(
         return Ok(Err(invalid_operation(first)));
     };
     match turns_of(alloc, matches)? {
-        Ok(turns) => Ok(ask_plan_of(matches, op, turns)),
+        Ok(ports) => Ok(ask_plan_of(matches, op, ports)),
         Err(error) => Ok(Err(error)),
     }
 }

@@ -11,23 +11,23 @@ use lk_command_line::argument_error::ArgumentError;
 use lk_command_line::commands::program;
 use lk_command_line::operation::warn_of_name;
 use lk_command_line::status_plan::status_plan;
-use lk_events::line::{Events, Observer, Unobserved};
 use lk_inspect::dump::dump;
 use lk_inspect::inspect::inspect;
 use lk_locks::LockTable;
+use lk_memory_disk::MemoryDisk;
+use lk_node_events::line::{Events, Observer, Unobserved};
 use lk_node_files::causes::open_socket_at;
 use lk_node_process::demo::demo;
 use lk_node_process::running::run_node;
-use lk_node_resources::client_key::client_key;
-use lk_node_resources::network::{NetworkOptions, destination_of};
-use lk_node_resources::resources::{NodePlan, open_resources};
+use lk_node_setup::client_key::client_key;
+use lk_node_setup::network::{NetworkOptions, destination_of};
+use lk_node_setup::resources::{NodePlan, open_resources};
 use lk_random_schedules::fuzzing::{print_script, run_fuzz};
 use lk_replica::Replica;
 use lk_script::ending::{end, write_fault};
 use lk_script::script::run_to_end;
 use lk_script_lines::fault::ScriptFault;
-use lk_sim_state::node_state::run_to_state;
-use lk_simulated_disk::MemoryDisk;
+use lk_sim_dump::node_state::run_to_state;
 use lk_status_command::status::status;
 use lk_transport::fault::ServiceFault;
 use log::sink::{Console, Discard};
@@ -148,7 +148,7 @@ fn run_ask<R: Files<File = File> + Net, W: Write, E: Write>(
 {
     let AskPlan {
         mut question,
-        turns,
+        ports,
         options,
     } = plan;
     question.destination = match destination_of(rt, alloc, question.cluster, &options, err) {
@@ -156,7 +156,7 @@ fn run_ask<R: Files<File = File> + Net, W: Write, E: Write>(
         Err(fault) => return fault.write_to(err),
     };
     match open_socket_at(rt, SocketAddr::from((own_address(&options), 0)), err) {
-        Ok(mut socket) => ask(alloc, &mut socket, &question, &turns, out, err),
+        Ok(mut socket) => ask(alloc, &mut socket, &question, &ports, out, err),
         Err(fault) => fault.write_to(err),
     }
 }

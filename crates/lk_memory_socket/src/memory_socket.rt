@@ -3,7 +3,7 @@
 ghost use Rattle.std.specs.Prelude.{◌≡◌, ◌++◌, ◌∷◌, [], min, take, OnOk, OnErr};
 ghost use Rattle.lk_memory_socket.specs.Sockets.{sent_in, coming_in};
 
-use lk_node_io::SendFault;
+use lk_node_interface::SendFault;
 use lk_transport::socket::DatagramSocket;
 use lk_types::NoMemory;
 use std::alloc::Global;

@@ -13,23 +13,23 @@ use Rattle.lk_messages.specs.Grammar.{IsMessage}
 use Rattle.lk_messages.specs.declared.message.NodeMessage.{NodeMessage}
 use Rattle.lk_messages.specs.declared.message.NodeMessage.TheVariants as kinds
 use Rattle.lk_state.specs.Meanings.{Meaning}
-use Rattle.lk_agreement.specs.Acceptors.{AcceptorState, Covers, TakesVote}
-use Rattle.lk_agreement.specs.Changes.{promises, accepts, view_with, with_promise}
-use Rattle.lk_agreement.specs.Chosen.{Command}
-use Rattle.lk_agreement.specs.Datagrams.{HasSent, WasSent}
-use Rattle.lk_agreement.specs.Nodes.{View, ViewFits, MaySend}
-use Rattle.lk_agreement.proofs.Histories.{change_fits}
+use Rattle.lk_agreement_laws.specs.Acceptors.{AcceptorState, Covers, TakesVote}
+use Rattle.lk_agreement_laws.specs.Changes.{promises, accepts, view_with, with_promise}
+use Rattle.lk_agreement_laws.specs.Chosen.{Command}
+use Rattle.lk_agreement_laws.specs.Datagrams.{HasSent, WasSent}
+use Rattle.lk_agreement_laws.specs.Nodes.{View, ViewFits, MaySend}
+use Rattle.lk_agreement_laws.proofs.Histories.{change_fits}
 use Rattle.lk_acceptor.specs.AcceptorValue.{AcceptorValue}
 use Rattle.lk_acceptor.specs.Answers.{Promises, Votes, Agrees, AnswersPrepare, AnswersAccept}
 use Rattle.lk_acceptor.specs.States.{IsOrdered, with_vote, with_state, with_written}
 use Rattle.lk_acceptor.specs.declared.response.Response.{Response}
 use Rattle.lk_acceptor.proofs.Acceptors.{prepare_may, accept_may, prepare_covered, accept_covered, prepare_written}
 use Rattle.lk_acceptor.proofs.Acceptors.{accept_written, takes_vote}
-use Rattle.lk_node_io.specs.Grants.{is_granted}
-use Rattle.lk_node_io.specs.Letters.{LetterValue, batch_of}
-use Rattle.lk_node_io.specs.Outboxes.{OutboxValue, nothing, with_optional}
-use Rattle.lk_node_io.specs.Saying.{saying}
-use Rattle.lk_node_io.specs.declared.note.Note.{Note}
+use Rattle.lk_node_interface.specs.Grants.{is_granted}
+use Rattle.lk_node_interface.specs.Letters.{LetterValue, batch_of}
+use Rattle.lk_node_interface.specs.Outboxes.{OutboxValue, nothing, with_optional}
+use Rattle.lk_node_interface.specs.Saying.{saying}
+use Rattle.lk_node_interface.specs.declared.note.Note.{Note}
 use Rattle.lk_node.specs.Answering.{with_acceptor, replied, reply_to, Responds}
 use Rattle.lk_node.specs.Entries.{Rests}
 use Rattle.lk_node.specs.Histories.{History, Genesis, Datagram, IsLawful}

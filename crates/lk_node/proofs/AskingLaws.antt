@@ -1,7 +1,6 @@
 -- What a client is told is the list's, and what waits was asked.
-use Rattle.std.proofs.Common.{◌≡◌, ℕ, ◌⊎◌, ◌<◌, inl, inr, Bool, true, false, cond, List, [], ◌∷◌, Contains, Option}
+use Rattle.std.proofs.Common.{◌≡◌, ℕ, ◌⊎◌, inl, inr, Bool, true, false, cond, List, [], ◌∷◌, Contains, Option}
 use Rattle.std.proofs.Common.{Some, None, refl, sym, ◌∙◌, ap, subst, subst₂, arith, nat_lt, eqb}
-use Rattle.std.proofs.lemmas.Bool.{cases_Bool, eqb-true, ltb-true}
 use Rattle.lk_types.specs.declared.answer.Answer.{Answer}
 use Rattle.lk_types.specs.declared.command.Request.{Request as RequestValue}
 use Rattle.lk_types.specs.declared.member.Member.{Member}
@@ -16,8 +15,8 @@ use Rattle.lk_state.specs.declared.whole.Seen.TheVariants as seen
 use Rattle.lk_state.proofs.Wholes.{same_is, passed_is, last_is_replied, seen_last}
 use Rattle.lk_leader.specs.Terms.{TermValue}
 use Rattle.lk_leader.specs.Waits.{newer, asked}
-use Rattle.lk_node_io.specs.Outboxes.{OutboxValue, nothing}
-use Rattle.lk_node_io.specs.declared.to.To.TheVariants as to
+use Rattle.lk_node_interface.specs.Outboxes.{OutboxValue, nothing}
+use Rattle.lk_node_interface.specs.declared.to.To.TheVariants as to
 use Rattle.lk_node.specs.Asking.{with_waiting, leader_in, PointsTo, TakesNew, TakesAs, HearsRequest}
 use Rattle.lk_node.specs.Histories.{History, Genesis, Command}
 use Rattle.lk_node.specs.NodeValue.{NodeValue}

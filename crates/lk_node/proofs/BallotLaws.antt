@@ -7,18 +7,18 @@ use Rattle.lk_messages.specs.Grammar.{IsMessage}
 use Rattle.lk_messages.specs.declared.message.NodeMessage.TheVariants as kinds
 use Rattle.lk_store_format.specs.Values.{HeaderValue}
 use Rattle.lk_state.specs.Meanings.{Meaning}
-use Rattle.lk_agreement.specs.Acceptors.{AcceptorState}
-use Rattle.lk_agreement.specs.Changes.{begins, view_with, view_in, with_promise}
-use Rattle.lk_agreement.specs.Nodes.{Term, Pair, new_term}
-use Rattle.lk_agreement.proofs.Histories.{change_fits}
+use Rattle.lk_agreement_laws.specs.Acceptors.{AcceptorState}
+use Rattle.lk_agreement_laws.specs.Changes.{begins, view_with, view_in, with_promise}
+use Rattle.lk_agreement_laws.specs.Nodes.{Term, Pair, new_term}
+use Rattle.lk_agreement_laws.proofs.Histories.{change_fits}
 use Rattle.lk_acceptor.specs.States.{acceptor_with}
 use Rattle.lk_acceptor.proofs.Acceptors.{own_written}
 use Rattle.lk_leader.specs.Terms.{TermValue, begun}
 use Rattle.lk_leader.proofs.Leaderships.{begun_leads}
 use Rattle.lk_leader.specs.LedTerms.{AgreesWithTerm}
 use Rattle.lk_learner.specs.Learners.{executed}
-use Rattle.lk_node_io.specs.Outboxes.{OutboxValue, nothing, with_entry}
-use Rattle.lk_node_io.specs.Saying.{saying}
+use Rattle.lk_node_interface.specs.Outboxes.{OutboxValue, nothing, with_entry}
+use Rattle.lk_node_interface.specs.Saying.{saying}
 use Rattle.lk_node.specs.Beginning.{beginning, BeginsBallot}
 use Rattle.lk_node.specs.Histories.{History}
 use Rattle.lk_node.specs.NodeValue.{NodeValue}

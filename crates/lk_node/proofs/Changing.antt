@@ -7,15 +7,15 @@ use Rattle.lk_types.specs.Ballots.{IsAtMost}
 use Rattle.lk_types.specs.declared.entry.Entry.{Entry}
 use Rattle.lk_messages.specs.declared.message.NodeMessage.{NodeMessage}
 use Rattle.lk_messages.specs.declared.message.NodeMessage.TheVariants as kinds
-use Rattle.lk_agreement.specs.Acceptors.{AcceptorState}
-use Rattle.lk_agreement.specs.Nodes.{Pair, Term, View, MayPromise, MaySend}
+use Rattle.lk_agreement_laws.specs.Acceptors.{AcceptorState}
+use Rattle.lk_agreement_laws.specs.Nodes.{Pair, Term, View, MayPromise, MaySend}
 use Rattle.lk_store_format.specs.Values.{HeaderValue}
 use Rattle.lk_state.specs.Meanings.{Meaning}
 use Rattle.lk_acceptor.specs.AcceptorValue.{AcceptorValue}
 use Rattle.lk_leader.specs.Terms.{LeaderValue, TermValue, idle}
 use Rattle.lk_learner.specs.Following.{AgreesWithList}
 use Rattle.lk_learner.specs.Learners.{LearnerValue}
-use Rattle.lk_node_io.specs.Outboxes.{OutboxValue}
+use Rattle.lk_node_interface.specs.Outboxes.{OutboxValue}
 use Rattle.lk_node.specs.Histories.{History, Genesis, Datagram}
 use Rattle.lk_node.specs.Keeping.{IsKnown, IsHeld, LeadsOn}
 use Rattle.lk_node.specs.Calls.{MayGo}

@@ -15,11 +15,11 @@ use Rattle.lk_messages.specs.declared.message.NodeMessage.TheVariants as kinds
 use Rattle.lk_members.specs.Rosters.{Genesis, members}
 use Rattle.lk_members.specs.Windows.{RosterValue, RosterSumsUp, roster_after}
 use Rattle.lk_members.proofs.Memberships.{length_of_window, set_of_window}
-use Rattle.lk_agreement.specs.Changes.{counts, view_in, with_acceptance}
-use Rattle.lk_agreement.specs.Chosen.{Command, ChosenAt}
-use Rattle.lk_agreement.specs.Datagrams.{HasSent}
-use Rattle.lk_agreement.specs.Nodes.{Pair, Acceptance, Term, View, ViewFits}
-use Rattle.lk_agreement.proofs.Histories.{change_fits, accepted_is_chosen}
+use Rattle.lk_agreement_laws.specs.Changes.{counts, view_in, with_acceptance}
+use Rattle.lk_agreement_laws.specs.Chosen.{Command, ChosenAt}
+use Rattle.lk_agreement_laws.specs.Datagrams.{HasSent}
+use Rattle.lk_agreement_laws.specs.Nodes.{Pair, Acceptance, Term, View, ViewFits}
+use Rattle.lk_agreement_laws.proofs.Histories.{change_fits, accepted_is_chosen}
 use Rattle.lk_store_format.specs.Values.{HeaderValue}
 use Rattle.lk_state.specs.Meanings.{Meaning}
 use Rattle.lk_state.specs.Runs.{run_answer}
@@ -31,12 +31,12 @@ use Rattle.lk_leader.specs.LedTerms.{AgreesWithTerm}
 use Rattle.lk_leader.specs.Terms.{TermValue, LeaderValue, ProposalValue, with_term, with_proposals}
 use Rattle.lk_leader.proofs.Leaderships.{majority_rests, accepted_by, majority_leads}
 use Rattle.lk_learner.specs.Learners.{executed, advanced}
-use Rattle.lk_node_io.specs.KeptReplies.{session_by}
-use Rattle.lk_node_io.specs.DecidedMessages.{decided_message}
-use Rattle.lk_node_io.specs.Letters.{LetterValue}
-use Rattle.lk_node_io.specs.Outboxes.{OutboxValue, nothing, with_note, with_letter, with_letters}
-use Rattle.lk_node_io.specs.Saying.{saying}
-use Rattle.lk_node_io.specs.declared.note.Note.TheVariants as note
+use Rattle.lk_node_interface.specs.KeptReplies.{session_by}
+use Rattle.lk_node_interface.specs.DecidedMessages.{decided_message}
+use Rattle.lk_node_interface.specs.Letters.{LetterValue}
+use Rattle.lk_node_interface.specs.Outboxes.{OutboxValue, nothing, with_note, with_letter, with_letters}
+use Rattle.lk_node_interface.specs.Saying.{saying}
+use Rattle.lk_node_interface.specs.declared.note.Note.TheVariants as note
 use Rattle.lk_node.specs.Deciding.{IsForProposal, with_vote, BringsMajority, IsOnlyHeard, HearsVote, AreDecidedLetters}
 use Rattle.lk_node.specs.Deciding.{HearsAccepted, Decides}
 use Rattle.lk_node.specs.Executing.{SettlesAny, is_outside, while_named, Executes, Runs, stays, goes_on}

@@ -10,12 +10,12 @@ use Rattle.lk_messages.specs.Grammar.{spelling, IsMessage}
 use Rattle.lk_messages.specs.declared.message.NodeMessage.{NodeMessage}
 use Rattle.lk_messages.specs.declared.message.NodeMessage.TheVariants as kinds
 use Rattle.lk_members.specs.Effects.{RequestValue, Noop, Request}
-use Rattle.lk_agreement.specs.Changes.{with_done}
-use Rattle.lk_agreement.specs.Chosen.{Command, command_at}
-use Rattle.lk_agreement.specs.Datagrams.{Genesis, Datagram}
-use Rattle.lk_agreement.specs.Nodes.{Pair, View, Stems}
-use Rattle.lk_agreement.specs.Soundness.{Sound}
-use Rattle.lk_agreement.proofs.Histories.{change_fits, cons_cases, contains_more, one_chosen}
+use Rattle.lk_agreement_laws.specs.Changes.{with_done}
+use Rattle.lk_agreement_laws.specs.Chosen.{Command, command_at}
+use Rattle.lk_agreement_laws.specs.Datagrams.{Genesis, Datagram}
+use Rattle.lk_agreement_laws.specs.Nodes.{Pair, View, Stems}
+use Rattle.lk_agreement_laws.specs.Soundness.{Sound}
+use Rattle.lk_agreement_laws.proofs.Histories.{change_fits, cons_cases, contains_more, one_chosen}
 use Rattle.lk_state.specs.Meanings.{Meaning}
 use Rattle.lk_state.specs.Runs.{ran, run_answer, session_for}
 use Rattle.lk_state.specs.Sessions.{session_of, is_new, with_session}
@@ -30,11 +30,11 @@ use Rattle.lk_learner.specs.Following.{AgreesWithList}
 use Rattle.lk_learner.specs.Learners.{LearnerValue, IsLearner, executed, IsNext, advanced, IsServed}
 use Rattle.lk_learner.specs.Pairs.{without}
 use Rattle.lk_learner.proofs.Learnerships.{ran_moves, advanced_follows, next_stands, running_changes, served_stands}
-use Rattle.lk_node_io.specs.KeptReplies.{session_reply, session_by}
-use Rattle.lk_node_io.specs.Outboxes.{OutboxValue, with_note, with_letter}
-use Rattle.lk_node_io.specs.Saying.{saying}
-use Rattle.lk_node_io.specs.declared.note.Note.TheVariants as note
-use Rattle.lk_node_io.specs.declared.to.To.TheVariants as to
+use Rattle.lk_node_interface.specs.KeptReplies.{session_reply, session_by}
+use Rattle.lk_node_interface.specs.Outboxes.{OutboxValue, with_note, with_letter}
+use Rattle.lk_node_interface.specs.Saying.{saying}
+use Rattle.lk_node_interface.specs.declared.note.Note.TheVariants as note
+use Rattle.lk_node_interface.specs.declared.to.To.TheVariants as to
 use Rattle.lk_node.specs.Executing.{waiting_number, with_told, settled, Settles, SettlesAny, RunsNext, is_outside}
 use Rattle.lk_node.specs.Executing.{while_named, Executes, ExecutesOne, Runs, goes_on, RunsAll}
 use Rattle.lk_node.specs.Histories.{History}

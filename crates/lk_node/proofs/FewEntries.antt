@@ -14,10 +14,10 @@ use Rattle.lk_state.specs.Meanings.{Meaning}
 use Rattle.lk_state.specs.declared.session.Session.{Session}
 use Rattle.lk_store_format.specs.Values.{HeaderValue}
 use Rattle.lk_learner.specs.Learners.{Command, Pair}
-use Rattle.lk_agreement.specs.Ballots.{BallotValue}
-use Rattle.lk_node_io.specs.Outboxes.{OutboxValue, nothing, with_rebase, with_entry, with_optional}
-use Rattle.lk_node_io.specs.declared.input.Input.{Input}
-use Rattle.lk_node_io.specs.declared.input.Input.TheVariants as input
+use Rattle.lk_agreement_laws.specs.Ballots.{BallotValue}
+use Rattle.lk_node_interface.specs.Outboxes.{OutboxValue, nothing, with_rebase, with_entry, with_optional}
+use Rattle.lk_node_interface.specs.declared.input.Input.{Input}
+use Rattle.lk_node_interface.specs.declared.input.Input.TheVariants as input
 use Rattle.lk_node.specs.CatchingUp.{Feeds}
 use Rattle.lk_node.specs.Executing.{with_told, SettlesAny, waiting_number, while_named, Runs, goes_on, stays}
 use Rattle.lk_node.specs.Installing.{SettlesFirst, none_settled, one_settled, HearsPart}

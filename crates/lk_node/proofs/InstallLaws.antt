@@ -10,14 +10,14 @@ use Rattle.lk_types.specs.declared.entry.Entry.{Entry}
 use Rattle.lk_types.specs.declared.entry.Entry.TheVariants as entry
 use Rattle.lk_messages.specs.Values.{PartValue}
 use Rattle.lk_messages.specs.declared.message.NodeMessage.TheVariants as kinds
-use Rattle.lk_agreement.specs.Changes.{with_done, installs}
-use Rattle.lk_agreement.specs.Chosen.{Command, command_at, Chosen, ChosenAt}
-use Rattle.lk_agreement.specs.Datagrams.{HasSent}
-use Rattle.lk_agreement.specs.Nodes.{Pair, View}
-use Rattle.lk_agreement.specs.Snapshots.{IsSlice}
-use Rattle.lk_agreement.specs.Soundness.{Sound}
-use Rattle.lk_agreement.proofs.Histories.{command_within, entry_chosen, one_chosen, chosen_at_fits, chosen_fits}
-use Rattle.lk_agreement.proofs.Histories.{chosen_short, change_fits, filter_from, whole_slice}
+use Rattle.lk_agreement_laws.specs.Changes.{with_done, installs}
+use Rattle.lk_agreement_laws.specs.Chosen.{Command, command_at, Chosen, ChosenAt}
+use Rattle.lk_agreement_laws.specs.Datagrams.{HasSent}
+use Rattle.lk_agreement_laws.specs.Nodes.{Pair, View}
+use Rattle.lk_agreement_laws.specs.Snapshots.{IsSlice}
+use Rattle.lk_agreement_laws.specs.Soundness.{Sound}
+use Rattle.lk_agreement_laws.proofs.Histories.{command_within, entry_chosen, one_chosen, chosen_at_fits, chosen_fits}
+use Rattle.lk_agreement_laws.proofs.Histories.{chosen_short, change_fits, filter_from, whole_slice}
 use Rattle.lk_store_format.specs.Values.{HeaderValue}
 use Rattle.lk_state.specs.Meanings.{Meaning, KeepsTexts}
 use Rattle.lk_state.specs.States.{WholeValue, SumsUp, whole_after}
@@ -28,7 +28,7 @@ use Rattle.lk_leader.proofs.Leaderships.{later_leads}
 use Rattle.lk_learner.specs.Installing.{with_gathered, hearing, MayInstall, pairs_above, installed, Installs}
 use Rattle.lk_learner.specs.Learners.{LearnerValue, GatheredValue, executed, alpha}
 use Rattle.lk_learner.proofs.Learnerships.{filter_has, executed_is, heard_front, installed_follows}
-use Rattle.lk_node_io.specs.Outboxes.{OutboxValue}
+use Rattle.lk_node_interface.specs.Outboxes.{OutboxValue}
 use Rattle.lk_node.specs.Histories.{History, Genesis, Datagram, text}
 use Rattle.lk_node.specs.Holdings.{Holding, HoldingFits}
 use Rattle.lk_node.specs.Installing.{GathersPart}

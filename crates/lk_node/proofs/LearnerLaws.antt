@@ -16,16 +16,16 @@ use Rattle.lk_types.specs.declared.entry.Entry.TheVariants as entry
 use Rattle.lk_messages.specs.Values.{DecidedValue, IsDecided}
 use Rattle.lk_messages.specs.declared.message.NodeMessage.TheVariants as kinds
 use Rattle.lk_state.specs.Meanings.{Meaning}
-use Rattle.lk_agreement.specs.Acceptors.{AcceptorState}
-use Rattle.lk_agreement.specs.Changes.{with_done}
-use Rattle.lk_agreement.specs.Chosen.{ChosenAt}
-use Rattle.lk_agreement.specs.Datagrams.{HasSent}
-use Rattle.lk_agreement.specs.Nodes.{Pair, View}
-use Rattle.lk_agreement.proofs.Histories.{change_fits}
+use Rattle.lk_agreement_laws.specs.Acceptors.{AcceptorState}
+use Rattle.lk_agreement_laws.specs.Changes.{with_done}
+use Rattle.lk_agreement_laws.specs.Chosen.{ChosenAt}
+use Rattle.lk_agreement_laws.specs.Datagrams.{HasSent}
+use Rattle.lk_agreement_laws.specs.Nodes.{Pair, View}
+use Rattle.lk_agreement_laws.proofs.Histories.{change_fits}
 use Rattle.lk_acceptor.specs.States.{acceptor_with}
 use Rattle.lk_learner.specs.Learners.{IsWanted, keeping}
 use Rattle.lk_learner.proofs.Learnerships.{with_has, keeping_follows, learning_changes}
-use Rattle.lk_node_io.specs.Outboxes.{OutboxValue, with_entry}
+use Rattle.lk_node_interface.specs.Outboxes.{OutboxValue, with_entry}
 use Rattle.lk_node.specs.Entries.{Rests}
 use Rattle.lk_node.specs.Executing.{RunsAll}
 use Rattle.lk_node.specs.Histories.{History}

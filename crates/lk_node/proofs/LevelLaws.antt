@@ -10,17 +10,17 @@ use Rattle.lk_messages.specs.Values.{PartValue}
 use Rattle.lk_messages.specs.declared.message.Nack.{Nack}
 use Rattle.lk_messages.specs.declared.message.NodeMessage.{NodeMessage}
 use Rattle.lk_messages.specs.declared.message.NodeMessage.TheVariants as kinds
-use Rattle.lk_agreement.specs.Acceptors.{Covers}
-use Rattle.lk_agreement.specs.Nodes.{Pair, View, MaySend}
+use Rattle.lk_agreement_laws.specs.Acceptors.{Covers}
+use Rattle.lk_agreement_laws.specs.Nodes.{Pair, View, MaySend}
 use Rattle.lk_state.specs.Meanings.{Meaning}
 use Rattle.lk_learner.specs.Following.{AgreesWithList}
 use Rattle.lk_learner.specs.Learners.{LearnerValue, decided_from, wanted}
 use Rattle.lk_learner.specs.Parts.{start_of}
 use Rattle.lk_learner.proofs.Learnerships.{served_chosen, parts_slice}
-use Rattle.lk_node_io.specs.Letters.{LetterValue}
-use Rattle.lk_node_io.specs.Outboxes.{OutboxValue, nothing, with_letter}
-use Rattle.lk_node_io.specs.Saying.{saying}
-use Rattle.lk_node_io.specs.declared.to.To.{To}
+use Rattle.lk_node_interface.specs.Letters.{LetterValue}
+use Rattle.lk_node_interface.specs.Outboxes.{OutboxValue, nothing, with_letter}
+use Rattle.lk_node_interface.specs.Saying.{saying}
+use Rattle.lk_node_interface.specs.declared.to.To.{To}
 use Rattle.lk_node.specs.CatchingUp.{sending_parts, FeedsParts, Feeds, AsksOn, Levels, HearsNack, following}
 use Rattle.lk_node.specs.CatchingUp.{AsksWhereMore, refusal, HearsLead}
 use Rattle.lk_node.specs.Histories.{History, Command, text}

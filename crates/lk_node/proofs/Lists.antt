@@ -1,5 +1,5 @@
 -- Elements of lists.
-pub use Rattle.lk_agreement.proofs.Histories.{cons_cases, contains_more, only}
+pub use Rattle.lk_agreement_laws.proofs.Histories.{cons_cases, contains_more, only}
 use Rattle.std.proofs.Common.{◌≡◌, ℕ, zero, suc, inl, inr, List, [], ◌∷◌, take, map, Contains, refl, ap, arith}
 
 pub take_contains : {X : Type 0} (k : ℕ) (xs : List X) (x : X) → Contains (take k xs) x → Contains xs x

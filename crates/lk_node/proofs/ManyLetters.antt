@@ -3,12 +3,12 @@ use Rattle.std.proofs.Common.{◌≡◌, ℕ, true, List, [], ◌∷◌, ◌++�
 use Rattle.lk_types.specs.declared.entry.Entry.{Entry}
 use Rattle.lk_messages.specs.Grammar.{IsMessage}
 use Rattle.lk_messages.specs.declared.message.NodeMessage.{NodeMessage}
-use Rattle.lk_agreement.specs.Acceptors.{Covers}
-use Rattle.lk_agreement.specs.Nodes.{MaySend}
+use Rattle.lk_agreement_laws.specs.Acceptors.{Covers}
+use Rattle.lk_agreement_laws.specs.Nodes.{MaySend}
 use Rattle.lk_state.specs.Meanings.{Meaning}
-use Rattle.lk_node_io.specs.Letters.{LetterValue}
-use Rattle.lk_node_io.specs.Outboxes.{OutboxValue, with_letter}
-use Rattle.lk_node_io.specs.Saying.{saying}
+use Rattle.lk_node_interface.specs.Letters.{LetterValue}
+use Rattle.lk_node_interface.specs.Outboxes.{OutboxValue, with_letter}
+use Rattle.lk_node_interface.specs.Saying.{saying}
 use Rattle.lk_node.specs.Histories.{History}
 use Rattle.lk_node.specs.NodeValue.{NodeValue}
 use Rattle.lk_node.specs.Saying.{to_node}

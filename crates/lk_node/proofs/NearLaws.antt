@@ -3,8 +3,8 @@ use Rattle.std.proofs.Common.{◌≡◌, ℕ, ◌+◌, ◌*◌, ◌≤◌, inl, 
 use Rattle.std.proofs.Common.{Contains, Option, Some, None, refl, sym, ◌∙◌, ap, subst, arith}
 use Rattle.lk_types.specs.BallotValue.{BallotValue}
 use Rattle.lk_types.specs.declared.vote.Vote.{Vote}
-use Rattle.lk_agreement.specs.Acceptors.{AcceptorState}
-use Rattle.lk_agreement.specs.Changes.{with_promise}
+use Rattle.lk_agreement_laws.specs.Acceptors.{AcceptorState}
+use Rattle.lk_agreement_laws.specs.Changes.{with_promise}
 use Rattle.lk_store_format.specs.Entries.{are_pairs_above}
 use Rattle.lk_log.specs.Stores.{MayBegin}
 use Rattle.lk_state.specs.Meanings.{Meaning}

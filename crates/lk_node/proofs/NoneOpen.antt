@@ -7,9 +7,9 @@ use Rattle.lk_members.proofs.Memberships.{majorities_meet}
 use Rattle.lk_leader.specs.Proposing.{promisers}
 use Rattle.lk_leader.specs.Terms.{TermValue, begun}
 use Rattle.lk_state.specs.Meanings.{Meaning}
-use Rattle.lk_node_io.specs.Outboxes.{OutboxValue}
-use Rattle.lk_node_io.specs.declared.input.Input.{Input}
-use Rattle.lk_node_io.specs.declared.input.Input.TheVariants as input
+use Rattle.lk_node_interface.specs.Outboxes.{OutboxValue}
+use Rattle.lk_node_interface.specs.declared.input.Input.{Input}
+use Rattle.lk_node_interface.specs.declared.input.Input.TheVariants as input
 use Rattle.lk_node.specs.Leading.{having_proposed, NothingToPropose, ProposesAll}
 use Rattle.lk_node.specs.NodeValue.{NodeValue}
 use Rattle.lk_node.specs.Reminding.{Ticks}

@@ -20,19 +20,19 @@ use Rattle.lk_messages.specs.declared.message.NodeMessage.TheVariants as kinds
 use Rattle.lk_state.specs.Meanings.{Meaning}
 use Rattle.lk_state.specs.States.{WholeValue, whole_after, SumsUp}
 use Rattle.lk_members.specs.Windows.{RosterValue, RosterSumsUp}
-use Rattle.lk_agreement.specs.Changes as changes
-use Rattle.lk_agreement.specs.Changes.{proposes}
-use Rattle.lk_agreement.specs.Datagrams.{Genesis}
-use Rattle.lk_agreement.specs.Nodes.{Pair, Term, MaySend}
-use Rattle.lk_agreement.specs.Soundness.{IsReported}
+use Rattle.lk_agreement_laws.specs.Changes as changes
+use Rattle.lk_agreement_laws.specs.Changes.{proposes}
+use Rattle.lk_agreement_laws.specs.Datagrams.{Genesis}
+use Rattle.lk_agreement_laws.specs.Nodes.{Pair, Term, MaySend}
+use Rattle.lk_agreement_laws.specs.Soundness.{IsReported}
 use Rattle.lk_acceptor.specs.AcceptorValue.{AcceptorValue}
 use Rattle.lk_leader.specs.Proposing.{AreMembersAt, LeaderProposes, proposed}
 use Rattle.lk_leader.specs.Terms.{ProposalValue, TermValue, LeaderValue, RequestValue, with_term, proposal_at}
 use Rattle.lk_leader.specs.Terms.{in_window}
 use Rattle.lk_leader.proofs.Leaderships.{proposes_allowed, proposes_asked, proposed_leads}
 use Rattle.lk_members.specs.Nodes.{nodes_of}
-use Rattle.lk_node_io.specs.Outboxes.{OutboxValue}
-use Rattle.lk_node_io.specs.Saying.{saying}
+use Rattle.lk_node_interface.specs.Outboxes.{OutboxValue}
+use Rattle.lk_node_interface.specs.Saying.{saying}
 use Rattle.lk_node.specs.Histories.{History, IsLawful, WasAsked}
 use Rattle.lk_node.specs.Holdings.{Holding, HoldingFits}
 use Rattle.lk_node.specs.Keeping.{IsHeld}

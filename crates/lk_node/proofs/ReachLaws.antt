@@ -1,7 +1,7 @@
 -- How far a standing reaches, with more entries.
-use Rattle.std.proofs.Common.{◌≡◌, ℕ, zero, suc, ◌+◌, ◌*◌, ◌<◌, ◌≤◌, ◌⊎◌, inl, inr, Bool, true, false, cond, ltb, eqb}
+use Rattle.std.proofs.Common.{◌≡◌, ℕ, zero, suc, ◌<◌, ◌≤◌, ◌⊎◌, inl, inr, Bool, true, false, cond, ltb, eqb}
 use Rattle.std.proofs.Common.{List, [], ◌∷◌, ◌++◌, length, take, Contains, refl, sym, ap, ◌∙◌, subst, arith}
-use Rattle.std.proofs.lemmas.Bool.{cases_lt, eqb-true, lt-ltb}
+use Rattle.std.proofs.lemmas.Bool.{eqb-true, lt-ltb}
 use Rattle.lk_types.specs.declared.command.Command.{Command}
 use Rattle.lk_types.specs.declared.entry.Entry.{Entry}
 use Rattle.lk_types.specs.declared.entry.Entry.TheVariants.{Promise, Vote, Decided}

@@ -7,14 +7,14 @@ use Rattle.lk_types.specs.Ballots.{IsAtMost}
 use Rattle.lk_types.specs.declared.member.Member.{Member}
 use Rattle.lk_messages.specs.declared.message.NodeMessage.TheVariants as kinds
 use Rattle.lk_state.specs.Meanings.{Meaning}
-use Rattle.lk_agreement.specs.Acceptors.{AcceptorState}
+use Rattle.lk_agreement_laws.specs.Acceptors.{AcceptorState}
 use Rattle.std.proofs.lemmas.Option.{slice_get_within}
 use Rattle.lk_members.specs.Effects.{Command}
 use Rattle.lk_members.specs.Windows.{RosterValue}
 use Rattle.lk_leader.specs.Acceptances.{IsOpen, unheard}
 use Rattle.lk_leader.specs.Terms.{ProposalValue, TermValue, LeaderValue, proposal_at}
 use Rattle.lk_learner.specs.Learners.{executed}
-use Rattle.lk_node_io.specs.Outboxes.{OutboxValue}
+use Rattle.lk_node_interface.specs.Outboxes.{OutboxValue}
 use Rattle.lk_node.specs.Histories.{History}
 use Rattle.lk_node.specs.NodeValue.{NodeValue}
 use Rattle.lk_node.specs.Promised.{HasPromised}

@@ -1,14 +1,14 @@
 -- What a client is told of a request that is not new.
-use Rattle.std.proofs.Common.{◌≡◌, Bool, cond, Option, Some, None, sym, ap, subst}
+use Rattle.std.proofs.Common.{◌≡◌, Option, Some, None, sym, subst}
 use Rattle.lk_types.specs.declared.command.Request.{Request as RequestValue}
 use Rattle.lk_messages.specs.declared.message.NodeMessage.{NodeMessage}
 use Rattle.lk_state.specs.Runs.{seen_as}
 use Rattle.lk_state.specs.declared.session.Session.{Session}
 use Rattle.lk_state.specs.declared.whole.Seen.{Seen}
 use Rattle.lk_state.specs.declared.whole.Seen.TheVariants as seen
-use Rattle.lk_node_io.specs.KeptReplies.{kept_reply}
-use Rattle.lk_node_io.specs.Outboxes.{OutboxValue}
-use Rattle.lk_node_io.proofs.ReplyLaws.{answer_same, passed_same, none_is_new}
+use Rattle.lk_node_interface.specs.KeptReplies.{kept_reply}
+use Rattle.lk_node_interface.specs.Outboxes.{OutboxValue}
+use Rattle.lk_node_interface.proofs.ReplyLaws.{answer_same, passed_same, none_is_new}
 use Rattle.lk_node.specs.Asking.{TellsClient, TakesNew, TakesAs}
 use Rattle.lk_node.specs.NodeValue.{NodeValue}
 

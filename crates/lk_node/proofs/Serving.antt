@@ -9,14 +9,14 @@ use Rattle.lk_messages.specs.declared.message.Message.{Message}
 use Rattle.lk_messages.specs.declared.message.NodeMessage.{NodeMessage}
 use Rattle.lk_store_format.specs.Values.{HeaderValue}
 use Rattle.lk_state.specs.Meanings.{Meaning}
-use Rattle.lk_agreement.specs.Acceptors.{Covers}
-use Rattle.lk_agreement.specs.Datagrams.{said_by}
-use Rattle.lk_agreement.specs.Nodes.{MaySend}
-use Rattle.lk_node_io.specs.Letters.{LetterValue, datagram_of, batch_of}
-use Rattle.lk_node_io.specs.Outboxes.{OutboxValue, nothing, with_letter, with_note}
-use Rattle.lk_node_io.specs.Saying.{saying}
-use Rattle.lk_node_io.specs.declared.note.Note.{Note}
-use Rattle.lk_node_io.specs.declared.to.To.{To}
+use Rattle.lk_agreement_laws.specs.Acceptors.{Covers}
+use Rattle.lk_agreement_laws.specs.Datagrams.{said_by}
+use Rattle.lk_agreement_laws.specs.Nodes.{MaySend}
+use Rattle.lk_node_interface.specs.Letters.{LetterValue, datagram_of, batch_of}
+use Rattle.lk_node_interface.specs.Outboxes.{OutboxValue, nothing, with_letter, with_note}
+use Rattle.lk_node_interface.specs.Saying.{saying}
+use Rattle.lk_node_interface.specs.declared.note.Note.{Note}
+use Rattle.lk_node_interface.specs.declared.to.To.{To}
 use Rattle.lk_node.specs.Calls.{MayGo}
 use Rattle.lk_node.specs.Histories.{History, Genesis, IsHeard}
 use Rattle.lk_node.specs.Leavings.{header_of}

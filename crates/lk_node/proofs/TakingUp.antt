@@ -6,7 +6,7 @@ use Rattle.lk_state.specs.Sessions.{AreSessions, session_of}
 use Rattle.lk_state.specs.declared.session.Session.{Session}
 use Rattle.lk_state.proofs.Wholes.{kept_is_its_clients}
 use Rattle.lk_learner.specs.Learners.{LearnerValue}
-use Rattle.lk_node_io.specs.Outboxes.{OutboxValue, nothing, with_rebase}
+use Rattle.lk_node_interface.specs.Outboxes.{OutboxValue, nothing, with_rebase}
 use Rattle.lk_node.specs.Executing.{while_named}
 use Rattle.lk_node.specs.Histories.{History}
 use Rattle.lk_node.specs.Installing.{SettlesFirst, none_settled, one_settled, SettlesAll}

@@ -14,21 +14,21 @@ use Rattle.lk_messages.specs.declared.message.NodeMessage.TheVariants as kinds
 use Rattle.lk_state.specs.Meanings.{Meaning}
 use Rattle.lk_members.specs.Ports.{is_named}
 use Rattle.lk_members.specs.Windows.{RosterValue}
-use Rattle.lk_agreement.specs.Changes as changes
-use Rattle.lk_agreement.specs.Changes.{Changes, hears}
-use Rattle.lk_agreement.specs.Datagrams.{HasSent}
-use Rattle.lk_agreement.specs.Nodes.{Pair, Term, View}
-use Rattle.lk_agreement.proofs.Histories.{change_fits}
+use Rattle.lk_agreement_laws.specs.Changes as changes
+use Rattle.lk_agreement_laws.specs.Changes.{Changes, hears}
+use Rattle.lk_agreement_laws.specs.Datagrams.{HasSent}
+use Rattle.lk_agreement_laws.specs.Nodes.{Pair, Term, View}
+use Rattle.lk_agreement_laws.proofs.Histories.{change_fits}
 use Rattle.lk_acceptor.specs.AcceptorValue.{AcceptorValue}
 use Rattle.lk_leader.specs.LedTerms.{AgreesWithTerm}
 use Rattle.lk_leader.specs.Terms.{ReceivedPromise, TermValue, LeaderValue, with_term, with_report, is_promiser}
 use Rattle.lk_leader.specs.Terms.{IsFirstOf}
 use Rattle.lk_leader.proofs.Leaderships.{heard_leads}
-use Rattle.lk_node_io.specs.Outboxes.{OutboxValue, nothing}
+use Rattle.lk_node_interface.specs.Outboxes.{OutboxValue, nothing}
 use Rattle.lk_node.specs.Histories.{History, IsLawful, WasAsked}
 use Rattle.lk_node.specs.Holdings.{Holding, HoldingFits}
 use Rattle.lk_node.specs.Keeping.{IsKnown, IsHeld}
-use Rattle.lk_node.specs.Leading.{with_leader, report_of, KeepsPromise, DropsPromise, HearsPromise}
+use Rattle.lk_node.specs.Leading.{with_leader, report_of, RecordsPromise, DropsPromise, HearsPromise}
 use Rattle.lk_node.specs.NodeValue.{NodeValue}
 use Rattle.lk_node.specs.Promised.{HasPromised}
 use Rattle.lk_node.specs.Serving.{ActsSafely}
@@ -135,9 +135,9 @@ pub kept_or_dropped : (old node : NodeValue) (new : LeaderValue) (roster : Roste
     → votes ≡ p.votes → ((t : TermValue) → IsFirstOf node.leader roster from b t
     → new ≡ with_term (with_report (record { node = from; first = first; votes = votes }) t) node.leader)
     → (((t : TermValue) → IsFirstOf node.leader roster from b t → ⊥) → (new ≡ node.leader) × Same)
-    → KeepsPromise old from p (with_leader node new) ⊎ DropsPromise old from p (with_leader node new)
+    → RecordsPromise old from p (with_leader node new) ⊎ DropsPromise old from p (with_leader node new)
 kept_or_dropped old node new roster from p b first votes Same e e1 e2 e3 e4 kept other =
-    subst (λ (k : NodeValue). KeepsPromise k from p (with_leader node new)
+    subst (λ (k : NodeValue). RecordsPromise k from p (with_leader node new)
     ⊎ DropsPromise k from p (with_leader node new)) e (elim (first_or_not node.leader roster from b) [
       | inl is ↦ inl (
         is.0,

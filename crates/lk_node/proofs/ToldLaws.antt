@@ -1,6 +1,6 @@
 -- A step tells of what its node learns, executes and votes for: its entries lie near, and with them a standing that
 -- told of the node before still does.
-use Rattle.std.proofs.Common.{◌≡◌, ℕ, ◌+◌, ◌*◌, ◌<◌, ◌≤◌, inl, inr, Bool, true, false, cond, List, [], ◌∷◌, ◌++◌}
+use Rattle.std.proofs.Common.{◌≡◌, ℕ, ◌+◌, ◌≤◌, inl, inr, Bool, true, false, cond, List, [], ◌∷◌, ◌++◌}
 use Rattle.std.proofs.Common.{length, Contains, Option, Some, None, refl, sym, ap, ◌∙◌, subst, arith}
 use Rattle.std.proofs.lemmas.Bool.{cases_lt}
 use Rattle.lk_types.specs.BallotValue.{BallotValue}
@@ -32,18 +32,18 @@ use Rattle.lk_leader.specs.Terms.{TermValue}
 use Rattle.lk_learner.specs.Learners.{Command, Pair, LearnerValue, IsNext, IsWanted, executed, keeping, advanced}
 use Rattle.lk_learner.specs.Installing.{hearing, Installs}
 use Rattle.lk_learner.proofs.Learnerships.{ran_moves, with_only, without_from}
-use Rattle.lk_node_io.specs.Grants.{is_granted}
-use Rattle.lk_node_io.specs.KeptReplies.{session_by}
-use Rattle.lk_node_io.specs.Outboxes.{OutboxValue, nothing, with_entry, with_optional, with_rebase}
-use Rattle.lk_node_io.specs.declared.input.Input.{Input}
-use Rattle.lk_node_io.specs.declared.input.Input.TheVariants as input
+use Rattle.lk_node_interface.specs.Grants.{is_granted}
+use Rattle.lk_node_interface.specs.KeptReplies.{session_by}
+use Rattle.lk_node_interface.specs.Outboxes.{OutboxValue, nothing, with_optional, with_rebase}
+use Rattle.lk_node_interface.specs.declared.input.Input.{Input}
+use Rattle.lk_node_interface.specs.declared.input.Input.TheVariants as input
 use Rattle.lk_node.specs.Answering.{with_acceptor, replied, Responds}
-use Rattle.lk_node.specs.Asking.{leader_in, HearsRequest, PointsTo, TakesNew, TakesAs}
+use Rattle.lk_node.specs.Asking.{leader_in, PointsTo, TakesNew, TakesAs}
 use Rattle.lk_node.specs.Beginning.{next_ballot}
 use Rattle.lk_node.specs.CatchingUp.{HearsLead, HearsNack}
 use Rattle.lk_node.specs.Deciding.{IsOnlyHeard, HearsAccepted}
 use Rattle.lk_node.specs.DecidedPairs.{TakesPairs, none_yet, one_more}
-use Rattle.lk_node.specs.Executing.{with_told, waiting_number, SettlesAny, is_outside, while_named, Executes, Runs}
+use Rattle.lk_node.specs.Executing.{with_told, waiting_number, SettlesAny, is_outside, while_named, Runs}
 use Rattle.lk_node.specs.Executing.{stays, goes_on}
 use Rattle.lk_node.specs.Installing.{SettlesFirst, none_settled, one_settled, HearsPart}
 use Rattle.lk_node.specs.Leading.{HearsPromise, having_proposed, ProposesAll}
@@ -52,7 +52,7 @@ use Rattle.lk_node.specs.NodeValue.{NodeValue}
 use Rattle.lk_node.specs.Reaching.{IsDecidedAt, Reaches, EntryLiesNear, EntriesLieNear, TellsOf, TellsOn}
 use Rattle.lk_node.specs.Reminding.{Ticks}
 use Rattle.lk_node.specs.Steps.{HearsNode, Hears, TakesBytes, Steps}
-use Rattle.lk_node.specs.Waiting.{ticked, BeginsWhereDue}
+use Rattle.lk_node.specs.Waiting.{ticked}
 use Rattle.lk_node.specs.Yielding.{without_term, is_term_below, yielded, with_round, seeing}
 use Rattle.lk_node.proofs.FewEntries.{ran_same, proposed_same, offered_same, fed_same, asked_few}
 use Rattle.lk_node.proofs.ReachLaws.{decided_here, tells_more, with_all_behind, near_behind}

@@ -20,11 +20,11 @@ use Rattle.lk_acceptor.specs.AcceptorValue.{AcceptorValue}
 use Rattle.lk_acceptor.specs.declared.response.Response.{Response}
 use Rattle.lk_leader.specs.Terms.{TermValue}
 use Rattle.lk_learner.specs.Learners.{Command, Pair}
-use Rattle.lk_node_io.specs.Grants.{is_granted}
-use Rattle.lk_node_io.specs.KeptReplies.{session_by}
-use Rattle.lk_node_io.specs.Outboxes.{OutboxValue}
-use Rattle.lk_node_io.specs.declared.input.Input.{Input}
-use Rattle.lk_node_io.specs.declared.input.Input.TheVariants as input
+use Rattle.lk_node_interface.specs.Grants.{is_granted}
+use Rattle.lk_node_interface.specs.KeptReplies.{session_by}
+use Rattle.lk_node_interface.specs.Outboxes.{OutboxValue}
+use Rattle.lk_node_interface.specs.declared.input.Input.{Input}
+use Rattle.lk_node_interface.specs.declared.input.Input.TheVariants as input
 use Rattle.lk_node.specs.Answering.{with_acceptor, replied, Responds}
 use Rattle.lk_node.specs.Asking.{leader_in, PointsTo, TakesNew, TakesAs}
 use Rattle.lk_node.specs.CatchingUp.{HearsLead}

@@ -4,9 +4,9 @@ use Rattle.lk_messages.specs.Grammar.{spelling, IsMessage}
 use Rattle.lk_messages.specs.declared.message.NodeMessage.{NodeMessage}
 use Rattle.lk_acceptor.specs.AcceptorValue.{AcceptorValue}
 use Rattle.lk_acceptor.specs.declared.response.Response.{Response}
-use Rattle.lk_node_io.specs.Grants.{is_granted}
-use Rattle.lk_node_io.specs.Outboxes.{OutboxValue, nothing, with_letter, with_optional}
-use Rattle.lk_node_io.specs.Saying.{saying}
+use Rattle.lk_node_interface.specs.Grants.{is_granted}
+use Rattle.lk_node_interface.specs.Outboxes.{OutboxValue, nothing, with_letter, with_optional}
+use Rattle.lk_node_interface.specs.Saying.{saying}
 use Rattle.lk_node.specs.NodeValue.{NodeValue}
 use Rattle.lk_node.specs.Saying.{to_node}
 use Rattle.lk_node.specs.Yielding.{yielded}

@@ -12,8 +12,8 @@ use Rattle.lk_state.specs.declared.whole.Seen.{Seen}
 use Rattle.lk_state.specs.declared.whole.Seen.TheVariants as seen
 use Rattle.lk_leader.specs.Terms.{TermValue}
 use Rattle.lk_leader.specs.Waits.{asked}
-use Rattle.lk_node_io.specs.Outboxes.{OutboxValue, nothing}
-use Rattle.lk_node_io.specs.declared.to.To.TheVariants as to
+use Rattle.lk_node_interface.specs.Outboxes.{OutboxValue, nothing}
+use Rattle.lk_node_interface.specs.declared.to.To.TheVariants as to
 use Rattle.lk_node.specs.NodeValue.{NodeValue}
 use Rattle.lk_node.specs.Replying.{SaysAlone}
 

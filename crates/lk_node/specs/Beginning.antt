@@ -5,13 +5,13 @@ use Rattle.lk_types.specs.Limits.{max_count}
 use Rattle.lk_types.specs.declared.entry.Entry.TheVariants.{Promise}
 use Rattle.lk_messages.specs.Grammar.{IsMessage}
 use Rattle.lk_messages.specs.declared.message.NodeMessage.TheVariants as kinds
-use Rattle.lk_agreement.specs.Changes.{with_promise}
+use Rattle.lk_agreement_laws.specs.Changes.{with_promise}
 use Rattle.lk_acceptor.specs.States.{with_state}
 use Rattle.lk_leader.specs.Terms.{begun, with_term}
 use Rattle.lk_learner.specs.Learners.{executed}
-use Rattle.lk_node_io.specs.Outboxes.{OutboxValue, nothing, with_entry}
-use Rattle.lk_node_io.specs.Rounds.{greater_round, ballot_above}
-use Rattle.lk_node_io.specs.Saying.{saying}
+use Rattle.lk_node_interface.specs.Outboxes.{OutboxValue, nothing, with_entry}
+use Rattle.lk_node_interface.specs.Rounds.{greater_round, ballot_above}
+use Rattle.lk_node_interface.specs.Saying.{saying}
 use Rattle.lk_node.specs.NodeValue.{NodeValue}
 use Rattle.lk_node.specs.Telling.{AreWindowNodes, telling}
 

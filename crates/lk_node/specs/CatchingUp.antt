@@ -9,8 +9,8 @@ use Rattle.lk_messages.specs.declared.message.Nack.{Nack}
 use Rattle.lk_messages.specs.declared.message.NodeMessage.TheVariants as kinds
 use Rattle.lk_learner.specs.Learners.{executed, IsServed, decided_from, wanted}
 use Rattle.lk_learner.specs.Parts.{start_of, AreParts}
-use Rattle.lk_node_io.specs.Outboxes.{OutboxValue, nothing, with_letters}
-use Rattle.lk_node_io.specs.Saying.{saying}
+use Rattle.lk_node_interface.specs.Outboxes.{OutboxValue, nothing, with_letters}
+use Rattle.lk_node_interface.specs.Saying.{saying}
 use Rattle.lk_node.specs.NodeValue.{NodeValue}
 use Rattle.lk_node.specs.Replying.{SaysAlone}
 use Rattle.lk_node.specs.Saying.{to_node}

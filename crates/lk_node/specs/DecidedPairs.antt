@@ -1,9 +1,9 @@
 -- How a node takes the commands of a Decided, one after another.
 use Rattle.std.specs.Prelude.{◌≡◌, ℕ, ◌+◌, Some, List, ◌∷◌, slice_get}
 use Rattle.lk_state.specs.Meanings.{Meaning}
-use Rattle.lk_agreement.specs.Chosen.{ChosenAt}
+use Rattle.lk_agreement_laws.specs.Chosen.{ChosenAt}
 use Rattle.lk_learner.specs.Learners.{Command, Pair}
-use Rattle.lk_node_io.specs.Outboxes.{OutboxValue}
+use Rattle.lk_node_interface.specs.Outboxes.{OutboxValue}
 use Rattle.lk_node.specs.Executing.{RunsAll}
 use Rattle.lk_node.specs.Learning.{Learns}
 use Rattle.lk_node.specs.NodeValue.{NodeValue}

@@ -6,10 +6,10 @@ use Rattle.lk_store_format.specs.Values.{StandingValue}
 use Rattle.lk_store_format.specs.Standings.{HasHeader, StandsFor}
 use Rattle.lk_store_format.specs.declared.stored.Stored.{Stored}
 use Rattle.lk_state.specs.Meanings.{Meaning}
-use Rattle.lk_agreement.specs.Datagrams.{Accept, WasSent}
-use Rattle.lk_agreement.specs.Chosen.{ChosenAt}
-use Rattle.lk_agreement.specs.Acceptors.{CoversSent}
-use Rattle.lk_agreement.specs.Nodes.{Stems}
+use Rattle.lk_agreement_laws.specs.Datagrams.{Accept, WasSent}
+use Rattle.lk_agreement_laws.specs.Chosen.{ChosenAt}
+use Rattle.lk_agreement_laws.specs.Acceptors.{CoversSent}
+use Rattle.lk_agreement_laws.specs.Nodes.{Stems}
 use Rattle.lk_node.specs.Histories.{History, Command}
 use Rattle.lk_node.specs.Reaching.{AllLieNear}
 use Rattle.lk_node.specs.Served.{text}

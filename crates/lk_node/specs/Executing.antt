@@ -11,11 +11,11 @@ use Rattle.lk_state.specs.declared.whole.Ran.{Ran}
 use Rattle.lk_leader.specs.Terms.{has_term}
 use Rattle.lk_leader.specs.Waits.{waiting_of, number_up_to, left_by}
 use Rattle.lk_learner.specs.Learners.{executed, IsNext, advanced}
-use Rattle.lk_node_io.specs.KeptReplies.{session_reply, session_by}
-use Rattle.lk_node_io.specs.Outboxes.{OutboxValue, with_letter, with_note}
-use Rattle.lk_node_io.specs.Saying.{saying}
-use Rattle.lk_node_io.specs.declared.note.Note.TheVariants as note
-use Rattle.lk_node_io.specs.declared.to.To.TheVariants as to
+use Rattle.lk_node_interface.specs.KeptReplies.{session_reply, session_by}
+use Rattle.lk_node_interface.specs.Outboxes.{OutboxValue, with_letter, with_note}
+use Rattle.lk_node_interface.specs.Saying.{saying}
+use Rattle.lk_node_interface.specs.declared.note.Note.TheVariants as note
+use Rattle.lk_node_interface.specs.declared.to.To.TheVariants as to
 use Rattle.lk_node.specs.Learning.{with_learner}
 use Rattle.lk_node.specs.NodeValue.{NodeValue}
 use Rattle.lk_node.specs.Yielding.{without_term}

@@ -3,15 +3,15 @@ pub use Rattle.lk_types.specs.declared.genesis.Genesis.{Genesis}
 pub use Rattle.lk_types.specs.declared.command.Request.{Request as RequestValue}
 pub use Rattle.lk_types.specs.declared.command.Command.{Command}
 pub use Rattle.lk_types.specs.declared.command.Command.TheVariants.{Noop, Request}
-pub use Rattle.lk_agreement.specs.Datagrams.{Datagram}
+pub use Rattle.lk_agreement_laws.specs.Datagrams.{Datagram}
 use Rattle.std.specs.Prelude.{ℕ, List, ◌++◌, Contains}
 use Rattle.lk_messages.specs.Grammar.{Spells}
 use Rattle.lk_messages.specs.Values.{PartValue}
 use Rattle.lk_messages.specs.declared.message.Content.TheVariants as content
 use Rattle.lk_messages.specs.declared.message.NodeMessage.TheVariants.{Part}
-use Rattle.lk_agreement.specs.Datagrams.{NodeMessage, Vote, Accept, said_by, HasSent, WasSent}
-use Rattle.lk_agreement.specs.Snapshots.{IsSlice}
-use Rattle.lk_agreement.specs.Soundness.{Sound}
+use Rattle.lk_agreement_laws.specs.Datagrams.{NodeMessage, Vote, Accept, said_by, HasSent, WasSent}
+use Rattle.lk_agreement_laws.specs.Snapshots.{IsSlice}
+use Rattle.lk_agreement_laws.specs.Soundness.{Sound}
 use Rattle.lk_state.specs.Meanings.{Meaning}
 use Rattle.lk_state.specs.Packed.{packed}
 use Rattle.lk_state.specs.States.{whole_after}

@@ -1,8 +1,8 @@
 -- What a running node holds, and when that fits a history.
 use Rattle.std.specs.Prelude.{◌≡◌, ℕ, List, Contains, Option, Some}
 use Rattle.lk_state.specs.Meanings.{Meaning}
-use Rattle.lk_agreement.specs.Nodes.{Term, View, ViewFits}
-use Rattle.lk_agreement.specs.Snapshots.{IsSlice}
+use Rattle.lk_agreement_laws.specs.Nodes.{Term, View, ViewFits}
+use Rattle.lk_agreement_laws.specs.Snapshots.{IsSlice}
 use Rattle.lk_learner.specs.Learners.{GatheredValue}
 use Rattle.lk_node.specs.Histories.{History, Command, RequestValue, WasAsked}
 use Rattle.lk_node.specs.Served.{text}

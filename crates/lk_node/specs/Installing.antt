@@ -5,7 +5,7 @@ use Rattle.lk_state.specs.Meanings.{Meaning}
 use Rattle.lk_state.specs.declared.session.Session.{Session}
 use Rattle.lk_learner.specs.Installing.{hearing, Installs}
 use Rattle.lk_learner.specs.Learners.{LearnerValue}
-use Rattle.lk_node_io.specs.Outboxes.{OutboxValue, nothing, with_rebase}
+use Rattle.lk_node_interface.specs.Outboxes.{OutboxValue, nothing, with_rebase}
 use Rattle.lk_node.specs.Executing.{Settles, while_named, RunsAll}
 use Rattle.lk_node.specs.Learning.{with_learner}
 use Rattle.lk_node.specs.NodeValue.{NodeValue}

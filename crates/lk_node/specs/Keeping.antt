@@ -10,9 +10,9 @@ use Rattle.lk_store_format.specs.declared.stored.Stored.{Stored}
 use Rattle.lk_log.specs.StoreValue.{StoreValue}
 use Rattle.lk_log.specs.Stores.{HoldsEntries}
 use Rattle.lk_state.specs.Meanings.{Meaning}
-use Rattle.lk_agreement.specs.Acceptors.{AcceptorState}
-use Rattle.lk_agreement.specs.Chosen.{command_at}
-use Rattle.lk_agreement.specs.Nodes.{Term, View}
+use Rattle.lk_agreement_laws.specs.Acceptors.{AcceptorState}
+use Rattle.lk_agreement_laws.specs.Chosen.{command_at}
+use Rattle.lk_agreement_laws.specs.Nodes.{Term, View}
 use Rattle.lk_leader.specs.Terms.{TermValue, LeaderValue}
 use Rattle.lk_learner.specs.Following.{AgreesWithList}
 use Rattle.lk_learner.specs.Learners.{LearnerValue}

@@ -6,7 +6,7 @@ use Rattle.lk_messages.specs.declared.message.NodeMessage.TheVariants as kinds
 use Rattle.lk_leader.specs.Proposing.{Proposes, LeaderProposes, proposed}
 use Rattle.lk_leader.specs.Terms.{Command, ReceivedPromise, TermValue, LeaderValue, with_term, with_report, IsFirstOf}
 use Rattle.lk_members.specs.Nodes.{nodes_of}
-use Rattle.lk_node_io.specs.Outboxes.{OutboxValue, nothing}
+use Rattle.lk_node_interface.specs.Outboxes.{OutboxValue, nothing}
 use Rattle.lk_node.specs.NodeValue.{NodeValue}
 use Rattle.lk_node.specs.Telling.{telling}
 
@@ -20,8 +20,8 @@ abbrev pub report_of : ℕ → PromiseValue → ReceivedPromise
 report_of from p = record { node = from; first = p.first; votes = p.votes }
 
 -- it is kept if it is of the term's ballot, of a node of the window, and that node's first
-abbrev pub KeepsPromise : NodeValue → ℕ → PromiseValue → NodeValue → Type 0
-KeepsPromise old from p new =
+abbrev pub RecordsPromise : NodeValue → ℕ → PromiseValue → NodeValue → Type 0
+RecordsPromise old from p new =
     (t : TermValue) × IsFirstOf old.leader old.learner.whole.roster from p.ballot t
     × (new ≡ with_leader old (with_term (with_report (report_of from p) t) old.leader))
 
@@ -32,7 +32,7 @@ DropsPromise old from p new =
 
 -- and nothing follows from it immediately
 abbrev pub HearsPromise : NodeValue → ℕ → PromiseValue → NodeValue → OutboxValue → Type 0
-HearsPromise old from p new out = (KeepsPromise old from p new ⊎ DropsPromise old from p new) × (out ≡ nothing)
+HearsPromise old from p new out = (RecordsPromise old from p new ⊎ DropsPromise old from p new) × (out ≡ nothing)
 
 -- ---- proposals
 

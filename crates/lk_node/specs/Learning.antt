@@ -2,7 +2,7 @@
 use Rattle.std.specs.Prelude.{◌≡◌, ◌⊎◌}
 use Rattle.lk_types.specs.declared.entry.Entry.TheVariants.{Decided}
 use Rattle.lk_learner.specs.Learners.{Pair, LearnerValue, IsWanted, keeping}
-use Rattle.lk_node_io.specs.Outboxes.{OutboxValue, with_entry}
+use Rattle.lk_node_interface.specs.Outboxes.{OutboxValue, with_entry}
 use Rattle.lk_node.specs.NodeValue.{NodeValue}
 
 abbrev pub with_learner : NodeValue → LearnerValue → NodeValue

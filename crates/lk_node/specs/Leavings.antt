@@ -8,9 +8,9 @@ use Rattle.lk_store_format.specs.Standings.{HasHeader, StandsFor}
 use Rattle.lk_store_format.specs.declared.stored.Stored.{Stored}
 use Rattle.lk_log.specs.Images.{Image, MayLeaveBoth}
 use Rattle.lk_log.specs.Stores.{Found}
-use Rattle.lk_agreement.specs.Datagrams.{NodeMessage}
-use Rattle.lk_agreement.specs.Acceptors.{AcceptorState, Covers, CoversSent}
-use Rattle.lk_agreement.specs.Nodes.{View, Stems}
+use Rattle.lk_agreement_laws.specs.Datagrams.{NodeMessage}
+use Rattle.lk_agreement_laws.specs.Acceptors.{AcceptorState, Covers, CoversSent}
+use Rattle.lk_agreement_laws.specs.Nodes.{View, Stems}
 use Rattle.lk_node.specs.Histories.{History, Genesis, Command}
 use Rattle.lk_node.specs.Reaching.{AllLieNear}
 use Rattle.lk_node.specs.Served.{text}

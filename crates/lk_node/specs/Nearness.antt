@@ -1,6 +1,6 @@
 -- The invariant between a node's acceptor and its learner.
 use Rattle.std.specs.Prelude.{◌≡◌, ◌≤◌, ◌+◌, ◌*◌, Contains}
-use Rattle.lk_agreement.specs.Datagrams.{Vote}
+use Rattle.lk_agreement_laws.specs.Datagrams.{Vote}
 use Rattle.lk_acceptor.specs.AcceptorValue.{AcceptorValue}
 use Rattle.lk_learner.specs.Learners.{LearnerValue, executed, alpha}
 

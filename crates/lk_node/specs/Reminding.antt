@@ -9,8 +9,8 @@ use Rattle.lk_messages.specs.declared.message.NodeMessage.TheVariants as kinds
 use Rattle.lk_leader.specs.Acceptances.{IsOpen, unheard}
 use Rattle.lk_leader.specs.Terms.{ProposalValue, TermValue, LeaderValue, silent_among}
 use Rattle.lk_learner.specs.Learners.{executed, alpha}
-use Rattle.lk_node_io.specs.Outboxes.{OutboxValue, nothing}
-use Rattle.lk_node_io.specs.Saying.{saying}
+use Rattle.lk_node_interface.specs.Outboxes.{OutboxValue, nothing}
+use Rattle.lk_node_interface.specs.Saying.{saying}
 use Rattle.lk_node.specs.NodeValue.{NodeValue}
 use Rattle.lk_node.specs.Leading.{ProposesOpen}
 use Rattle.lk_node.specs.Waiting.{ticked, BeginsWhereDue}

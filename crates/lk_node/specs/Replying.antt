@@ -2,9 +2,9 @@
 use Rattle.std.specs.Prelude.{◌≡◌}
 use Rattle.lk_messages.specs.Grammar.{spelling, IsMessage}
 use Rattle.lk_messages.specs.declared.message.NodeMessage.{NodeMessage}
-use Rattle.lk_node_io.specs.Outboxes.{OutboxValue, nothing, with_letter}
-use Rattle.lk_node_io.specs.Saying.{saying}
-use Rattle.lk_node_io.specs.declared.to.To.{To}
+use Rattle.lk_node_interface.specs.Outboxes.{OutboxValue, nothing, with_letter}
+use Rattle.lk_node_interface.specs.Saying.{saying}
+use Rattle.lk_node_interface.specs.declared.to.To.{To}
 use Rattle.lk_node.specs.NodeValue.{NodeValue}
 
 -- the node sends this, which fits into a datagram, and nothing else follows

@@ -1,6 +1,6 @@
 -- When a chosen list justifies a node's notes, and its messages to clients.
-use Rattle.lk_node_io.specs.declared.note.Note.{Note}
-use Rattle.lk_node_io.specs.declared.note.Note.TheVariants as note
+use Rattle.lk_node_interface.specs.declared.note.Note.{Note}
+use Rattle.lk_node_interface.specs.declared.note.Note.TheVariants as note
 pub use Rattle.lk_node.specs.Histories.{text}
 use Rattle.std.specs.Prelude.{◌≡◌, ◌+◌, ◌≤◌, ◌<◌, List, length, take, drop, Some, Contains}
 use Rattle.lk_types.specs.declared.answer.Answer.{Answer}
@@ -10,7 +10,7 @@ use Rattle.lk_messages.specs.declared.message.NodeMessage.TheVariants as kinds
 use Rattle.lk_members.specs.Rosters.{members}
 use Rattle.lk_state.specs.Meanings.{Meaning}
 use Rattle.lk_state.specs.States.{reply}
-use Rattle.lk_agreement.specs.Chosen.{command_at, Chosen, ChosenAt}
+use Rattle.lk_agreement_laws.specs.Chosen.{command_at, Chosen, ChosenAt}
 use Rattle.lk_node.specs.Histories.{History, Genesis, Command}
 
 -- the list bears out the note

@@ -7,12 +7,12 @@ use Rattle.lk_messages.specs.declared.message.NodeMessage.{NodeMessage}
 use Rattle.lk_messages.specs.declared.message.NodeMessage.TheVariants as kinds
 use Rattle.lk_store_format.specs.Values.{HeaderValue}
 use Rattle.lk_state.specs.Meanings.{Meaning}
-use Rattle.lk_agreement.specs.Acceptors.{AcceptorState, Covers}
+use Rattle.lk_agreement_laws.specs.Acceptors.{AcceptorState, Covers}
 use Rattle.lk_acceptor.specs.States.{acceptor_with}
-use Rattle.lk_node_io.specs.Letters.{LetterValue, batch_of}
-use Rattle.lk_node_io.specs.Outboxes.{OutboxValue}
-use Rattle.lk_node_io.specs.Saying.{saying}
-use Rattle.lk_node_io.specs.declared.note.Note.{Note}
+use Rattle.lk_node_interface.specs.Letters.{LetterValue, batch_of}
+use Rattle.lk_node_interface.specs.Outboxes.{OutboxValue}
+use Rattle.lk_node_interface.specs.Saying.{saying}
+use Rattle.lk_node_interface.specs.declared.note.Note.{Note}
 use Rattle.lk_node.specs.Calls.{MayGo}
 use Rattle.lk_node.specs.Entries.{Rests}
 use Rattle.lk_node.specs.Histories.{History, Datagram, IsLawful}

@@ -7,11 +7,11 @@ use Rattle.lk_messages.specs.declared.message.Message.{Message}
 use Rattle.lk_messages.specs.declared.message.NodeMessage.{NodeMessage}
 use Rattle.lk_messages.specs.declared.message.NodeMessage.TheVariants as kinds
 use Rattle.lk_acceptor.specs.Answers.{AnswersPrepare, AnswersAccept}
-use Rattle.lk_agreement.specs.Datagrams.{HasSent}
+use Rattle.lk_agreement_laws.specs.Datagrams.{HasSent}
 use Rattle.lk_state.specs.Meanings.{Meaning}
-use Rattle.lk_node_io.specs.Outboxes.{OutboxValue, nothing}
-use Rattle.lk_node_io.specs.declared.input.Input.{Input}
-use Rattle.lk_node_io.specs.declared.input.Input.TheVariants as input
+use Rattle.lk_node_interface.specs.Outboxes.{OutboxValue, nothing}
+use Rattle.lk_node_interface.specs.declared.input.Input.{Input}
+use Rattle.lk_node_interface.specs.declared.input.Input.TheVariants as input
 use Rattle.lk_node.specs.Answering.{Responds}
 use Rattle.lk_node.specs.Asking.{HearsRequest}
 use Rattle.lk_node.specs.CatchingUp.{HearsWant, HearsNack, HearsLead}

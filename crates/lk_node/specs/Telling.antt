@@ -2,10 +2,10 @@
 use Rattle.std.specs.Prelude.{ℕ, List, map}
 use Rattle.lk_messages.specs.Grammar.{spelling}
 use Rattle.lk_messages.specs.declared.message.NodeMessage.{NodeMessage}
-use Rattle.lk_node_io.specs.Letters.{LetterValue}
-use Rattle.lk_node_io.specs.Outboxes.{OutboxValue, with_letters}
-use Rattle.lk_node_io.specs.Recipients as recipients
-use Rattle.lk_node_io.specs.Saying.{saying}
+use Rattle.lk_node_interface.specs.Letters.{LetterValue}
+use Rattle.lk_node_interface.specs.Outboxes.{OutboxValue, with_letters}
+use Rattle.lk_node_interface.specs.Recipients as recipients
+use Rattle.lk_node_interface.specs.Saying.{saying}
 use Rattle.lk_node.specs.NodeValue.{NodeValue}
 use Rattle.lk_node.specs.Saying.{to_node}
 

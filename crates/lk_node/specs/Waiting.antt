@@ -1,9 +1,9 @@
 -- How long a node waits for a leader before it begins a ballot.
 use Rattle.std.specs.Prelude.{◌≡◌, ◌⊎◌, ℕ, ◌+◌, ◌≤◌, true, false, min, Option}
 use Rattle.lk_types.specs.Limits.{max_count}
-use Rattle.lk_node_io.specs.Outboxes.{OutboxValue, nothing}
-use Rattle.lk_node_io.specs.Recipients.{place_in}
-use Rattle.lk_node_io.specs.Ticks.{max_ticks, is_enough}
+use Rattle.lk_node_interface.specs.Outboxes.{OutboxValue, nothing}
+use Rattle.lk_node_interface.specs.Recipients.{place_in}
+use Rattle.lk_node_interface.specs.Ticks.{max_ticks, is_enough}
 use Rattle.lk_node.specs.Beginning.{greatest_round, next_ballot, BeginsBallot}
 use Rattle.lk_node.specs.NodeValue.{NodeValue}
 

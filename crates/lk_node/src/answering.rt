@@ -3,16 +3,16 @@ ghost use Rattle.std.specs.Prelude.{◌≡◌, IfOk, OnOk};
 ghost use Rattle.lk_messages.specs.Grammar.{IsMessage};
 ghost use Rattle.lk_messages.specs.declared.message.NodeMessage.TheVariants as kinds;
 ghost use Rattle.lk_acceptor.specs.Answers.{AnswersPrepare, AnswersAccept};
-ghost use Rattle.lk_agreement.specs.Datagrams.{HasSent};
-ghost use Rattle.lk_node_io.specs.Outboxes.{nothing};
-ghost use Rattle.lk_node_io.specs.Saying.{saying};
+ghost use Rattle.lk_agreement_laws.specs.Datagrams.{HasSent};
+ghost use Rattle.lk_node_interface.specs.Outboxes.{nothing};
+ghost use Rattle.lk_node_interface.specs.Saying.{saying};
 ghost use Rattle.lk_node.specs.Answering.{replied, reply_to, Responds};
 ghost use Rattle.lk_node.specs.Serving.{ActsSafely};
 ghost use Rattle.lk_node.specs.Yielding.{yielded, with_round};
 
 use crate::node::Node;
 use lk_acceptor::Response;
-use lk_node_io::{Outbox, is_granted};
+use lk_node_interface::{Outbox, is_granted};
 use lk_state::Machine;
 use lk_types::{NoMemory, NodeNo, Position, RealBallot, Vote};
 
@@ -39,22 +39,6 @@ impl<M: Machine> Node<M> {
         Ok(out)
     }
 
-    // Passes a Prepare to the acceptor, and sends its reply.
-    fn answer_prepare(
-        &mut self,
-        from: NodeNo,
-        ballot: RealBallot,
-        first: Position,
-    ) -> Result<Outbox, NoMemory>
-        ensures { IfOk result (λ o. Responds self.old from
-            (AnswersPrepare self.old.acceptor self.old.learner.whole.roster.executed ballot first) self.new o) }
-    {
-        let response = self
-            .acceptor
-            .prepare(ballot, first, self.learner.whole().executed())?;
-        self.respond(from, response)
-    }
-
     // Passes an Accept to the acceptor, and sends its reply.
     fn answer_accept(&mut self, from: NodeNo, vote: Vote) -> Result<Outbox, NoMemory>
         ensures { IfOk result (λ o. Responds self.old from
@@ -65,8 +49,7 @@ impl<M: Machine> Node<M> {
         Ok(out)
     }
 
-    // Handles a Prepare. Adds to `answer_prepare` only the clause `goes_on`: that this is safe.
-    #[tactic(auto, using(crate::proofs::AcceptorLaws::prepare_goes_on))]
+    // Handles a Prepare: passes it to the acceptor, and sends its reply.
     pub(crate) fn handle_prepare(
         &mut self,
         from: NodeNo,
@@ -76,9 +59,12 @@ impl<M: Machine> Node<M> {
         ensures exact { IfOk result
             (λ o. Responds self.old from
             (AnswersPrepare self.old.acceptor self.old.learner.whole.roster.executed ballot first) self.new o) }
-        ensures goes_on { IfOk result (λ o. ActsSafely M.meaning (λ h. Unit {0}) self.old self.new nothing o) }
+        ensures safe { IfOk result (λ o. ActsSafely M.meaning (λ h. Unit {0}) self.old self.new nothing o) }
     {
-        let out = self.answer_prepare(from, ballot, first)?;
+        let response = self
+            .acceptor
+            .prepare(ballot, first, self.learner.whole().executed())?;
+        let out = self.respond(from, response)?;
         Ok(out)
     }
 
@@ -87,7 +73,7 @@ impl<M: Machine> Node<M> {
         ensures exact { IfOk result
             (λ o. Responds (with_round vote.ballot self.old) from
             (AnswersAccept self.old.acceptor self.old.learner.whole.roster.executed vote) self.new o) }
-        ensures goes_on { IfOk result
+        ensures safe { IfOk result
             (λ o. ActsSafely M.meaning (λ h. HasSent h.genesis h.sent from (kinds.Accept vote))
             self.old self.new nothing o) }
     {

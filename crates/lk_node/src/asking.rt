@@ -1,11 +1,11 @@
 // How a node handles a client's request.
 ghost use Rattle.std.specs.Prelude.{◌≡◌, Contains, IfOk};
-ghost use Rattle.lk_node_io.specs.Outboxes.{nothing};
+ghost use Rattle.lk_node_interface.specs.Outboxes.{nothing};
 ghost use Rattle.lk_node.specs.Asking.{leader_in, PointsTo, TakesNew, HearsRequest};
 ghost use Rattle.lk_node.specs.Serving.{ActsSafely};
 
 use crate::node::Node;
-use lk_node_io::{Outbox, To, kept_reply};
+use lk_node_interface::{Outbox, To, kept_reply};
 use lk_state::Machine;
 use lk_types::{ClientNo, Member, NoMemory, Request};
 use lk_wire::{Elsewhere, NodeMessage};
@@ -35,8 +35,7 @@ impl<M: Machine> Node<M> {
             number,
             member,
         };
-        let out = self.send_one(To::Client(client), NodeMessage::Elsewhere(elsewhere))?;
-        Ok(out)
+        self.outbox_with(To::Client(client), NodeMessage::Elsewhere(elsewhere))
     }
 
     // Handles a request that is new: queues it if there is a term, and redirects its client otherwise.
@@ -51,26 +50,18 @@ impl<M: Machine> Node<M> {
         Ok(Outbox::new(self.alloc))
     }
 
-    // Replies from the client's session to a request that is not new; queues or redirects a new one.
-    fn take_request(&mut self, request: &Request) -> Result<Outbox, NoMemory>
-        ensures { IfOk result (λ o. HearsRequest self.old request.now self.new o) }
+    // Handles a client's request: replies from the client's session if it is not new; queues or redirects a new one.
+    pub(crate) fn handle_request(&mut self, request: &Request) -> Result<Outbox, NoMemory>
+        ensures exact { IfOk result (λ o. HearsRequest self.old request.now self.new o) }
+        ensures safe { IfOk result
+            (λ o. ActsSafely M.meaning (λ h. Contains h.asked request.now) self.old self.new nothing o) }
     {
         let (client, number) = (request.client, request.number);
         let seen = self.learner.whole().seen(client, number);
         let Some(reply) = kept_reply(client, number, seen) else {
             return self.take_new(request);
         };
-        let out = self.send_one(To::Client(client), reply)?;
-        Ok(out)
-    }
-
-    // Handles a client's request. Adds to `take_request` only the clause `goes_on`: that this is safe.
-    pub(crate) fn handle_request(&mut self, request: &Request) -> Result<Outbox, NoMemory>
-        ensures exact { IfOk result (λ o. HearsRequest self.old request.now self.new o) }
-        ensures goes_on { IfOk result
-            (λ o. ActsSafely M.meaning (λ h. Contains h.asked request.now) self.old self.new nothing o) }
-    {
-        let out = self.take_request(request)?;
+        let out = self.outbox_with(To::Client(client), reply)?;
         Ok(out)
     }
 }

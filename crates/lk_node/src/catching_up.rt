@@ -3,8 +3,8 @@ ghost use Rattle.std.specs.Prelude.{◌≡◌, ◌<◌, ◌≤◌, Contains, IfO
 ghost use Rattle.lk_messages.specs.Grammar.{IsMessage};
 ghost use Rattle.lk_messages.specs.Values.{PartValue};
 ghost use Rattle.lk_messages.specs.declared.message.NodeMessage.TheVariants as kinds;
-ghost use Rattle.lk_node_io.specs.Outboxes.{nothing};
-ghost use Rattle.lk_node_io.specs.Saying.{saying};
+ghost use Rattle.lk_node_interface.specs.Outboxes.{nothing};
+ghost use Rattle.lk_node_interface.specs.Saying.{saying};
 ghost use Rattle.lk_node.specs.CatchingUp.{sending_parts, FeedsParts, Feeds, HearsWant, AsksOn, Levels, HearsNack};
 ghost use Rattle.lk_node.specs.CatchingUp.{following, AsksWhereMore, refusal, HearsLead};
 ghost use Rattle.lk_node.specs.Replying.{SaysAlone};
@@ -12,7 +12,7 @@ ghost use Rattle.lk_node.specs.Saying.{to_node};
 ghost use Rattle.lk_node.specs.Serving.{ActsSafely};
 
 use crate::node::Node;
-use lk_node_io::Outbox;
+use lk_node_interface::Outbox;
 use lk_state::Machine;
 use lk_types::{Executed, NoMemory, NodeNo, Position, RealBallot};
 use lk_wire::{Nack, NodeMessage, Part, Want};
@@ -38,8 +38,7 @@ impl<M: Machine> Node<M> {
         ensures none { self.now.learner.snapshot_position < first → IfOk result (λ o. o ≡ nothing) }
     {
         let parts = self.learner.parts(first, offset)?;
-        let out = self.send_parts(other, parts)?;
-        Ok(out)
+        self.send_parts(other, parts)
     }
 
     // Sends the other node up to 16 executed commands from the position on; or, if the snapshot has replaced the
@@ -50,8 +49,7 @@ impl<M: Machine> Node<M> {
         let Some(decided) = self.learner.serve(first)? else {
             return self.feed_parts(other, first, offset);
         };
-        let out = self.send_one_to_node(other, NodeMessage::Decided(decided))?;
-        Ok(out)
+        self.outbox_to_node(other, NodeMessage::Decided(decided))
     }
 
     // Sends the other node a Want for what follows the executed positions; nothing after the last one, 2^48.
@@ -61,8 +59,7 @@ impl<M: Machine> Node<M> {
         let Some(want) = self.learner.want() else {
             return Ok(Outbox::new(self.alloc));
         };
-        let out = self.send_one_to_node(other, NodeMessage::Want(want))?;
-        Ok(out)
+        self.outbox_to_node(other, NodeMessage::Want(want))
     }
 
     // Compares progress with the other node, which has executed `theirs` positions: asks it with a Want if these are
@@ -83,21 +80,20 @@ impl<M: Machine> Node<M> {
     // Handles a Want: sends its sender commands or parts of the snapshot.
     pub(crate) fn handle_want(&mut self, from: NodeNo, want: &Want) -> Result<Outbox, NoMemory>
         ensures exact { IfOk result (λ o. HearsWant self.old from want.now self.new o) }
-        ensures goes_on { IfOk result (λ o. ActsSafely M.meaning (λ h. Unit {0}) self.old self.new nothing o) }
+        ensures safe { IfOk result (λ o. ActsSafely M.meaning (λ h. Unit {0}) self.old self.new nothing o) }
     {
-        let out = self.send_missing(from, want.first(), want.offset())?;
-        Ok(out)
+        self.send_missing(from, want.first(), want.offset())
     }
 
     // Handles a Nack: catches up with its sender or helps it, and records the rejected and the promised ballot, which
     // ends a term of a ballot below either.
     pub(crate) fn handle_nack(&mut self, from: NodeNo, nack: &Nack) -> Result<Outbox, NoMemory>
         ensures exact { IfOk result (λ o. HearsNack self.old from nack.now self.new o) }
-        ensures goes_on { IfOk result (λ o. ActsSafely M.meaning (λ h. Unit {0}) self.old self.new nothing o) }
+        ensures safe { IfOk result (λ o. ActsSafely M.meaning (λ h. Unit {0}) self.old self.new nothing o) }
     {
         let out = self.compare_progress(from, nack.executed)?;
-        self.see(nack.ballot.get());
-        self.see(nack.promised);
+        self.note_ballot(nack.ballot.get());
+        self.note_ballot(nack.promised);
         Ok(out)
     }
 
@@ -108,8 +104,7 @@ impl<M: Machine> Node<M> {
         if theirs.get() <= self.learner.whole().executed().get() {
             return Ok(Outbox::new(self.alloc));
         }
-        let out = self.send_want(other)?;
-        Ok(out)
+        self.send_want(other)
     }
 
     // Sends the other node a Nack of this ballot, with the promised one and how many positions are executed.
@@ -122,8 +117,7 @@ impl<M: Machine> Node<M> {
             promised: self.acceptor.promised(),
             executed: self.learner.whole().executed(),
         };
-        let out = self.send_one_to_node(other, NodeMessage::Nack(nack))?;
-        Ok(out)
+        self.outbox_to_node(other, NodeMessage::Nack(nack))
     }
 
     // Records the ballot's node as the known leader, and counts ticks from 0.
@@ -134,29 +128,8 @@ impl<M: Machine> Node<M> {
         self.ticks.reset();
     }
 
-    // Rejects a leader's notice if its ballot is below the promised one. Otherwise follows it, and asks its sender for
-    // commands if that has executed more.
-    fn answer_lead(
-        &mut self,
-        from: NodeNo,
-        ballot: RealBallot,
-        executed: Executed,
-    ) -> Result<Outbox, NoMemory>
-        ensures { IfOk result (λ o. HearsLead self.old from ballot executed self.new o) }
-    {
-        if ballot.get().is_below(self.acceptor.promised()) {
-            let out = self.send_nack(from, ballot)?;
-            self.see(ballot.get());
-            return Ok(out);
-        }
-        let out = self.send_want_if_behind(from, executed)?;
-        self.see(ballot.get());
-        self.follow(ballot);
-        Ok(out)
-    }
-
-    // Handles a Lead: the node of this ballot leads, and has executed this many positions. Adds to `answer_lead` only
-    // the clause `goes_on`: that this is safe.
+    // Handles a Lead: the node of this ballot leads, and has executed this many positions. Rejects it if its ballot is
+    // below the promised one. Otherwise follows it, and asks its sender for commands if that has executed more.
     pub(crate) fn handle_lead(
         &mut self,
         from: NodeNo,
@@ -164,9 +137,16 @@ impl<M: Machine> Node<M> {
         executed: Executed,
     ) -> Result<Outbox, NoMemory>
         ensures exact { IfOk result (λ o. HearsLead self.old from ballot executed self.new o) }
-        ensures goes_on { IfOk result (λ o. ActsSafely M.meaning (λ h. Unit {0}) self.old self.new nothing o) }
+        ensures safe { IfOk result (λ o. ActsSafely M.meaning (λ h. Unit {0}) self.old self.new nothing o) }
     {
-        let out = self.answer_lead(from, ballot, executed)?;
+        if ballot.get().is_below(self.acceptor.promised()) {
+            let out = self.send_nack(from, ballot)?;
+            self.note_ballot(ballot.get());
+            return Ok(out);
+        }
+        let out = self.send_want_if_behind(from, executed)?;
+        self.note_ballot(ballot.get());
+        self.follow(ballot);
         Ok(out)
     }
 }

@@ -1,15 +1,15 @@
 // How a node decides a position: it counts the votes for its own proposals.
 ghost use Rattle.std.specs.Prelude.{IfOk, OnOk};
 ghost use Rattle.lk_messages.specs.declared.message.NodeMessage.TheVariants as kinds;
-ghost use Rattle.lk_agreement.specs.Chosen.{ChosenAt};
-ghost use Rattle.lk_agreement.specs.Datagrams.{HasSent};
+ghost use Rattle.lk_agreement_laws.specs.Chosen.{ChosenAt};
+ghost use Rattle.lk_agreement_laws.specs.Datagrams.{HasSent};
 ghost use Rattle.lk_leader.specs.Proposing.{AreMembersAt};
-ghost use Rattle.lk_node_io.specs.Outboxes.{nothing};
+ghost use Rattle.lk_node_interface.specs.Outboxes.{nothing};
 ghost use Rattle.lk_node.specs.Deciding.{HearsVote, AreDecidedLetters, Decides, HearsAccepted};
 ghost use Rattle.lk_node.specs.Serving.{ActsSafely};
 
 use crate::node::Node;
-use lk_node_io::{Letter, Note, Outbox, decided_message, letters_to};
+use lk_node_interface::{Letter, Note, Outbox, decided_message, letters_to};
 use lk_state::Machine;
 use lk_types::{Command, Members, NoMemory, NodeNo, Position, Vote};
 
@@ -57,7 +57,7 @@ impl<M: Machine> Node<M> {
     ) -> Result<(), NoMemory>
         ensures exact { OnOk result
             (Decides M.meaning members (position, command.now) self.old out.old self.new out.new) }
-        ensures goes_on { AreMembersAt self.old.learner.whole.roster position members
+        ensures safe { AreMembersAt self.old.learner.whole.roster position members
             → OnOk result (ActsSafely M.meaning
             (λ h. ChosenAt h.genesis h.sent position command.now) self.old self.new out.old out.new) }
     {
@@ -73,7 +73,7 @@ impl<M: Machine> Node<M> {
     // Handles an Accepted: counts it as a vote, and decides the position if that completes a majority.
     pub(crate) fn handle_accepted(&mut self, from: NodeNo, vote: &Vote) -> Result<Outbox, NoMemory>
         ensures exact { IfOk result (λ o. HearsAccepted M.meaning from vote.now self.old self.new o) }
-        ensures goes_on { IfOk result
+        ensures safe { IfOk result
             (λ o. ActsSafely M.meaning (λ h. HasSent h.genesis h.sent from (kinds.Accepted vote.now))
             self.old self.new nothing o) }
     {

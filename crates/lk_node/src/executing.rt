@@ -4,7 +4,7 @@ ghost use Rattle.lk_node.specs.Executing.{Settles, SettlesAny, RunsNext, is_outs
 ghost use Rattle.lk_node.specs.Serving.{ActsSafely};
 
 use crate::node::Node;
-use lk_node_io::{Note, Outbox, To, session_of, session_reply};
+use lk_node_interface::{Note, Outbox, To, session_of, session_reply};
 use lk_state::{Machine, Ran, Session};
 use lk_types::{Command, NoMemory};
 
@@ -78,7 +78,7 @@ impl<M: Machine> Node<M> {
     // ends the term of a node that the window names no longer. Returns whether it was kept.
     fn execute_one(&mut self, out: &mut Outbox) -> Result<bool, NoMemory>
         ensures exact { IfOk result (λ went. ExecutesOne M.meaning went self.old out.old self.new out.new) }
-        ensures goes_on { OnOk result (ActsSafely M.meaning (λ h. Unit {0}) self.old self.new out.old out.new) }
+        ensures safe { OnOk result (ActsSafely M.meaning (λ h. Unit {0}) self.old self.new out.old out.new) }
     {
         self.learner.facts();
         let Some((command, ran)) = self.run_next()? else {
@@ -94,7 +94,7 @@ impl<M: Machine> Node<M> {
     // Executes positions in order, as long as the command of the next one is kept.
     pub(crate) fn execute(&mut self, out: &mut Outbox) -> Result<(), NoMemory>
         ensures exact { OnOk result (RunsAll M.meaning self.old out.old self.new out.new) }
-        ensures goes_on { OnOk result (ActsSafely M.meaning (λ h. Unit {0}) self.old self.new out.old out.new) }
+        ensures safe { OnOk result (ActsSafely M.meaning (λ h. Unit {0}) self.old self.new out.old out.new) }
     {
         'positions: loop {
             if !self.execute_one(out)? {

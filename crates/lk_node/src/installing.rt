@@ -1,13 +1,13 @@
 // How a node handles a part of another node's snapshot.
 ghost use Rattle.std.specs.Prelude.{◌≡◌, ℕ, IfOk, OnOk};
 ghost use Rattle.lk_messages.specs.declared.message.NodeMessage.TheVariants as kinds;
-ghost use Rattle.lk_agreement.specs.Datagrams.{HasSent};
-ghost use Rattle.lk_node_io.specs.Outboxes.{nothing};
+ghost use Rattle.lk_agreement_laws.specs.Datagrams.{HasSent};
+ghost use Rattle.lk_node_interface.specs.Outboxes.{nothing};
 ghost use Rattle.lk_node.specs.Installing.{GathersPart, SettlesAll, InstallsGathered, HearsPart};
 ghost use Rattle.lk_node.specs.Serving.{ActsSafely};
 
 use crate::node::Node;
-use lk_node_io::Outbox;
+use lk_node_interface::Outbox;
 use lk_state::Machine;
 use lk_types::NoMemory;
 use lk_wire::PartRef;
@@ -39,7 +39,7 @@ impl<M: Machine> Node<M> {
     // from the state's sessions, ends the term if the window does not name the node, and executes what it can.
     fn install_gathered(&mut self) -> Result<Outbox, NoMemory>
         ensures exact { IfOk result (λ o. InstallsGathered M.meaning self.old self.new o) }
-        ensures goes_on { IfOk result (λ o. ActsSafely M.meaning (λ h. Unit {0}) self.old self.new nothing o) }
+        ensures safe { IfOk result (λ o. ActsSafely M.meaning (λ h. Unit {0}) self.old self.new nothing o) }
     {
         self.learner.whole().facts();
         let mut out = Outbox::new(self.alloc);
@@ -53,7 +53,7 @@ impl<M: Machine> Node<M> {
     // Handles a part of another node's snapshot: adopts the snapshot if it is now complete.
     pub(crate) fn handle_part(&mut self, part: &PartRef<'_>) -> Result<Outbox, NoMemory>
         ensures exact { IfOk result (λ o. HearsPart M.meaning M.IsText self.old part.now self.new o) }
-        ensures goes_on { (from : ℕ)
+        ensures safe { (from : ℕ)
             → IfOk result (λ o. ActsSafely M.meaning
             (λ h. HasSent h.genesis h.sent from (kinds.Part part.now)) self.old self.new nothing o) }
     {

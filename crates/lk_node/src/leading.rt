@@ -1,57 +1,47 @@
-// How a leader handles a Promise, and how it proposes.
+// How a node leads: how it handles a Promise, how it proposes, and when it ends its term.
 ghost use Rattle.std.specs.Prelude.{◌≡◌, ◌⊎◌, List, IfOk, OnOk, MatchOption};
 ghost use Rattle.lk_types.specs.declared.member.Member.{Member as MemberValue};
 ghost use Rattle.lk_messages.specs.Grammar.{IsMessage};
 ghost use Rattle.lk_messages.specs.declared.message.NodeMessage.TheVariants as kinds;
-ghost use Rattle.lk_agreement.specs.Datagrams.{HasSent};
+ghost use Rattle.lk_agreement_laws.specs.Datagrams.{HasSent};
 ghost use Rattle.lk_leader.specs.Proposing.{AreMembersAt};
 ghost use Rattle.lk_members.specs.Nodes.{nodes_of};
-ghost use Rattle.lk_node_io.specs.Outboxes.{nothing};
-ghost use Rattle.lk_node_io.specs.Saying.{saying};
-ghost use Rattle.lk_node.specs.Leading.{KeepsPromise, DropsPromise, HearsPromise, ProposesVote, having_proposed};
+ghost use Rattle.lk_node_interface.specs.Outboxes.{nothing};
+ghost use Rattle.lk_node_interface.specs.Saying.{saying};
+ghost use Rattle.lk_node.specs.Leading.{RecordsPromise, DropsPromise, HearsPromise, ProposesVote, having_proposed};
 ghost use Rattle.lk_node.specs.Leading.{NothingToPropose, ProposesNext, ProposesOpen};
 ghost use Rattle.lk_node.specs.Promised.{HasPromised};
 ghost use Rattle.lk_node.specs.Serving.{ActsSafely};
 ghost use Rattle.lk_node.specs.Telling.{telling};
+ghost use Rattle.lk_node.specs.Yielding.{without_term, yielded, with_round, seeing};
 
 use crate::node::Node;
 use lk_members::nodes_of;
-use lk_node_io::Outbox;
+use lk_node_interface::Outbox;
 use lk_state::Machine;
-use lk_types::{NoMemory, NodeNo, Vote};
+use lk_types::{Ballot, NoMemory, NodeNo, Vote};
 use lk_wire::{NodeMessage, PromiseRef};
 
 impl<M: Machine> Node<M> {
-    // Passes a promise to the leader, which drops it unless it is the node's first in the term's ballot.
-    fn keep_promise(&mut self, from: NodeNo, promise: &PromiseRef<'_>) -> Result<(), NoMemory>
-        ensures { OnOk result (KeepsPromise self.old from promise.now self.new
-            ⊎ DropsPromise self.old from promise.now self.new) }
-    {
-        let (ballot, first) = (promise.ballot(), promise.first());
-        let roster = self.learner.whole().roster();
-        self.leader
-            .promise(from, ballot, first, promise.votes(), roster)?;
-        Ok(())
-    }
-
-    // Handles a Promise. Adds to `keep_promise` only the clause `goes_on`: that this is safe. Sends nothing.
-    #[tactic(auto, using(crate::proofs::TermLaws::promise_goes_on))]
+    // Handles a Promise: passes it to the leader, which drops it unless it is the node's first in the term's ballot.
+    // Sends nothing.
     pub(crate) fn handle_promise(
         &mut self,
         from: NodeNo,
         promise: &PromiseRef<'_>,
     ) -> Result<Outbox, NoMemory>
         ensures exact { IfOk result (λ o. HearsPromise self.old from promise.now self.new o) }
-        ensures goes_on { IfOk result
+        ensures safe { IfOk result
             (λ o. ActsSafely M.meaning (λ h. HasSent h.genesis h.sent from (kinds.Promise promise.now))
             self.old self.new nothing o) }
     {
-        self.keep_promise(from, promise)?;
+        let (ballot, first) = (promise.ballot(), promise.first());
+        let roster = self.learner.whole().roster();
+        self.leader
+            .promise(from, ballot, first, promise.votes(), roster)?;
         Ok(Outbox::new(self.alloc))
     }
-}
 
-impl<M: Machine> Node<M> {
     // Shows the prover that the term's ballot is at most the promised one. Has no effect.
     pub(crate) fn facts(&self)
         ensures { HasPromised self.now.acceptor self.now.leader }
@@ -97,7 +87,7 @@ impl<M: Machine> Node<M> {
     // Records the next proposal, and sends it to the members of its position. Returns whether there was one.
     fn propose_next(&mut self, out: &mut Outbox) -> Result<bool, NoMemory>
         ensures exact { IfOk result (λ more. ProposesNext more self.old self.new out.old out.new) }
-        ensures goes_on { OnOk result (ActsSafely M.meaning (λ h. Unit {0}) self.old self.new out.old out.new) }
+        ensures safe { OnOk result (ActsSafely M.meaning (λ h. Unit {0}) self.old self.new out.old out.new) }
     {
         self.facts();
         let Some(vote) = self.next_vote() else {
@@ -111,9 +101,44 @@ impl<M: Machine> Node<M> {
     pub(crate) fn propose(&mut self, out: &mut Outbox) -> Result<(), NoMemory>
         ensures exact { OnOk result (ProposesOpen self.old self.new out.old out.new) }
         ensures done { OnOk result (NothingToPropose self.new) }
-        ensures goes_on { OnOk result (ActsSafely M.meaning (λ h. Unit {0}) self.old self.new out.old out.new) }
+        ensures safe { OnOk result (ActsSafely M.meaning (λ h. Unit {0}) self.old self.new out.old out.new) }
     {
         'votes: while self.propose_next(out)? {}
         Ok(())
+    }
+
+    // Ends the term, forgets the waiting requests, and counts ticks from 0.
+    pub(crate) fn leave_term(&mut self)
+        ensures { self.new ≡ without_term self.old }
+    {
+        self.leader.leave();
+        self.ticks.reset();
+    }
+
+    // Ends the term if this ballot is above its ballot. Records nothing: see `note_ballot`.
+    pub(crate) fn yield_to(&mut self, ballot: Ballot)
+        ensures { self.new ≡ yielded ballot self.old }
+    {
+        let Some(own) = self.leader.ballot() else {
+            return;
+        };
+        if own.get().is_below(ballot) {
+            self.leave_term();
+        }
+    }
+
+    // Records the round of a ballot that was seen, so that the own next ballot exceeds it.
+    pub(crate) fn see_round(&mut self, ballot: Ballot)
+        ensures { self.new ≡ with_round ballot self.old }
+    {
+        self.rounds.see(ballot.round());
+    }
+
+    // Records the round of a ballot in a Nack or a Lead, and ends a term of a smaller ballot.
+    pub(crate) fn note_ballot(&mut self, ballot: Ballot)
+        ensures { self.new ≡ seeing ballot self.old }
+    {
+        self.see_round(ballot);
+        self.yield_to(ballot);
     }
 }

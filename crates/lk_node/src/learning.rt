@@ -1,16 +1,16 @@
 // How a node learns decided commands.
 ghost use Rattle.std.specs.Prelude.{◌≡◌, ℕ, None, [], length, IfOk, IfSome, OnOk};
 ghost use Rattle.lk_messages.specs.declared.message.NodeMessage.TheVariants as kinds;
-ghost use Rattle.lk_agreement.specs.Chosen.{ChosenAt};
-ghost use Rattle.lk_agreement.specs.Datagrams.{HasSent};
-ghost use Rattle.lk_node_io.specs.Outboxes.{nothing};
+ghost use Rattle.lk_agreement_laws.specs.Chosen.{ChosenAt};
+ghost use Rattle.lk_agreement_laws.specs.Datagrams.{HasSent};
+ghost use Rattle.lk_node_interface.specs.Outboxes.{nothing};
 ghost use Rattle.lk_node.specs.DecidedPairs.{TakesPair, TakesFirst, TakesPairs};
 ghost use Rattle.lk_node.specs.Learning.{Learns};
 ghost use Rattle.lk_node.specs.Serving.{ActsSafely};
 
 use crate::node::Node;
 use lk_learner::position_behind;
-use lk_node_io::Outbox;
+use lk_node_interface::Outbox;
 use lk_state::Machine;
 use lk_types::{Command, Entry, NoMemory, Position};
 use lk_wire::{Commands, DecidedRef};
@@ -24,7 +24,7 @@ impl<M: Machine> Node<M> {
         out: &mut Outbox,
     ) -> Result<(), NoMemory>
         ensures exact { OnOk result (Learns (position, command.now) self.old out.old self.new out.new) }
-        ensures goes_on { OnOk result
+        ensures safe { OnOk result
             (ActsSafely M.meaning (λ h. ChosenAt h.genesis h.sent position command.now) self.old self.new out.old
             out.new) }
     {
@@ -42,7 +42,7 @@ impl<M: Machine> Node<M> {
         out: &mut Outbox,
     ) -> Result<(), NoMemory>
         ensures exact { OnOk result (TakesPair M.meaning (position, command.now) self.old out.old self.new out.new) }
-        ensures goes_on { OnOk result
+        ensures safe { OnOk result
             (ActsSafely M.meaning (λ h. ChosenAt h.genesis h.sent position command.now) self.old self.new out.old
             out.new) }
     {
@@ -80,7 +80,7 @@ impl<M: Machine> Node<M> {
         ensures exact { IfOk result
             (λ o. TakesPairs M.meaning decided.now.first decided.now.commands self.old nothing
             (length decided.now.commands) self.new o) }
-        ensures goes_on { (from : ℕ)
+        ensures safe { (from : ℕ)
             → IfOk result (λ o. ActsSafely M.meaning
             (λ h. HasSent h.genesis h.sent from (kinds.Decided decided.now)) self.old self.new nothing o) }
     {

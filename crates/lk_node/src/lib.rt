@@ -4,7 +4,6 @@
 
 mod answering;
 mod asking;
-mod beginning;
 mod catching_up;
 mod deciding;
 mod executing;
@@ -15,11 +14,9 @@ mod learning;
 mod node;
 mod packing;
 mod reminding;
-mod replying;
 mod sending;
 mod showing;
 mod step;
 mod ticking;
-mod yielding;
 
 pub use node::Node;

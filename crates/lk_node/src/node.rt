@@ -2,8 +2,8 @@
 ghost use Rattle.std.specs.Prelude.{◌≡◌, ◌∷◌, [], None, true, false, OnOk, OnErr, IsErr};
 ghost use Rattle.lk_messages.specs.Grammar.{spelling, IsMessage};
 ghost use Rattle.lk_leader.specs.Terms.{idle};
-ghost use Rattle.lk_node_io.specs.Outboxes.{nothing, with_letter};
-ghost use Rattle.lk_node_io.specs.Saying.{saying};
+ghost use Rattle.lk_node_interface.specs.Outboxes.{nothing, with_letter};
+ghost use Rattle.lk_node_interface.specs.Saying.{saying};
 ghost use Rattle.lk_node.specs.Nearness.{AreNear};
 ghost use Rattle.lk_node.specs.Saying.{to_node};
 
@@ -11,7 +11,7 @@ use lk_acceptor::Acceptor;
 use lk_leader::Leader;
 use lk_learner::Learner;
 use lk_members::Roster;
-use lk_node_io::{Letter, Outbox, SeenRound, TickCount, To, spelled};
+use lk_node_interface::{Letter, Outbox, SeenRound, TickCount, To, spelled};
 use lk_state::Machine;
 use lk_store_format::Header;
 use lk_types::{NoMemory, NodeNo};

@@ -1,22 +1,25 @@
 // What a node with a term resends at a tick, as datagrams may be lost.
 ghost use Rattle.std.specs.Prelude.{◌≡◌, ◌+◌, IfOk, OnOk};
-ghost use Rattle.lk_node_io.specs.Outboxes.{nothing};
+ghost use Rattle.lk_node_interface.specs.Outboxes.{nothing};
 ghost use Rattle.lk_node.specs.Leading.{NothingToPropose};
 ghost use Rattle.lk_node.specs.Reminding.{IsTermOf, AsksAgain, OffersAgain, OffersAll, TellsLead, Reminds};
 ghost use Rattle.lk_node.specs.Serving.{ActsSafely};
 
 use crate::node::Node;
 use lk_leader::unheard;
-use lk_node_io::Outbox;
+use lk_node_interface::Outbox;
 use lk_state::Machine;
 use lk_types::{NoMemory, Position, RealBallot, Vote};
 use lk_wire::NodeMessage;
 
 impl<M: Machine> Node<M> {
-    // Sends Prepare again to the nodes of the window whose promise the term does not have.
+    // Sends Prepare again to the nodes of the window whose promise the term, of this ballot, does not have.
     fn resend_prepares(&self, ballot: RealBallot, out: &mut Outbox) -> Result<(), NoMemory>
-        ensures { OnOk result (AsksAgain self.now ballot out.old out.new) }
+        requires { IsTermOf ballot self.now.leader }
+        ensures exact { OnOk result (AsksAgain self.now ballot out.old out.new) }
+        ensures safe { OnOk result (ActsSafely M.meaning (λ h. Unit {0}) self.now self.now out.old out.new) }
     {
+        self.facts();
         let Some(first) = Position::of(self.learner.whole().executed().get() + 1) else {
             return Ok(());
         };
@@ -25,26 +28,19 @@ impl<M: Machine> Node<M> {
         Ok(())
     }
 
-    // Does `resend_prepares` for the term's ballot. Adds only the clause `goes_on`: that this is safe.
-    fn resend_prepares_of_term(&self, ballot: RealBallot, out: &mut Outbox) -> Result<(), NoMemory>
-        requires { IsTermOf ballot self.now.leader }
-        ensures exact { OnOk result (AsksAgain self.now ballot out.old out.new) }
-        ensures goes_on { OnOk result (ActsSafely M.meaning (λ h. Unit {0}) self.now self.now out.old out.new) }
-    {
-        self.facts();
-        self.resend_prepares(ballot, out)?;
-        Ok(())
-    }
-
-    // Sends Accept again for the undecided proposal at the position, if any, to the members that have not accepted it.
+    // Sends Accept again for the undecided proposal at the position in the term of this ballot, if any, to the members
+    // that have not accepted it.
     fn resend_accept(
         &self,
         ballot: RealBallot,
         position: Position,
         out: &mut Outbox,
     ) -> Result<(), NoMemory>
-        ensures { OnOk result (OffersAgain self.now ballot position out.old out.new) }
+        requires { IsTermOf ballot self.now.leader }
+        ensures exact { OnOk result (OffersAgain self.now ballot position out.old out.new) }
+        ensures safe { OnOk result (ActsSafely M.meaning (λ h. Unit {0}) self.now self.now out.old out.new) }
     {
+        self.facts();
         let Some(open) = self.leader.open_at(position, self.roster()) else {
             return Ok(());
         };
@@ -62,32 +58,16 @@ impl<M: Machine> Node<M> {
         Ok(())
     }
 
-    // Does `resend_accept` for the term's ballot. Adds only the clause `goes_on`: that this is safe.
-    fn resend_accept_of_term(
-        &self,
-        ballot: RealBallot,
-        position: Position,
-        out: &mut Outbox,
-    ) -> Result<(), NoMemory>
-        requires { IsTermOf ballot self.now.leader }
-        ensures exact { OnOk result (OffersAgain self.now ballot position out.old out.new) }
-        ensures goes_on { OnOk result (ActsSafely M.meaning (λ h. Unit {0}) self.now self.now out.old out.new) }
-    {
-        self.facts();
-        self.resend_accept(ballot, position, out)?;
-        Ok(())
-    }
-
     // Sends Accept again for the undecided proposals of the window, in order of their positions.
     fn resend_accepts(&self, ballot: RealBallot, out: &mut Outbox) -> Result<(), NoMemory>
         requires { IsTermOf ballot self.now.leader }
         ensures exact { OnOk result (OffersAll self.now ballot out.old out.new) }
-        ensures goes_on { OnOk result (ActsSafely M.meaning (λ h. Unit {0}) self.now self.now out.old out.new) }
+        ensures safe { OnOk result (ActsSafely M.meaning (λ h. Unit {0}) self.now self.now out.old out.new) }
     {
         let next = self.learner.whole().executed().get() + 1;
         'ahead: for ahead in 0..self.roster().alpha() {
             if let Some(position) = Position::of(next + u64::from(ahead)) {
-                self.resend_accept_of_term(ballot, position, out)?;
+                self.resend_accept(ballot, position, out)?;
             }
         }
         Ok(())
@@ -96,7 +76,7 @@ impl<M: Machine> Node<M> {
     // Sends Lead to the other nodes of the window: who leads, and how many positions it has executed.
     pub(crate) fn send_lead(&self, ballot: RealBallot, out: &mut Outbox) -> Result<(), NoMemory>
         ensures exact { OnOk result (TellsLead self.now ballot out.old out.new) }
-        ensures goes_on { OnOk result (ActsSafely M.meaning (λ h. Unit {0}) self.now self.now out.old out.new) }
+        ensures safe { OnOk result (ActsSafely M.meaning (λ h. Unit {0}) self.now self.now out.old out.new) }
     {
         let nodes = self.others()?;
         let executed = self.learner.whole().executed();
@@ -109,10 +89,10 @@ impl<M: Machine> Node<M> {
         requires { IsTermOf ballot self.old.leader }
         ensures exact { IfOk result (λ o. Reminds ballot self.old self.new o) }
         ensures done { OnOk result (NothingToPropose self.new) }
-        ensures goes_on { IfOk result (λ o. ActsSafely M.meaning (λ h. Unit {0}) self.old self.new nothing o) }
+        ensures safe { IfOk result (λ o. ActsSafely M.meaning (λ h. Unit {0}) self.old self.new nothing o) }
     {
         let mut out = Outbox::new(self.alloc);
-        self.resend_prepares_of_term(ballot, &mut out)?;
+        self.resend_prepares(ballot, &mut out)?;
         self.resend_accepts(ballot, &mut out)?;
         self.propose(&mut out)?;
         self.send_lead(ballot, &mut out)?;

@@ -1,11 +1,13 @@
-// Messages of a node to several nodes.
+// Messages of a node to several nodes, and outboxes with a single message.
 ghost use Rattle.std.specs.Prelude.{◌≡◌, IfOk, OnOk};
 ghost use Rattle.lk_messages.specs.Grammar.{IsMessage};
-ghost use Rattle.lk_node_io.specs.Saying.{saying};
+ghost use Rattle.lk_node_interface.specs.Saying.{saying};
+ghost use Rattle.lk_node.specs.Replying.{SaysAlone};
+ghost use Rattle.lk_node.specs.Saying.{to_node};
 ghost use Rattle.lk_node.specs.Telling.{AreWindowNodes, AreOthers, telling};
 
 use crate::node::Node;
-use lk_node_io::{Outbox, letters_to, others, window_nodes};
+use lk_node_interface::{Outbox, To, letters_to, others, window_nodes};
 use lk_state::Machine;
 use lk_types::{NoMemory, NodeNo};
 use lk_wire::NodeMessage;
@@ -38,5 +40,27 @@ impl<M: Machine> Node<M> {
         let letters = letters_to(self.alloc, &self.header, self.roster(), nodes, message)?;
         out.add_letters(letters)?;
         Ok(())
+    }
+
+    // Returns an outbox with one message, to a node or a client.
+    pub(crate) fn outbox_with(&self, to: To, message: NodeMessage) -> Result<Outbox, NoMemory>
+        ensures { IfOk result (λ o. SaysAlone self.now to message o) }
+    {
+        let mut out = Outbox::new(self.alloc);
+        self.send(to, message, &mut out)?;
+        Ok(out)
+    }
+
+    // Returns an outbox with one message, to a node at its port in the window.
+    pub(crate) fn outbox_to_node(
+        &self,
+        node: NodeNo,
+        message: NodeMessage,
+    ) -> Result<Outbox, NoMemory>
+        ensures { IfOk result (λ o. SaysAlone self.now (to_node self.now node) message o) }
+    {
+        let mut out = Outbox::new(self.alloc);
+        self.send_to_node(node, message, &mut out)?;
+        Ok(out)
     }
 }

@@ -1,9 +1,9 @@
-// How a node handles a tick or a datagram. A clause `exact` states what a function does, and `goes_on` that this is
+// How a node handles a tick or a datagram. A clause `exact` states what a function does, and `safe` that this is
 // safe in every history in which the message that it handles was sent.
 ghost use Rattle.std.specs.Prelude.{◌≡◌, true, false, IfOk, OnOk, OnErr, IsErr};
 ghost use Rattle.lk_wire.specs.Shown.{shown_node, shown_content};
-ghost use Rattle.lk_agreement.specs.Datagrams.{HasSent};
-ghost use Rattle.lk_node_io.specs.Outboxes.{nothing};
+ghost use Rattle.lk_agreement_laws.specs.Datagrams.{HasSent};
+ghost use Rattle.lk_node_interface.specs.Outboxes.{nothing};
 ghost use Rattle.lk_node.specs.Calls.{InputFits};
 ghost use Rattle.lk_node.specs.Executing.{NothingToRun};
 ghost use Rattle.lk_node.specs.Histories.{IsHeard};
@@ -12,7 +12,7 @@ ghost use Rattle.lk_node.specs.Serving.{ActsSafely};
 ghost use Rattle.lk_node.specs.Steps.{Hears, HearsNode, TakesBytes, TakesDatagram, Steps, WasHeard};
 
 use crate::node::Node;
-use lk_node_io::{Halted, Input, Outbox};
+use lk_node_interface::{Halted, Input, Outbox};
 use lk_state::Machine;
 use lk_types::{NoMemory, NodeNo};
 use lk_wire::{ContentRef, Datagram, NodeMessageRef};
@@ -27,7 +27,7 @@ impl<M: Machine> Node<M> {
     ) -> Result<Outbox, NoMemory>
         ensures exact { IfOk result
             (λ o. HearsNode M.meaning M.IsText self.old from (shown_node message.now) self.new o) }
-        ensures goes_on { IfOk result
+        ensures safe { IfOk result
             (λ o. ActsSafely M.meaning (λ h. HasSent h.genesis h.sent from (shown_node message.now))
             self.old self.new nothing o) }
     {
@@ -49,7 +49,7 @@ impl<M: Machine> Node<M> {
     // Dispatches a message of this cluster: a client's request, or a node's message.
     fn handle_message(&mut self, content: &ContentRef<'_>) -> Result<Outbox, NoMemory>
         ensures exact { IfOk result (λ o. Hears M.meaning M.IsText self.old (shown_content content.now) self.new o) }
-        ensures goes_on { IfOk result
+        ensures safe { IfOk result
             (λ o. ActsSafely M.meaning (λ h. WasHeard h (shown_content content.now)) self.old self.new nothing o) }
     {
         match content {
@@ -62,7 +62,7 @@ impl<M: Machine> Node<M> {
     // Parses and handles a datagram. Ignores bytes that are no message of this cluster.
     fn take_bytes(&mut self, datagram: &Datagram<'_>) -> Result<Outbox, NoMemory>
         ensures exact { IfOk result (λ o. TakesBytes M.meaning M.IsText self.old datagram.now self.new o) }
-        ensures goes_on { IfOk result
+        ensures safe { IfOk result
             (λ o. ActsSafely M.meaning (λ h. IsHeard h datagram.now) self.old self.new nothing o) }
     {
         let Ok(message) = datagram.message() else {
@@ -79,7 +79,7 @@ impl<M: Machine> Node<M> {
     fn take_datagram(&mut self, datagram: &Datagram<'_>) -> Result<Outbox, NoMemory>
         ensures exact { IfOk result (λ o. TakesDatagram M.meaning M.IsText self.old datagram.now self.new o) }
         ensures done { OnOk result (NothingToPropose self.new) }
-        ensures goes_on { IfOk result
+        ensures safe { IfOk result
             (λ o. ActsSafely M.meaning (λ h. IsHeard h datagram.now) self.old self.new nothing o) }
     {
         let mut out = self.take_bytes(datagram)?;
@@ -91,7 +91,7 @@ impl<M: Machine> Node<M> {
     // Dispatches an input.
     fn handle_input(&mut self, input: Input) -> Result<Outbox, NoMemory>
         ensures exact { IfOk result (λ o. Steps M.meaning M.IsText self.old input.entry self.new o) }
-        ensures goes_on { IfOk result
+        ensures safe { IfOk result
             (λ o. ActsSafely M.meaning (λ h. InputFits h input.entry) self.old self.new nothing o) }
     {
         match input {
@@ -107,7 +107,7 @@ impl<M: Machine> Node<M> {
     /// and changes nothing.
     pub fn step(&mut self, input: Input) -> Result<Outbox, Halted>
         ensures steps { IfOk result (λ o. Steps M.meaning M.IsText self.old input.entry self.new o) }
-        ensures goes_on { IfOk result
+        ensures safe { IfOk result
             (λ o. ActsSafely M.meaning (λ h. InputFits h input.entry) self.old self.new nothing o) }
         ensures runs { NothingToRun self.old → OnOk result (NothingToRun self.new) }
         ensures done { OnOk result (NothingToPropose self.new) }

@@ -4,7 +4,7 @@ ghost use Rattle.std.specs.Prelude.{◌≡◌, ◌≢◌, IfOk, IfErr};
 ghost use Rattle.lk_node_files.specs.Openings.{IsClosed};
 
 use lk_disk::{FileDisk, Side, SystemDisk};
-use lk_simulated_disk::MemoryDisk;
+use lk_memory_disk::MemoryDisk;
 use lk_transport::fault::ServiceFault;
 use lk_transport::socket::{LocalSocket, local};
 use std::alloc::Global;

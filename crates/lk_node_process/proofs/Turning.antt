@@ -3,15 +3,15 @@ use Rattle.std.proofs.Common.{◌≡◌, ◌∙◌, ◌⊎◌, ◌<◌, ℕ, Lis
 use Rattle.std.specs.declared.net.socket_addr.SocketAddr.{SocketAddr}
 use Rattle.std.specs.Prelude.{OnOk, OnErr, IfErr, IsErrAnd}
 use Rattle.lk_state.specs.Meanings.{Meaning}
-use Rattle.lk_node_io.specs.Letters.{LetterValue}
+use Rattle.lk_node_interface.specs.Letters.{LetterValue}
 use Rattle.lk_replica.specs.ReplicaValue.{ReplicaValue}
 use Rattle.lk_transport.specs.Addresses.{IsSameNetwork, filter_of}
 use Rattle.lk_transport.specs.ReceiveBuffers.{BufferValue}
 use Rattle.lk_transport.specs.Kept.{KeepsOf}
 use Rattle.lk_transport.specs.Posts.{all_filtered}
-use Rattle.lk_replica_interface.specs.Sayings.{SaysOf}
+use Rattle.lk_served_replica.specs.Sayings.{SaysOf}
 use Rattle.lk_server.specs.ProbeHandling.{HandlesProbes}
-use Rattle.lk_replica_interface.specs.Showing.{IsShown}
+use Rattle.lk_served_replica.specs.Showing.{IsShown}
 use Rattle.lk_server.specs.Servers.{ServerValue, HasReceived, TakesTurn as ServerTurn, LastTurn}
 use Rattle.lk_transport.specs.Chains.{Repeats}
 use Rattle.lk_node_process.specs.Turns.{TakesTurn, TakesTurnWith, EndsByStranger, EndsTurn, BreaksOff}

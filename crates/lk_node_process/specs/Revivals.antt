@@ -7,16 +7,16 @@ use Rattle.lk_store_format.specs.Values.{HeaderValue}
 use Rattle.lk_log.specs.Rooms.{StaysWithin}
 use Rattle.lk_log.specs.StoreValue.{disks}
 use Rattle.lk_state.specs.Meanings.{Meaning}
-use Rattle.lk_node_io.specs.declared.note.Note.{Note}
+use Rattle.lk_node_interface.specs.declared.note.Note.{Note}
 use Rattle.lk_node.specs.Calls.{LeavesFit}
 use Rattle.lk_node.specs.Histories.{History, IsLawful}
 use Rattle.lk_node.specs.Keeping.{ReplicaHolds}
 use Rattle.lk_node.specs.Leavings.{header_of, DisksFit}
-use Rattle.lk_node_io.specs.Faults.{fault_number, IsNumberOfRevival}
+use Rattle.lk_node_interface.specs.Faults.{fault_number, IsNumberOfRevival}
 use Rattle.lk_replica.specs.ReplicaValue.{ReplicaValue}
 use Rattle.lk_replica.specs.Revived.{MayGoOn}
 use Rattle.lk_recovery.specs.Revivals.{IsRefusedFor}
-use Rattle.lk_node_io.specs.declared.fault.ReplicaFault.{ReplicaFault}
+use Rattle.lk_node_interface.specs.declared.fault.ReplicaFault.{ReplicaFault}
 use Rattle.lk_transport.specs.Faults.{replica_fault}
 use Rattle.lk_server.specs.Servers.{ServerValue}
 use Rattle.lk_transport.specs.declared.fault.ServiceFault.{ServiceFault}

@@ -3,7 +3,7 @@ use Rattle.std.proofs.Common.{inl, inr}
 use Rattle.std.specs.Prelude.{◌≡◌, ◌⊎◌, ◌<◌, ℕ, List, [], Option, None, IsSome}
 use Rattle.std.specs.declared.net.socket_addr.SocketAddr.{SocketAddr}
 use Rattle.lk_store_format.specs.Values.{HeaderValue}
-use Rattle.lk_node_io.specs.Letters.{LetterValue}
+use Rattle.lk_node_interface.specs.Letters.{LetterValue}
 use Rattle.lk_replica.specs.ReplicaValue.{ReplicaValue}
 use Rattle.lk_probe.specs.Neighbours.{bound_in}
 use Rattle.lk_probe.specs.declared.reported.Reported.{Reported}
@@ -11,14 +11,14 @@ use Rattle.lk_auth.specs.declared.seals.Seals.{Seals}
 use Rattle.lk_transport.specs.Addresses.{IsSameNetwork, filter_of}
 use Rattle.lk_transport.specs.Posts.{all_filtered}
 use Rattle.lk_server.specs.ProbeHandling.{HandlesProbes}
-use Rattle.lk_replica_interface.specs.Showing.{IsShown}
+use Rattle.lk_served_replica.specs.Showing.{IsShown}
 use Rattle.lk_server.specs.Servers.{ServerValue, HasReceived, Turn, LastTurn, IsIdle}
 use Rattle.lk_transport.specs.Askers.{BringsProbe}
 use Rattle.lk_transport.specs.Inquiring.{IsToldBy}
 use Rattle.lk_transport.specs.Kept.{KeepsFirstOf}
 use Rattle.lk_transport.specs.declared.received_probe.ReceivedProbe.{ReceivedProbe}
 use Rattle.lk_transport.specs.Chains.{Repeats}
-use Rattle.lk_node_resources.specs.KeysOfNode.{AreSealsOf}
+use Rattle.lk_node_setup.specs.KeysOfNode.{AreSealsOf}
 
 -- the server knows whether a call has ended its replica
 abbrev pub TellsFailure : ServerValue ReplicaValue → Type 0
@@ -39,9 +39,9 @@ module _ (Says : ReplicaValue → List (Option (List ℕ)) → List LetterValue 
   -- a turn: the replica was given the first letters of the node to itself as one group, or where none waited what was
   -- taken of the frames that came, and a tick where one was due, and goes on; or it is idle, and given nothing. After
   -- that the probe kept from before, or else the first in those frames, is answered, and a node of the same genesis
-  -- that asks by it is heard again; what the report kept from before told, or else the first in those frames that
-  -- answers the node's question, is learned; one question is sent where one is due; and nothing else is sent. Where
-  -- nodes live, and the keys, are the same. `After` holds of the server then
+  -- that asks by it is heard again. The node learns from the report that it had kept, or else from the first in those
+  -- frames that answers its question. One question is sent if one is due, and nothing else. Where nodes live, and the
+  -- keys, are the same. `After` holds of the server then
   pub record TakesTurnWith (kept : Option ReceivedProbe) (told : Option Reported)
       (After : ServerValue ReplicaValue → Type 0) (old new : ServerValue ReplicaValue) : Type 0 where
     pub frames : List (SocketAddr × List ℕ)

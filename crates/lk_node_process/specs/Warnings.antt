@@ -1,15 +1,15 @@
 -- The turns of a server, each with the warning that follows it where one is due.
 use Rattle.std.specs.Prelude.{◌≡◌, ◌⊎◌, ◌<◌, ℕ, List, Option}
 use Rattle.lk_probe.specs.declared.status.Status.{Status}
-use Rattle.lk_node_io.specs.Letters.{LetterValue}
+use Rattle.lk_node_interface.specs.Letters.{LetterValue}
 use Rattle.lk_replica.specs.ReplicaValue.{ReplicaValue}
-use Rattle.lk_replica_interface.specs.Showing.{IsShown}
-use Rattle.lk_replica_interface.specs.declared.probed_state.ProbedState.{ProbedState}
+use Rattle.lk_served_replica.specs.Showing.{IsShown}
+use Rattle.lk_served_replica.specs.declared.probed_state.ProbedState.{ProbedState}
 use Rattle.lk_server.specs.Probes.{Tells}
 use Rattle.lk_server.specs.Servers.{ServerValue}
 use Rattle.lk_transport.specs.Chains.{Repeats}
-use Rattle.lk_node_resources.specs.Reminders.{IsDue, Reminds, having_warned}
-use Rattle.lk_node_resources.specs.declared.port_reminder.PortReminder.{PortReminder}
+use Rattle.lk_node_setup.specs.Reminders.{IsDue, Reminds, having_warned}
+use Rattle.lk_node_setup.specs.declared.port_reminder.PortReminder.{PortReminder}
 use Rattle.lk_node_process.specs.Turns.{TakesTurn, EndsByStranger, EndsTurn}
 
 -- a server, the reminder of its node, and what was written so far

@@ -3,9 +3,9 @@
 ghost use Rattle.std.specs.Prelude.{◌≡◌};
 
 use lk_disk::LogDisk;
-use lk_events::line::Observer;
-use lk_events::observation::Observation;
 use lk_node::Node;
+use lk_node_events::line::Observer;
+use lk_node_events::observation::Observation;
 use lk_replica::Replica;
 use lk_server::server::Server;
 use lk_server::turn_events::TurnEvents;

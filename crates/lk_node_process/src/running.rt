@@ -1,14 +1,14 @@
 //! Runs a node: starts its server from a device, and takes its turns.
 
 ghost use Rattle.std.specs.Prelude.{◌≡◌, ◌≤◌, ◌^◌, ◌⊎◌, None, IfOk, IfErr, OnOk, OnErr};
-ghost use Rattle.lk_node_io.specs.Faults.{fault_number};
+ghost use Rattle.lk_node_interface.specs.Faults.{fault_number};
 ghost use Rattle.lk_replica.specs.ReplicaValue.{ReplicaValue};
 ghost use Rattle.lk_replica.specs.Revived.{MayGoOn};
 ghost use Rattle.lk_server.specs.ProbeHandling.{HandlesProbes};
-ghost use Rattle.lk_replica_interface.specs.Showing.{IsShown};
+ghost use Rattle.lk_served_replica.specs.Showing.{IsShown};
 ghost use Rattle.lk_server.specs.Servers.{ServerValue, ServesAs, ServesOn};
 ghost use Rattle.lk_transport.specs.Chains.{Repeats};
-ghost use Rattle.lk_node_resources.specs.KeysOfNode.{AreSealsOf};
+ghost use Rattle.lk_node_setup.specs.KeysOfNode.{AreSealsOf};
 ghost use Rattle.lk_node_process.specs.Revivals.{ComesUp, IsServerStarted, IsRestartRefused, IsRefusedWith};
 ghost use Rattle.lk_node_process.specs.Turns.{TakesTurn, TakesTurnWith, HasFollowedNoStranger, HasFollowedStranger};
 ghost use Rattle.lk_node_process.specs.Turns.{EndsTurn, BreaksOff, BreaksOffByStranger};
@@ -18,20 +18,21 @@ ghost use Rattle.lk_node_process.specs.Warnings.{TakesTurnAndWarns, Warns, Warns
 use crate::another_genesis::write_other_genesis;
 use crate::observing::{observe_end, observe_start, observe_turn};
 use lk_disk::LogDisk;
-use lk_events::line::Observer;
+use lk_node_events::line::Observer;
 use lk_node_files::causes::{FailureCause, write_failed_calls};
 use lk_node_files::refusals::write_refusal;
-use lk_node_resources::port_reminder::PortReminder;
-use lk_node_resources::resources::{NodePlan, Resources};
+use lk_node_setup::port_reminder::PortReminder;
+use lk_node_setup::resources::{NodePlan, Resources};
+use lk_pacing::tick_timer::TickTimer;
 use lk_recovery::ReviveFault;
 use lk_replica::Replica;
-use lk_replica_interface::ServedReplica;
+use lk_served_replica::ServedReplica;
+use lk_server::group_fault::GroupFault;
 use lk_server::notes::log_notes;
 use lk_server::server::{Server, node_turn};
 use lk_server::watching::{log_port, log_start};
 use lk_state::Machine;
 use lk_store_format::Header;
-use lk_timing::tick_timer::TickTimer;
 use lk_transport::fault::ServiceFault;
 use lk_transport::receive_buffer::ReceiveBuffer;
 use lk_transport::socket::DatagramSocket;
@@ -166,6 +167,19 @@ fn end_turn<M: Machine, D: LogDisk + Drop, S: DatagramSocket + Drop, L: Log, O: 
     }
 }
 
+// Returns what a fault that ended a turn means to the process. If the device failed, writes why.
+fn write_failed_turn<
+    M: Machine,
+    D: LogDisk + FailureCause + Drop,
+    S: DatagramSocket + Drop,
+    E: Write,
+>(server: &NodeServer<M, D, S>, fault: GroupFault, folder: &str, err: &mut E) -> ServiceFault
+    ensures failure { TellsFailure server.now }
+{
+    let told = ServiceFault::from(fault);
+    write_failed_calls(told, server.replica().device(), folder, err)
+}
+
 // Takes one turn, and reports it to an observer. If the device failed, writes why.
 fn take_turn<
     M: Machine,
@@ -203,10 +217,7 @@ fn take_turn<
 {
     match node_turn(server, buffer, tick_timer, log) {
         Ok(()) => end_turn(server, buffer, log, observer, err),
-        Err(fault) => {
-            let told = ServiceFault::from(fault);
-            Err(write_failed_calls(told, server.replica().device(), folder, err))
-        }
+        Err(fault) => Err(write_failed_turn(server, fault, folder, err)),
     }
 }
 

@@ -87,7 +87,7 @@ abbrev pub having_met : SocketAddr → Bool → Option Neighbour → Neighbour
 having_met place binds None = record { place = place; knowledge = Unknown; binds = binds }
 having_met place binds (Some n) = record { place = n.place; knowledge = n.knowledge; binds = n.binds || binds }
 
--- a node has written from there: the entry of the address, or a free one, is so, or there is no room
+-- a node wrote from this address: its entry, or a free one, records that; if there is neither, nothing changes
 pub record Meets (place : SocketAddr) (binds : Bool) (old new : Entries) : Type 0 where
   pub room : entry_for place old ≤ 63
       → (e : Option Neighbour) × (slice_get old (entry_for place old) ≡ Some e)

@@ -6,8 +6,8 @@ use Rattle.lk_random_schedules.specs.declared.event_kind.EventKind.{EventKind}
 use Rattle.lk_random_schedules.specs.declared.event_kind.EventKind.TheVariants as kind
 use Rattle.lk_sim.specs.declared.event.Event.{Event}
 use Rattle.lk_sim.specs.declared.event.Event.TheVariants as event
-use Rattle.lk_sim.specs.declared.event.Turn.{Turn}
-use Rattle.lk_sim.specs.declared.event.Turn.TheVariants as turn
+use Rattle.lk_sim.specs.declared.event.GroupInput.{GroupInput}
+use Rattle.lk_sim.specs.declared.event.GroupInput.TheVariants as turn
 
 -- one of the nodes 1 to 3, which were started, or node 4
 abbrev pub IsNear : ℕ → Type 0
@@ -25,7 +25,7 @@ IsKind groups kind.Group = groups ≡ true
 IsKind groups _ = ⊤
 
 -- a tick, or the place of one of so many datagrams, or 0
-abbrev pub IsPart : ℕ → Turn → Type 0
+abbrev pub IsPart : ℕ → GroupInput → Type 0
 IsPart sent turn.Tick = ⊤
 IsPart sent (turn.Deliver k) = k ≤ sent
 

@@ -1,8 +1,8 @@
 -- What a run of a schedule prints: its result, or a script of it.
 use Rattle.std.specs.Prelude.{◌≡◌, ℕ, ◌≤◌, ◌⊎◌, List, [], ◌∷◌, ◌++◌, codes}
 use Rattle.std.specs.Fmt.{decimal}
-use Rattle.lk_node_io.specs.declared.note.Note.{Note}
-use Rattle.lk_node_io.specs.declared.note.Note.TheVariants.{Ran}
+use Rattle.lk_node_interface.specs.declared.note.Note.{Note}
+use Rattle.lk_node_interface.specs.declared.note.Note.TheVariants.{Ran}
 use Rattle.lk_replica.specs.Behaviours.{Behaviour}
 use Rattle.lk_script_lines.specs.EventLines.{lines_for}
 use Rattle.lk_sim.specs.Runs.{Passes}

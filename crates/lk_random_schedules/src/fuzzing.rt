@@ -15,7 +15,7 @@ ghost use Rattle.lk_random_schedules.specs.Lines.{ran_at, IsFurthest, done_line,
 use crate::plan::Plan;
 use crate::schedule::Schedule;
 use crate::transcript::Transcript;
-use lk_node_io::Note;
+use lk_node_interface::Note;
 use lk_replica::MemoryReplica;
 use lk_script::ending::end;
 use lk_script::printing::print_refusal;

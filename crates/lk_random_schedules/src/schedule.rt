@@ -6,9 +6,9 @@ ghost use Rattle.lk_random_schedules.specs.Drawn.{IsDrawn, IsKind, IsNear, IsPar
 use crate::draws::Draws;
 use crate::event_kind::EventKind;
 use crate::request::request;
-use lk_agreement::Party;
+use lk_agreement_laws::Party;
 use lk_replica::Datagram;
-use lk_sim::{Event, Turn};
+use lk_sim::{Event, GroupInput};
 use lk_types::limits::MAX_COUNT;
 use lk_types::{NoMemory, NodeNo};
 use std::alloc::Global;
@@ -96,13 +96,13 @@ impl Schedule {
     }
 
     // Draws a datagram as a turn of the node's group, or `None` if it is not addressed to the node.
-    fn part(&mut self, node: NodeNo, sent: &[Datagram]) -> Option<Turn>
+    fn part(&mut self, node: NodeNo, sent: &[Datagram]) -> Option<GroupInput>
         ensures { IfSome result (IsPart (length sent.now)) }
     {
         let place = self.place(sent.len());
         let datagram = sent.get(place.checked_sub(1)?)?;
         match datagram.to {
-            Party::Node(to) if to == node => Some(Turn::Deliver(place)),
+            Party::Node(to) if to == node => Some(GroupInput::Deliver(place)),
             _ => None,
         }
     }
@@ -113,7 +113,7 @@ impl Schedule {
         alloc: Global,
         node: NodeNo,
         sent: &[Datagram],
-    ) -> Result<Vec<Turn>, NoMemory>
+    ) -> Result<Vec<GroupInput>, NoMemory>
         ensures { IfOk result (λ turns. AllByRecursion (IsPart (length sent.now)) turns.items) }
     {
         let mut turns = Vec::new(alloc);
@@ -132,12 +132,12 @@ impl Schedule {
         alloc: Global,
         node: NodeNo,
         sent: &[Datagram],
-    ) -> Result<Vec<Turn>, NoMemory>
+    ) -> Result<Vec<GroupInput>, NoMemory>
         ensures { IfOk result (λ turns. AllByRecursion (IsPart (length sent.now)) turns.items) }
     {
         let mut turns = self.parts(alloc, node, sent)?;
         if turns.is_empty() || self.draws.is_one_of(4) {
-            turns.push(Turn::Tick)?;
+            turns.push(GroupInput::Tick)?;
         }
         Ok(turns)
     }

@@ -18,10 +18,10 @@ use Rattle.lk_state.specs.Meanings.{Meaning}
 use Rattle.lk_types.specs.BallotValue.{BallotValue}
 use Rattle.lk_types.specs.Ballots.{IsBelow, IsAtMost, is_below}
 use Rattle.lk_types.proofs.Values.{below_by_test, at_most_by_test}
-use Rattle.lk_agreement.specs.Datagrams.{Accept, WasSent}
-use Rattle.lk_agreement.specs.Chosen.{ChosenAt}
-use Rattle.lk_agreement.specs.Acceptors.{Covers, CoversVote}
-use Rattle.lk_agreement.proofs.Histories.{at_most_trans, below_at_most}
+use Rattle.lk_agreement_laws.specs.Datagrams.{Accept, WasSent}
+use Rattle.lk_agreement_laws.specs.Chosen.{ChosenAt}
+use Rattle.lk_agreement_laws.specs.Acceptors.{Covers, CoversVote}
+use Rattle.lk_agreement_laws.proofs.Histories.{at_most_trans, below_at_most}
 use Rattle.lk_node.proofs.Nodes.{cons_cases, contains_more, all_near_more}
 use Rattle.lk_node.specs.Histories.{History}
 use Rattle.lk_node.specs.Leavings.{acceptor_of}

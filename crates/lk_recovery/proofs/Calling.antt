@@ -7,8 +7,8 @@ use Rattle.lk_disk.proofs.Devices.{passes_on, breaks_on}
 use Rattle.lk_log.specs.Causes.{IsRefusedBy}
 use Rattle.lk_log.specs.declared.fault.StoreFault.{StoreFault}
 use Rattle.lk_log.specs.declared.fault.StoreFault.TheVariants as store
-use Rattle.lk_node_io.specs.Faults.{fault_number, fault_of, RefusedAfter}
-use Rattle.lk_node_io.specs.declared.fault.ReplicaFault.{ReplicaFault}
+use Rattle.lk_node_interface.specs.Faults.{fault_number, fault_of, RefusedAfter}
+use Rattle.lk_node_interface.specs.declared.fault.ReplicaFault.{ReplicaFault}
 
 -- it was refused so
 pub refused_by : {T : Type 0} (m n : Meter) (Goes : T → Type 0) (r : Result T ReplicaFault) (f : ReplicaFault)

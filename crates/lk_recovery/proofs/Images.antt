@@ -17,10 +17,10 @@ use Rattle.lk_log.specs.Stores.{HoldsEntries, KeepsAtLeast, NarrowsOrBegins}
 use Rattle.lk_log.proofs.StoreLaws.{plain_stands, plain_append, header_more, holds_keeps, one_standing, of_every}
 use Rattle.lk_log.proofs.StoreLaws.{keeps_every, put_keeps_every, opening_every}
 use Rattle.lk_state.specs.Meanings.{Meaning}
-use Rattle.lk_agreement.specs.Datagrams.{NodeMessage}
-use Rattle.lk_agreement.specs.Acceptors.{Covers}
-use Rattle.lk_agreement.specs.Nodes.{View, ViewFits}
-use Rattle.lk_agreement.proofs.Histories.{entry_chosen}
+use Rattle.lk_agreement_laws.specs.Datagrams.{NodeMessage}
+use Rattle.lk_agreement_laws.specs.Acceptors.{Covers}
+use Rattle.lk_agreement_laws.specs.Nodes.{View, ViewFits}
+use Rattle.lk_agreement_laws.proofs.Histories.{entry_chosen}
 use Rattle.lk_node.specs.Entries.{EntriesFit, Rests}
 use Rattle.lk_node.specs.Histories.{History, Genesis}
 use Rattle.lk_node.specs.Keeping.{IsKnown}

@@ -14,7 +14,7 @@ use Rattle.lk_store_format.specs.Standings.{better, best_from, best_vote, vote_a
 use Rattle.lk_store_format.specs.Values.{StandingValue}
 use Rattle.lk_store_format.specs.declared.stored.Stored.{Stored}
 use Rattle.lk_store_format.specs.declared.stored.Stored.TheVariants.{Base, Plain}
-use Rattle.lk_agreement.proofs.Histories.{at_most_trans}
+use Rattle.lk_agreement_laws.proofs.Histories.{at_most_trans}
 use Rattle.lk_acceptor.specs.States.{IsOrdered}
 use Rattle.lk_node.specs.Leavings.{acceptor_of}
 use Rattle.lk_node.proofs.Nodes.{cons_cases, contains_more}

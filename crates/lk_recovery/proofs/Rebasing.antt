@@ -26,9 +26,9 @@ use Rattle.lk_log.proofs.StoreLaws.{rising_stands, one_standing, one_header, of_
 use Rattle.lk_log.proofs.StoreLaws.{rebase_every}
 use Rattle.lk_state.specs.Meanings.{Meaning}
 use Rattle.lk_state.specs.Packed.{packed}
-use Rattle.lk_agreement.specs.Acceptors.{AcceptorState, Covers, AreProposed, TakesSnapshot}
-use Rattle.lk_agreement.specs.Changes.{view_with, packs}
-use Rattle.lk_agreement.proofs.Histories.{at_most_below, below_self, change_fits}
+use Rattle.lk_agreement_laws.specs.Acceptors.{AcceptorState, Covers, AreProposed, TakesSnapshot}
+use Rattle.lk_agreement_laws.specs.Changes.{view_with, packs}
+use Rattle.lk_agreement_laws.proofs.Histories.{at_most_below, below_self, change_fits}
 use Rattle.lk_acceptor.specs.States.{IsOrdered, without_votes_to}
 use Rattle.lk_acceptor.proofs.Acceptors.{takes_snapshot}
 use Rattle.lk_learner.specs.Learners.{executed}

@@ -6,9 +6,9 @@ use Rattle.lk_types.specs.Limits.{max_count}
 use Rattle.lk_log.specs.StoreValue.{StoreValue}
 use Rattle.lk_log.specs.declared.fault.StoreFault.{StoreFault}
 use Rattle.lk_log.specs.declared.fault.StoreFault.TheVariants as store
-use Rattle.lk_node_io.specs.Faults.{IsStoreFault, fault_number, fault_of}
-use Rattle.lk_node_io.specs.declared.fault.ReplicaFault.{ReplicaFault}
-use Rattle.lk_node_io.specs.declared.fault.ReplicaFault.TheVariants as fault
+use Rattle.lk_node_interface.specs.Faults.{IsStoreFault, fault_number, fault_of}
+use Rattle.lk_node_interface.specs.declared.fault.ReplicaFault.{ReplicaFault}
+use Rattle.lk_node_interface.specs.declared.fault.ReplicaFault.TheVariants as fault
 
 -- one error
 pub same_error : {T E : Type 0} (e f : E) → ◌≡◌ {A = Result T E} (Err e) (Err f) → e ≡ f

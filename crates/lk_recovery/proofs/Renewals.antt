@@ -21,7 +21,7 @@ use Rattle.lk_log.specs.StoreValue.{StoreValue, disks}
 use Rattle.lk_log.specs.Stores.{KeepsOrIs, next_base, Opens}
 use Rattle.lk_log.proofs.StoreLaws.{opens_holds, live_unique, not_both}
 use Rattle.lk_state.specs.Meanings.{Meaning}
-use Rattle.lk_node_io.specs.declared.note.Note.{Note}
+use Rattle.lk_node_interface.specs.declared.note.Note.{Note}
 use Rattle.lk_node.specs.Calls.{LeavesFit, NodeFits}
 use Rattle.lk_node.specs.Histories.{History, Genesis, IsLawful}
 use Rattle.lk_node.specs.Holdings.{Holding}
@@ -29,9 +29,9 @@ use Rattle.lk_node.specs.Keeping.{StoreKeeps}
 use Rattle.lk_node.specs.Leavings.{header_of, DisksFit}
 use Rattle.lk_node.specs.NodeValue.{NodeValue}
 use Rattle.lk_node.specs.Served.{text}
-use Rattle.lk_node_io.specs.Faults.{IsStoreFault}
+use Rattle.lk_node_interface.specs.Faults.{IsStoreFault}
 use Rattle.lk_recovery.specs.Compacting.{renew_calls}
-use Rattle.lk_node_io.specs.declared.fault.ReplicaFault.{ReplicaFault}
+use Rattle.lk_node_interface.specs.declared.fault.ReplicaFault.{ReplicaFault}
 use Rattle.lk_recovery.specs.Revivals.{TakesUp, IsOld, IsLastOld, RenewsBy, CallsOfOpening, CallsOfRevival}
 use Rattle.lk_recovery.specs.Revivals.{NarrowsOrRenews}
 use Rattle.lk_recovery.proofs.Revivals.{nothing_later, picked}

@@ -13,8 +13,8 @@ use Rattle.lk_learner.specs.Learners.{keeping, advanced}
 use Rattle.lk_learner.specs.Pairs.{are_pairs_above, with_pair, without}
 use Rattle.lk_learner.proofs.Learnerships.{rising_all, with_has, with_only, ran_moves}
 use Rattle.lk_recovery.specs.Revivals.{run_from, all_ran, notes_of, relearned, reached}
-use Rattle.lk_node_io.specs.declared.note.Note.{Note}
-use Rattle.lk_node_io.specs.declared.note.Note.TheVariants.{Ran}
+use Rattle.lk_node_interface.specs.declared.note.Note.{Note}
+use Rattle.lk_node_interface.specs.declared.note.Note.TheVariants.{Ran}
 use Rattle.lk_node.proofs.Nodes.{cons_cases, contains_more}
 
 -- ---- one pair

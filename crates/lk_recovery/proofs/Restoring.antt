@@ -13,11 +13,11 @@ use Rattle.lk_log.specs.Stores.{StandsForSome}
 use Rattle.lk_state.specs.Meanings.{Meaning}
 use Rattle.lk_state.specs.Packed.{Packs}
 use Rattle.lk_state.specs.States.{WholeValue}
-use Rattle.lk_node_io.specs.declared.note.Note.{Note}
+use Rattle.lk_node_interface.specs.declared.note.Note.{Note}
 use Rattle.lk_node.specs.Leavings.{acceptor_of}
 use Rattle.lk_node.specs.NodeValue.{NodeValue}
 use Rattle.lk_recovery.specs.Revivals.{run_from, notes_of, relearned, reached, Unpacks, MayRevive, Restores}
-use Rattle.lk_agreement.specs.Acceptors.{AcceptorState}
+use Rattle.lk_agreement_laws.specs.Acceptors.{AcceptorState}
 use Rattle.lk_learner.specs.Learners.{executed}
 use Rattle.lk_node.specs.Nearness as nearness
 use Rattle.lk_node.proofs.Nodes.{cons_cases, contains_more}

@@ -24,19 +24,19 @@ use Rattle.lk_state.specs.Meanings.{Meaning, KeepsTexts}
 use Rattle.lk_state.specs.Packed.{packed}
 use Rattle.lk_state.specs.States.{WholeValue, whole_after}
 use Rattle.lk_state.proofs.Wholes.{ran-whole_after, states_fit}
-use Rattle.lk_agreement.specs.Acceptors.{CoversSent}
-use Rattle.lk_agreement.specs.Datagrams.{NodeMessage}
-use Rattle.lk_agreement.specs.Chosen.{command_at, Chosen, ChosenAt}
-use Rattle.lk_agreement.specs.Nodes.{Stems, View}
-use Rattle.lk_agreement.proofs.Histories.{chosen_push, chosen_fits, chosen_short}
+use Rattle.lk_agreement_laws.specs.Acceptors.{CoversSent}
+use Rattle.lk_agreement_laws.specs.Datagrams.{NodeMessage}
+use Rattle.lk_agreement_laws.specs.Chosen.{command_at, Chosen, ChosenAt}
+use Rattle.lk_agreement_laws.specs.Nodes.{Stems, View}
+use Rattle.lk_agreement_laws.proofs.Histories.{chosen_push, chosen_fits, chosen_short}
 use Rattle.lk_learner.specs.Following.{AgreesWithList}
 use Rattle.lk_learner.specs.Learners.{Pair}
 use Rattle.lk_learner.proofs.Learnerships.{executed_is}
-use Rattle.lk_node_io.specs.declared.note.Note.{Note}
+use Rattle.lk_node_interface.specs.declared.note.Note.{Note}
 use Rattle.lk_node.specs.Entries.{EntriesFit}
-use Rattle.lk_node_io.specs.Faults.{fault_number, open_fault, IsNumberOfRevival}
-use Rattle.lk_node_io.specs.declared.fault.ReplicaFault.{ReplicaFault}
-use Rattle.lk_node_io.specs.declared.fault.ReplicaFault.TheVariants as fault
+use Rattle.lk_node_interface.specs.Faults.{fault_number, open_fault, IsNumberOfRevival}
+use Rattle.lk_node_interface.specs.declared.fault.ReplicaFault.{ReplicaFault}
+use Rattle.lk_node_interface.specs.declared.fault.ReplicaFault.TheVariants as fault
 use Rattle.lk_node.specs.Histories.{History, Genesis, Command, Datagram, later, IsLawful}
 use Rattle.lk_node.specs.Holdings.{Holding, HoldingFits}
 use Rattle.lk_node.specs.Keeping.{ReplicaHolds}

@@ -16,9 +16,9 @@ use Rattle.lk_log.specs.declared.fault.OpenFault.TheVariants as opening
 use Rattle.lk_learner.specs.Learners.{executed}
 use Rattle.lk_node.specs.NodeValue.{NodeValue}
 use Rattle.lk_recovery.specs.Compacting.{AreSame, AreLeft, IsDue, IsSameStore, KeepsOrSwitchesFiles, RebasesWhereDue}
-use Rattle.lk_node_io.specs.Faults.{IsStoreFault, fault_number, fault_of, open_fault, IfSpared}
-use Rattle.lk_node_io.specs.declared.fault.ReplicaFault.{ReplicaFault}
-use Rattle.lk_node_io.specs.declared.fault.ReplicaFault.TheVariants as fault
+use Rattle.lk_node_interface.specs.Faults.{IsStoreFault, fault_number, fault_of, open_fault, IfSpared}
+use Rattle.lk_node_interface.specs.declared.fault.ReplicaFault.{ReplicaFault}
+use Rattle.lk_node_interface.specs.declared.fault.ReplicaFault.TheVariants as fault
 use Rattle.lk_recovery.proofs.Refusing.{put_refused}
 use Rattle.lk_recovery.proofs.Revivals.{picked}
 

@@ -9,8 +9,8 @@ use Rattle.lk_log.specs.Rooms.{StaysWithin}
 use Rattle.lk_log.specs.StoreValue.{StoreValue, disks}
 use Rattle.lk_log.specs.Stores.{KeepsItsFile, MayBegin}
 use Rattle.lk_state.specs.Meanings.{Meaning}
-use Rattle.lk_agreement.specs.Acceptors.{Covers}
-use Rattle.lk_agreement.specs.Datagrams.{NodeMessage}
+use Rattle.lk_agreement_laws.specs.Acceptors.{Covers}
+use Rattle.lk_agreement_laws.specs.Datagrams.{NodeMessage}
 use Rattle.lk_learner.specs.Learners.{executed}
 use Rattle.lk_node.specs.Calls.{NodeFits, LeavesFit}
 use Rattle.lk_node.specs.Executing.{NothingToRun}
@@ -20,12 +20,12 @@ use Rattle.lk_node.specs.Keeping.{StoreKeeps, ReplicaHolds, HoldsBeforeRebase}
 use Rattle.lk_node.specs.Leavings.{header_of, DisksFit, AllCover}
 use Rattle.lk_node.specs.NodeValue.{NodeValue}
 use Rattle.lk_node.specs.Packing.{standing_of, with_snapshot}
-use Rattle.lk_node_io.specs.Faults.{IsStoreFault, fault_number, RefusedAfter, IfSpared}
+use Rattle.lk_node_interface.specs.Faults.{IsStoreFault, fault_number, RefusedAfter, IfSpared}
 use Rattle.lk_recovery.specs.Compacting.{AllStandAt, AreSame, Rebases, RebasesWhereDue, CallsWhereDue}
 use Rattle.lk_recovery.specs.Remembering.{ReplicaRemembers}
 use Rattle.lk_recovery.specs.Rooms.{GrowsFromBase}
-use Rattle.lk_node_io.specs.declared.fault.ReplicaFault.{ReplicaFault}
-use Rattle.lk_node_io.specs.declared.fault.ReplicaFault.TheVariants as fault
+use Rattle.lk_node_interface.specs.declared.fault.ReplicaFault.{ReplicaFault}
+use Rattle.lk_node_interface.specs.declared.fault.ReplicaFault.TheVariants as fault
 
 -- ---- a rebase
 

@@ -8,7 +8,7 @@ use Rattle.lk_node.specs.Executing.{NothingToRun}
 use Rattle.lk_node.specs.Histories.{History, Genesis}
 use Rattle.lk_node.specs.Keeping.{ReplicaHolds}
 use Rattle.lk_node.specs.NodeValue.{NodeValue}
-use Rattle.lk_node_io.specs.Faults.{IsStoreFault}
+use Rattle.lk_node_interface.specs.Faults.{IsStoreFault}
 use Rattle.lk_recovery.specs.Compacting.{Renews}
 use Rattle.lk_recovery.specs.Remembering.{ReplicaRemembers}
 

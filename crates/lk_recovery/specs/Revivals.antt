@@ -23,8 +23,8 @@ use Rattle.lk_state.specs.States.{WholeValue}
 use Rattle.lk_leader.specs.Terms.{idle}
 use Rattle.lk_learner.specs.Learners.{Pair, LearnerValue}
 pub use Rattle.lk_learner.specs.Unpacking.{Unpacks}
-use Rattle.lk_node_io.specs.declared.note.Note.{Note}
-use Rattle.lk_node_io.specs.declared.note.Note.TheVariants.{Ran}
+use Rattle.lk_node_interface.specs.declared.note.Note.{Note}
+use Rattle.lk_node_interface.specs.declared.note.Note.TheVariants.{Ran}
 use Rattle.lk_node.specs.Executing.{NothingToRun}
 use Rattle.lk_node.specs.Histories.{Genesis, Command}
 use Rattle.lk_node.specs.Leavings.{header_of, acceptor_of, StandsAs}

@@ -11,12 +11,12 @@ ghost use Rattle.lk_node.specs.Reaching.{HoldsNear};
 ghost use Rattle.lk_recovery.specs.Compacting.{IsDue, IsSameStore};
 ghost use Rattle.lk_recovery.specs.Rebased.{StandsOnBase, HasSwitchedFiles, StaysSafe, IsNotRebased, StaysAlive};
 ghost use Rattle.lk_recovery.specs.Rebased.{IsReadyToStep, LeavesDisks};
-ghost use Rattle.lk_node_io.specs.Faults.{fault_number, RaisesFailures, PassesOr, WantsNoMemory};
+ghost use Rattle.lk_node_interface.specs.Faults.{fault_number, RaisesFailures, PassesOr, WantsNoMemory};
 
 use lk_disk::LogDisk;
 use lk_log::Store;
 use lk_node::Node;
-use lk_node_io::ReplicaFault;
+use lk_node_interface::ReplicaFault;
 use lk_state::Machine;
 use lk_types::limits::MAX_COUNT;
 

@@ -1,5 +1,5 @@
 // Why a replica did not restart.
-use lk_node_io::ReplicaFault;
+use lk_node_interface::ReplicaFault;
 
 /// Why a replica did not restart, with the device, which the caller gets back.
 #[derive(Drop)]

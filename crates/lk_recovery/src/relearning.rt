@@ -5,11 +5,11 @@ ghost use Rattle.lk_learner.specs.Learners.{Command as CommandValue, Pair, IsLea
 ghost use Rattle.lk_learner.specs.Learners.{keeping, advanced};
 ghost use Rattle.lk_learner.specs.Pairs.{are_pairs_above};
 ghost use Rattle.lk_recovery.specs.Revivals.{run_from, notes_of, relearned, reached};
-ghost use Rattle.lk_node_io.specs.declared.note.Note.TheVariants as note;
+ghost use Rattle.lk_node_interface.specs.declared.note.Note.TheVariants as note;
 ghost use Rattle.lk_state.specs.Packed.{packed};
 
 use lk_learner::Learner;
-use lk_node_io::{Note, ReplicaFault};
+use lk_node_interface::{Note, ReplicaFault};
 use lk_state::{Machine, Whole};
 use lk_types::{Command, NoMemory, NodeNo, Position};
 use std::alloc::Global;

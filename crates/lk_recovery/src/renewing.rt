@@ -6,7 +6,7 @@ ghost use Rattle.lk_log.specs.StoreValue.{disks};
 ghost use Rattle.lk_log.specs.Stores.{HoldsEntries, KeepsOrIs, next_base};
 ghost use Rattle.lk_node.specs.Packing.{standing_of};
 ghost use Rattle.lk_recovery.specs.Compacting.{renew_calls};
-ghost use Rattle.lk_node_io.specs.Faults.{fault_number, RaisesFailures, PassesOr};
+ghost use Rattle.lk_node_interface.specs.Faults.{fault_number, RaisesFailures, PassesOr};
 ghost use Rattle.lk_recovery.specs.Rebased.{StaysSafe};
 ghost use Rattle.lk_recovery.specs.Renewals.{IsRenewed, HasFormatTwo, IsNotRenewed};
 
@@ -14,7 +14,7 @@ use crate::base::write_base;
 use lk_disk::LogDisk;
 use lk_log::Store;
 use lk_node::Node;
-use lk_node_io::ReplicaFault;
+use lk_node_interface::ReplicaFault;
 use lk_state::Machine;
 
 /// Writes the node's Base if the store has format 1, and so converts it to format 2.

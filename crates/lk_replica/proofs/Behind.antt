@@ -1,5 +1,5 @@
 -- What a call leaves that steps, rebases in place of putting what the step writes, and then sends.
-use Rattle.std.proofs.Common.{◌≡◌, ℕ, ◌≤◌, true, List, [], ◌∷◌, take, Contains, sym, ◌∙◌, subst}
+use Rattle.std.proofs.Common.{◌≡◌, ℕ, true, List, [], ◌∷◌, take, Contains, sym, ◌∙◌, subst}
 use Rattle.lk_messages.specs.Grammar.{Spells}
 use Rattle.lk_messages.specs.declared.message.NodeMessage.{NodeMessage}
 use Rattle.lk_messages.specs.declared.message.NodeMessage.TheVariants as kinds
@@ -9,18 +9,18 @@ use Rattle.lk_log.specs.StoreValue.{StoreValue, disks}
 use Rattle.lk_log.specs.Stores.{HoldsEntries, MayBegin, next_base}
 use Rattle.lk_log.proofs.StoreLaws.{one_standing}
 use Rattle.lk_state.specs.Meanings.{Meaning}
-use Rattle.lk_agreement.specs.Acceptors.{Covers, CoversSent}
-use Rattle.lk_agreement.specs.Changes.{view_with}
-use Rattle.lk_agreement.specs.Datagrams.{said_by}
-use Rattle.lk_agreement.specs.Nodes.{View, MaySend}
-use Rattle.lk_agreement.proofs.Histories.{still_stems, covers_both}
+use Rattle.lk_agreement_laws.specs.Acceptors.{Covers, CoversSent}
+use Rattle.lk_agreement_laws.specs.Changes.{view_with}
+use Rattle.lk_agreement_laws.specs.Datagrams.{said_by}
+use Rattle.lk_agreement_laws.specs.Nodes.{View, MaySend}
+use Rattle.lk_agreement_laws.proofs.Histories.{still_stems, covers_both}
 use Rattle.lk_acceptor.specs.States.{without_votes_to}
 use Rattle.lk_acceptor.proofs.Acceptors.{takes_snapshot}
 use Rattle.lk_learner.specs.Learners.{executed}
-use Rattle.lk_node_io.specs.Letters.{LetterValue, batch_of}
-use Rattle.lk_node_io.specs.Outboxes.{OutboxValue, nothing}
-use Rattle.lk_node_io.specs.declared.input.Input.{Input}
-use Rattle.lk_node_io.specs.declared.note.Note.{Note}
+use Rattle.lk_node_interface.specs.Letters.{LetterValue, batch_of}
+use Rattle.lk_node_interface.specs.Outboxes.{OutboxValue, nothing}
+use Rattle.lk_node_interface.specs.declared.input.Input.{Input}
+use Rattle.lk_node_interface.specs.declared.note.Note.{Note}
 use Rattle.lk_node.specs.Calls.{InputFits, MayGo, NodeFits, LeavesFit}
 use Rattle.lk_node.specs.Entries.{EntriesFit}
 use Rattle.lk_node.specs.Histories.{History, Genesis, Datagram, later, IsLawful}

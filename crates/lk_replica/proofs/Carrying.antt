@@ -1,6 +1,6 @@
 -- Letters that were given to a post, one after another.
 use Rattle.std.proofs.Common.{Bool, List, [], ◌∷◌, ◌++◌, refl, subst}
-use Rattle.lk_node_io.specs.Letters.{LetterValue}
+use Rattle.lk_node_interface.specs.Letters.{LetterValue}
 use Rattle.lk_replica.specs.Posts.{CarriesAll}
 
 -- one more

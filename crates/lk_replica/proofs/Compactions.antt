@@ -4,16 +4,15 @@ use Rattle.std.specs.Prelude.{⊤, IfErr, IsErrOf}
 use Rattle.lk_types.specs.Limits.{max_count}
 use Rattle.lk_disk.specs.Meters.{Passes}
 use Rattle.lk_log.specs.Causes.{rebase_calls}
-use Rattle.lk_log.specs.declared.fault.StoreFault.TheVariants as store
 use Rattle.lk_learner.specs.Learners.{executed}
 use Rattle.lk_state.specs.Meanings.{Meaning}
 use Rattle.lk_replica.specs.Compacted.{IsCompacted, IsNotCompacted, CompactsTo}
-use Rattle.lk_node_io.specs.Faults.{IsStoreFault, fault_number, RaisesFailures, RefusedAfter}
+use Rattle.lk_node_interface.specs.Faults.{IsStoreFault, fault_number, RaisesFailures, RefusedAfter}
 use Rattle.lk_recovery.specs.Compacting.{AllStandAt}
 use Rattle.lk_recovery.specs.Rebased.{StandsOnBase, HasSwitchedFiles}
 use Rattle.lk_replica.specs.ReplicaValue.{ReplicaValue}
-use Rattle.lk_node_io.specs.declared.fault.ReplicaFault.{ReplicaFault}
-use Rattle.lk_node_io.specs.declared.fault.ReplicaFault.TheVariants as fault
+use Rattle.lk_node_interface.specs.declared.fault.ReplicaFault.{ReplicaFault}
+use Rattle.lk_node_interface.specs.declared.fault.ReplicaFault.TheVariants as fault
 use Rattle.lk_replica.proofs.OnDevices.{on_device}
 use Rattle.lk_recovery.proofs.Recoveries.{same_error}
 

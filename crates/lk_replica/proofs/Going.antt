@@ -1,6 +1,6 @@
 -- What a call leaves that steps, puts what the step writes, and then sends.
 use Rattle.std.proofs.Common.{◌≡◌, ℕ, Bool, true, false, List, [], ◌∷◌, ◌++◌, take, Contains, refl, sym, ◌∙◌, ap, subst}
-use Rattle.std.proofs.Common.{subst₂, arith}
+use Rattle.std.proofs.Common.{subst₂, arith, ◌⊎◌, inl, inr}
 use Rattle.std.specs.List.{AllByRecursion}
 use Rattle.lk_types.specs.declared.entry.Entry.{Entry}
 use Rattle.lk_types.specs.declared.entry.Entry.TheVariants.{Promise, Vote, Decided}
@@ -20,13 +20,13 @@ use Rattle.lk_log.specs.StoreValue.{StoreValue, disks}
 use Rattle.lk_log.specs.Stores.{HoldsEntries, KeepsAtLeast}
 use Rattle.lk_log.proofs.StoreLaws.{all_stand, header_more, one_standing, plain_append}
 use Rattle.lk_state.specs.Meanings.{Meaning}
-use Rattle.lk_agreement.specs.Acceptors.{AcceptorState, Covers, CoversSent}
-use Rattle.lk_agreement.specs.Datagrams.{said_by}
-use Rattle.lk_agreement.specs.Nodes.{View}
-use Rattle.lk_agreement.proofs.Histories.{said_alike, still_stems, still_was, still_chosen_at, covers_both}
-use Rattle.lk_node_io.specs.Letters.{LetterValue, datagram_of, batch_of}
-use Rattle.lk_node_io.specs.Outboxes.{OutboxValue, nothing}
-use Rattle.lk_node_io.specs.declared.input.Input.{Input}
+use Rattle.lk_agreement_laws.specs.Acceptors.{AcceptorState, Covers, CoversSent}
+use Rattle.lk_agreement_laws.specs.Datagrams.{said_by}
+use Rattle.lk_agreement_laws.specs.Nodes.{View}
+use Rattle.lk_agreement_laws.proofs.Histories.{said_alike, still_stems, still_was, still_chosen_at, covers_both}
+use Rattle.lk_node_interface.specs.Letters.{LetterValue, datagram_of, batch_of}
+use Rattle.lk_node_interface.specs.Outboxes.{OutboxValue, nothing}
+use Rattle.lk_node_interface.specs.declared.input.Input.{Input}
 use Rattle.lk_node.specs.Calls.{InputFits, NodeFits, LeavesFit}
 use Rattle.lk_node.specs.Entries.{EntriesFit, Rests}
 use Rattle.lk_node.specs.Histories.{History, Genesis, Datagram, later}
@@ -319,3 +319,13 @@ pub base_written : (m n : Meter) (o : OutboxValue) → o.rebase ≡ true → Pas
     → Passes m n (write_calls o)
 base_written m n o so calls =
     subst (λ (b : Bool). Passes m n (if b then rebase_calls else put_calls o.entries o.sync)) (sym so) calls
+
+-- an outbox asks for a rebase or not
+pub by_kind : {P : Type 0} (rebase : Bool) → (rebase ≡ true → P) → (rebase ≡ false → P) → P
+by_kind true based put = based refl
+by_kind false based put = put refl
+
+-- what holds of either holds
+pub of_either : {A B P : Type 0} → A ⊎ B → (A → P) → (B → P) → P
+of_either (inl a) first second = first a
+of_either (inr b) first second = second b

@@ -1,5 +1,5 @@
 -- What a step of a group leaves, and the sync after it.
-use Rattle.std.proofs.Common.{◌≡◌, ℕ, ◌+◌, ◌<◌, ◌≤◌, ◌||◌, Bool, true, false, List, [], ◌∷◌, ◌++◌, length}
+use Rattle.std.proofs.Common.{◌≡◌, ℕ, ◌+◌, ◌<◌, ◌||◌, Bool, true, false, List, [], ◌∷◌, ◌++◌, length}
 use Rattle.std.proofs.Common.{length-append, map, Contains, inl, inr, Result, IsErrAnd, refl, sym, ◌∙◌, ap, subst}
 use Rattle.std.proofs.Common.{append_assoc, append-nil, arith}
 use Rattle.std.specs.Prelude.{⊤, IfErr, if◌then◌else◌}
@@ -32,14 +32,13 @@ use Rattle.lk_log.specs.Stores.{HoldsEntries, IsOlder, KeepsAtLeast, KeepsItsFil
 use Rattle.lk_log.proofs.StoreLaws.{all_stand, header_more, plain_append, holds_keeps, live_unique, one_standing}
 use Rattle.lk_log.proofs.StoreLaws.{seen_left, synced_live, of_every}
 use Rattle.lk_state.specs.Meanings.{Meaning}
-use Rattle.lk_agreement.specs.Acceptors.{AcceptorState}
-use Rattle.lk_agreement.specs.Datagrams.{said_by}
-use Rattle.lk_agreement.specs.Nodes.{View}
-use Rattle.lk_node_io.specs.Letters.{LetterValue, datagram_of, batch_of}
-use Rattle.lk_node_io.specs.Outboxes.{OutboxValue, nothing}
-use Rattle.lk_node_io.specs.declared.input.Input.{Input}
-use Rattle.lk_node_io.specs.declared.note.Note.{Note}
-use Rattle.lk_learner.specs.Learners.{executed}
+use Rattle.lk_agreement_laws.specs.Acceptors.{AcceptorState}
+use Rattle.lk_agreement_laws.specs.Datagrams.{said_by}
+use Rattle.lk_agreement_laws.specs.Nodes.{View}
+use Rattle.lk_node_interface.specs.Letters.{LetterValue, datagram_of, batch_of}
+use Rattle.lk_node_interface.specs.Outboxes.{OutboxValue, nothing}
+use Rattle.lk_node_interface.specs.declared.input.Input.{Input}
+use Rattle.lk_node_interface.specs.declared.note.Note.{Note}
 use Rattle.lk_node.specs.Calls.{InputFits, NodeFits, LeavesFit}
 use Rattle.lk_node.specs.Entries.{Rests}
 use Rattle.lk_node.specs.Histories.{History, Genesis, Datagram}
@@ -48,7 +47,7 @@ use Rattle.lk_node.specs.Keeping.{TellsDecided, IsKnown, StoreKeeps, ReplicaHold
 use Rattle.lk_node.specs.Leavings.{header_of, acceptor_of, DisksFit, AllCover}
 use Rattle.lk_node.specs.NodeValue.{NodeValue}
 use Rattle.lk_node.specs.Packing.{standing_of, with_snapshot}
-use Rattle.lk_node.specs.Reaching.{EntriesLieNear, TellsOf, TellsOn, IsTold, HoldsNear}
+use Rattle.lk_node.specs.Reaching.{EntriesLieNear, TellsOf, TellsOn, HoldsNear}
 use Rattle.lk_node.specs.Served.{text}
 use Rattle.lk_node.specs.Serving.{with_entries, ActsSafely}
 use Rattle.lk_node.proofs.Nodes.{with_all_behind, near_behind, told_behind, told_synced}
@@ -57,11 +56,11 @@ use Rattle.lk_replica.specs.Groups.{as_synced, as_sent, needs_sync_after, StoreK
 use Rattle.lk_replica.specs.Groups.{HoldsInGroup, GroupFits}
 use Rattle.lk_replica.specs.Groups.{GroupLeavesFit, GroupStays, Settles, GroupValue, Adds, IsCovered, IsRefusedInGroup}
 use Rattle.lk_replica.specs.Groups.{LeavesInGroup, IsSettled, MakesRoom, settle_calls, gather_calls}
-use Rattle.lk_node_io.specs.Faults.{IsStoreFault, fault_number, failures_by, WantsNoMemory}
+use Rattle.lk_node_interface.specs.Faults.{IsStoreFault, fault_number, failures_by, WantsNoMemory}
 use Rattle.lk_replica.specs.Posts.{AreOf}
 use Rattle.lk_replica.specs.ReplicaValue.{ReplicaValue}
 use Rattle.lk_replica.specs.Taking.{IsCutShort}
-use Rattle.lk_node_io.specs.declared.fault.ReplicaFault.{ReplicaFault}
+use Rattle.lk_node_interface.specs.declared.fault.ReplicaFault.{ReplicaFault}
 use Rattle.lk_recovery.proofs.Recoveries.{err_as, failed_alone, known_rests, EntriesCover, held_fit, fit_disks}
 use Rattle.lk_recovery.proofs.Recoveries.{cover_entries, cover_disks, put_fits, put_covers, same_holds}
 use Rattle.lk_replica.proofs.Refusals.{number_of_calls, halted_alone}

@@ -4,10 +4,10 @@ use Rattle.lk_log.specs.declared.fault.StoreFault.TheVariants as store
 use Rattle.std.proofs.Common.{◌≡◌, List, Result, Ok, Err, IsErrAnd, sym, subst, arith}
 use Rattle.std.specs.Prelude.{Vec}
 use Rattle.std.specs.Global.{Global}
-use Rattle.lk_node_io.specs.Faults.{fault_number, fault_of, IfSend, IfGoesOn}
-use Rattle.lk_node_io.specs.declared.fault.ReplicaFault.{ReplicaFault}
-use Rattle.lk_node_io.specs.declared.fault.ReplicaFault.TheVariants as fault
-use Rattle.lk_node_io.specs.declared.note.Note.{Note}
+use Rattle.lk_node_interface.specs.Faults.{fault_number, fault_of, IfSend, IfGoesOn}
+use Rattle.lk_node_interface.specs.declared.fault.ReplicaFault.{ReplicaFault}
+use Rattle.lk_node_interface.specs.declared.fault.ReplicaFault.TheVariants as fault
+use Rattle.lk_node_interface.specs.declared.note.Note.{Note}
 
 pub store_never_sends : (f : StoreFault) → IfSend (λ notes. ⊥) (fault_of f)
 store_never_sends store.Device = tt

@@ -1,7 +1,7 @@
 -- The disks of a store whose device is one in memory.
 use Rattle.std.proofs.Common.{◌≡◌, refl, sym, subst}
 use Rattle.lk_disk.specs.Disk.{Disk}
-use Rattle.lk_simulated_disk.specs.Memory.{disk_of}
+use Rattle.lk_memory_disk.specs.Memory.{disk_of}
 use Rattle.lk_disk.specs.declared.device.Side.{Side}
 use Rattle.lk_disk.specs.declared.device.Side.TheVariants.{A, B}
 use Rattle.lk_log.specs.StoreValue.{StoreValue, disks}

@@ -3,14 +3,14 @@ use Rattle.std.proofs.Common.{◌≡◌, ℕ, ◌<◌, inl, inr, arith, true, fa
 use Rattle.std.specs.Prelude.{IfErr}
 use Rattle.lk_log.specs.StoreValue.{StoreValue, disks}
 use Rattle.lk_node.specs.NodeValue.{NodeValue}
-use Rattle.lk_node_io.specs.Faults.{IsStoreFault, fault_number, failures_by, IsOfCalls, IsNumberOfCalls, IfSend}
+use Rattle.lk_node_interface.specs.Faults.{IsStoreFault, fault_number, failures_by, IsOfCalls, IsNumberOfCalls, IfSend}
 use Rattle.lk_replica.specs.Compacted.{IsNotCompacted}
 use Rattle.lk_recovery.specs.Compacting.{AreLeft, AreSame, KeepsOrSwitchesFiles}
 use Rattle.lk_recovery.specs.Rebased.{IsNotRebased}
 use Rattle.lk_replica.specs.ReplicaValue.{ReplicaValue}
 use Rattle.lk_replica.specs.Taking.{IsCutShort, IsRefused}
-use Rattle.lk_node_io.specs.declared.fault.ReplicaFault.{ReplicaFault}
-use Rattle.lk_node_io.specs.declared.fault.ReplicaFault.TheVariants as fault
+use Rattle.lk_node_interface.specs.declared.fault.ReplicaFault.{ReplicaFault}
+use Rattle.lk_node_interface.specs.declared.fault.ReplicaFault.TheVariants as fault
 use Rattle.lk_recovery.proofs.Recoveries.{err_as, failed_alone, spared_number}
 
 -- a fault of a call, by its number

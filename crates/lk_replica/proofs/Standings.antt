@@ -5,7 +5,7 @@ use Rattle.lk_types.specs.declared.entry.Entry.{Entry}
 use Rattle.lk_types.specs.declared.entry.Entry.TheVariants.{Promise, Vote, Decided}
 use Rattle.lk_store_format.specs.Standings.{with_plain, with_all}
 use Rattle.lk_store_format.specs.Values.{StandingValue}
-use Rattle.lk_agreement.specs.Acceptors.{AcceptorState}
+use Rattle.lk_agreement_laws.specs.Acceptors.{AcceptorState}
 use Rattle.lk_acceptor.specs.States.{acceptor_with}
 use Rattle.lk_node.specs.Leavings.{acceptor_of}
 use Rattle.lk_node.specs.Keeping.{TellsDecided}

@@ -8,7 +8,7 @@ use Rattle.std.proofs.Math.Nat.{add-sub_cancel_left}
 use Rattle.std.proofs.Math.Seq.{take-append_seam, drop-append_seam}
 use Rattle.std.proofs.lemmas.List.{append_cancel_left}
 use Rattle.lk_disk.specs.Disk.{Disk}
-use Rattle.lk_simulated_disk.specs.Memory.{disk_of}
+use Rattle.lk_memory_disk.specs.Memory.{disk_of}
 use Rattle.lk_disk.specs.Meters.{Passes, start}
 use Rattle.lk_disk.specs.declared.device.Side.{Side}
 use Rattle.lk_disk.specs.declared.device.Side.TheVariants.{A, B}
@@ -19,10 +19,10 @@ use Rattle.lk_log.specs.StoreValue.{StoreValue, disks}
 use Rattle.lk_state.specs.Meanings.{Meaning}
 use Rattle.lk_messages.specs.Grammar.{Spells}
 use Rattle.lk_store_format.specs.Values.{HeaderValue}
-use Rattle.lk_agreement.specs.Datagrams.{NodeMessage, said_by}
-use Rattle.lk_node_io.specs.Letters.{LetterValue, datagram_of, batch_of}
-use Rattle.lk_node_io.specs.declared.input.Input.{Input}
-use Rattle.lk_node_io.specs.declared.note.Note.{Note}
+use Rattle.lk_agreement_laws.specs.Datagrams.{NodeMessage, said_by}
+use Rattle.lk_node_interface.specs.Letters.{LetterValue, datagram_of, batch_of}
+use Rattle.lk_node_interface.specs.declared.input.Input.{Input}
+use Rattle.lk_node_interface.specs.declared.note.Note.{Note}
 use Rattle.lk_node.specs.Calls.{heard_by, InputFits, NodeFits, LeavesFit}
 use Rattle.lk_node.specs.Histories.{History, Genesis, Datagram, later}
 use Rattle.lk_node.specs.Holdings.{Holding}
@@ -36,7 +36,7 @@ use Rattle.lk_replica.specs.Posts.{AreOf}
 use Rattle.lk_recovery.specs.Remembering.{ReplicaRemembers}
 use Rattle.lk_replica.specs.ReplicaValue.{ReplicaValue, device_of}
 use Rattle.lk_recovery.specs.Rooms.{max_after}
-use Rattle.lk_node_io.specs.Faults.{RefusedAfter}
+use Rattle.lk_node_interface.specs.Faults.{RefusedAfter}
 use Rattle.lk_replica.specs.Together.{Said, sent_of, parts_of, said_by_steps, EachLeavesFit, GathersAll, IsGatheredFrom}
 use Rattle.lk_replica.specs.Together.{IsTakenTogether, IsNotKept, IsNotSent, IsTogetherRefused}
 use Rattle.lk_replica.specs.declared.taken.Step.{Step}

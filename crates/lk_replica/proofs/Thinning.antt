@@ -4,8 +4,8 @@ use Rattle.std.proofs.Common.{length, take, get_or, Contains, refl, sym, ap, ◌
 use Rattle.std.proofs.Common.{arith}
 use Rattle.std.proofs.lemmas.Bool.{false≢true}
 use Rattle.lk_disk.specs.Disk.{one_more}
-use Rattle.lk_agreement.specs.Datagrams.{Datagram}
-use Rattle.lk_node_io.specs.Letters.{LetterValue, datagram_of, batch_of}
+use Rattle.lk_agreement_laws.specs.Datagrams.{Datagram}
+use Rattle.lk_node_interface.specs.Letters.{LetterValue, datagram_of, batch_of}
 use Rattle.lk_replica.specs.Posts.{AreOf, Thins, SendsBut, more_by}
 use Rattle.lk_node.proofs.Nodes.{cons_cases, contains_more, map_contains, map_has}
 

@@ -1,12 +1,12 @@
 -- The results of a replica's calls, as a world of replicas sees them.
 use Rattle.std.specs.Prelude.{◌≡◌, ℕ, List, Option, Result}
 use Rattle.lk_disk.specs.Disk.{Disk}
-use Rattle.lk_simulated_disk.specs.Memory.{Memory, disk_of}
+use Rattle.lk_memory_disk.specs.Memory.{Memory, disk_of}
 use Rattle.lk_disk.specs.Meters.{trapped}
 use Rattle.lk_disk.specs.declared.device.Side.{Side}
 use Rattle.lk_disk.specs.declared.trap.Trap.{Trap}
 use Rattle.lk_store_format.specs.Values.{HeaderValue}
-use Rattle.lk_node_io.specs.declared.note.Note.{Note}
+use Rattle.lk_node_interface.specs.declared.note.Note.{Note}
 use Rattle.lk_node.specs.Histories.{Datagram}
 
 -- a replica took a tick, or these bytes, and became another: with its notes and what it sent, or with the number of a

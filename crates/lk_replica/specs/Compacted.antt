@@ -1,7 +1,7 @@
 -- What a call of `compact` has done.
 use Rattle.std.specs.Prelude.{◌≡◌, ℕ, ◌<◌, ◌≤◌, ⊤, true, false, Result, Ok, Err}
 use Rattle.lk_types.specs.Limits.{max_count}
-use Rattle.lk_simulated_disk.specs.Memory.{disk_of}
+use Rattle.lk_memory_disk.specs.Memory.{disk_of}
 use Rattle.lk_disk.specs.Meters.{Passes}
 use Rattle.lk_log.specs.Causes.{rebase_calls}
 use Rattle.lk_log.specs.StoreValue.{disks}
@@ -11,7 +11,7 @@ use Rattle.lk_node.specs.Histories.{Genesis}
 use Rattle.lk_node.specs.Holdings.{Holding}
 use Rattle.lk_node.specs.Keeping.{ReplicaHolds}
 use Rattle.lk_recovery.specs.Compacting.{AllStandAt, AreSame, Rebases}
-use Rattle.lk_node_io.specs.Faults.{RefusedAfter, IsStoreFault}
+use Rattle.lk_node_interface.specs.Faults.{RefusedAfter, IsStoreFault}
 use Rattle.lk_replica.specs.ReplicaValue.{ReplicaValue, device_of}
 use Rattle.lk_replica.specs.Taking.{IsRefused}
 use Rattle.lk_state.specs.Meanings.{Meaning}

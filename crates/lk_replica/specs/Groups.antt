@@ -1,9 +1,10 @@
 -- A node in the middle of a group: it has taken some inputs and written their entries unsynced, and nothing of what it
 -- said is sent.
-use Rattle.std.specs.Prelude.{◌≡◌, ℕ, ◌+◌, ◌<◌, ◌||◌, Bool, true, false, if◌then◌else◌, List, [], ◌∷◌, ◌++◌, Contains}
+use Rattle.std.specs.Prelude.{◌≡◌, ℕ, ◌+◌, ◌<◌, ◌||◌, Bool, true, false, if◌then◌else◌, List, [], ◌∷◌, ◌++◌}
+use Rattle.std.specs.Prelude.{length, Contains}
 use Rattle.std.specs.List.{AllByRecursion}
 use Rattle.lk_types.specs.declared.entry.Entry.{Entry}
-use Rattle.lk_disk.specs.Disk.{Disk, fully_synced}
+use Rattle.lk_disk.specs.Disk.{Disk, contents, fully_synced}
 use Rattle.lk_disk.specs.declared.device.Side.{Side}
 use Rattle.lk_disk.specs.Meters.{Passes}
 use Rattle.lk_log.specs.Causes.{put_calls, rebase_calls}
@@ -16,18 +17,18 @@ use Rattle.lk_log.specs.StoreValue.{StoreValue, disks}
 use Rattle.lk_log.specs.Stores.{HoldsEntries}
 use Rattle.lk_state.specs.Meanings.{Meaning}
 use Rattle.lk_messages.specs.Grammar.{Spells}
-use Rattle.lk_agreement.specs.Acceptors.{AcceptorState}
-use Rattle.lk_agreement.specs.Datagrams.{NodeMessage, said_by}
-use Rattle.lk_node_io.specs.Letters.{LetterValue, batch_of}
-use Rattle.lk_node_io.specs.Outboxes.{OutboxValue}
-use Rattle.lk_node_io.specs.declared.input.Input.{Input}
-use Rattle.lk_node_io.specs.declared.note.Note.{Note}
+use Rattle.lk_agreement_laws.specs.Acceptors.{AcceptorState}
+use Rattle.lk_agreement_laws.specs.Datagrams.{NodeMessage, said_by}
+use Rattle.lk_node_interface.specs.Letters.{LetterValue, batch_of}
+use Rattle.lk_node_interface.specs.Outboxes.{OutboxValue}
+use Rattle.lk_node_interface.specs.declared.input.Input.{Input}
+use Rattle.lk_node_interface.specs.declared.note.Note.{Note}
 use Rattle.lk_node.specs.Steps.{Steps}
 use Rattle.lk_types.specs.Limits.{max_count}
 use Rattle.lk_recovery.specs.Compacting.{IsDue, Rebases, RebasesWhereDue}
-use Rattle.lk_node_io.specs.Faults.{failures_by, RefusedAfter, IsNumberOfCalls}
+use Rattle.lk_node_interface.specs.Faults.{failures_by, RefusedAfter, IsNumberOfCalls}
 use Rattle.lk_replica.specs.Posts.{AreOf}
-use Rattle.lk_recovery.specs.Rooms.{GrowsByStep, max_after}
+use Rattle.lk_recovery.specs.Rooms.{GrowsByStep, GrowsFromBase, max_after}
 use Rattle.lk_replica.specs.ReplicaValue.{ReplicaValue}
 use Rattle.lk_node.specs.Calls.{InputFits, NodeFits, LeavesFit}
 use Rattle.lk_node.specs.Entries.{Rests}
@@ -169,6 +170,36 @@ pub record KeepsGroup (m : Meaning) (Hears : History → Type 0) (node : NodeVal
       → RemembersInGroup new after now.needs_sync genesis n
   pub said : (genesis : Genesis) (n : ℕ) → RemembersInGroup node store group.needs_sync genesis n
       → IsCovered m genesis n group store → IsCovered m genesis n now after
+
+-- what a step of a group leaves on the disks, however it ends: the same, but the files are no longer than that only if
+-- the live one was shorter than what makes a rebase due; and neither has grown by more than a step except by a Base
+pub record StepLeavesInGroup (m : Meaning) (Hears : History → Type 0) (most : ℕ) (node : NodeValue)
+    (store : StoreValue) (needs_sync : Bool) (after : Side → Disk) : Type 0 where
+  pub ends : (h : History) (n : ℕ) → GroupStays m h n node store needs_sync → Hears h → DisksFit m h n after
+  pub covers : (genesis : Genesis) (n : ℕ) (x : NodeMessage) → RemembersInGroup node store needs_sync genesis n
+      → AllCover m genesis n (disks store) x → AllCover m genesis n after x
+  pub room : length (contents store.live_disk) < 131072 → StaysWithin most (disks store) after
+  pub grows : GrowsFromBase (disks store) after
+
+-- What a step with this outbox guarantees. goes: in each history that contains what the group has said so far, it is
+-- permitted its notes and letters. stays: in each that contains nothing of it, the node still fits. recalls: its store
+-- has what its acceptor holds. syncs: once everything that waits is synced, the step's letters are covered. still: and
+-- so is whatever was covered.
+pub record StepKeepsGroup (m : Meaning) (Hears : History → Type 0) (node : NodeValue) (store : StoreValue)
+    (needs_sync : Bool) (out : OutboxValue) (new : NodeValue) (after : StoreValue) : Type 0 where
+  pub goes : (h : History) (n : ℕ) → GroupFits m h n node store needs_sync → Hears h
+      → (sent : List LetterValue) → AreOf sent out.letters
+      → GroupLeavesFit m h n new after (needs_sync_after needs_sync out) out.notes (batch_of n sent)
+  pub stays : (h : History) (n : ℕ) → GroupStays m h n node store needs_sync → Hears h
+      → GroupStays m h n new after (needs_sync_after needs_sync out)
+  pub recalls : (genesis : Genesis) (n : ℕ) → RemembersInGroup node store needs_sync genesis n
+      → RemembersInGroup new after (needs_sync_after needs_sync out) genesis n
+  pub syncs : (genesis : Genesis) (n : ℕ) (x : NodeMessage) → RemembersInGroup node store needs_sync genesis n
+      → (d : Datagram) → Contains (batch_of n out.letters) d → Spells (said_by genesis n x) d.bytes
+      → AllCover m genesis n (disks (as_sent (needs_sync_after needs_sync out) after)) x
+  pub still : (genesis : Genesis) (n : ℕ) (x : NodeMessage) → RemembersInGroup node store needs_sync genesis n
+      → AllCover m genesis n (disks (as_sent needs_sync store)) x
+      → AllCover m genesis n (disks (as_sent (needs_sync_after needs_sync out) after)) x
 
 -- ---- what the steps of a group have done, and nothing else
 

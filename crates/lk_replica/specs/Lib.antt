@@ -1,4 +1,5 @@
 pub mod Taking
+pub mod Writing
 pub mod ReplicaValue
 pub mod Revived
 pub mod Posts

@@ -2,7 +2,7 @@
 use Rattle.std.specs.Prelude.{◌≡◌, ◌≢◌, ℕ, zero, suc, ◌+◌, ◌⊎◌, Bool, true, false, Result, Ok, Err, List, [], ◌∷◌, ◌++◌}
 use Rattle.std.specs.Prelude.{Contains}
 use Rattle.lk_disk.specs.Disk.{one_more}
-use Rattle.lk_node_io.specs.Letters.{LetterValue}
+use Rattle.lk_node_interface.specs.Letters.{LetterValue}
 
 -- these letters were given to a post one after another, in order, and nothing else was. `Carries` is the effect of one
 -- letter: the post before, the letter, whether that was sent, and the post after

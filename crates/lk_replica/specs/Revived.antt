@@ -1,18 +1,17 @@
 -- What a restart of a replica has done, and why it failed.
 use Rattle.std.specs.Prelude.{◌≡◌, ℕ, ◌≤◌, false, Result, Ok, Err, List}
 use Rattle.lk_disk.specs.Disk.{Disk}
-use Rattle.lk_simulated_disk.specs.Memory.{Memory, disk_of}
+use Rattle.lk_memory_disk.specs.Memory.{Memory, disk_of}
 use Rattle.lk_disk.specs.declared.device.Side.{Side}
-use Rattle.lk_store_format.specs.Formats.{format}
 use Rattle.lk_store_format.specs.Values.{HeaderValue}
 use Rattle.lk_log.specs.Images.{seen}
 use Rattle.lk_log.specs.StoreValue.{StoreValue}
 use Rattle.lk_state.specs.Meanings.{Meaning}
-use Rattle.lk_node_io.specs.declared.note.Note.{Note}
+use Rattle.lk_node_interface.specs.declared.note.Note.{Note}
 use Rattle.lk_node.specs.Executing.{NothingToRun}
 use Rattle.lk_node.specs.NodeValue.{NodeValue}
 use Rattle.lk_recovery.specs.Compacting.{Renews}
-use Rattle.lk_node_io.specs.Faults.{failures_by, RefusedAfter}
+use Rattle.lk_node_interface.specs.Faults.{failures_by, RefusedAfter}
 use Rattle.lk_recovery.specs.Revivals.{TakesUp, IsLastOld, CallsOfRevival, IsRefusedFor}
 use Rattle.lk_replica.specs.ReplicaValue.{ReplicaValue}
 

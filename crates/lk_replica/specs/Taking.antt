@@ -12,13 +12,13 @@ use Rattle.lk_log.specs.Stores.{HoldsEntries}
 use Rattle.lk_state.specs.Meanings.{Meaning}
 use Rattle.lk_disk.specs.Disk.{Disk, contents}
 use Rattle.lk_disk.specs.declared.device.Side.{Side}
-use Rattle.lk_agreement.specs.Datagrams.{NodeMessage, said_by}
+use Rattle.lk_agreement_laws.specs.Datagrams.{NodeMessage, said_by}
 use Rattle.lk_messages.specs.Grammar.{Spells}
 use Rattle.lk_log.specs.Rooms.{StaysWithin}
-use Rattle.lk_node_io.specs.Letters.{LetterValue, batch_of}
-use Rattle.lk_node_io.specs.Outboxes.{OutboxValue}
-use Rattle.lk_node_io.specs.declared.input.Input.{Input}
-use Rattle.lk_node_io.specs.declared.note.Note.{Note}
+use Rattle.lk_node_interface.specs.Letters.{LetterValue, batch_of}
+use Rattle.lk_node_interface.specs.Outboxes.{OutboxValue}
+use Rattle.lk_node_interface.specs.declared.input.Input.{Input}
+use Rattle.lk_node_interface.specs.declared.note.Note.{Note}
 use Rattle.lk_node.specs.Calls.{heard_by, InputFits, NodeFits, LeavesFit}
 use Rattle.lk_node.specs.Executing.{NothingToRun}
 use Rattle.lk_node.specs.Histories.{Datagram, History, Genesis}
@@ -27,10 +27,11 @@ use Rattle.lk_node.specs.Leavings.{DisksFit, AllCover}
 use Rattle.lk_recovery.specs.Remembering.{ReplicaRemembers}
 use Rattle.lk_recovery.specs.Rooms.{GrowsByStep, GrowsFromBase}
 use Rattle.lk_recovery.specs.Compacting.{AreLeft, IsDue, KeepsOrSwitchesFiles, Rebases, RebasesWhereDue, CallsWhereDue}
-use Rattle.lk_node_io.specs.Faults.{fault_number, failures_by, RefusedAfter, IfGoesOn, IfSend, IfSpared, IsOfCalls}
-use Rattle.lk_node_io.specs.Faults.{IsNumberOfCalls, WantsNoMemory}
-use Rattle.lk_node_io.specs.declared.fault.ReplicaFault.{ReplicaFault}
-use Rattle.lk_node_io.specs.declared.fault.ReplicaFault.TheVariants as fault
+use Rattle.lk_node_interface.specs.Faults.{fault_number, failures_by, RefusedAfter, IfGoesOn, IfSend, IfSpared}
+use Rattle.lk_node_interface.specs.Faults.{IsOfCalls}
+use Rattle.lk_node_interface.specs.Faults.{IsNumberOfCalls, WantsNoMemory}
+use Rattle.lk_node_interface.specs.declared.fault.ReplicaFault.{ReplicaFault}
+use Rattle.lk_node_interface.specs.declared.fault.ReplicaFault.TheVariants as fault
 use Rattle.lk_replica.specs.ReplicaValue.{ReplicaValue}
 use Rattle.lk_node.specs.NodeValue.{NodeValue}
 use Rattle.lk_node.specs.Steps.{Steps}
@@ -84,39 +85,44 @@ pub record IsTaken (m : Meaning) (IsText : List ℕ → Type 0) (Metered : Type 
   pub store_alive : new.store.failed ≡ false
   pub awake : new.node.halted ≡ false
 
--- What a call guarantees of the letters that it gave to its post, whatever the post. taken: if it goes on, it has taken
--- its step, and these are the step's letters. goes: what it then holds permits all its notes and letters. syncs:
--- however it ends, and whatever it restarted from, each image that a stop may leave covers what the letters say, since
--- that was synced before they were given.
+-- what a call guarantees of the letters that it gave to its post, whatever the post
 pub record GivesBy (m : Meaning) (IsText : List ℕ → Type 0) (Metered : Type 0) (old : ReplicaValue) (i : Input)
     (new : ReplicaValue) (r : Result (Vec Note Global) ReplicaFault) (letters : List LetterValue)
     (Sends : List LetterValue → Type 0) : Type 0 where
+  -- if it goes on, it has taken its step, and these are the step's letters
   pub taken : IfGoesOn r (λ notes. IsTaken m IsText Metered old i new notes (λ all. (all ≡ letters) × Sends all))
+  -- what it then holds permits all its notes and letters
   pub goes : (h : History) (n : ℕ)
       → NodeFits m h n (ReplicaHolds m old.node old.store h.genesis n) (disks old.store) → InputFits h i
       → IfGoesOn r (λ notes. LeavesFit m h n (ReplicaHolds m new.node new.store h.genesis n)
       (disks new.store) notes (batch_of n letters))
+  -- however it ends, and whatever it restarted from, each image that a stop may leave covers what the letters say,
+  -- since that was synced before they were given
   pub syncs : (genesis : Genesis) (n : ℕ) (x : NodeMessage) → ReplicaRemembers old.node old.store genesis n
       → (d : Datagram) → Contains (batch_of n letters) d → Spells (said_by genesis n x) d.bytes
       → AllCover m genesis n (disks new.store) x
 
--- a call failed with the fault of this number, for its cause: 7 exactly if the device has failed once more, 11 only
--- after an earlier error, after which there is no other, or if no generation is left, or only one and a rebase was due
--- (a call rebases at most twice); and 14 exactly if the node has halted. It has ended the replica, unless it reports a
--- lost datagram; its store has switched files only by a rebase that was due; and if no call of the device has failed,
--- the files are unchanged, or as that rebase left them. `Honest` says that its device does what its contract says, and
--- `Metered` that it counts its calls
+-- A call failed with the fault of this number, for its cause. `Honest` says that its device does what its contract
+-- says, and `Metered` that it counts its calls.
 pub record IsRefused (Honest Metered : Type 0) (old new : ReplicaValue) (number : ℕ) : Type 0 where
   pub told : IsNumberOfCalls number
+  -- 7 exactly if the device has failed once more
   pub failures : new.store.failures ≡ failures_by number old.store.failures
   pub calls : Metered → Honest → RefusedAfter number old.store.meter new.store.meter
+  -- 11 only after an earlier error, or if no generation is left, or only one and a rebase was due: a call rebases at
+  -- most twice
   pub earlier : number ≡ 11 → old.failed ≡ false → old.store.failed ≡ false → old.store.generation + 1 < max_count → ⊥
   pub second : Honest → number ≡ 11 → old.failed ≡ false → old.store.failed ≡ false → old.store.generation < max_count
       → IsDue old.node old.store
+  -- after an error there is no other, and nothing changes
   pub once : old.failed ≡ true → (number ≡ 11) × (new ≡ old)
+  -- it has ended the replica, unless it reports a lost datagram
   pub ends : (number ≡ 15 → ⊥) → new.failed ≡ true
+  -- its store has switched files only by a rebase that was due
   pub file : Honest → (number ≡ 15 → ⊥) → KeepsOrSwitchesFiles old.node old.store new.store
+  -- if no call of the device has failed, the files are unchanged, or as that rebase left them
   pub stays : Honest → (number ≡ 7 → ⊥) → (number ≡ 15 → ⊥) → AreLeft old.node old.store new.store
+  -- 14 exactly if the node has halted
   pub halts : number ≡ 14 → new.node.halted ≡ true
   pub awake : old.node.halted ≡ false → (number ≡ 14 → ⊥) → new.node.halted ≡ false
 

@@ -4,11 +4,11 @@ ghost use Rattle.lk_types.specs.Limits.{max_base, max_count};
 ghost use Rattle.lk_log.specs.StoreValue.{disks};
 ghost use Rattle.lk_replica.specs.Compacted.{IsNotCompacted};
 ghost use Rattle.lk_recovery.specs.Rebased.{StandsOnBase, HasSwitchedFiles, LeavesDisks};
-ghost use Rattle.lk_node_io.specs.Faults.{fault_number, RaisesFailures};
+ghost use Rattle.lk_node_interface.specs.Faults.{fault_number, RaisesFailures};
 
 use crate::replica::Replica;
 use lk_disk::LogDisk;
-use lk_node_io::ReplicaFault;
+use lk_node_interface::ReplicaFault;
 use lk_recovery::write_base;
 use lk_state::Machine;
 

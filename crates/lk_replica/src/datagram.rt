@@ -1,5 +1,5 @@
 // A datagram of a world of replicas.
-use lk_agreement::Party;
+use lk_agreement_laws::Party;
 use std::marker::Model;
 
 /// A datagram: its sender, its recipient, and its bytes.
@@ -11,7 +11,7 @@ pub struct Datagram {
 }
 
 impl Model for Datagram {
-    ghost use Rattle.lk_agreement.specs.Datagrams.{Datagram};
+    ghost use Rattle.lk_agreement_laws.specs.Datagrams.{Datagram};
 
     ghost Value = { Datagram };
 

@@ -3,7 +3,7 @@ ghost use Rattle.std.specs.Prelude.{◌≡◌, ◌≢◌, ℕ, true, false, [], 
 ghost use Rattle.lk_disk.specs.Disk.{one_more};
 ghost use Rattle.lk_replica.specs.Posts.{CarriesAll, SendsSome, more_by};
 
-use lk_node_io::{Letter, Post, SendFault};
+use lk_node_interface::{Letter, Post, SendFault};
 
 // Gives a letter to the post. Returns whether it was sent; if not, it is lost.
 fn is_sent<P: Post>(letter: &Letter, post: &mut P) -> bool

@@ -9,23 +9,25 @@ ghost use Rattle.lk_log.specs.Rooms.{StaysWithin};
 ghost use Rattle.lk_log.specs.StoreValue.{disks};
 ghost use Rattle.lk_log.specs.Stores.{HoldsEntries, KeepsAtLeast, KeepsItsFile};
 ghost use Rattle.lk_messages.specs.Grammar.{Spells};
-ghost use Rattle.lk_agreement.specs.Datagrams.{NodeMessage, Datagram as DatagramValue, said_by};
-ghost use Rattle.lk_node_io.specs.Letters.{LetterValue, batch_of};
+ghost use Rattle.lk_agreement_laws.specs.Datagrams.{NodeMessage, Datagram as DatagramValue, said_by};
+ghost use Rattle.lk_node_interface.specs.Letters.{LetterValue, batch_of};
 ghost use Rattle.lk_node.specs.Calls.{InputFits, NodeFits};
 ghost use Rattle.lk_node.specs.Executing.{NothingToRun};
 ghost use Rattle.lk_node.specs.Histories.{History, Genesis};
 ghost use Rattle.lk_node.specs.Keeping.{ReplicaHolds};
 ghost use Rattle.lk_node.specs.Leavings.{DisksFit, AllCover};
-ghost use Rattle.lk_node_io.specs.Faults.{RaisesFailures, fault_number};
+ghost use Rattle.lk_node_interface.specs.Faults.{RaisesFailures, fault_number};
 ghost use Rattle.lk_replica.specs.Groups.{Adds, IsCovered, LeavesInGroup, KeepsGroup, MakesRoom, StepsToFile};
 ghost use Rattle.lk_replica.specs.Groups.{IsGathered, IsSettled, IsRefusedInGroup, settle_calls, as_sent};
 ghost use Rattle.lk_replica.specs.Groups.{needs_sync_after, with_step, Settles, RemembersInGroup, GroupFits};
 ghost use Rattle.lk_replica.specs.Groups.{GroupLeavesFit};
+ghost use Rattle.lk_replica.specs.Groups.{StepKeepsGroup, StepLeavesInGroup};
 ghost use Rattle.lk_replica.specs.Groups.{GroupStays, FitsOnceSynced, LeavesFitOnceSynced};
 ghost use Rattle.lk_replica.specs.Posts.{AreOf, CarriesAll, TellsSends};
 ghost use Rattle.lk_recovery.specs.Rebased.{IsNotWritten, StaysAlive};
 ghost use Rattle.lk_recovery.specs.Rooms.{GrowsFromBase, max_after};
 ghost use Rattle.lk_replica.specs.Taking.{IsCutShort};
+ghost use Rattle.lk_replica.specs.Writing.{HasGathered, StaysWritten, LeavesGathered, IsNotGathered};
 
 use crate::delivering::deliver;
 use crate::replica::Replica;
@@ -33,7 +35,7 @@ use crate::taken::Step;
 use lk_disk::LogDisk;
 use lk_log::Store;
 use lk_node::Node;
-use lk_node_io::{Input, Letter, Note, Outbox, Post, ReplicaFault, SendFault};
+use lk_node_interface::{Input, Letter, Note, Outbox, Post, ReplicaFault, SendFault};
 use lk_recovery::{is_rebase_due, write_base};
 use lk_state::Machine;
 use lk_types::NoMemory;
@@ -165,6 +167,33 @@ pub fn sync_if_waiting<D: LogDisk + Drop>(
     Ok(())
 }
 
+// Writes the entries of an outbox of the node, unsynced; or, if it asks for a rebase, the node's Base in their place,
+// after a sync if something waits for one. Sends nothing.
+fn write_to_file<M: Machine, D: LogDisk + Drop>(
+    node: &mut Node<M>,
+    store: &mut Store<D>,
+    outbox: &Outbox,
+    needs_sync: bool,
+) -> Result<(), ReplicaFault>
+    requires { store.old.format ≡ 2 }
+    ensures done { D.is_honest
+        → OnOk result (HasGathered M.meaning D.is_metered node.old store.old needs_sync outbox.now node.new store.new) }
+    ensures goes { OnOk result (StaysWritten node.old store.old outbox.now node.new store.new) }
+    ensures disks { D.is_honest → LeavesGathered M.meaning node.old store.old needs_sync outbox.now store.new }
+    ensures refused { IfErr result (IsNotGathered D.is_honest D.is_metered store.old store.new) }
+    ensures wakes { node.new.halted ≡ node.old.halted }
+    ensures format { store.new.format ≡ 2 }
+    ensures cause { RaisesFailures store.old.failures store.new.failures result }
+{
+    if outbox.rebase {
+        sync_if_waiting(store, needs_sync)?;
+        write_base(node, store)?;
+        return Ok(());
+    }
+    store.put(&outbox.entries, false)?;
+    Ok(())
+}
+
 // Gives an input to the node, and writes the entries of its outbox unsynced; or, if the outbox asks for a rebase (a
 // snapshot was installed), the node's Base in their place, after a sync if something waits for one. Sends nothing.
 fn step_to_file<M: Machine, D: LogDisk + Drop>(
@@ -174,39 +203,13 @@ fn step_to_file<M: Machine, D: LogDisk + Drop>(
     needs_sync: bool,
 ) -> Result<Outbox, ReplicaFault>
     requires { store.old.format ≡ 2 }
-    // In each history that contains what the group has said so far, the step is permitted its notes and letters.
-    ensures goes { D.is_honest → (h : History) (n : ℕ) → GroupFits M.meaning h n node.old store.old needs_sync
-        → InputFits h input.entry
-        → IfOk result (λ o. (sent : List LetterValue) → AreOf sent o.letters
-        → GroupLeavesFit M.meaning h n node.new store.new (needs_sync_after needs_sync o) o.notes (batch_of n sent)) }
-    // In each history that contains nothing of it, whatever a stop may leave fits, however it ends.
-    ensures ends { D.is_honest → (h : History) (n : ℕ) → GroupStays M.meaning h n node.old store.old needs_sync
-        → InputFits h input.entry → DisksFit M.meaning h n (disks store.new) }
-    ensures stays { D.is_honest → (h : History) (n : ℕ) → GroupStays M.meaning h n node.old store.old needs_sync
-        → InputFits h input.entry
-        → IfOk result (λ o. GroupStays M.meaning h n node.new store.new (needs_sync_after needs_sync o)) }
-    // Once everything that waits is synced, the step's letters are covered, and whatever was covered still is.
-    ensures syncs { D.is_honest → (genesis : Genesis) (n : ℕ) (x : NodeMessage)
-        → RemembersInGroup node.old store.old needs_sync genesis n
-        → IfOk result (λ o. (d : DatagramValue) → Contains (batch_of n o.letters) d
-        → Spells (said_by genesis n x) d.bytes
-        → AllCover M.meaning genesis n (disks (as_sent (needs_sync_after needs_sync o) store.new)) x) }
-    ensures still { D.is_honest → (genesis : Genesis) (n : ℕ) (x : NodeMessage)
-        → RemembersInGroup node.old store.old needs_sync genesis n
-        → AllCover M.meaning genesis n (disks (as_sent needs_sync store.old)) x
-        → IfOk result (λ o. AllCover M.meaning genesis n
-        (disks (as_sent (needs_sync_after needs_sync o) store.new)) x) }
-    // However it ends, whatever was covered still is.
-    ensures covers { D.is_honest → (genesis : Genesis) (n : ℕ) (x : NodeMessage)
-        → RemembersInGroup node.old store.old needs_sync genesis n → AllCover M.meaning genesis n (disks store.old) x
-        → AllCover M.meaning genesis n (disks store.new) x }
-    ensures recalls { D.is_honest → (genesis : Genesis) (n : ℕ)
-        → RemembersInGroup node.old store.old needs_sync genesis n
-        → IfOk result (λ o. RemembersInGroup node.new store.new (needs_sync_after needs_sync o) genesis n) }
+    ensures keeps { D.is_honest
+        → IfOk result (λ o. StepKeepsGroup M.meaning
+        (λ h. InputFits h input.entry) node.old store.old needs_sync o node.new store.new) }
+    ensures disks { D.is_honest
+        → StepLeavesInGroup M.meaning
+        (λ h. InputFits h input.entry) max_after node.old store.old needs_sync (disks store.new) }
     ensures runs { NothingToRun node.old → OnOk result (NothingToRun node.new) }
-    ensures room { D.is_honest → length (contents store.old.live_disk) < 131072
-        → StaysWithin max_after (disks store.old) (disks store.new) }
-    ensures grows { D.is_honest → GrowsFromBase (disks store.old) (disks store.new) }
     ensures exact { D.is_honest
         → IfOk result (λ o. StepsToFile M.meaning M.IsText D.is_metered node.old store.old needs_sync
         input.entry o node.new store.new) }
@@ -218,12 +221,7 @@ fn step_to_file<M: Machine, D: LogDisk + Drop>(
     ensures cause { RaisesFailures store.old.failures store.new.failures result }
 {
     let outbox = node.step(input)?;
-    if outbox.rebase {
-        sync_if_waiting(store, needs_sync)?;
-        write_base(node, store)?;
-        return Ok(outbox);
-    }
-    store.put(&outbox.entries, false)?;
+    write_to_file(node, store, &outbox, needs_sync)?;
     Ok(outbox)
 }
 

@@ -1,4 +1,5 @@
-//! A replica: a node that saves whatever it sends before it sends it, and restarts from what a stop has left.
+//! A replica: a node on a store. It saves each promise and vote before it sends anything that rests on it, and restarts
+//! from what a stop has left.
 #![tactic(auto)]
 
 mod compacting;

@@ -1,10 +1,10 @@
 // A post in memory, which keeps the letters that it is given.
 ghost use Rattle.std.specs.Prelude.{◌≡◌, ◌∷◌, ◌++◌, [], IfOk, OnOk, OnErr};
-ghost use Rattle.lk_node_io.specs.Letters.{LetterValue, party_of, datagram_of, batch_of};
+ghost use Rattle.lk_node_interface.specs.Letters.{LetterValue, party_of, datagram_of, batch_of};
 
 use crate::datagram::Datagram;
-use lk_agreement::Party;
-use lk_node_io::{Letter, Post, SendFault, To};
+use lk_agreement_laws::Party;
+use lk_node_interface::{Letter, Post, SendFault, To};
 use lk_types::{NoMemory, NodeNo};
 use std::alloc::Global;
 use std::marker::Model;

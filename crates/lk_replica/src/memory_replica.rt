@@ -2,7 +2,7 @@
 ghost use Rattle.std.specs.Prelude.{◌≡◌, ℕ, [], map, Contains, Ok, Err, IfOk, IfErr, OnOk, OnErr};
 ghost use Rattle.std.specs.List.{AllByRecursion};
 ghost use Rattle.lk_types.specs.Limits.{max_base};
-ghost use Rattle.lk_simulated_disk.specs.Memory.{disk_of};
+ghost use Rattle.lk_memory_disk.specs.Memory.{disk_of};
 ghost use Rattle.lk_disk.specs.Meters.{Passes};
 ghost use Rattle.lk_disk.specs.declared.trap.Trap.{Trap as TrapValue};
 ghost use Rattle.lk_log.specs.Causes.{rebase_calls};
@@ -10,22 +10,23 @@ ghost use Rattle.lk_log.specs.Rooms.{StaysWithin};
 ghost use Rattle.lk_state.specs.Meanings.{Meaning};
 ghost use Rattle.lk_state.specs.States.{WholeValue, SumsUp};
 ghost use Rattle.lk_messages.specs.Grammar.{Spells};
-ghost use Rattle.lk_agreement.specs.Datagrams.{NodeMessage, Datagram as DatagramValue, said_by};
+ghost use Rattle.lk_agreement_laws.specs.Datagrams.{NodeMessage, Datagram as DatagramValue, said_by};
 ghost use Rattle.lk_node.specs.Histories.{History, Genesis, IsLawful};
 ghost use Rattle.lk_node.specs.Holdings.{Holding};
 ghost use Rattle.lk_node.specs.Leavings.{header_of, DisksFit, AllCover};
 ghost use Rattle.lk_node.specs.Calls.{heard_by, InputFits, NodeFits, LeavesFit};
 ghost use Rattle.lk_replica.specs.Behaviours.{Behaviour, TrapsAlone, disks_by};
-ghost use Rattle.lk_node_io.specs.Faults.{IsStoreFault, fault_number, RefusedAfter, IsNumberOfCalls, IsNumberOfRevival};
+ghost use Rattle.lk_node_interface.specs.Faults.{IsStoreFault, fault_number, RefusedAfter, IsNumberOfCalls};
+ghost use Rattle.lk_node_interface.specs.Faults.{IsNumberOfRevival};
 ghost use Rattle.lk_recovery.specs.Compacting.{AllStandAt};
 ghost use Rattle.lk_recovery.specs.Rooms.{max_after};
 ghost use Rattle.lk_replica.specs.Together.{EachLeavesFit, said_in, sent_of};
 
 use crate::taken::{Taken, TakenAll};
 use lk_disk::Trap;
-use lk_node_io::{Input, Note, ReplicaFault};
+use lk_memory_disk::MemoryDisk;
+use lk_node_interface::{Input, Note, ReplicaFault};
 use lk_recovery::ReviveFault;
-use lk_simulated_disk::MemoryDisk;
 use lk_store_format::Header;
 use std::alloc::Global;
 

@@ -6,11 +6,11 @@ ghost use Rattle.lk_disk.specs.declared.device.Side.{Side};
 ghost use Rattle.lk_disk.specs.Meters.{trapped};
 ghost use Rattle.lk_log.specs.StoreValue.{StoreValue, disks};
 ghost use Rattle.lk_log.specs.Stores.{KeepsItsFile};
-ghost use Rattle.lk_node_io.specs.Letters.{LetterValue, batch_of};
+ghost use Rattle.lk_node_interface.specs.Letters.{LetterValue, batch_of};
 ghost use Rattle.lk_node.specs.NodeValue.{NodeValue};
 ghost use Rattle.lk_recovery.specs.Compacting.{AreLeft, AreSame, IsDue, KeepsOrSwitchesFiles, RebasesWhereDue};
 ghost use Rattle.lk_messages.specs.Grammar.{Spells};
-ghost use Rattle.lk_agreement.specs.Datagrams.{NodeMessage, Datagram as DatagramValue, said_by};
+ghost use Rattle.lk_agreement_laws.specs.Datagrams.{NodeMessage, Datagram as DatagramValue, said_by};
 ghost use Rattle.lk_node.specs.Calls.{InputFits, NodeFits, LeavesFit};
 ghost use Rattle.lk_node.specs.Executing.{NothingToRun};
 ghost use Rattle.lk_node.specs.Histories.{History, Genesis};
@@ -20,8 +20,9 @@ ghost use Rattle.lk_replica.specs.Posts.{AreOf, GivesLetters, SendsAs, RefusesSe
 ghost use Rattle.lk_node.specs.Steps.{Steps};
 ghost use Rattle.lk_replica.specs.Taking.{Writes, CallsOfStep, GivesBy, IsRefused, IsCutShort, StaysUp, StepsOn};
 ghost use Rattle.lk_replica.specs.Taking.{StepsToDisk, StepLeavesDisks};
-ghost use Rattle.lk_recovery.specs.Rebased.{LeavesDisks};
-ghost use Rattle.lk_node_io.specs.Faults.{fault_number, RaisesFailures, IfGoesOn, WantsNoMemory};
+ghost use Rattle.lk_recovery.specs.Rebased.{LeavesDisks, IsNotWritten};
+ghost use Rattle.lk_replica.specs.Writing.{HasWritten, StaysWritten, LeavesWritten};
+ghost use Rattle.lk_node_interface.specs.Faults.{fault_number, RaisesFailures, IfGoesOn, WantsNoMemory};
 ghost use Rattle.lk_recovery.specs.Remembering.{ReplicaRemembers};
 ghost use Rattle.lk_recovery.specs.Rooms.{max_after};
 
@@ -29,7 +30,7 @@ use crate::delivering::deliver;
 use lk_disk::{LogDisk, Trap, Trapped};
 use lk_log::Store;
 use lk_node::Node;
-use lk_node_io::{Input, Note, Outbox, Post, ReplicaFault, SendFault};
+use lk_node_interface::{Input, Note, Outbox, Post, ReplicaFault, SendFault};
 use lk_recovery::{rebase_if_due, write_base};
 use lk_state::Machine;
 use std::alloc::Global;
@@ -184,6 +185,33 @@ impl<M: Machine, D: Trapped + Drop> Replica<M, D> {
 }
 
 #[tactic(auto, using(crate::proofs::NoSend::store_never_sends))]
+// Writes the entries of an outbox of the node, synced if the outbox asks for that; or, if it asks for a rebase, the
+// node's Base in their place. Sends nothing.
+fn write_to_disk<M: Machine, D: LogDisk + Drop>(
+    node: &mut Node<M>,
+    store: &mut Store<D>,
+    outbox: &Outbox,
+) -> Result<(), ReplicaFault>
+    requires { store.old.format ≡ 2 }
+    ensures done { D.is_honest
+        → OnOk result (HasWritten M.meaning D.is_metered node.old store.old outbox.now node.new store.new) }
+    ensures goes { OnOk result (StaysWritten node.old store.old outbox.now node.new store.new) }
+    ensures disks { D.is_honest → LeavesWritten M.meaning node.old store.old outbox.now store.new }
+    ensures refused { IfErr result (IsNotWritten D.is_honest D.is_metered store.old store.new) }
+    ensures wakes { node.new.halted ≡ node.old.halted }
+    ensures format { store.new.format ≡ 2 }
+    ensures last { max_count ≤ store.old.generation → OnOk result (outbox.now.rebase ≡ false) }
+    ensures cause { RaisesFailures store.old.failures store.new.failures result }
+{
+    if outbox.rebase {
+        write_base(node, store)?;
+        return Ok(());
+    }
+    store.put(&outbox.entries, outbox.sync)?;
+    Ok(())
+}
+
+#[tactic(auto, using(crate::proofs::NoSend::store_never_sends))]
 // Gives an input to the node, and writes the entries of its outbox, synced if the outbox asks for that; or, if it asks
 // for a rebase (a snapshot was installed), the node's Base in their place. Sends nothing.
 fn step_to_disk<M: Machine, D: LogDisk + Drop>(
@@ -218,11 +246,7 @@ fn step_to_disk<M: Machine, D: LogDisk + Drop>(
     ensures cause { RaisesFailures store.old.failures store.new.failures result }
 {
     let outbox = node.step(input)?;
-    if outbox.rebase {
-        write_base(node, store)?;
-        return Ok(outbox);
-    }
-    store.put(&outbox.entries, outbox.sync)?;
+    write_to_disk(node, store, &outbox)?;
     Ok(outbox)
 }
 

@@ -1,6 +1,6 @@
 // The results of calls that take inputs.
 use crate::datagram::Datagram;
-use lk_node_io::Note;
+use lk_node_interface::Note;
 
 /// The result of a call that takes one input: its notes, and the datagrams that it sent, in order.
 #[derive(Drop)]

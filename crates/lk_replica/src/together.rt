@@ -1,7 +1,7 @@
-// Parts of a group whose letters the caller sends: keeping the result of each step, and the sync at the end.
+// Parts of a group: keeping the result of each step, and the sync at the end.
 ghost use Rattle.std.specs.Prelude.{◌≡◌, ◌∷◌, ◌++◌, [], false, IfErr, OnOk, ⊤};
 ghost use Rattle.lk_log.specs.StoreValue.{disks};
-ghost use Rattle.lk_node_io.specs.Faults.{RaisesFailures, fault_number};
+ghost use Rattle.lk_node_interface.specs.Faults.{RaisesFailures, fault_number};
 ghost use Rattle.lk_replica.specs.Groups.{IsRefusedInGroup, IsSettled, LeavesInGroup};
 ghost use Rattle.lk_replica.specs.Together.{IsNotKept};
 
@@ -9,7 +9,7 @@ use crate::grouping::sync_if_waiting;
 use crate::replica::Replica;
 use crate::taken::Step;
 use lk_disk::LogDisk;
-use lk_node_io::ReplicaFault;
+use lk_node_interface::ReplicaFault;
 use lk_state::Machine;
 
 impl<M: Machine, D: LogDisk + Drop> Replica<M, D> {

@@ -27,8 +27,8 @@ use Rattle.lk_state.proofs.Wholes.{last_is_replied, replies_stand}
 use Rattle.lk_locks.specs.Lists.{table_of, table_answer}
 use Rattle.lk_locks.specs.Meaning.{table_meaning}
 use Rattle.lk_locks.proofs.Tables.{answer-text_of}
-use Rattle.lk_node_io.specs.KeptReplies.{kept_reply}
-use Rattle.lk_node_io.proofs.ReplyLaws.{answer_same, passed_same}
+use Rattle.lk_node_interface.specs.KeptReplies.{kept_reply}
+use Rattle.lk_node_interface.proofs.ReplyLaws.{answer_same, passed_same}
 use Rattle.lk_script.specs.Replies.{IsReply, with_request}
 use Rattle.lk_script.specs.TableMode.{is_for_table, Replies}
 use Rattle.lk_script.specs.TableMode.Replies.{answers, passes}

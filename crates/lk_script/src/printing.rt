@@ -3,8 +3,8 @@
 ghost use Rattle.std.specs.Prelude.{◌≡◌, ◌++◌, OnOk};
 ghost use Rattle.lk_script.specs.Worlds.{refusal_name, refused_line};
 
-use lk_agreement::Party;
-use lk_node_io::Note;
+use lk_agreement_laws::Party;
+use lk_node_interface::Note;
 use lk_replica::Datagram;
 use lk_sim::{End, Refused};
 use lk_types::{Command, NoMemory, NodeNo, Position};

@@ -11,7 +11,7 @@ ghost use Rattle.lk_script.specs.TableMode.{from_client, is_request_to, is_for_t
 
 use crate::buffers::Buffers;
 use lk_locks::LockTable;
-use lk_node_io::kept_reply;
+use lk_node_interface::kept_reply;
 use lk_script_lines::fault::LineFault;
 use lk_script_lines::hex_line::read_bytes;
 use lk_state::Whole;

@@ -6,10 +6,10 @@ use Rattle.lk_types.specs.Limits.{max_count}
 use Rattle.std.proofs.lemmas.Fmt.{decimal_by_steps}
 use Rattle.std.proofs.lemmas.Grind.{common_steps}
 use Rattle.std.proofs.lemmas.List.Folds.{list_any-append}
-use Rattle.lk_parsers.specs.Words.{HasNo, HasNoSpace}
-use Rattle.lk_parsers.proofs.Splits.{one_parting, has_sign, number_has_no_space}
-use Rattle.lk_sim.specs.declared.event.Turn.{Turn}
-use Rattle.lk_sim.specs.declared.event.Turn.TheVariants as turn
+use Rattle.lk_word_parsers.specs.Words.{HasNo, HasNoSpace}
+use Rattle.lk_word_parsers.proofs.Splits.{one_parting, has_sign, number_has_no_space}
+use Rattle.lk_sim.specs.declared.event.GroupInput.{GroupInput}
+use Rattle.lk_sim.specs.declared.event.GroupInput.TheVariants as turn
 use Rattle.lk_script_lines.specs.WorldLines.{IsTurnWord, SpellsTurns}
 use Rattle.lk_script_lines.specs.WorldLines.SpellsTurns.{one, more}
 use Rattle.lk_script_lines.proofs.WordLaws.{word_once}
@@ -29,7 +29,7 @@ no_tick k is =
     let one : HasNo 116 (116 ∷ []) = subst (HasNo 116) (sym is.2) (number_has_no_t k (omega (arith, is.1))) in cc one
 
 -- a word tells one part
-turn_once : (t u : Turn) (word : List ℕ) → IsTurnWord t word → IsTurnWord u word → t ≡ u
+turn_once : (t u : GroupInput) (word : List ℕ) → IsTurnWord t word → IsTurnWord u word → t ≡ u
 turn_once turn.Tick turn.Tick word a b = refl
 turn_once turn.Tick (turn.Deliver k) word a b = absurd (no_tick k (subst (IsTurnWord (turn.Deliver k)) a b))
 turn_once (turn.Deliver k) turn.Tick word a b = absurd (no_tick k (subst (IsTurnWord (turn.Deliver k)) b a))
@@ -37,22 +37,24 @@ turn_once (turn.Deliver k) (turn.Deliver j) word a b =
     ap turn.Deliver (word_once 1 max_count k j word (omega arith) a b)
 
 -- the parts read so far, and the words left
-abbrev pub ReadSoFar : List ℕ → List Turn → List ℕ → Type 0
-ReadSoFar words turns rest = ((others : List Turn) → SpellsTurns rest others → SpellsTurns words (turns ++ others))
-    × ((all : List Turn) → SpellsTurns words all
-    → (others : List Turn) × (all ≡ turns ++ others) × SpellsTurns rest others)
+abbrev pub ReadSoFar : List ℕ → List GroupInput → List ℕ → Type 0
+ReadSoFar words turns rest = ((others : List GroupInput) → SpellsTurns rest others
+    → SpellsTurns words (turns ++ others))
+    × ((all : List GroupInput) → SpellsTurns words all
+    → (others : List GroupInput) × (all ≡ turns ++ others) × SpellsTurns rest others)
 
 pub nothing_read : (words : List ℕ) → ReadSoFar words [] words
 nothing_read words = (λ others is. is, λ all is. (all, refl, is))
 
-turn_has_no_space : (t : Turn) (word : List ℕ) → IsTurnWord t word → HasNoSpace word
+turn_has_no_space : (t : GroupInput) (word : List ℕ) → IsTurnWord t word → HasNoSpace word
 turn_has_no_space turn.Tick word is = subst HasNoSpace (sym is) refl
 turn_has_no_space (turn.Deliver k) word is = subst HasNoSpace (sym is.2) (number_has_no_space k (omega (arith, is.1)))
 
 -- the first of several
-first_turn : (words word behind : List ℕ) (turns : List Turn) → HasNoSpace word → words ≡ word ++ 32 ∷ behind
+first_turn : (words word behind : List ℕ) (turns : List GroupInput) → HasNoSpace word → words ≡ word ++ 32 ∷ behind
     → SpellsTurns words turns
-    → (t : Turn) × (others : List Turn) × (turns ≡ t ∷ others) × IsTurnWord t word × SpellsTurns behind others
+    → (t : GroupInput) × (others : List GroupInput) × (turns ≡ t ∷ others) × IsTurnWord t word
+    × SpellsTurns behind others
 first_turn words word behind _ free e (one t _ is) =
     absurd (has_sign 32 word behind (subst HasNoSpace e (turn_has_no_space t words is)))
 first_turn _ word behind _ free e (more t w rest turns is spelled) =
@@ -60,14 +62,14 @@ first_turn _ word behind _ free e (more t w rest turns is spelled) =
     (t, turns, refl, subst (IsTurnWord t) parts.0 is, subst (λ (l : List ℕ). SpellsTurns l turns) parts.1 spelled)
 
 -- the last one
-last_turn : (words : List ℕ) (turns : List Turn) → HasNoSpace words → SpellsTurns words turns
-    → (t : Turn) × (turns ≡ t ∷ []) × IsTurnWord t words
+last_turn : (words : List ℕ) (turns : List GroupInput) → HasNoSpace words → SpellsTurns words turns
+    → (t : GroupInput) × (turns ≡ t ∷ []) × IsTurnWord t words
 last_turn words _ free (one t _ is) = (t, refl, is)
 last_turn _ _ free (more t w rest turns is spelled) = absurd (has_sign 32 w rest free)
 
 -- ---- reading them one by one
 
-pub one_read : (words rest word behind : List ℕ) (turns : List Turn) (t : Turn) → HasNoSpace word
+pub one_read : (words rest word behind : List ℕ) (turns : List GroupInput) (t : GroupInput) → HasNoSpace word
     → rest ≡ word ++ 32 ∷ behind → IsTurnWord t word → ReadSoFar words turns rest
     → ReadSoFar words (turns ++ t ∷ []) behind
 one_read words rest word behind turns t free e is so_far = (
@@ -78,24 +80,25 @@ one_read words rest word behind turns t free e is so_far = (
       let left = so_far.1 all spelled in
       let first = first_turn rest word behind left.0 free e left.2 in
       let same : first.0 ≡ t = turn_once first.0 t word first.3 is in
-      let others : left.0 ≡ t ∷ first.1 = first.2 ∙ ap (λ (x : Turn). x ∷ first.1) same in (
+      let others : left.0 ≡ t ∷ first.1 = first.2 ∙ ap (λ (x : GroupInput). x ∷ first.1) same in (
         first.1,
-        left.1 ∙ ap (λ (xs : List Turn). turns ++ xs) others ∙ sym (append_assoc turns (t ∷ []) first.1),
+        left.1 ∙ ap (λ (xs : List GroupInput). turns ++ xs) others ∙ sym (append_assoc turns (t ∷ []) first.1),
         first.4,
       ),
 )
 
 -- a word that tells no part
-pub no_turn : (words rest word behind : List ℕ) (turns : List Turn) → HasNoSpace word → rest ≡ word ++ 32 ∷ behind
-    → ((t : Turn) → IsTurnWord t word → ⊥)
-    → ReadSoFar words turns rest → (all : List Turn) → SpellsTurns words all → ⊥
+pub no_turn : (words rest word behind : List ℕ) (turns : List GroupInput) → HasNoSpace word → rest ≡ word ++ 32 ∷ behind
+    → ((t : GroupInput) → IsTurnWord t word → ⊥)
+    → ReadSoFar words turns rest → (all : List GroupInput) → SpellsTurns words all → ⊥
 no_turn words rest word behind turns free e none so_far all spelled =
     let left = so_far.1 all spelled in
     let first = first_turn rest word behind left.0 free e left.2 in
     none first.0 first.3
 
-pub no_last : (words rest : List ℕ) (turns : List Turn) → HasNoSpace rest → ((t : Turn) → IsTurnWord t rest → ⊥)
-    → ReadSoFar words turns rest → (all : List Turn) → SpellsTurns words all → ⊥
+pub no_last : (words rest : List ℕ) (turns : List GroupInput) → HasNoSpace rest → ((t : GroupInput)
+    → IsTurnWord t rest → ⊥)
+    → ReadSoFar words turns rest → (all : List GroupInput) → SpellsTurns words all → ⊥
 no_last words rest turns free none so_far all spelled =
     let left = so_far.1 all spelled in
     let alone = last_turn rest left.0 free left.2 in

@@ -2,8 +2,8 @@
 use Rattle.std.proofs.Common.{◌≡◌, ℕ, ◌<◌, ◌^◌, List, sym, subst, ◌∙◌, arith}
 use Rattle.std.specs.Fmt.{decimal}
 use Rattle.std.proofs.lemmas.Fmt.{decimal_injective}
-use Rattle.lk_parsers.specs.Words.{HasNoSpace}
-use Rattle.lk_parsers.proofs.Splits.{has_space, number_has_no_space, one_number_behind}
+use Rattle.lk_word_parsers.specs.Words.{HasNoSpace}
+use Rattle.lk_word_parsers.proofs.Splits.{has_space, number_has_no_space, one_number_behind}
 use Rattle.lk_script_lines.specs.WorldLines.{IsWord, Leads}
 
 -- a word tells one number

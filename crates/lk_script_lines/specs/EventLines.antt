@@ -6,8 +6,8 @@ use Rattle.lk_types.specs.declared.command.Op.{Op}
 use Rattle.lk_types.specs.declared.command.Op.TheVariants.{Table, Join, Leave, Raise}
 use Rattle.lk_sim.specs.declared.event.Event.{Event}
 use Rattle.lk_sim.specs.declared.event.Event.TheVariants as event
-use Rattle.lk_sim.specs.declared.event.Turn.{Turn}
-use Rattle.lk_sim.specs.declared.event.Turn.TheVariants as turn
+use Rattle.lk_sim.specs.declared.event.GroupInput.{GroupInput}
+use Rattle.lk_sim.specs.declared.event.GroupInput.TheVariants as turn
 
 -- numbers, each after a space
 abbrev pub then_numbers : List ℕ → List ℕ
@@ -22,7 +22,7 @@ op_words (Leave node) = codes "leave" ++ then_numbers (node ∷ [])
 op_words Raise = codes "raise" ++ then_numbers (2 ∷ [])
 
 -- the turns of a group, each after a space
-abbrev pub then_turns : List Turn → List ℕ
+abbrev pub then_turns : List GroupInput → List ℕ
 then_turns [] = []
 then_turns (turn.Tick ∷ turns) = codes " t" ++ then_turns turns
 then_turns (turn.Deliver k ∷ turns) = then_numbers (k ∷ []) ++ then_turns turns

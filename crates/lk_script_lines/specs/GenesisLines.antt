@@ -2,7 +2,7 @@
 use Rattle.std.specs.Prelude.{◌≡◌, ℕ, None, List, ◌∷◌, ◌++◌, codes}
 use Rattle.lk_types.specs.Genesis.{genesis_fault}
 use Rattle.lk_types.specs.declared.member.Member.{Member}
-use Rattle.lk_parsers.specs.Geneses.{SpellsMembers}
+use Rattle.lk_word_parsers.specs.Geneses.{SpellsMembers}
 use Rattle.lk_script_lines.specs.WorldLines.{Leads}
 
 -- `CLUSTER ALPHA NODE:PORT ..`

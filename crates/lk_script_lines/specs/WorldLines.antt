@@ -4,11 +4,11 @@ use Rattle.std.specs.Fmt.{decimal}
 use Rattle.hex.specs.Hex.{decode_of}
 use Rattle.lk_types.specs.Limits.{max_count, max_node, max_client}
 use Rattle.lk_members.specs.Effects.{RequestValue}
-use Rattle.lk_parsers.specs.Operations.{SpellsOp}
+use Rattle.lk_word_parsers.specs.Operations.{SpellsOp}
 use Rattle.lk_sim.specs.declared.event.Event.{Event}
 use Rattle.lk_sim.specs.declared.event.Event.TheVariants as event
-use Rattle.lk_sim.specs.declared.event.Turn.{Turn}
-use Rattle.lk_sim.specs.declared.event.Turn.TheVariants as turn
+use Rattle.lk_sim.specs.declared.event.GroupInput.{GroupInput}
+use Rattle.lk_sim.specs.declared.event.GroupInput.TheVariants as turn
 use Rattle.lk_script_lines.specs.declared.event_verb.EventVerb.{EventVerb}
 use Rattle.lk_script_lines.specs.declared.event_verb.EventVerb.TheVariants as verb
 use Rattle.lk_script_lines.specs.declared.instruction.Instruction.{Instruction}
@@ -53,24 +53,24 @@ abbrev pub AsksToDeliver : List ℕ → Instruction → Type 0
 AsksToDeliver words o = (k : ℕ) × IsWord 1 max_count k words × (o ≡ Once (event.Deliver k))
 
 -- `t`, or `K`
-abbrev pub IsTurnWord : Turn → List ℕ → Type 0
+abbrev pub IsTurnWord : GroupInput → List ℕ → Type 0
 IsTurnWord turn.Tick word = word ≡ codes "t"
 IsTurnWord (turn.Deliver k) word = IsWord 1 max_count k word
 
 -- parts of a group in words, one or more, separated by spaces
-pub data SpellsTurns : List ℕ → List Turn → Type 0 where
-  one : (t : Turn) (word : List ℕ) → IsTurnWord t word → SpellsTurns word (t ∷ [])
-  more : (t : Turn) (word rest : List ℕ) (turns : List Turn) → IsTurnWord t word → SpellsTurns rest turns
+pub data SpellsTurns : List ℕ → List GroupInput → Type 0 where
+  one : (t : GroupInput) (word : List ℕ) → IsTurnWord t word → SpellsTurns word (t ∷ [])
+  more : (t : GroupInput) (word rest : List ℕ) (turns : List GroupInput) → IsTurnWord t word → SpellsTurns rest turns
       → SpellsTurns (word ++ 32 ∷ rest) (t ∷ turns)
 
 -- the node takes these together
-abbrev pub Groups : ℕ → List Turn → Event → Type 0
+abbrev pub Groups : ℕ → List GroupInput → Event → Type 0
 Groups n turns (event.Group m taken) = (m ≡ n) × (taken.items ≡ turns)
 Groups n turns e = ⊥
 
 -- `N WORD ..`
 abbrev pub AsksForGroup : List ℕ → Instruction → Type 0
-AsksForGroup words o = (n : ℕ) × (rest : List ℕ) × (turns : List Turn) × (e : Event) × NodeLeads n rest words
+AsksForGroup words o = (n : ℕ) × (rest : List ℕ) × (turns : List GroupInput) × (e : Event) × NodeLeads n rest words
     × SpellsTurns rest turns × Groups n turns e × (o ≡ Once e)
 
 -- `C NUMBER OP`

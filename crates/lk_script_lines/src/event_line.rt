@@ -6,7 +6,7 @@ ghost use Rattle.hex.specs.Hex.{encode_lower};
 ghost use Rattle.lk_script_lines.specs.EventLines.{then_numbers, op_words, then_turns, line_of};
 ghost use Rattle.lk_sim.specs.declared.event.Event.TheVariants.{Client};
 
-use lk_sim::{Event, Turn};
+use lk_sim::{Event, GroupInput};
 use lk_types::{NoMemory, NodeNo, Op, Request};
 use std::alloc::{AllocError, Global};
 
@@ -87,13 +87,13 @@ fn add_client(
 }
 
 // Appends the turns of a group, each after a space: `t` for a tick, or the place of a datagram.
-fn add_turns(alloc: Global, text: &mut Vec<u8>, turns: &[Turn]) -> Result<(), NoMemory>
+fn add_turns(alloc: Global, text: &mut Vec<u8>, turns: &[GroupInput]) -> Result<(), NoMemory>
     ensures { OnOk result (text.new.items ≡ text.old.items ++ then_turns turns.now) }
 {
     for turn in turns {
         match turn {
-            Turn::Tick => add(text, " t")?,
-            Turn::Deliver(k) => add_numbers(alloc, text, &[*k as u64])?,
+            GroupInput::Tick => add(text, " t")?,
+            GroupInput::Deliver(k) => add_numbers(alloc, text, &[*k as u64])?,
         }
     }
     Ok(())

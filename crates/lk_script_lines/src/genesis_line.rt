@@ -7,10 +7,10 @@ ghost use Rattle.lk_script_lines.specs.WorldLines.{Leads};
 
 use crate::fault::LineFault;
 use crate::world_words::first_number;
-use lk_parsers::member::read_members;
-use lk_parsers::word::split_word;
 use lk_types::Genesis;
 use lk_types::limits::MAX_ALPHA;
+use lk_word_parsers::member::read_members;
+use lk_word_parsers::word::split_word;
 
 const LAST_ALPHA: u64 = MAX_ALPHA as u64;
 

@@ -16,11 +16,11 @@ use crate::fault::LineFault;
 use crate::instruction::Instruction;
 use crate::turn_words::read_turns;
 use crate::world_words::{first_number, number_of};
-use lk_parsers::operation::read_operation;
-use lk_parsers::word::split_word;
 use lk_sim::Event;
 use lk_types::limits::{MAX_CLIENT, MAX_COUNT, MAX_NODE};
 use lk_types::{ClientNo, NodeNo, Request, RequestNumber};
+use lk_word_parsers::operation::read_operation;
+use lk_word_parsers::word::split_word;
 use std::alloc::Global;
 
 const LAST_NODE: u64 = MAX_NODE as u64;

@@ -2,8 +2,8 @@
 ghost use Rattle.std.specs.Prelude.{ℕ, List, IfSome, IsNone};
 ghost use Rattle.lk_script_lines.specs.WorldLines.{IsWord, Leads};
 
-use lk_parsers::number::read_number;
-use lk_parsers::word::split_word;
+use lk_word_parsers::number::read_number;
+use lk_word_parsers::word::split_word;
 
 /// Returns the number from `least` to `most` that a word spells.
 pub fn number_of(word: &[u8], least: u64, most: u64) -> Option<u64>

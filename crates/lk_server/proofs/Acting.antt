@@ -3,12 +3,12 @@ use Rattle.std.proofs.Common.{◌≡◌, ◌∙◌, ℕ, Option, Some, None, ap,
 use Rattle.lk_probe.specs.declared.reported.Reported.{Reported}
 use Rattle.lk_transport.specs.Addresses.{AddressBook, IsSameNetwork}
 use Rattle.lk_transport.specs.Inquiring.{AsksOne, LearnsKept, ReadmitsKept}
-use Rattle.lk_transport.specs.Posts.{Tray}
+use Rattle.lk_transport.specs.Posts.{SendState}
 use Rattle.lk_transport.specs.declared.received_probe.ReceivedProbe.{ReceivedProbe}
 use Rattle.lk_server.specs.ProbeHandling.{HandlesProbes}
 use Rattle.lk_server.specs.Probes.{AnswersKept}
-use Rattle.lk_server.specs.Servers.{ServerValue, tray_at}
-use Rattle.lk_replica_interface.specs.declared.probed_state.ProbedState.{ProbedState}
+use Rattle.lk_server.specs.Servers.{ServerValue, send_state_at}
+use Rattle.lk_served_replica.specs.declared.probed_state.ProbedState.{ProbedState}
 
 -- an answer leaves what is to come
 answer_still : {R : Type 0} (Shows : R → ProbedState → Type 0) (tells : Type 0) (asked : Option ReceivedProbe)
@@ -32,7 +32,7 @@ module _ {R : Type 0} (Shows : R → ProbedState → Type 0) (tells : Type 0) (a
       → IsSameNetwork readmitted.addresses learned.addresses
       → learned ≡ record readmitted { addresses = learned.addresses }
       → now ≡ learned.ticks → AsksOne tells now learned.node learned.addresses new.addresses
-      (tray_at learned.own learned) (tray_at new.own new) → IsSameNetwork learned.addresses new.addresses
+      (send_state_at learned.own learned) (send_state_at new.own new) → IsSameNetwork learned.addresses new.addresses
       → (tells → new.incoming ≡ learned.incoming)
       → new ≡ record learned {
         addresses = new.addresses;
@@ -47,8 +47,8 @@ module _ {R : Type 0} (Shows : R → ProbedState → Type 0) (tells : Type 0) (a
       ∙ ap (λ (s : ServerValue R). record s { addresses = learned.addresses }) readmitted_so in
       let node : learned.node ≡ old.node = ap (λ (s : ServerValue R). s.node) again
       ∙ ap (λ (s : ServerValue R). s.node) answered_so in
-      let tray : tray_at learned.own learned ≡ tray_at answered.own answered =
-      ap (λ (s : ServerValue R). tray_at s.own s) again in
+      let tray : send_state_at learned.own learned ≡ send_state_at answered.own answered =
+      ap (λ (s : ServerValue R). send_state_at s.own s) again in
       let since : learned ≡ record old {
         addresses = learned.addresses;
         sent = answered.sent;
@@ -58,9 +58,9 @@ module _ {R : Type 0} (Shows : R → ProbedState → Type 0) (tells : Type 0) (a
       again ∙ ap (λ (s : ServerValue R). record s { addresses = learned.addresses }) answered_so in
       let time : now ≡ old.ticks = own ∙ ap (λ (s : ServerValue R). s.ticks) since in
       let asked_at : AsksOne tells old.ticks learned.node learned.addresses new.addresses
-      (tray_at learned.own learned) (tray_at new.own new) =
-      subst (λ (n : ℕ). AsksOne tells n learned.node learned.addresses new.addresses (tray_at learned.own learned)
-      (tray_at new.own new)) time asks in
+      (send_state_at learned.own learned) (send_state_at new.own new) =
+      subst (λ (n : ℕ). AsksOne tells n learned.node learned.addresses new.addresses (send_state_at learned.own learned)
+      (send_state_at new.own new)) time asks in
       record {
         answered = answered;
         answers = answers;
@@ -68,8 +68,8 @@ module _ {R : Type 0} (Shows : R → ProbedState → Type 0) (tells : Type 0) (a
         readmits = subst (λ (b : AddressBook). ReadmitsKept asked b readmitted.addresses) book readmits;
         learned = learned.addresses;
         learns = learns;
-        asks = subst₂ (λ (n : ℕ) (t : Tray). AsksOne tells old.ticks n learned.addresses new.addresses t
-            (tray_at new.own new)) node tray asked_at;
+        asks = subst₂ (λ (n : ℕ) (t : SendState). AsksOne tells old.ticks n learned.addresses new.addresses t
+            (send_state_at new.own new)) node tray asked_at;
         network = (
           kept.0 ∙ known.0 ∙ heard.0 ∙ ap (λ (b : AddressBook). b.hosts) book,
           kept.1 ∙ known.1 ∙ heard.1 ∙ ap (λ (b : AddressBook). b.seals) book,

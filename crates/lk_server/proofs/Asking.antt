@@ -8,32 +8,33 @@ use Rattle.lk_probe.specs.declared.probe.Report.{Report}
 use Rattle.lk_probe.specs.declared.reported.Reported.{Reported}
 use Rattle.lk_auth.specs.Seals.{heard}
 use Rattle.lk_auth.specs.declared.seals.Seals.{Seals}
-use Rattle.lk_timing.specs.declared.turn_input.TurnInput.{TurnInput}
-use Rattle.lk_timing.specs.declared.turn_input.TurnInput.TheVariants.{Nothing, Filtered, Something}
+use Rattle.lk_pacing.specs.declared.turn_input.TurnInput.{TurnInput}
+use Rattle.lk_pacing.specs.declared.turn_input.TurnInput.TheVariants.{Nothing, Filtered, Something}
 use Rattle.lk_transport.specs.Askers.{BringsProbe}
 use Rattle.lk_transport.specs.ReceiveBuffers.{BufferValue, listed}
 use Rattle.lk_transport.specs.Inquiring.{IsToldBy}
 use Rattle.lk_transport.specs.Kept.{BringNothing, BringsFirst, IsFirstOf, KeepsFirst, KeepsFirstOf, KeepsProbes}
 use Rattle.lk_transport.specs.Kept.{KeepsOf}
-use Rattle.lk_transport.specs.Posts.{is_beside}
+use Rattle.lk_transport.specs.Posts.{is_probe_or_report}
 use Rattle.lk_transport.specs.declared.received_probe.ReceivedProbe.{ReceivedProbe}
 
 -- ---- a frame
 
 -- a probe stands beside the protocol, and so does a report
-is_aside : (p : Probe) (bytes : List ℕ) → SpellsProbe p bytes → is_beside bytes ≡ true
+is_aside : (p : Probe) (bytes : List ℕ) → SpellsProbe p bytes → is_probe_or_report bytes ≡ true
 unfolding padded
-is_aside p bytes spelled = ap is_beside spelled.1
+is_aside p bytes spelled = ap is_probe_or_report spelled.1
 
-tells_aside : (r : Report) (bytes : List ℕ) → SpellsReport r bytes → is_beside bytes ≡ true
+tells_aside : (r : Report) (bytes : List ℕ) → SpellsReport r bytes → is_probe_or_report bytes ≡ true
 unfolding padded
-tells_aside r bytes spelled = ap is_beside spelled.1
+tells_aside r bytes spelled = ap is_probe_or_report spelled.1
 
 -- so nobody asks by what a replica is given, and it tells nothing
-asks_nothing : (s : Seals) (d : SocketAddr × List ℕ) → is_beside (heard s d.1) ≡ false → BringsProbe s d None
+asks_nothing : (s : Seals) (d : SocketAddr × List ℕ) → is_probe_or_report (heard s d.1) ≡ false → BringsProbe s d None
 asks_nothing s d apart p asks = let both : false ≡ true = sym apart ∙ is_aside p (heard s d.1) asks.spelled in cc both
 
-tells_nothing : (n : ℕ) (s : Seals) (d : SocketAddr × List ℕ) → is_beside (heard s d.1) ≡ false → IsToldBy n s d None
+tells_nothing : (n : ℕ) (s : Seals) (d : SocketAddr × List ℕ) → is_probe_or_report (heard s d.1) ≡ false
+    → IsToldBy n s d None
 tells_nothing n s d apart r spelled answers =
     let both : false ≡ true = sym apart ∙ tells_aside r (heard s d.1) spelled in cc both
 
@@ -126,7 +127,7 @@ keeps_still n s old new asked reported =
 
 -- of a frame that a replica is given
 pub keeps_given : (n : ℕ) (s : Seals) (d : SocketAddr × List ℕ) (old new : BufferValue)
-    → is_beside (heard s d.1) ≡ false → new.asked ≡ old.asked → new.reported ≡ old.reported
+    → is_probe_or_report (heard s d.1) ≡ false → new.asked ≡ old.asked → new.reported ≡ old.reported
     → KeepsOf n s (d ∷ []) old new
 keeps_given n s d old new apart asked reported = keeps_on n s (d ∷ []) old old new (record {
   asked = first_apart (BringsProbe s) old.asked d (asks_nothing s d apart);
@@ -150,7 +151,7 @@ keeps_beside n m s t d old mid new node seals asked reported is keeps =
 
 -- of one that is neither a probe nor a report
 pub keeps_strange : (n : ℕ) (s : Seals) (d : SocketAddr × List ℕ) (old : BufferValue) → old.last ≡ Some d
-    → is_beside (heard s d.1) ≡ false → KeepsProbes n s old old
+    → is_probe_or_report (heard s d.1) ≡ false → KeepsProbes n s old old
 keeps_strange n s d old is apart = record {
   last = refl;
   asked = subst (λ (l : Option (SocketAddr × List ℕ)). KeepsFirst (BringsProbe s) l old.asked old.asked) (sym is)

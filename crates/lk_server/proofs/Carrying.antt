@@ -2,14 +2,14 @@
 use Rattle.std.proofs.Common.{◌≡◌, ℕ, Bool, true, false, List, [], ◌∷◌, ◌++◌, Option, sym, ap, ◌∙◌, subst, append_assoc}
 use Rattle.std.proofs.Common.{append-nil, inl, inr}
 use Rattle.std.specs.Prelude.{Result, Ok, Err, IfOk, OnOk, OnErr}
-use Rattle.lk_node_io.specs.Letters.{LetterValue}
+use Rattle.lk_node_interface.specs.Letters.{LetterValue}
 use Rattle.lk_replica.specs.Groups.{GroupValue}
 use Rattle.lk_replica.specs.Posts.{CarriesAll, GivesLetters}
 use Rattle.lk_transport.specs.Addresses.{AddressBook}
-use Rattle.lk_replica_interface.specs.Groups.{Sayings, Gatherings}
+use Rattle.lk_served_replica.specs.Groups.{Sayings, Gatherings}
 use Rattle.lk_server.specs.Gatherings.{DeliversAllLetters, SaysNothing}
-use Rattle.lk_transport.specs.Posts.{PostValue, Tray, Becomes, CarriesLetter, tray_of}
-use Rattle.lk_server.specs.Servers.{ServerValue, Grows, tray_at}
+use Rattle.lk_transport.specs.Posts.{PostValue, SendState, Becomes, CarriesLetter, send_state_of}
+use Rattle.lk_server.specs.Servers.{ServerValue, Grows, send_state_at}
 
 -- what stands whatever became of a call stands after a refusal
 pub on_err : {T E P : Type 0} (r : Result T E) → P → OnErr r P
@@ -59,19 +59,19 @@ same_addresses tells old new (l ∷ letters) all = same_addresses tells all.1 ne
 pub trays : (tells : Type 0) (node : ℕ) (book : AddressBook) (old new : PostValue) (letters : List LetterValue)
     → node ≡ old.node → book ≡ old.addresses →
     CarriesAll (CarriesLetter tells) old letters new
-    → CarriesAll (Becomes tells node book) (tray_of old) letters (tray_of new)
-trays tells node book old new [] whose by all = ap tray_of all
+    → CarriesAll (Becomes tells node book) (send_state_of old) letters (send_state_of new)
+trays tells node book old new [] whose by all = ap send_state_of all
 trays tells node book old new (l ∷ letters) whose by all = (
   all.0,
-  tray_of all.1,
-  subst (λ (n : ℕ). Becomes tells n book (tray_of old) l all.0 (tray_of all.1)) (sym whose)
-      (subst (λ (b : AddressBook). Becomes tells old.node b (tray_of old) l all.0 (tray_of all.1))
+  send_state_of all.1,
+  subst (λ (n : ℕ). Becomes tells n book (send_state_of old) l all.0 (send_state_of all.1)) (sym whose)
+      (subst (λ (b : AddressBook). Becomes tells old.node b (send_state_of old) l all.0 (send_state_of all.1))
       (sym by) all.2.becomes),
   trays tells node book all.1 new letters (whose ∙ sym all.2.node) (by ∙ sym all.2.addresses) all.3,
 )
 
 -- the letters that are kept stand behind those that were
-grows_one : (tells : Type 0) (node : ℕ) (book : AddressBook) (old new : Tray) (l : LetterValue) (is_sent : Bool)
+grows_one : (tells : Type 0) (node : ℕ) (book : AddressBook) (old new : SendState) (l : LetterValue) (is_sent : Bool)
     → Becomes tells node book old l is_sent new → Grows old.own new.own
 grows_one tells node book old new l true (inl keeps) = record { added = l ∷ []; is = keeps.own }
 grows_one tells node book old new l true (inr sends) = record { added = []; is = sends.own ∙ sym (append-nil old.own) }
@@ -81,10 +81,10 @@ pub grows_on : {old mid new : List LetterValue} → Grows old mid → Grows mid 
 grows_on {old = old} a b =
     record { added = a.added ++ b.added; is = b.is ∙ ap (λ l. l ++ b.added) a.is ∙ append_assoc old a.added b.added }
 
-pub grows_by : (tells : Type 0) (node : ℕ) (book : AddressBook) (old new : Tray) (letters : List LetterValue)
+pub grows_by : (tells : Type 0) (node : ℕ) (book : AddressBook) (old new : SendState) (letters : List LetterValue)
     → CarriesAll (Becomes tells node book) old letters new → Grows old.own new.own
 grows_by tells node book old new [] all =
-    record { added = []; is = ap (λ (t : Tray). t.own) all ∙ sym (append-nil old.own) }
+    record { added = []; is = ap (λ (t : SendState). t.own) all ∙ sym (append-nil old.own) }
 grows_by tells node book old new (l ∷ letters) all =
     grows_on (grows_one tells node book old all.1 l all.0 all.2) (grows_by tells node book all.1 new letters all.3)
 
@@ -110,37 +110,39 @@ module _ {R : Type 0} (S : Sayings R) (G : Gatherings R) (tells : Type 0) (old n
       → OnOk r (GivesLetters (CarriesLetter tells) before after
       (λ letters. (first : R) (given : List (Option (List ℕ))) → G first given group mine
       → S first given letters new.replica))
-      → new.node ≡ before.node → new.addresses ≡ before.addresses → tray_of before ≡ tray_at old.own old
-      → tray_of after ≡ tray_at new.own new → OnOk r (DeliversAllLetters S G tells group old new)
+      → new.node ≡ before.node → new.addresses ≡ before.addresses → send_state_of before ≡ send_state_at old.own old
+      → send_state_of after ≡ send_state_at new.own new → OnOk r (DeliversAllLetters S G tells group old new)
   hands_on_all mine is (Err e) said whose by first last = tt
   hands_on_all mine is (Ok x) said whose by begun last = λ from given was sent failures.
       let all = trays tells new.node new.addresses before after said.letters whose by said.carried in
-      let met = subst (λ (t : Tray). CarriesAll (Becomes tells new.node new.addresses) t said.letters (tray_of after))
+      let met = subst (λ (t : SendState). CarriesAll (Becomes tells new.node new.addresses) t said.letters
+      (send_state_of after))
       begun all in
-      let carried = subst (λ (t : Tray). CarriesAll (Becomes tells new.node new.addresses)
-      (tray_at old.own old) said.letters t) last met in
-      let same : tray_at old.own old ≡ tray_at old.own from =
+      let carried = subst (λ (t : SendState). CarriesAll (Becomes tells new.node new.addresses)
+      (send_state_at old.own old) said.letters t) last met in
+      let same : send_state_at old.own old ≡ send_state_at old.own from =
       λ i. record { own = old.own; sent = sym sent i; failures = sym failures i } in
       record {
         letters = said.letters;
         says = said.holds from.replica given (subst (λ (x : R). G from.replica given group x) (sym is) was);
-        kept = grows_by tells new.node new.addresses (tray_at old.own old) (tray_at new.own new) said.letters carried;
-        carried = subst (λ (t : Tray). CarriesAll (Becomes tells new.node new.addresses) t said.letters
-            (tray_at new.own new)) same carried;
+        kept = grows_by tells new.node new.addresses (send_state_at old.own old)
+            (send_state_at new.own new) said.letters carried;
+        carried = subst (λ (t : SendState). CarriesAll (Becomes tells new.node new.addresses) t said.letters
+            (send_state_at new.own new)) same carried;
       }
 
   -- one that was refused
   pub says_nothing : {T E : Type 0} (r : Result T E)
       → OnErr r ((first : R) (given : List (Option (List ℕ))) → G first given group old.replica
       → S first given [] new.replica) → OnErr r (after ≡ before)
-      → tray_of before ≡ tray_at old.own old → tray_of after ≡ tray_at new.own new
+      → send_state_of before ≡ send_state_at old.own old → send_state_of after ≡ send_state_at new.own new
       → OnErr r (SaysNothing S G group old new)
   says_nothing (Ok x) silent unsent first last = tt
   says_nothing (Err e) silent unsent first last =
-      let same : tray_at new.own new ≡ tray_at old.own old = sym last ∙ ap tray_of unsent ∙ first in
+      let same : send_state_at new.own new ≡ send_state_at old.own old = sym last ∙ ap send_state_of unsent ∙ first in
       record {
         silent = silent;
-        own = ap (λ (t : Tray). t.own) same;
-        sent = ap (λ (t : Tray). t.sent) same;
-        failures = ap (λ (t : Tray). t.failures) same;
+        own = ap (λ (t : SendState). t.own) same;
+        sent = ap (λ (t : SendState). t.sent) same;
+        failures = ap (λ (t : SendState). t.failures) same;
       }

@@ -3,7 +3,7 @@ use Rattle.std.proofs.Common.{◌≡◌, ℕ, Bool, ◌||◌, true, false, List,
 use Rattle.std.specs.declared.net.socket_addr.SocketAddr.{SocketAddr}
 use Rattle.lk_auth.specs.Seals.{heard}
 use Rattle.lk_transport.specs.Addresses.{Filter}
-use Rattle.lk_transport.specs.Posts.{is_filtered_out, is_beside}
+use Rattle.lk_transport.specs.Posts.{is_filtered_out, is_probe_or_report}
 
 first_true : (a b : Bool) → a ≡ true → a || b ≡ true
 first_true true b is = refl
@@ -22,19 +22,19 @@ first_false true b is = is
 first_false false b is = refl
 
 -- it stands beside the protocol
-pub beside_is_out : (s : Filter) (d : SocketAddr × List ℕ) → is_beside (heard s.seals d.1) ≡ true
+pub beside_is_out : (s : Filter) (d : SocketAddr × List ℕ) → is_probe_or_report (heard s.seals d.1) ≡ true
     → is_filtered_out s d ≡ true
-beside_is_out s d is = first_true (is_beside (heard s.seals d.1)) (s.strangers d.0) is
+beside_is_out s d is = first_true (is_probe_or_report (heard s.seals d.1)) (s.strangers d.0) is
 
 -- it came from a node of another genesis
 pub stranger_is_out : (s : Filter) (d : SocketAddr × List ℕ) → s.strangers d.0 ≡ true → is_filtered_out s d ≡ true
-stranger_is_out s d is = second_true (is_beside (heard s.seals d.1)) (s.strangers d.0) is
+stranger_is_out s d is = second_true (is_probe_or_report (heard s.seals d.1)) (s.strangers d.0) is
 
 -- neither
-pub is_not_out : (s : Filter) (d : SocketAddr × List ℕ) → is_beside (heard s.seals d.1) ≡ false
+pub is_not_out : (s : Filter) (d : SocketAddr × List ℕ) → is_probe_or_report (heard s.seals d.1) ≡ false
     → s.strangers d.0 ≡ false → is_filtered_out s d ≡ false
-is_not_out s d beside known = none_true (is_beside (heard s.seals d.1)) (s.strangers d.0) beside known
+is_not_out s d beside known = none_true (is_probe_or_report (heard s.seals d.1)) (s.strangers d.0) beside known
 
 pub not_beside : (s : Filter) (d : SocketAddr × List ℕ) → is_filtered_out s d ≡ false
-    → is_beside (heard s.seals d.1) ≡ false
-not_beside s d apart = first_false (is_beside (heard s.seals d.1)) (s.strangers d.0) apart
+    → is_probe_or_report (heard s.seals d.1) ≡ false
+not_beside s d apart = first_false (is_probe_or_report (heard s.seals d.1)) (s.strangers d.0) apart

@@ -5,18 +5,18 @@ use Rattle.std.proofs.Common.{length-append, inl, inr, arith}
 use Rattle.std.proofs.lemmas.Bool.{cases_Bool}
 use Rattle.std.proofs.lemmas.List.{map-append, take_all}
 use Rattle.std.specs.declared.net.socket_addr.SocketAddr.{SocketAddr}
-use Rattle.lk_node_io.specs.Letters.{LetterValue}
+use Rattle.lk_node_interface.specs.Letters.{LetterValue}
 use Rattle.lk_replica.specs.Groups.{GroupValue}
 use Rattle.lk_transport.specs.Addresses.{AddressBook, Filter, filter_of, IsSameFilter}
-use Rattle.lk_replica_interface.specs.Groups.{Sayings, Gatherings, GathersMore, SaysNoMore}
+use Rattle.lk_served_replica.specs.Groups.{Sayings, Gatherings, GathersMore, SaysNoMore}
 use Rattle.lk_server.specs.Gatherings.{TakesAll, EndsWithin, TakesOwn, EndsOwn, TakesHeard, EndsHeard, TakesSocket}
 use Rattle.lk_server.specs.Gatherings.{EndsSocket, AreFound, Finds}
-use Rattle.lk_timing.specs.declared.turn_input.TurnInput.{TurnInput}
-use Rattle.lk_timing.specs.declared.turn_input.TurnInput.TheVariants.{Nothing, Filtered, Something}
+use Rattle.lk_pacing.specs.declared.turn_input.TurnInput.{TurnInput}
+use Rattle.lk_pacing.specs.declared.turn_input.TurnInput.TheVariants.{Nothing, Filtered, Something}
 use Rattle.lk_transport.specs.ReceiveBuffers.{listed}
 use Rattle.lk_transport.specs.Posts.{Hears, HearsAll, is_filtered_out, opened_as, filtered, all_filtered}
-use Rattle.lk_timing.specs.Paces.{ticks_after}
-use Rattle.lk_timing.specs.declared.pace.Pace.{Pace}
+use Rattle.lk_pacing.specs.Paces.{ticks_after}
+use Rattle.lk_pacing.specs.declared.pace.Pace.{Pace}
 use Rattle.lk_server.specs.Servers.{ServerValue, one_more, one_more_tick, ticks_behind, inputs, all_inputs, all_ticks}
 use Rattle.lk_server.specs.Servers.{counted, datagrams_in}
 

@@ -4,13 +4,13 @@ use Rattle.std.proofs.Common.{drop, Option, None, inl, inr, refl, ap, sym, â—Œâˆ
 use Rattle.std.proofs.Common.{arith}
 use Rattle.std.specs.Prelude.{Result, Ok, Err, OnOk, OnErr}
 use Rattle.std.specs.declared.net.socket_addr.SocketAddr.{SocketAddr}
-use Rattle.lk_node_io.specs.Letters.{LetterValue}
+use Rattle.lk_node_interface.specs.Letters.{LetterValue}
 use Rattle.lk_replica.specs.Groups.{GroupValue}
 use Rattle.lk_transport.specs.Addresses.{AddressBook, Filter, filter_of, IsSameFilter}
-use Rattle.lk_replica_interface.specs.Groups.{Sayings, Gatherings, GathersMore, SaysNoMore}
+use Rattle.lk_served_replica.specs.Groups.{Sayings, Gatherings, GathersMore, SaysNoMore}
 use Rattle.lk_server.specs.Gatherings.{AreFound, Finds, TakesAll, EndsWithin, TakesOwn, EndsOwn, TakesSocket}
 use Rattle.lk_server.specs.Gatherings.{EndsSocket, TakesWaiting, TakesGroup, EndsGroup, DeliversAllLetters, SaysNothing}
-use Rattle.lk_timing.specs.Paces.{MayFollow}
+use Rattle.lk_pacing.specs.Paces.{MayFollow}
 use Rattle.lk_auth.specs.Seals.{heard}
 use Rattle.lk_transport.specs.Posts.{HearsAll, is_filtered_out, all_filtered}
 use Rattle.lk_server.specs.Servers.{ServerValue, DeliversLetters, DeliversNothing, HasReceived, IsSameServer, Turn}
@@ -18,10 +18,10 @@ use Rattle.lk_server.specs.Servers.{LastTurn}
 use Rattle.lk_server.specs.Servers.{IsIdle, Given, GivenPrefix, TakesFirst, all_inputs, all_ticks, counted}
 use Rattle.lk_server.specs.Servers.{datagrams_in}
 use Rattle.lk_server.specs.Servers.{one_more_tick}
-use Rattle.lk_timing.specs.declared.turn_input.TurnInput.{TurnInput}
-use Rattle.lk_timing.specs.declared.turn_input.TurnInput.TheVariants.{Nothing, Filtered, Something}
-use Rattle.lk_timing.specs.declared.pace.Pace.{Pace}
-use Rattle.lk_timing.specs.declared.pace.Pace.TheVariants.{Datagrams, Clock}
+use Rattle.lk_pacing.specs.declared.turn_input.TurnInput.{TurnInput}
+use Rattle.lk_pacing.specs.declared.turn_input.TurnInput.TheVariants.{Nothing, Filtered, Something}
+use Rattle.lk_pacing.specs.declared.pace.Pace.{Pace}
+use Rattle.lk_pacing.specs.declared.pace.Pace.TheVariants.{Datagrams, Clock}
 use Rattle.lk_server.proofs.Gatherings.{takes_more, ends_more, ticks_more, long_as, taken_more, taken_first, found_none}
 use Rattle.lk_server.proofs.Gatherings.{found_few}
 

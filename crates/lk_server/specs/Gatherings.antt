@@ -2,9 +2,9 @@
 use Rattle.std.specs.Prelude.{◌≡◌, ◌≢◌, ◌≤◌, ℕ, true, List, [], ◌∷◌, ◌++◌, take, drop, Option}
 use Rattle.std.specs.declared.net.socket_addr.SocketAddr.{SocketAddr}
 use Rattle.lk_replica.specs.Groups.{GroupValue}
-use Rattle.lk_replica_interface.specs.Groups.{Sayings, Gatherings, GathersMore, SaysNoMore}
-use Rattle.lk_timing.specs.declared.turn_input.TurnInput.{TurnInput}
-use Rattle.lk_timing.specs.declared.turn_input.TurnInput.TheVariants.{Nothing, Filtered, Something}
+use Rattle.lk_served_replica.specs.Groups.{Sayings, Gatherings, GathersMore, SaysNoMore}
+use Rattle.lk_pacing.specs.declared.turn_input.TurnInput.{TurnInput}
+use Rattle.lk_pacing.specs.declared.turn_input.TurnInput.TheVariants.{Nothing, Filtered, Something}
 use Rattle.lk_transport.specs.Addresses.{Filter, filter_of, IsSameFilter}
 use Rattle.lk_transport.specs.Posts.{HearsAll, is_filtered_out, all_filtered}
 use Rattle.lk_server.specs.Servers.{ServerValue, all_inputs, all_ticks, counted, datagrams_in, Given, GivenPrefix}

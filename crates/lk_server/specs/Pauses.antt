@@ -1,6 +1,6 @@
 -- When a server pauses before a sync.
 use Rattle.std.specs.Prelude.{◌≡◌, ◌≢◌, ◌≤◌, ◌<◌, ◌/◌, true, length}
-use Rattle.lk_timing.specs.declared.sync_pause.SyncPause.{SyncPause}
+use Rattle.lk_pacing.specs.declared.sync_pause.SyncPause.{SyncPause}
 use Rattle.lk_replica.specs.Groups.{GroupValue}
 
 -- a pause is due before the sync of this group: something of it waits for one, the pause is at least 50 microseconds

@@ -5,8 +5,8 @@ use Rattle.lk_transport.specs.Addresses.{AddressBook, IsSameNetwork}
 use Rattle.lk_transport.specs.Inquiring.{AsksOne, LearnsKept, ReadmitsKept}
 use Rattle.lk_transport.specs.declared.received_probe.ReceivedProbe.{ReceivedProbe}
 use Rattle.lk_server.specs.Probes.{AnswersKept}
-use Rattle.lk_server.specs.Servers.{ServerValue, tray_at}
-use Rattle.lk_replica_interface.specs.declared.probed_state.ProbedState.{ProbedState}
+use Rattle.lk_server.specs.Servers.{ServerValue, send_state_at}
+use Rattle.lk_served_replica.specs.declared.probed_state.ProbedState.{ProbedState}
 
 -- the probe that was kept is answered, and a node of the same genesis that asks by it is heard again; what the report
 -- tells that was kept is learned; and then one question is sent where one is due at the server's count of ticks.
@@ -21,7 +21,7 @@ pub record HandlesProbes {R : Type 0} (Shows : R → ProbedState → Type 0) (te
   pub learned : AddressBook
   pub learns : LearnsKept reported readmitted learned
   pub asks : AsksOne tells old.ticks old.node learned new.addresses
-      (tray_at answered.own answered) (tray_at new.own new)
+      (send_state_at answered.own answered) (send_state_at new.own new)
   pub network : IsSameNetwork old.addresses new.addresses
   pub still : tells → new.incoming ≡ old.incoming
   pub same : new ≡ record old {

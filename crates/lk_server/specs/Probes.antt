@@ -4,9 +4,9 @@ use Rattle.lk_probe.specs.Grammar.{SpellsReport, Answers}
 use Rattle.lk_probe.specs.declared.probe.Probe.{Probe}
 use Rattle.lk_probe.specs.declared.probe.Report.{Report}
 use Rattle.lk_probe.specs.declared.status.Status.{Status}
-use Rattle.lk_server.specs.Servers.{ServerValue, tray_at}
+use Rattle.lk_server.specs.Servers.{ServerValue, send_state_at}
 use Rattle.lk_transport.specs.declared.received_probe.ReceivedProbe.{ReceivedProbe}
-use Rattle.lk_replica_interface.specs.declared.probed_state.ProbedState.{ProbedState}
+use Rattle.lk_served_replica.specs.declared.probed_state.ProbedState.{ProbedState}
 use Rattle.lk_transport.specs.Askers.{Replies}
 
 -- ---- what a node tells
@@ -42,7 +42,7 @@ pub record AnswersOne {R : Type 0} (Shows : R → ProbedState → Type 0) (tells
   pub shows : Shows old.replica shown
   pub bytes : List ℕ
   pub answer : IsAnswer old.node old.addresses.seals.genesis old.ticks shown a.probe bytes
-  pub replies : Replies tells old.addresses.seals a bytes (tray_at old.own old) (tray_at new.own new)
+  pub replies : Replies tells old.addresses.seals a bytes (send_state_at old.own old) (send_state_at new.own new)
   pub still : tells → new.incoming ≡ old.incoming
   pub same : new ≡ record old { sent = new.sent; socket_failures = new.socket_failures; incoming = new.incoming }
 

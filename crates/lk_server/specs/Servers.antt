@@ -3,14 +3,14 @@ use Rattle.std.specs.Prelude.{◌≡◌, ◌⊎◌, ◌≤◌, Bool, true, false
 use Rattle.std.specs.Prelude.{take, drop, Option, Some, None, if◌then◌else◌}
 use Rattle.std.specs.declared.net.socket_addr.SocketAddr.{SocketAddr}
 use Rattle.lk_types.specs.Ranges.{IsClient}
-use Rattle.lk_node_io.specs.Letters.{LetterValue}
+use Rattle.lk_node_interface.specs.Letters.{LetterValue}
 use Rattle.lk_replica.specs.Posts.{CarriesAll}
 use Rattle.lk_transport.specs.Addresses.{AddressBook, filter_of, client_at, node_at}
-use Rattle.lk_timing.specs.Paces.{ticks_after, MayFollow}
-use Rattle.lk_transport.specs.Posts.{HearsAll, Tray, Becomes, all_filtered}
+use Rattle.lk_pacing.specs.Paces.{ticks_after, MayFollow}
+use Rattle.lk_transport.specs.Posts.{HearsAll, SendState, Becomes, all_filtered}
 use Rattle.lk_transport.specs.declared.network.Network.{Network}
-use Rattle.lk_timing.specs.declared.pace.Pace.{Pace}
-use Rattle.lk_timing.specs.declared.pace.Pace.TheVariants.{Clock}
+use Rattle.lk_pacing.specs.declared.pace.Pace.{Pace}
+use Rattle.lk_pacing.specs.declared.pace.Pace.TheVariants.{Clock}
 
 -- how clauses see a server
 pub record ServerValue (R : Type 0) : Type 0 where
@@ -126,8 +126,8 @@ pub record Grows (old new : List LetterValue) : Type 0 where
   pub is : new ≡ old ++ added
 
 -- what the letters may change, given the kept letters of the node to itself
-abbrev pub tray_at : {R : Type 0} → List LetterValue → ServerValue R → Tray
-tray_at own s = record { own = own; sent = s.sent; failures = s.socket_failures }
+abbrev pub send_state_at : {R : Type 0} → List LetterValue → ServerValue R → SendState
+send_state_at own s = record { own = own; sent = s.sent; failures = s.socket_failures }
 
 -- the replica took exactly this input as one group and produced these letters; each was kept, sent to its destination,
 -- or lost by a failed send, in order, and nothing else was sent or kept. `own` are the earlier letters of the node to
@@ -138,7 +138,8 @@ pub record DeliversLetters {R : Type 0} (Says : R → List (Option (List ℕ)) �
   pub letters : List LetterValue
   pub says : Says old.replica given letters new.replica
   pub kept : Grows own new.own
-  pub carried : CarriesAll (Becomes tells new.node new.addresses) (tray_at own old) letters (tray_at new.own new)
+  pub carried : CarriesAll (Becomes tells new.node new.addresses) (send_state_at own old) letters
+      (send_state_at new.own new)
 
 -- the replica took exactly this input and produced nothing: no letter was kept or sent. `stood` are the earlier
 -- letters of the node to itself

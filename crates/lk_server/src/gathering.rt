@@ -6,9 +6,9 @@
 
 ghost use Rattle.std.specs.Prelude.{◌≡◌, ℕ, List, ◌∷◌, [], Some, None, true, false, OnOk, OnErr, IfOk, IfSome, IsNone};
 ghost use Rattle.std.specs.declared.net.socket_addr.SocketAddr.{SocketAddr as Address};
-ghost use Rattle.lk_node_io.specs.Letters.{LetterValue};
+ghost use Rattle.lk_node_interface.specs.Letters.{LetterValue};
 ghost use Rattle.lk_node.specs.Calls.{heard_by};
-ghost use Rattle.lk_replica_interface.specs.Groups.{GathersMore, SaysNoMore};
+ghost use Rattle.lk_served_replica.specs.Groups.{GathersMore, SaysNoMore};
 ghost use Rattle.lk_server.specs.Gatherings.{Finds, TakesAll, EndsWithin, TakesOwn, EndsOwn, TakesWaiting, TakesGroup};
 ghost use Rattle.lk_server.specs.Gatherings.{EndsGroup, ChangesAtDatagram, ChangesAtLetter, ChangesInGroup};
 ghost use Rattle.lk_transport.specs.Kept.{KeepsOf};
@@ -17,11 +17,11 @@ ghost use Rattle.lk_server.specs.Servers.{HasReceived, IsIdle, one_more_tick};
 use crate::group_fault::GroupFault;
 use crate::server::Server;
 use crate::watching::{log_changes, log_served};
-use lk_node_io::{Input, Letter};
+use lk_node_interface::{Input, Letter};
+use lk_pacing::tick_timer::TickTimer;
+use lk_pacing::turn_input::TurnInput;
 use lk_replica::Group;
-use lk_replica_interface::ServedReplica;
-use lk_timing::tick_timer::TickTimer;
-use lk_timing::turn_input::TurnInput;
+use lk_served_replica::ServedReplica;
 use lk_transport::arrival::Arrival;
 use lk_transport::receive_buffer::ReceiveBuffer;
 use lk_transport::socket::DatagramSocket;

@@ -3,9 +3,9 @@
 ghost use Rattle.std.specs.Prelude.{◌≡◌};
 ghost use Rattle.lk_transport.specs.Faults.{replica_fault};
 ghost use Rattle.lk_server.specs.GroupFaults.{service_fault};
-ghost use Rattle.lk_replica_interface.specs.Refusals.{IsOfGroups};
+ghost use Rattle.lk_served_replica.specs.Refusals.{IsOfGroups};
 
-use lk_node_io::ReplicaFault;
+use lk_node_interface::ReplicaFault;
 use lk_transport::fault::ServiceFault;
 
 /// Why a group ended a replica. Nothing of it is sent.

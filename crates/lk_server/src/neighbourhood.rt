@@ -6,12 +6,12 @@ ghost use Rattle.lk_probe.specs.Neighbours.{bound_in};
 ghost use Rattle.lk_transport.specs.Addresses.{IsSameNetwork};
 ghost use Rattle.lk_transport.specs.Inquiring.{AsksOne, LearnsKept, ReadmitsKept};
 ghost use Rattle.lk_server.specs.ProbeHandling.{HandlesProbes};
-ghost use Rattle.lk_server.specs.Servers.{tray_at};
+ghost use Rattle.lk_server.specs.Servers.{send_state_at};
 
 use crate::server::Server;
 use crate::watching::log_stranger;
 use lk_probe::neighbours::{Neighbour, Origin};
-use lk_replica_interface::ServedReplica;
+use lk_served_replica::ServedReplica;
 use lk_transport::receive_buffer::ReceiveBuffer;
 use lk_transport::received_probe::ReceivedProbe;
 use lk_transport::socket::DatagramSocket;
@@ -87,7 +87,7 @@ impl<R: ServedReplica, S: DatagramSocket + Drop> Server<R, S> {
     // Probes one address for the genesis of its node, if that is due at this count of ticks. A failed send is counted.
     pub(crate) fn probe_next(&mut self, now: u64)
         ensures asks { AsksOne S.is_observable now self.old.node self.old.addresses self.new.addresses
-            (tray_at self.old.own self.old) (tray_at self.new.own self.new) }
+            (send_state_at self.old.own self.old) (send_state_at self.new.own self.new) }
         ensures network { IsSameNetwork self.old.addresses self.new.addresses }
         ensures still { S.is_observable → self.new.incoming ≡ self.old.incoming }
         ensures others { self.new

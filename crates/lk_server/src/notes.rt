@@ -1,6 +1,6 @@
 //! A node's notes as log lines.
 
-use lk_node_io::Note;
+use lk_node_interface::Note;
 use log::{Log, info};
 
 /// Logs what a node counted and executed, one line each at level info: `counted POSITION`, `ran POSITION`. A line that

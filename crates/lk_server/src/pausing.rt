@@ -5,10 +5,10 @@ ghost use Rattle.lk_server.specs.Pauses.{IsPauseDue};
 ghost use Rattle.lk_transport.specs.ReceiveBuffers.{listed};
 
 use crate::server::Server;
+use lk_pacing::sync_pause::SyncPause;
+use lk_pacing::tick_timer::TickTimer;
 use lk_replica::Group;
-use lk_replica_interface::ServedReplica;
-use lk_timing::sync_pause::SyncPause;
-use lk_timing::tick_timer::TickTimer;
+use lk_served_replica::ServedReplica;
 use lk_transport::post::SocketPost;
 use lk_transport::receive_buffer::ReceiveBuffer;
 use lk_transport::socket::DatagramSocket;
@@ -27,7 +27,7 @@ fn pauses<C: Clock>(pause: &mut SyncPause, tick_timer: &TickTimer<C>, group: &Gr
     let Some(time) = pause.next_pause(group.letters().len()) else {
         return false;
     };
-    tick_timer.pass(time);
+    tick_timer.sleep(time);
     true
 }
 

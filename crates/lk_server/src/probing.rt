@@ -2,11 +2,11 @@
 
 ghost use Rattle.std.specs.Prelude.{◌≡◌};
 ghost use Rattle.lk_server.specs.Probes.{AnswersKept, IsAnswer, Tells};
-ghost use Rattle.lk_replica_interface.specs.declared.probed_state.ProbedState.{ProbedState as ProbedStateValue};
+ghost use Rattle.lk_served_replica.specs.declared.probed_state.ProbedState.{ProbedState as ProbedStateValue};
 
 use crate::server::Server;
 use lk_probe::{Identity, LENGTH, PROGRAM, Status, Traffic};
-use lk_replica_interface::{ServedReplica, TableVersion};
+use lk_served_replica::{ServedReplica, TableVersion};
 use lk_transport::received_probe::ReceivedProbe;
 use lk_transport::socket::DatagramSocket;
 

@@ -6,7 +6,7 @@ ghost use Rattle.lk_transport.specs.Addresses.{filter_of, IsSameNetwork};
 ghost use Rattle.lk_server.specs.Gatherings.{Finds, DeliversAllLetters, SaysNothing};
 ghost use Rattle.lk_transport.specs.Posts.{all_filtered};
 ghost use Rattle.lk_transport.specs.Kept.{KeepsOf};
-ghost use Rattle.lk_replica_interface.specs.Refusals.{IsOfGroups};
+ghost use Rattle.lk_served_replica.specs.Refusals.{IsOfGroups};
 ghost use Rattle.lk_server.specs.Servers.{DeliversLetters, DeliversNothing, HasHeardNobody, HasReceived, IsSameServer};
 ghost use Rattle.lk_server.specs.Servers.{LastTurn};
 ghost use Rattle.lk_server.specs.Servers.{Runs, ServesAs, ServesOn, TakesTurn, Turn, one_more_tick};
@@ -16,13 +16,13 @@ use crate::ignored::IgnoredCounts;
 use crate::notes::log_notes;
 use crate::turn_events::TurnEvents;
 use crate::watching::log_sends;
-use lk_node_io::ReplicaFault;
+use lk_node_interface::ReplicaFault;
+use lk_pacing::pace::Pace;
+use lk_pacing::sync_pause::SyncPause;
+use lk_pacing::tick_timer::{FrozenClock, TickTimer};
+use lk_pacing::turn_input::TurnInput;
 use lk_replica::Group;
-use lk_replica_interface::{ServedReplica, TableVersion};
-use lk_timing::pace::Pace;
-use lk_timing::sync_pause::SyncPause;
-use lk_timing::tick_timer::{Still, TickTimer};
-use lk_timing::turn_input::TurnInput;
+use lk_served_replica::{ServedReplica, TableVersion};
 use lk_transport::network::Network;
 use lk_transport::post::SocketPost;
 use lk_transport::receive_buffer::ReceiveBuffer;
@@ -256,7 +256,7 @@ impl<R: ServedReplica, S: DatagramSocket + Drop> Server<R, S> {
         ensures network { IsSameNetwork self.old.addresses self.new.addresses }
     {
         let mut group = self.begin_group();
-        let tick_timer = TickTimer::new(Still);
+        let tick_timer = TickTimer::new(FrozenClock);
         let found = self.add_pending(buffer, &tick_timer, &mut group, log)?;
         if !found.is_something() {
             return Ok(false);

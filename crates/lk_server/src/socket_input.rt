@@ -17,13 +17,13 @@ use crate::gathering::FURTHER;
 use crate::group_fault::GroupFault;
 use crate::pausing::receive_or_pause;
 use crate::server::Server;
+use lk_pacing::tick_timer::TickTimer;
+use lk_pacing::turn_input::TurnInput;
 use lk_replica::Group;
-use lk_replica_interface::ServedReplica;
-use lk_timing::tick_timer::TickTimer;
-use lk_timing::turn_input::TurnInput;
+use lk_served_replica::ServedReplica;
 use lk_transport::arrival::Arrival;
 use lk_transport::receive_buffer::ReceiveBuffer;
-use lk_transport::received_probe::is_beside;
+use lk_transport::received_probe::is_probe_or_report;
 use lk_transport::socket::DatagramSocket;
 use lk_wire::Datagram;
 use log::Log;
@@ -123,7 +123,7 @@ impl<R: ServedReplica, S: DatagramSocket + Drop> Server<R, S> {
             return Ok(TurnInput::Nothing);
         };
         let datagram = self.post.open(frame);
-        if is_beside(datagram) {
+        if is_probe_or_report(datagram) {
             let asked = self.post.read_probe(from, frame, datagram);
             let reported = self.post.read_report(from, datagram);
             buffer.keep_probe(asked);

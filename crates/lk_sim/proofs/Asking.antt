@@ -3,21 +3,21 @@ use Rattle.std.proofs.Common.{◌≡◌, ℕ, List, [], ◌∷◌, ◌++◌, Con
 use Rattle.std.proofs.Common.{append-nil}
 use Rattle.std.proofs.lemmas.List.Elements.{Contains-append_cases, Contains-append_right, Contains-push_cases}
 use Rattle.lk_disk.specs.Disk.{Disk}
-use Rattle.lk_simulated_disk.specs.Memory.{disk_of}
+use Rattle.lk_memory_disk.specs.Memory.{disk_of}
 use Rattle.lk_disk.specs.declared.device.Side.{Side}
 use Rattle.lk_messages.specs.Grammar.{Spells}
 use Rattle.lk_messages.specs.declared.message.Content.TheVariants as content
 use Rattle.lk_messages.proofs.Spellings.{one_message}
 use Rattle.lk_state.specs.Meanings.{Meaning}
-use Rattle.lk_agreement.specs.Datagrams.{NodeMessage, Accept, said_by, HasSent}
-use Rattle.lk_agreement.specs.Nodes.{ViewFits}
-use Rattle.lk_agreement.specs.Worlds.{IsClientRequest, WorldFits}
-use Rattle.lk_agreement.proofs.Histories.{still_chosen, still_stems}
-use Rattle.lk_agreement.proofs.Histories.{only}
-use Rattle.lk_agreement.proofs.Histories.{sent_cases, asked_is_no_saying}
-use Rattle.lk_agreement.proofs.Histories.{asked_fits}
-use Rattle.lk_node_io.specs.declared.note.Note.{Note}
-use Rattle.lk_node_io.specs.declared.note.Note.TheVariants as note
+use Rattle.lk_agreement_laws.specs.Datagrams.{NodeMessage, Accept, said_by, HasSent}
+use Rattle.lk_agreement_laws.specs.Nodes.{ViewFits}
+use Rattle.lk_agreement_laws.specs.Worlds.{IsClientRequest, WorldFits}
+use Rattle.lk_agreement_laws.proofs.Histories.{still_chosen, still_stems}
+use Rattle.lk_agreement_laws.proofs.Histories.{only}
+use Rattle.lk_agreement_laws.proofs.Histories.{sent_cases, asked_is_no_saying}
+use Rattle.lk_agreement_laws.proofs.Histories.{asked_fits}
+use Rattle.lk_node_interface.specs.declared.note.Note.{Note}
+use Rattle.lk_node_interface.specs.declared.note.Note.TheVariants as note
 use Rattle.lk_node.specs.Histories.{History, Genesis, Datagram, RequestValue}
 use Rattle.lk_node.specs.Served.{BearsOut}
 use Rattle.lk_node.specs.Holdings.{Holding}

@@ -8,12 +8,12 @@ use Rattle.lk_messages.specs.Values.{PartValue}
 use Rattle.lk_members.proofs.Memberships.{members_stay}
 use Rattle.lk_state.specs.Meanings.{Meaning}
 use Rattle.lk_state.proofs.Wholes.{replies_stay}
-use Rattle.lk_agreement.specs.Chosen.{command_at, Chosen, IsBeginning}
-use Rattle.lk_agreement.specs.Soundness.{Sound}
-use Rattle.lk_agreement.proofs.Histories.{chosen_agree}
-use Rattle.lk_agreement.proofs.Histories.{cons_cases, contains_more}
-use Rattle.lk_node_io.specs.declared.note.Note.{Note}
-use Rattle.lk_node_io.specs.declared.note.Note.TheVariants as note
+use Rattle.lk_agreement_laws.specs.Chosen.{command_at, Chosen, IsBeginning}
+use Rattle.lk_agreement_laws.specs.Soundness.{Sound}
+use Rattle.lk_agreement_laws.proofs.Histories.{chosen_agree}
+use Rattle.lk_agreement_laws.proofs.Histories.{cons_cases, contains_more}
+use Rattle.lk_node_interface.specs.declared.note.Note.{Note}
+use Rattle.lk_node_interface.specs.declared.note.Note.TheVariants as note
 use Rattle.lk_node.specs.Histories.{History, Genesis, Datagram, Command}
 use Rattle.lk_node.specs.Served.{text, BearsOut, BearsOutPart, BearsOutMessage}
 

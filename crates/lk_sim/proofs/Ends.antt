@@ -1,9 +1,9 @@
 -- By which faults a node ends in an event.
 use Rattle.std.proofs.Common.{◌≡◌, ℕ, Option, Some, None, sym, subst, inl, inr}
 use Rattle.std.specs.Prelude.{List, [], ◌∷◌, map, take}
-use Rattle.lk_simulated_disk.specs.Memory.{Memory, empty}
+use Rattle.lk_memory_disk.specs.Memory.{Memory, empty}
 use Rattle.lk_replica.specs.Behaviours.{Behaviour}
-use Rattle.lk_node_io.specs.declared.note.Note.{Note}
+use Rattle.lk_node_interface.specs.declared.note.Note.{Note}
 use Rattle.lk_sim_nodes.specs.Ends.{IsToldEnd}
 use Rattle.lk_sim.specs.Events.{IsGiven, IsGivenTogether, ComesUp, HasEffect, IsExecuted, Wants, IsRefused}
 use Rattle.lk_sim.specs.Groups.{given_by}

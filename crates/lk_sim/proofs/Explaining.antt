@@ -3,18 +3,19 @@ use Rattle.std.proofs.Common.{◌≡◌, ℕ, suc, ◌+◌, ◌⊎◌, List, [],
 use Rattle.std.proofs.lemmas.Option.{slice_get-get_or}
 use Rattle.std.proofs.lemmas.List.Elements.{Contains-append_cases}
 use Rattle.lk_disk.specs.Disk.{Disk}
-use Rattle.lk_simulated_disk.specs.Memory.{disk_of}
+use Rattle.lk_memory_disk.specs.Memory.{disk_of}
 use Rattle.lk_disk.specs.declared.device.Side.{Side}
 use Rattle.lk_messages.specs.declared.message.NodeMessage.TheVariants as kinds
 use Rattle.lk_state.specs.Meanings.{Meaning}
 use Rattle.lk_state.specs.States.{WholeValue, SumsUp}
-use Rattle.lk_agreement.specs.Chosen.{command_at, Chosen, ChosenAt, IsBeginning}
-use Rattle.lk_agreement.specs.Snapshots.{IsSlice}
-use Rattle.lk_agreement.specs.Soundness.{Sound}
-use Rattle.lk_agreement.proofs.Histories.{entry_chosen, one_chosen, chosen_agree, chosen_was_accepted, beginning_slice}
-use Rattle.lk_agreement.proofs.Histories.{only, contains_more}
-use Rattle.lk_node_io.specs.declared.note.Note.{Note}
-use Rattle.lk_node_io.specs.declared.note.Note.TheVariants as note
+use Rattle.lk_agreement_laws.specs.Chosen.{command_at, Chosen, ChosenAt, IsBeginning}
+use Rattle.lk_agreement_laws.specs.Snapshots.{IsSlice}
+use Rattle.lk_agreement_laws.specs.Soundness.{Sound}
+use Rattle.lk_agreement_laws.proofs.Histories.{entry_chosen, one_chosen, chosen_agree, chosen_was_accepted}
+use Rattle.lk_agreement_laws.proofs.Histories.{beginning_slice}
+use Rattle.lk_agreement_laws.proofs.Histories.{only, contains_more}
+use Rattle.lk_node_interface.specs.declared.note.Note.{Note}
+use Rattle.lk_node_interface.specs.declared.note.Note.TheVariants as note
 use Rattle.lk_node.specs.Histories.{Genesis, Datagram, Command, Request, RequestValue, WasAsked, IsLawful, text}
 use Rattle.lk_node.specs.Holdings.{Holding}
 use Rattle.lk_node.specs.Leavings.{DisksFit}

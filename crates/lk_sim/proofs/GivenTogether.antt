@@ -5,13 +5,13 @@ use Rattle.std.specs.List.{AllByRecursion}
 use Rattle.std.proofs.Math.Seq.{take-append_seam, drop-append_seam}
 use Rattle.std.proofs.lemmas.List.{length-take, take-append-drop}
 use Rattle.lk_disk.specs.Disk.{Disk, after_stop}
-use Rattle.lk_simulated_disk.specs.Memory.{Memory, disk_of}
+use Rattle.lk_memory_disk.specs.Memory.{Memory, disk_of}
 use Rattle.lk_disk.specs.declared.device.Side.{Side}
 use Rattle.lk_disk.specs.declared.device.Side.TheVariants.{A, B}
 use Rattle.lk_state.specs.Meanings.{Meaning}
-use Rattle.lk_node_io.specs.declared.input.Input.{Input}
-use Rattle.lk_node_io.specs.declared.input.Input.TheVariants.{Tick, Datagram as Heard}
-use Rattle.lk_node_io.specs.declared.note.Note.{Note}
+use Rattle.lk_node_interface.specs.declared.input.Input.{Input}
+use Rattle.lk_node_interface.specs.declared.input.Input.TheVariants.{Tick, Datagram as Heard}
+use Rattle.lk_node_interface.specs.declared.note.Note.{Note}
 use Rattle.lk_node.specs.Calls.{heard_by, InputFits}
 use Rattle.lk_node.specs.Histories.{History, Genesis, Datagram}
 use Rattle.lk_node.specs.Holdings.{Holding}
@@ -33,8 +33,8 @@ use Rattle.lk_sim_nodes.specs.Told.{Tells}
 use Rattle.lk_sim.specs.Traces.{happened}
 use Rattle.lk_sim.specs.Worlds.{WorldInvariant}
 use Rattle.lk_sim_nodes.specs.declared.end.End.{End}
-use Rattle.lk_sim.specs.declared.event.Turn.{Turn}
-use Rattle.lk_sim.specs.declared.event.Turn.TheVariants as turn
+use Rattle.lk_sim.specs.declared.event.GroupInput.{GroupInput}
+use Rattle.lk_sim.specs.declared.event.GroupInput.TheVariants as turn
 use Rattle.lk_sim_nodes.specs.declared.seat.Seat.{Seat}
 use Rattle.lk_sim_nodes.specs.declared.seat.Life.{Life}
 use Rattle.lk_sim_nodes.specs.declared.seat.Life.TheVariants.{Up, Down}
@@ -64,7 +64,7 @@ all_heard Shows disks m genesis seats sent trace w (Heard bytes ∷ is) were = (
 )
 
 -- the turns of a group bring what was sent
-was_brought : (sent : List Datagram) (n : ℕ) (t : Turn) (i : Input) → IsFor sent n t
+was_brought : (sent : List Datagram) (n : ℕ) (t : GroupInput) (i : Input) → IsFor sent n t
     → heard_by i ≡ given_by sent t → WasSentTo sent i
 was_brought sent n t Tick is same = tt
 was_brought sent n turn.Tick (Heard bytes) is same = absurd cc
@@ -76,7 +76,7 @@ was_brought sent n (turn.Deliver k) (Heard bytes) is same =
     given_of None = None
     given_of (Some d) = Some d.bytes
 
-pub were_brought : (sent : List Datagram) (n : ℕ) (turns : List Turn) (is : List Input) → AreFor sent n turns
+pub were_brought : (sent : List Datagram) (n : ℕ) (turns : List GroupInput) (is : List Input) → AreFor sent n turns
     → map heard_by is ≡ map (given_by sent) turns → WereSentTo sent is
 were_brought sent n turns [] for_it same = tt
 were_brought sent n [] (i ∷ is) for_it same = absurd cc

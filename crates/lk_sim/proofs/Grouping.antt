@@ -5,9 +5,9 @@ use Rattle.std.proofs.lemmas.List.Elements.{Contains-append_left}
 use Rattle.lk_disk.specs.Disk.{Disk}
 use Rattle.lk_disk.specs.declared.device.Side.{Side}
 use Rattle.lk_state.specs.Meanings.{Meaning}
-use Rattle.lk_node_io.specs.declared.note.Note.{Note}
-use Rattle.lk_node_io.specs.declared.input.Input.{Input}
-use Rattle.lk_node_io.specs.declared.input.Input.TheVariants.{Tick, Datagram as Heard}
+use Rattle.lk_node_interface.specs.declared.note.Note.{Note}
+use Rattle.lk_node_interface.specs.declared.input.Input.{Input}
+use Rattle.lk_node_interface.specs.declared.input.Input.TheVariants.{Tick, Datagram as Heard}
 use Rattle.lk_node.specs.Calls.{InputFits, LeavesFit}
 use Rattle.lk_node.specs.Histories.{Genesis, Datagram}
 use Rattle.lk_node.specs.Holdings.{Holding}

@@ -3,12 +3,12 @@ use Rattle.std.proofs.Common.{ℕ, List, ◌++◌, Contains}
 use Rattle.lk_disk.specs.Disk.{Disk}
 use Rattle.lk_disk.specs.declared.device.Side.{Side}
 use Rattle.lk_state.specs.Meanings.{Meaning}
-use Rattle.lk_agreement.specs.Acceptors.{AcceptorState, CoversSent}
-use Rattle.lk_agreement.specs.Nodes.{View, Stems, ViewFits}
-use Rattle.lk_agreement.proofs.Histories.{still_chosen_at}
-use Rattle.lk_agreement.proofs.Histories.{still_slice}
-use Rattle.lk_node_io.specs.declared.note.Note.{Note}
-use Rattle.lk_node_io.specs.declared.note.Note.TheVariants as note
+use Rattle.lk_agreement_laws.specs.Acceptors.{AcceptorState, CoversSent}
+use Rattle.lk_agreement_laws.specs.Nodes.{View, Stems, ViewFits}
+use Rattle.lk_agreement_laws.proofs.Histories.{still_chosen_at}
+use Rattle.lk_agreement_laws.proofs.Histories.{still_slice}
+use Rattle.lk_node_interface.specs.declared.note.Note.{Note}
+use Rattle.lk_node_interface.specs.declared.note.Note.TheVariants as note
 use Rattle.lk_node.specs.Histories.{History, Genesis, Datagram, Command, Noop, Request, RequestValue, WasAsked}
 use Rattle.lk_node.specs.Served.{text, BearsOut}
 use Rattle.lk_node.specs.Holdings.{Holding, HoldingFits}

@@ -8,10 +8,10 @@ use Rattle.lk_messages.specs.declared.message.Message.{Message}
 use Rattle.lk_messages.specs.declared.message.Content.TheVariants as content
 use Rattle.lk_messages.proofs.Spellings.{one_message}
 use Rattle.lk_state.specs.Meanings.{Meaning}
-use Rattle.lk_agreement.specs.Datagrams.{NodeMessage, said_by}
-use Rattle.lk_agreement.proofs.Histories.{heard_was_sent, contains_more}
-use Rattle.lk_node_io.specs.declared.note.Note.{Note}
-use Rattle.lk_node_io.specs.declared.note.Note.TheVariants as note
+use Rattle.lk_agreement_laws.specs.Datagrams.{NodeMessage, said_by}
+use Rattle.lk_agreement_laws.proofs.Histories.{heard_was_sent, contains_more}
+use Rattle.lk_node_interface.specs.declared.note.Note.{Note}
+use Rattle.lk_node_interface.specs.declared.note.Note.TheVariants as note
 use Rattle.lk_node.specs.Histories.{History, Genesis, Datagram, RequestValue, IsHeard}
 use Rattle.lk_node.specs.Holdings.{Holding}
 use Rattle.lk_sim.specs.Heard.{Reads, Asks, IsForged}

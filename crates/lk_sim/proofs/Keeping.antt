@@ -3,11 +3,11 @@ use Rattle.std.proofs.Common.{◌≡◌, ℕ, List, Some, refl, subst, inl, inr}
 use Rattle.lk_disk.specs.Disk.{Disk}
 use Rattle.lk_disk.specs.declared.device.Side.{Side}
 use Rattle.lk_state.specs.Meanings.{Meaning}
-use Rattle.lk_agreement.specs.Acceptors.{CoversSent}
-use Rattle.lk_agreement.specs.Datagrams.{Accepted}
-use Rattle.lk_agreement.specs.Chosen.{command_at, Chosen}
-use Rattle.lk_agreement.proofs.Histories.{chosen_agree, kept_by_majority}
-use Rattle.lk_node_io.specs.declared.note.Note.{Note}
+use Rattle.lk_agreement_laws.specs.Acceptors.{CoversSent}
+use Rattle.lk_agreement_laws.specs.Datagrams.{Accepted}
+use Rattle.lk_agreement_laws.specs.Chosen.{command_at, Chosen}
+use Rattle.lk_agreement_laws.proofs.Histories.{chosen_agree, kept_by_majority}
+use Rattle.lk_node_interface.specs.declared.note.Note.{Note}
 use Rattle.lk_node.specs.Histories.{Genesis, Datagram, Command}
 use Rattle.lk_node.specs.Holdings.{Holding}
 use Rattle.lk_node.specs.Leavings.{view_of, DisksFit}

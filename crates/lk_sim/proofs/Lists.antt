@@ -5,7 +5,7 @@ use Rattle.std.proofs.lemmas.Bool.{cases_eq}
 use Rattle.std.proofs.lemmas.List.{get_or-set_other, length-set}
 use Rattle.std.proofs.lemmas.Grind.{get_or-set_at}
 use Rattle.std.proofs.lemmas.List.Elements.{Contains-append_left}
-use Rattle.lk_node_io.specs.declared.note.Note.{Note}
+use Rattle.lk_node_interface.specs.declared.note.Note.{Note}
 use Rattle.lk_node.specs.Histories.{RequestValue}
 use Rattle.lk_sim.specs.Traces.{asked_by, asked_in}
 use Rattle.lk_sim_nodes.specs.Seats.{At}

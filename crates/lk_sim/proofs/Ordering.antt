@@ -17,11 +17,11 @@ use Rattle.lk_state.specs.Meanings.{Meaning}
 use Rattle.lk_state.specs.declared.session.Session.{Session}
 use Rattle.lk_state.specs.States.{session_in, text_of, ledger, reply}
 use Rattle.lk_state.proofs.Wholes.{by_pushes, ledger-push}
-use Rattle.lk_agreement.specs.Chosen.{command_at, Chosen, IsBeginning}
-use Rattle.lk_agreement.specs.Soundness.{Sound}
-use Rattle.lk_agreement.proofs.Histories.{command_within, entry_chosen, one_chosen, chosen_agree, still_chosen}
-use Rattle.lk_node_io.specs.declared.note.Note.{Note}
-use Rattle.lk_node_io.specs.declared.note.Note.TheVariants as note
+use Rattle.lk_agreement_laws.specs.Chosen.{command_at, Chosen, IsBeginning}
+use Rattle.lk_agreement_laws.specs.Soundness.{Sound}
+use Rattle.lk_agreement_laws.proofs.Histories.{command_within, entry_chosen, one_chosen, chosen_agree, still_chosen}
+use Rattle.lk_node_interface.specs.declared.note.Note.{Note}
+use Rattle.lk_node_interface.specs.declared.note.Note.TheVariants as note
 use Rattle.lk_node.specs.Histories.{Genesis, Datagram, Command, Noop, Request, RequestValue}
 use Rattle.lk_sim.specs.Traces.{asked_in}
 use Rattle.lk_sim.specs.Orders.{IsEffectiveAt, IsEffectiveBefore, InOrder, ToldInTime, IsAnsweredBy, RestsOn, InTime}

@@ -1,17 +1,17 @@
 -- Events in a row.
 use Rattle.std.proofs.Common.{◌≡◌, ℕ, suc, List, [], ◌∷◌, ◌++◌, map, take, slice_get, Some, None, refl, sym, ap, ◌∙◌}
 use Rattle.std.proofs.Common.{subst, inl, inr, append_assoc, append-nil}
-use Rattle.lk_simulated_disk.specs.Memory.{Memory, empty}
+use Rattle.lk_memory_disk.specs.Memory.{Memory, empty}
 use Rattle.lk_replica.specs.Behaviours.{Behaviour}
 use Rattle.std.specs.Prelude.{Option, Result, Ok, Err, Vec, OnOk, IfErr, IsErrAnd}
 use Rattle.std.specs.Global.{Global}
-use Rattle.lk_node_io.specs.declared.note.Note.{Note}
+use Rattle.lk_node_interface.specs.declared.note.Note.{Note}
 use Rattle.lk_sim.specs.Events.{IsGiven, IsGivenTogether, ComesUp, HasEffect, IsExecuted, Wants, IsRefused}
 use Rattle.lk_sim.specs.Events.{IsNotInjected}
 use Rattle.lk_sim.specs.Events.{IsNotGrouped, Grows}
 use Rattle.lk_replica.specs.Together.{sent_of}
 use Rattle.lk_sim.specs.Groups.{given_by}
-use Rattle.lk_sim.specs.declared.event.Turn.{Turn}
+use Rattle.lk_sim.specs.declared.event.GroupInput.{GroupInput}
 use Rattle.lk_sim.specs.Runs.{Passes, StopsAt, Runs}
 use Rattle.lk_sim.specs.Scenes.{Scene}
 use Rattle.lk_sim.specs.Traces.{asked_note}
@@ -53,7 +53,8 @@ injected_refused b old new n bytes r k = elim k [
 ]
 
 -- a group that was refused is a refused event
-pub group_refused : {R : Type 0} (b : Behaviour R) (old new : Scene R) (n : ℕ) (turns : Vec Turn Global) (r : Refused)
+pub group_refused : {R : Type 0} (b : Behaviour R) (old new : Scene R) (n : ℕ) (turns : Vec GroupInput Global)
+    (r : Refused)
     → IsNotGrouped b old n turns.items r new → IsRefused b old (event.Group n turns) r new
 group_refused b old new n turns r k = elim k [
   | inl why ↦ inl why

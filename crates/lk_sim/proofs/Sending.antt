@@ -6,21 +6,21 @@ use Rattle.std.proofs.lemmas.List.{get_or_default}
 use Rattle.std.proofs.Math.Seq.{take-length}
 use Rattle.std.proofs.lemmas.List.Elements.{Contains-append_cases}
 use Rattle.lk_disk.specs.Disk.{Disk}
-use Rattle.lk_simulated_disk.specs.Memory.{disk_of}
+use Rattle.lk_memory_disk.specs.Memory.{disk_of}
 use Rattle.lk_disk.specs.declared.device.Side.{Side}
 use Rattle.lk_messages.specs.Grammar.{Spells}
 use Rattle.lk_messages.specs.declared.message.Content.TheVariants as content
 use Rattle.lk_messages.proofs.Spellings.{one_message}
 use Rattle.lk_state.specs.Meanings.{Meaning}
-use Rattle.lk_agreement.specs.Datagrams.{NodeMessage, Vote, Accept, said_by, HasSent, WasSent}
-use Rattle.lk_agreement.specs.Nodes.{View, ViewFits, MaySend, MayPostAll}
-use Rattle.lk_agreement.specs.Chosen.{Chosen}
-use Rattle.lk_agreement.specs.Worlds.{World, with_view, with_sent, WorldFits}
-use Rattle.lk_agreement.proofs.Histories.{still_chosen, still_stems}
-use Rattle.lk_agreement.proofs.Histories.{said_alike, sent_cases}
-use Rattle.lk_agreement.proofs.Histories.{with_view_fits, batch_fits, covers_elsewhere}
-use Rattle.lk_node_io.specs.declared.note.Note.{Note}
-use Rattle.lk_node_io.specs.declared.note.Note.TheVariants as note
+use Rattle.lk_agreement_laws.specs.Datagrams.{NodeMessage, Vote, Accept, said_by, HasSent, WasSent}
+use Rattle.lk_agreement_laws.specs.Nodes.{View, ViewFits, MaySend, MayPostAll}
+use Rattle.lk_agreement_laws.specs.Chosen.{Chosen}
+use Rattle.lk_agreement_laws.specs.Worlds.{World, with_view, with_sent, WorldFits}
+use Rattle.lk_agreement_laws.proofs.Histories.{still_chosen, still_stems}
+use Rattle.lk_agreement_laws.proofs.Histories.{said_alike, sent_cases}
+use Rattle.lk_agreement_laws.proofs.Histories.{with_view_fits, batch_fits, covers_elsewhere}
+use Rattle.lk_node_interface.specs.declared.note.Note.{Note}
+use Rattle.lk_node_interface.specs.declared.note.Note.TheVariants as note
 use Rattle.lk_node.specs.Histories.{History, Genesis, Datagram, Command, RequestValue, WasAsked, later}
 use Rattle.lk_node.specs.Served.{BearsOut, BearsOutMessage}
 use Rattle.lk_node.specs.Holdings.{Holding}

@@ -2,17 +2,17 @@
 use Rattle.std.proofs.Common.{◌≡◌, ℕ, zero, suc, ◌⊎◌, List, [], ◌∷◌, ◌++◌, length, take, Contains, refl, ap, sym, ◌∙◌}
 use Rattle.std.proofs.Common.{subst, inl, inr, arith}
 use Rattle.lk_disk.specs.Disk.{Disk}
-use Rattle.lk_simulated_disk.specs.Memory.{Memory, disk_of}
+use Rattle.lk_memory_disk.specs.Memory.{Memory, disk_of}
 use Rattle.lk_disk.specs.declared.device.Side.{Side}
 use Rattle.lk_state.specs.Meanings.{Meaning}
 use Rattle.lk_store_format.specs.declared.stored.Stored.TheVariants.{Base}
 use Rattle.lk_log.specs.Stores.{first_base}
 use Rattle.lk_log.proofs.StoreLaws.{empty_image, first_stands}
-use Rattle.lk_agreement.specs.Datagrams.{NodeMessage, HasSent}
-use Rattle.lk_agreement.specs.Nodes.{fresh}
-use Rattle.lk_agreement.proofs.Histories.{still_stems}
-use Rattle.lk_agreement.proofs.Histories.{start_fits}
-use Rattle.lk_node_io.specs.declared.note.Note.{Note}
+use Rattle.lk_agreement_laws.specs.Datagrams.{NodeMessage, HasSent}
+use Rattle.lk_agreement_laws.specs.Nodes.{fresh}
+use Rattle.lk_agreement_laws.proofs.Histories.{still_stems}
+use Rattle.lk_agreement_laws.proofs.Histories.{start_fits}
+use Rattle.lk_node_interface.specs.declared.note.Note.{Note}
 use Rattle.lk_node.specs.Histories.{History, Genesis, Datagram}
 use Rattle.lk_node.specs.Served.{text}
 use Rattle.lk_node.specs.Holdings.{Holding}

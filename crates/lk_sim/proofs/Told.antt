@@ -9,10 +9,10 @@ use Rattle.lk_messages.specs.declared.message.Message.{Message}
 use Rattle.lk_messages.specs.declared.message.NodeMessage.{NodeMessage}
 use Rattle.lk_messages.specs.declared.message.NodeMessage.TheVariants as kinds
 use Rattle.lk_state.specs.Meanings.{Meaning}
-use Rattle.lk_agreement.specs.Datagrams.{said_by}
-use Rattle.lk_agreement.proofs.Histories.{only, contains_more}
-use Rattle.lk_node_io.specs.declared.note.Note.{Note}
-use Rattle.lk_node_io.specs.declared.note.Note.TheVariants as note
+use Rattle.lk_agreement_laws.specs.Datagrams.{said_by}
+use Rattle.lk_agreement_laws.proofs.Histories.{only, contains_more}
+use Rattle.lk_node_interface.specs.declared.note.Note.{Note}
+use Rattle.lk_node_interface.specs.declared.note.Note.TheVariants as note
 use Rattle.lk_node.specs.Histories.{History, Datagram, Command}
 use Rattle.lk_node.specs.Served.{IsOfNode, BearsOut, BearsOutMessage}
 use Rattle.lk_sim_nodes.specs.Told.{told_by_node, told_by, Tells}

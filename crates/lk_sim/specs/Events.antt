@@ -3,7 +3,7 @@ use Rattle.std.specs.Prelude.{◌≡◌, ℕ, ◌+◌, ◌<◌, ◌⊎◌, lengt
 use Rattle.std.specs.Prelude.{Ok, Err, set, Contains, Vec, vec_len, vec_capacity}
 use Rattle.std.specs.Global.{Global}
 use Rattle.std.specs.List.{AllByRecursion}
-use Rattle.lk_simulated_disk.specs.Memory.{Memory, empty}
+use Rattle.lk_memory_disk.specs.Memory.{Memory, empty}
 use Rattle.lk_disk.specs.Meters.{Passes, stopping}
 use Rattle.lk_disk.specs.declared.trap.Trap.{Trap}
 use Rattle.lk_disk.specs.declared.trap.Trap.TheVariants.{Fail, Arm}
@@ -11,9 +11,9 @@ use Rattle.lk_store_format.specs.Values.{HeaderValue}
 use Rattle.lk_log.specs.Causes.{rebase_calls}
 use Rattle.lk_messages.specs.Grammar.{Spells}
 use Rattle.lk_messages.specs.declared.message.Content.TheVariants as content
-use Rattle.lk_agreement.specs.declared.party.Party.TheVariants as party
-use Rattle.lk_node_io.specs.declared.note.Note.{Note}
-use Rattle.lk_node_io.specs.declared.note.Note.TheVariants as note
+use Rattle.lk_agreement_laws.specs.declared.party.Party.TheVariants as party
+use Rattle.lk_node_interface.specs.declared.note.Note.{Note}
+use Rattle.lk_node_interface.specs.declared.note.Note.TheVariants as note
 use Rattle.lk_node.specs.Histories.{Datagram, Genesis, RequestValue}
 use Rattle.lk_node.specs.Leavings.{header_of}
 use Rattle.lk_node.specs.Served.{IsOfNode}
@@ -38,10 +38,10 @@ use Rattle.lk_sim.specs.Scenes.{Scene}
 use Rattle.lk_sim.specs.Traces.{asked_note}
 use Rattle.lk_sim.specs.declared.event.Event.{Event}
 use Rattle.lk_sim.specs.declared.event.Event.TheVariants as event
-use Rattle.lk_sim.specs.declared.event.Turn.{Turn}
+use Rattle.lk_sim.specs.declared.event.GroupInput.{GroupInput}
 
 -- of all nodes only this one has changed, from `s` to `t`, and has kept its number
-pub record Turns {R : Type 0} (old new : List (Seat R)) (s t : Seat R) : Type 0 where
+pub record ReplacesSeat {R : Type 0} (old new : List (Seat R)) (s t : Seat R) : Type 0 where
   pub place : ℕ
   pub at : At old place s
   pub number : t.number ≡ s.number
@@ -122,7 +122,7 @@ pub record IsGiven {R : Type 0} (b : Behaviour R) (old new : Scene R) (n : ℕ) 
   pub replica : R
   pub up : seat.life ≡ Up replica
   pub next : Seat R
-  pub turns : Turns old.seats new.seats seat next
+  pub turns : ReplacesSeat old.seats new.seats seat next
   pub comes_to : Comes b old new replica next o asked
 
 -- the node to which the datagram is addressed took its bytes
@@ -189,7 +189,7 @@ pub record IsGivenTogether {R : Type 0} (b : Behaviour R) (old new : Scene R) (n
   pub replica : R
   pub up : seat.life ≡ Up replica
   pub next : Seat R
-  pub turns : Turns old.seats new.seats seat next
+  pub turns : ReplacesSeat old.seats new.seats seat next
   pub comes_to : ComesTogether b old new replica next given
 
 -- the node took these bytes, and a request in them was noted as asked
@@ -241,7 +241,7 @@ pub record IsBack {R : Type 0} (b : Behaviour R) (old new : Scene R) (n : ℕ) :
   pub device : Memory
   pub down : seat.life ≡ Down device
   pub next : Seat R
-  pub turns : Turns old.seats new.seats seat next
+  pub turns : ReplacesSeat old.seats new.seats seat next
   pub comes : ComesUp b old new next device
 
 -- ---- a node compacts
@@ -263,7 +263,7 @@ pub record IsCompacted {R : Type 0} (b : Behaviour R) (old new : Scene R) (n : �
   pub replica : R
   pub up : seat.life ≡ Up replica
   pub next : Seat R
-  pub turns : Turns old.seats new.seats seat next
+  pub turns : ReplacesSeat old.seats new.seats seat next
   pub comes_to : GoesOnCompacted b old new replica next ⊎ EndsByFault (FailsToCompact b replica) old new next []
 
 -- ---- a node goes down, or its device will fail
@@ -275,7 +275,7 @@ pub record GoesDown {R : Type 0} (b : Behaviour R) (old new : Scene R) (n x y : 
   pub replica : R
   pub up : seat.life ≡ Up replica
   pub next : Seat R
-  pub turns : Turns old.seats new.seats seat next
+  pub turns : ReplacesSeat old.seats new.seats seat next
   pub down : next.life ≡ Down (stopped_on x y (b.memory replica))
   pub adds : Adds old new [] []
   pub ended : new.ended ≡ None
@@ -285,7 +285,7 @@ pub record HasTrap {R : Type 0} (b : Behaviour R) (old new : Scene R) (n : ℕ) 
   pub seat : Seat R
   pub number : seat.number ≡ n
   pub next : Seat R
-  pub turns : Turns old.seats new.seats seat next
+  pub turns : ReplacesSeat old.seats new.seats seat next
   pub trapped : IsTrapped b seat next trap
   pub adds : Adds old new [] []
   pub ended : new.ended ≡ None
@@ -362,7 +362,7 @@ pub record IsHalted {R : Type 0} (Left : Life R → Memory → Type 0) (old new 
   pub seat : Seat R
   pub number : seat.number ≡ n
   pub next : Seat R
-  pub turns : Turns old.seats new.seats seat next
+  pub turns : ReplacesSeat old.seats new.seats seat next
   pub device : Memory
   pub left : Left seat.life device
   pub down : next.life ≡ Down (stopped_on 0 0 device)
@@ -377,7 +377,7 @@ WantsInjection b old n bytes new =
 
 -- what running out of memory leaves of a group: nothing has changed, as there was no room for the inputs of a group
 -- that is not empty; or the node has stopped in a call that takes memory
-abbrev pub WantsGroup : {R : Type 0} → Behaviour R → Scene R → ℕ → List Turn → Scene R → Type 0
+abbrev pub WantsGroup : {R : Type 0} → Behaviour R → Scene R → ℕ → List GroupInput → Scene R → Type 0
 WantsGroup b old n turns new =
     ((new ≡ old) × (0 < length turns)) ⊎ IsHalted (LeftByGroup b (map (given_by old.sent) turns)) old new n
 
@@ -412,7 +412,7 @@ IsNotInjected b old n bytes r new =
     ⊎ ((r ≡ WorldMemory) × MayInject old n bytes × WantsInjection b old n bytes new)
 
 -- what a rejected group leaves
-abbrev pub IsNotGrouped : {R : Type 0} → Behaviour R → Scene R → ℕ → List Turn → Refused → Scene R → Type 0
+abbrev pub IsNotGrouped : {R : Type 0} → Behaviour R → Scene R → ℕ → List GroupInput → Refused → Scene R → Type 0
 IsNotGrouped b old n turns r new =
     (NoGroup old.seats old.sent n turns r × (new ≡ old))
     ⊎ ((r ≡ WorldMemory) × MayGroup old n turns × WantsGroup b old n turns new)

@@ -8,10 +8,10 @@ use Rattle.lk_messages.specs.declared.message.NodeMessage.TheVariants as kinds
 use Rattle.lk_members.specs.Rosters.{members}
 use Rattle.lk_state.specs.Meanings.{Meaning}
 use Rattle.lk_state.specs.States.{reply}
-use Rattle.lk_agreement.specs.Datagrams.{HasSent}
-use Rattle.lk_agreement.specs.Chosen.{command_at}
-use Rattle.lk_node_io.specs.declared.note.Note.{Note}
-use Rattle.lk_node_io.specs.declared.note.Note.TheVariants as note
+use Rattle.lk_agreement_laws.specs.Datagrams.{HasSent}
+use Rattle.lk_agreement_laws.specs.Chosen.{command_at}
+use Rattle.lk_node_interface.specs.declared.note.Note.{Note}
+use Rattle.lk_node_interface.specs.declared.note.Note.TheVariants as note
 use Rattle.lk_node.specs.Histories.{Genesis, Datagram, Command, Request, RequestValue}
 use Rattle.lk_node.specs.Served.{BearsOutPart}
 

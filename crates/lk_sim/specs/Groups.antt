@@ -1,15 +1,15 @@
 -- The steps of a group in a world: what a node takes together, and what they add to the trace.
 use Rattle.std.specs.Prelude.{◌≡◌, ℕ, ◌++◌, List, [], ◌∷◌, Option, Some, None, Contains, Vec}
 use Rattle.std.specs.Global.{Global}
-use Rattle.lk_node_io.specs.declared.input.Input.{Input}
-use Rattle.lk_node_io.specs.declared.input.Input.TheVariants.{Tick, Datagram as Heard}
-use Rattle.lk_node_io.specs.declared.note.Note.{Note}
+use Rattle.lk_node_interface.specs.declared.input.Input.{Input}
+use Rattle.lk_node_interface.specs.declared.input.Input.TheVariants.{Tick, Datagram as Heard}
+use Rattle.lk_node_interface.specs.declared.note.Note.{Note}
 use Rattle.lk_node.specs.Histories.{Datagram}
 use Rattle.lk_replica.specs.Together.{Said}
 use Rattle.lk_sim.specs.Refusals.{datagram_at}
 use Rattle.lk_sim_nodes.specs.Told.{Tells}
-use Rattle.lk_sim.specs.declared.event.Turn.{Turn}
-use Rattle.lk_sim.specs.declared.event.Turn.TheVariants as turn
+use Rattle.lk_sim.specs.declared.event.GroupInput.{GroupInput}
+use Rattle.lk_sim.specs.declared.event.GroupInput.TheVariants as turn
 
 -- ---- what a node takes
 
@@ -18,7 +18,7 @@ bytes_of None = None
 bytes_of (Some d) = Some d.bytes
 
 -- the input of a turn: the datagram's bytes, none at a tick
-abbrev pub given_by : List Datagram → Turn → Option (List ℕ)
+abbrev pub given_by : List Datagram → GroupInput → Option (List ℕ)
 given_by sent turn.Tick = None
 given_by sent (turn.Deliver k) = bytes_of (datagram_at sent k)
 

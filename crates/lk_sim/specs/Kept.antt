@@ -8,8 +8,8 @@ use Rattle.lk_log.specs.Images.{Image, MayLeaveBoth}
 use Rattle.lk_members.specs.Rosters.{members}
 use Rattle.lk_members.specs.Majorities.{IsMajority}
 use Rattle.lk_state.specs.Meanings.{Meaning}
-use Rattle.lk_agreement.specs.Acceptors.{CoversSent}
-use Rattle.lk_agreement.specs.Chosen.{Chosen, IsBeginning}
+use Rattle.lk_agreement_laws.specs.Acceptors.{CoversSent}
+use Rattle.lk_agreement_laws.specs.Chosen.{Chosen, IsBeginning}
 use Rattle.lk_node.specs.Histories.{Genesis, Datagram, Command}
 use Rattle.lk_node.specs.Leavings.{header_of, acceptor_of, StandsAs}
 use Rattle.lk_node.specs.Served.{text}

@@ -2,22 +2,22 @@
 -- order.
 use Rattle.std.specs.Prelude.{◌≡◌, ◌⊎◌, ℕ, Option, Some, None, List, [], ◌∷◌, ◌++◌}
 use Rattle.lk_disk.specs.Disk.{Disk, after_stop}
-use Rattle.lk_simulated_disk.specs.Memory.{Memory, disk_of}
+use Rattle.lk_memory_disk.specs.Memory.{Memory, disk_of}
 use Rattle.lk_disk.specs.declared.device.Side.{Side}
 use Rattle.lk_messages.specs.Grammar.{Spells}
 use Rattle.lk_messages.specs.declared.message.Content.TheVariants as content
 use Rattle.lk_messages.specs.declared.message.Message.{Message}
 use Rattle.lk_messages.specs.declared.message.NodeMessage.{NodeMessage}
 use Rattle.lk_state.specs.Meanings.{Meaning}
-use Rattle.lk_agreement.specs.Datagrams.{said_by, HasSent}
-use Rattle.lk_node_io.specs.declared.note.Note.{Note}
+use Rattle.lk_agreement_laws.specs.Datagrams.{said_by, HasSent}
+use Rattle.lk_node_interface.specs.declared.note.Note.{Note}
 use Rattle.lk_node.specs.Calls.{NodeFits, LeavesFit}
 use Rattle.lk_node.specs.Histories.{History, Genesis, Datagram, RequestValue, IsHeard, IsLawful}
 use Rattle.lk_node.specs.Holdings.{Holding}
 use Rattle.lk_node.specs.Leavings.{DisksFit}
 use Rattle.lk_sim_nodes.specs.Rooms.{AreShort}
 use Rattle.lk_sim_nodes.specs.Seats.{At}
-use Rattle.lk_sim.specs.Events.{Turns, Adds}
+use Rattle.lk_sim.specs.Events.{ReplacesSeat, Adds}
 use Rattle.lk_sim.specs.Scenes.{Scene}
 use Rattle.lk_sim_nodes.specs.Told.{told_by}
 use Rattle.lk_sim.specs.Traces.{asked_note}
@@ -102,7 +102,7 @@ pub record Restarts {R : Type 0} (Shows : R → Genesis → ℕ → Holding → 
     (old new : Scene R) : Type 0 where
   pub seat : Seat R
   pub next : Seat R
-  pub turns : Turns old.seats new.seats seat next
+  pub turns : ReplacesSeat old.seats new.seats seat next
   pub device : Memory
   pub down : seat.life ≡ Down device
   pub replica : R
@@ -115,7 +115,7 @@ pub record Restarts {R : Type 0} (Shows : R → Genesis → ℕ → Holding → 
 pub record Rests {R : Type 0} (m : Meaning) (old new : Scene R) : Type 0 where
   pub seat : Seat R
   pub next : Seat R
-  pub turns : Turns old.seats new.seats seat next
+  pub turns : ReplacesSeat old.seats new.seats seat next
   pub device : Memory
   pub down : seat.life ≡ Down device
   pub left : Memory
@@ -128,7 +128,7 @@ pub record GoesOn {R : Type 0} (Shows : R → Genesis → ℕ → Holding → Ty
     (old new : Scene R) : Type 0 where
   pub seat : Seat R
   pub next : Seat R
-  pub turns : Turns old.seats new.seats seat next
+  pub turns : ReplacesSeat old.seats new.seats seat next
   pub before : R
   pub was : seat.life ≡ Up before
   pub after : R
@@ -149,7 +149,7 @@ pub record Ends {R : Type 0} (Shows : R → Genesis → ℕ → Holding → Type
     (old new : Scene R) : Type 0 where
   pub seat : Seat R
   pub next : Seat R
-  pub turns : Turns old.seats new.seats seat next
+  pub turns : ReplacesSeat old.seats new.seats seat next
   pub before : R
   pub was : seat.life ≡ Up before
   pub left : Memory
@@ -165,7 +165,7 @@ pub record Ends {R : Type 0} (Shows : R → Genesis → ℕ → Holding → Type
 pub record Stops {R : Type 0} (disks : R → Side → Disk) (old new : Scene R) : Type 0 where
   pub seat : Seat R
   pub next : Seat R
-  pub turns : Turns old.seats new.seats seat next
+  pub turns : ReplacesSeat old.seats new.seats seat next
   pub left : Memory
   pub down : next.life ≡ Down left
   pub was_up : (r : R) → seat.life ≡ Up r → (s : Side) → (k : ℕ) × (disk_of left s ≡ after_stop k (disks r s))

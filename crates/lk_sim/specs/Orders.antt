@@ -4,9 +4,9 @@ use Rattle.lk_types.specs.declared.answer.Answer.{Answer}
 use Rattle.lk_members.specs.Effects.{in_effect}
 use Rattle.lk_state.specs.Meanings.{Meaning}
 use Rattle.lk_state.specs.States.{reply}
-use Rattle.lk_agreement.specs.Chosen.{command_at, Chosen}
-use Rattle.lk_node_io.specs.declared.note.Note.{Note}
-use Rattle.lk_node_io.specs.declared.note.Note.TheVariants as note
+use Rattle.lk_agreement_laws.specs.Chosen.{command_at, Chosen}
+use Rattle.lk_node_interface.specs.declared.note.Note.{Note}
+use Rattle.lk_node_interface.specs.declared.note.Note.TheVariants as note
 use Rattle.lk_node.specs.Histories.{Genesis, Datagram, Command, Request, RequestValue}
 use Rattle.lk_sim.specs.Traces.{asked_in}
 

@@ -1,8 +1,8 @@
 -- What is promised of every world, whatever has happened in it.
 use Rattle.std.specs.Prelude.{◌≡◌, ℕ, ◌⊎◌, Some, List}
-use Rattle.lk_agreement.specs.Ballots.{BallotValue}
-use Rattle.lk_agreement.specs.Chosen.{command_at, Chosen, IsBeginning}
-use Rattle.lk_agreement.specs.Datagrams.{Genesis, Datagram, Vote, Accept, HasSent, WasSent}
+use Rattle.lk_agreement_laws.specs.Ballots.{BallotValue}
+use Rattle.lk_agreement_laws.specs.Chosen.{command_at, Chosen, IsBeginning}
+use Rattle.lk_agreement_laws.specs.Datagrams.{Genesis, Datagram, Vote, Accept, HasSent, WasSent}
 use Rattle.lk_node.specs.Histories.{Command}
 use Rattle.lk_replica.specs.Behaviours.{Behaviour, disks_by}
 use Rattle.lk_sim.specs.Explained.{Explains}

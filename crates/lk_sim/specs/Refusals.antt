@@ -1,8 +1,8 @@
 -- Why an event is rejected, the smallest number first.
 use Rattle.std.specs.Prelude.{◌≡◌, ℕ, zero, suc, ◌<◌, ◌≤◌, List, length, Option, Some, None, slice_get}
 use Rattle.std.specs.List.{AllByRecursion}
-use Rattle.lk_agreement.specs.declared.party.Party.{Party}
-use Rattle.lk_agreement.specs.declared.party.Party.TheVariants as party
+use Rattle.lk_agreement_laws.specs.declared.party.Party.{Party}
+use Rattle.lk_agreement_laws.specs.declared.party.Party.TheVariants as party
 use Rattle.lk_node.specs.Histories.{Datagram}
 use Rattle.lk_sim.specs.Heard.{IsForged}
 use Rattle.lk_sim.specs.Scenes.{Scene}
@@ -10,8 +10,8 @@ use Rattle.lk_sim_nodes.specs.Refusals.{NoneUp, NoRestart}
 use Rattle.lk_sim_nodes.specs.Seats.{IsStarted, IsUp, IsDown, HasNo}
 use Rattle.lk_sim.specs.declared.event.Event.{Event}
 use Rattle.lk_sim.specs.declared.event.Event.TheVariants as event
-use Rattle.lk_sim.specs.declared.event.Turn.{Turn}
-use Rattle.lk_sim.specs.declared.event.Turn.TheVariants as turn
+use Rattle.lk_sim.specs.declared.event.GroupInput.{GroupInput}
+use Rattle.lk_sim.specs.declared.event.GroupInput.TheVariants as turn
 use Rattle.lk_sim_nodes.specs.declared.refused.Refused.{Refused}
 use Rattle.lk_sim_nodes.specs.declared.refused.Refused.TheVariants.{NoSuchNode, NotUp, AlreadyUp, NoSuchDatagram}
 use Rattle.lk_sim_nodes.specs.declared.refused.Refused.TheVariants.{Forged, WorldFull}
@@ -30,12 +30,12 @@ datagram_at sent zero = None
 datagram_at sent (suc k) = slice_get sent k
 
 -- the datagram of the turn exists, addressed to the node
-abbrev pub IsFor : List Datagram → ℕ → Turn → Type 0
+abbrev pub IsFor : List Datagram → ℕ → GroupInput → Type 0
 IsFor sent n turn.Tick = Unit {0}
 IsFor sent n (turn.Deliver k) = (d : Datagram) × (datagram_at sent k ≡ Some d) × (d.to ≡ party.Node n)
 
 -- the same of each of these
-abbrev pub AreFor : List Datagram → ℕ → List Turn → Type 0
+abbrev pub AreFor : List Datagram → ℕ → List GroupInput → Type 0
 AreFor sent n turns = AllByRecursion (IsFor sent n) turns
 
 -- ---- the reasons
@@ -83,7 +83,7 @@ NoInjection seats sent n bytes WorldFull = IsUp seats n × (IsForged bytes → �
 NoInjection seats sent n bytes _ = ⊥
 
 -- each datagram of a group must be addressed to its node
-abbrev pub NoGroup : {R : Type 0} → List (Seat R) → List Datagram → ℕ → List Turn → Refused → Type 0
+abbrev pub NoGroup : {R : Type 0} → List (Seat R) → List Datagram → ℕ → List GroupInput → Refused → Type 0
 NoGroup seats sent n turns NoSuchNode = HasNo seats n
 NoGroup seats sent n turns NotUp = IsDown seats n
 NoGroup seats sent n turns NoSuchDatagram = IsUp seats n × (AreFor sent n turns → ⊥)
@@ -115,7 +115,7 @@ abbrev pub MayDeliver : {R : Type 0} → Scene R → ℕ → Type 0
 MayDeliver w k = (d : Datagram) × (n : ℕ) × (datagram_at w.sent k ≡ Some d) × (d.to ≡ party.Node n) × MayTurn w n
 
 -- the node may take a turn, and each datagram of the group is addressed to it
-abbrev pub MayGroup : {R : Type 0} → Scene R → ℕ → List Turn → Type 0
+abbrev pub MayGroup : {R : Type 0} → Scene R → ℕ → List GroupInput → Type 0
 MayGroup w n turns = MayTurn w n × AreFor w.sent n turns
 
 -- the node may take a turn, and the bytes are none that only a node sends

@@ -1,6 +1,6 @@
 -- What contracts see of a world.
 use Rattle.std.specs.Prelude.{List, Option}
-use Rattle.lk_node_io.specs.declared.note.Note.{Note}
+use Rattle.lk_node_interface.specs.declared.note.Note.{Note}
 use Rattle.lk_node.specs.Histories.{Genesis, Datagram}
 use Rattle.lk_sim_nodes.specs.declared.end.End.{End}
 use Rattle.lk_sim_nodes.specs.declared.seat.Seat.{Seat}

@@ -1,13 +1,13 @@
 -- The states of the nodes of a world, in terms of chosen lists.
 use Rattle.std.specs.Prelude.{◌≡◌, ℕ, List, [], length}
 use Rattle.lk_disk.specs.Disk.{Disk}
-use Rattle.lk_simulated_disk.specs.Memory.{Memory, disk_of}
+use Rattle.lk_memory_disk.specs.Memory.{Memory, disk_of}
 use Rattle.lk_disk.specs.declared.device.Side.{Side}
 use Rattle.lk_store_format.specs.Values.{StandingValue}
 use Rattle.lk_log.specs.Images.{Image, MayLeaveBoth}
 use Rattle.lk_state.specs.Meanings.{Meaning}
 use Rattle.lk_state.specs.States.{WholeValue, SumsUp}
-use Rattle.lk_agreement.specs.Chosen.{Chosen}
+use Rattle.lk_agreement_laws.specs.Chosen.{Chosen}
 use Rattle.lk_node.specs.Histories.{Genesis, Datagram, Command}
 use Rattle.lk_node.specs.Leavings.{header_of, StandsAs}
 use Rattle.lk_node.specs.Served.{text}

@@ -5,11 +5,11 @@ use Rattle.lk_disk.specs.declared.device.Side.{Side}
 use Rattle.lk_messages.specs.Grammar.{Spells}
 use Rattle.lk_messages.specs.declared.message.Content.TheVariants as content
 use Rattle.lk_state.specs.Meanings.{Meaning}
-use Rattle.lk_agreement.specs.Datagrams.{NodeMessage, Vote, Accept, HasSent, WasSent}
-use Rattle.lk_agreement.specs.Chosen.{Chosen}
-use Rattle.lk_agreement.specs.Nodes.{View}
-use Rattle.lk_agreement.specs.Worlds.{WorldFits}
-use Rattle.lk_node_io.specs.declared.note.Note.{Note}
+use Rattle.lk_agreement_laws.specs.Datagrams.{NodeMessage, Vote, Accept, HasSent, WasSent}
+use Rattle.lk_agreement_laws.specs.Chosen.{Chosen}
+use Rattle.lk_agreement_laws.specs.Nodes.{View}
+use Rattle.lk_agreement_laws.specs.Worlds.{WorldFits}
+use Rattle.lk_node_interface.specs.declared.note.Note.{Note}
 use Rattle.lk_node.specs.Histories.{Genesis, Datagram, Command, RequestValue, WasAsked}
 use Rattle.lk_node.specs.Served.{BearsOut, BearsOutMessage}
 use Rattle.lk_node.specs.Holdings.{Holding}

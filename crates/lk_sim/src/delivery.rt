@@ -1,7 +1,7 @@
 // Events that give one input to a node: a tick, a datagram that was sent, or bytes that no node has sent.
 ghost use Rattle.std.specs.Prelude.{◌≡◌, ◌⊎◌, Some, IfOk, IfErr, OnOk, OnErr};
-ghost use Rattle.lk_agreement.specs.Datagrams.{Datagram as DatagramValue};
-ghost use Rattle.lk_agreement.specs.declared.party.Party.TheVariants as party;
+ghost use Rattle.lk_agreement_laws.specs.Datagrams.{Datagram as DatagramValue};
+ghost use Rattle.lk_agreement_laws.specs.declared.party.Party.TheVariants as party;
 ghost use Rattle.lk_wire.specs.Shown.{shown_content};
 ghost use Rattle.lk_messages.specs.declared.message.Content.TheVariants as content;
 ghost use Rattle.lk_node.specs.Histories.{RequestValue};
@@ -17,8 +17,8 @@ ghost use Rattle.lk_sim.specs.declared.event.Event.TheVariants as event;
 use crate::datagrams::{datagram, has_room};
 use crate::giving::give;
 use crate::world_parts::WorldParts;
-use lk_agreement::Party;
-use lk_node_io::{Input, Note};
+use lk_agreement_laws::Party;
+use lk_node_interface::{Input, Note};
 use lk_replica::MemoryReplica;
 use lk_sim_nodes::{Refused, find_up};
 use lk_types::{NoMemory, NodeNo, Request};

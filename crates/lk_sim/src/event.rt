@@ -2,7 +2,7 @@ use lk_types::{NodeNo, Request};
 
 /// One input of a group.
 #[derive(Clone, Copy)]
-pub enum Turn {
+pub enum GroupInput {
     /// A tick.
     Tick,
     /// The datagram at this place, which is addressed to the node. Places count from 1.
@@ -25,7 +25,7 @@ pub enum Event {
     /// The node to which the datagram at this place is addressed takes it. Places count from 1.
     Deliver(usize),
     /// A node takes these together: their entries are synced once, and nothing is sent before that.
-    Group(NodeNo, Vec<Turn>),
+    Group(NodeNo, Vec<GroupInput>),
     /// A node takes bytes that no node has sent.
     Inject(NodeNo, Vec<u8>),
     /// A node stops; its disks keep up to this many of their unsynced bytes, those of A first.

@@ -1,6 +1,6 @@
 // Gives an input to a node or restarts it, and appends what it notes and sends to the world.
 ghost use Rattle.std.specs.Prelude.{◌≡◌, ℕ, ◌<◌, ◌++◌, List, [], true, false, length, set, IfOk, OnOk, OnErr};
-ghost use Rattle.lk_node_io.specs.declared.note.Note.{Note as NoteValue};
+ghost use Rattle.lk_node_interface.specs.declared.note.Note.{Note as NoteValue};
 ghost use Rattle.lk_node.specs.Calls.{heard_by, InputFits};
 ghost use Rattle.lk_node.specs.Leavings.{header_of};
 ghost use Rattle.lk_replica.specs.Behaviours.{disks_by};
@@ -13,7 +13,7 @@ ghost use Rattle.lk_sim.specs.Traces.{happened, asked_note};
 ghost use Rattle.lk_sim.specs.Worlds.{PartsKeepInvariant, scene_of};
 
 use crate::world_parts::WorldParts;
-use lk_node_io::{Input, Note};
+use lk_node_interface::{Input, Note};
 use lk_replica::{Datagram, MemoryReplica};
 use lk_sim_nodes::{Outcome, add_notes, carry_out_stop, revive, step, stop};
 use lk_types::{NoMemory, Request};

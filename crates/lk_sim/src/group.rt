@@ -11,11 +11,11 @@ ghost use Rattle.lk_sim.specs.Settled.{HasAddedSteps, HasGivenUp, HasSettledStep
 ghost use Rattle.lk_sim.specs.Worlds.{PartsKeepInvariant, scene_of};
 
 use crate::datagrams::{datagram, has_room};
-use crate::event::Turn;
+use crate::event::GroupInput;
 use crate::giving::append_both;
 use crate::world_parts::WorldParts;
-use lk_agreement::Party;
-use lk_node_io::{Input, Note};
+use lk_agreement_laws::Party;
+use lk_node_interface::{Input, Note};
 use lk_replica::{Datagram, MemoryReplica, Step};
 use lk_sim_nodes::{GroupOutcome, Refused, add_notes, carry_out_stop, find_up, step_all, stop};
 use lk_types::{NoMemory, NodeNo};
@@ -127,10 +127,10 @@ fn give_all<R: MemoryReplica>(
 }
 
 // Whether the turn is a tick, or its datagram exists and is addressed to the node.
-fn is_for(sent: &[Datagram], number: NodeNo, turn: Turn) -> bool
+fn is_for(sent: &[Datagram], number: NodeNo, turn: GroupInput) -> bool
     ensures { IsTrue result ↔ IsFor sent.now number turn }
 {
-    let Turn::Deliver(k) = turn else {
+    let GroupInput::Deliver(k) = turn else {
         return true;
     };
     match datagram(sent, k) {
@@ -140,7 +140,7 @@ fn is_for(sent: &[Datagram], number: NodeNo, turn: Turn) -> bool
 }
 
 // Whether this holds of every turn.
-fn are_for(sent: &[Datagram], number: NodeNo, turns: &[Turn]) -> bool
+fn are_for(sent: &[Datagram], number: NodeNo, turns: &[GroupInput]) -> bool
     ensures { IsTrue result ↔ AreFor sent.now number turns.now }
 {
     turns.iter().all(|turn| is_for(sent, number, *turn))
@@ -149,11 +149,11 @@ fn are_for(sent: &[Datagram], number: NodeNo, turns: &[Turn]) -> bool
 // Copies the bytes of the turn's datagram, as the group appends to the list that holds them. Returns `None` for a tick.
 fn bytes_for<R: MemoryReplica>(
     parts: &WorldParts<R>,
-    turn: Turn,
+    turn: GroupInput,
 ) -> Result<Option<Vec<u8>>, NoMemory>
     ensures { IfOk result (λ o. copied o ≡ given_by parts.now.sent.items turn) }
 {
-    let Turn::Deliver(k) = turn else {
+    let GroupInput::Deliver(k) = turn else {
         return Ok(None);
     };
     match datagram(&parts.sent, k) {
@@ -165,7 +165,7 @@ fn bytes_for<R: MemoryReplica>(
 // Copies the bytes of the datagram of each turn, in order; `None` for a tick.
 fn bytes_for_all<R: MemoryReplica>(
     parts: &WorldParts<R>,
-    turns: &[Turn],
+    turns: &[GroupInput],
 ) -> Result<Vec<Option<Vec<u8>>>, NoMemory>
     ensures ok { IfOk result (λ l. map copied l.items ≡ map (given_by parts.now.sent.items) turns.now) }
     ensures memory { OnErr result (0 < length turns.now) }
@@ -196,7 +196,7 @@ fn inputs_of<'a>(alloc: Global, all: &'a [Option<Vec<u8>>]) -> Result<Vec<Input<
 pub fn group<R: MemoryReplica>(
     parts: &mut WorldParts<R>,
     number: NodeNo,
-    turns: &[Turn],
+    turns: &[GroupInput],
 ) -> Result<(), Refused>
     requires { PartsKeepInvariant R.Shows (disks_by R.behaves) R.meaning parts.old }
     ensures holds { PartsKeepInvariant R.Shows (disks_by R.behaves) R.meaning parts.new }

@@ -17,6 +17,6 @@ mod world;
 mod world_parts;
 
 pub use end::RunEnd;
-pub use event::{Event, Turn};
+pub use event::{Event, GroupInput};
 pub use lk_sim_nodes::{End, LeftNode, Refused};
 pub use world::World;

@@ -10,11 +10,11 @@ ghost use Rattle.lk_sim_nodes.specs.declared.refused.Refused.TheVariants.{WorldM
 use crate::giving::{add, come_up};
 use crate::world_parts::WorldParts;
 use lk_disk::Trap;
+use lk_memory_disk::MemoryDisk;
 use lk_replica::MemoryReplica;
 use lk_sim_nodes::{
     Life, Refused, Seat, carry_out_stop, find, find_down, find_up, revive, set_trap, stop,
 };
-use lk_simulated_disk::MemoryDisk;
 use lk_types::{NoMemory, NodeNo};
 
 // The most nodes that a world ever starts.

@@ -3,7 +3,7 @@ use crate::end::RunEnd;
 use crate::event::Event;
 use crate::happening::{happen, happen_all};
 use crate::world_parts::WorldParts;
-use lk_node_io::Note;
+use lk_node_interface::Note;
 use lk_replica::{Datagram, MemoryReplica};
 use lk_sim_nodes::{End, LeftNode, Refused, all_left, find, lengths};
 use lk_types::{Genesis, NoMemory, NodeNo};

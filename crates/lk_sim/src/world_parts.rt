@@ -1,4 +1,4 @@
-use lk_node_io::Note;
+use lk_node_interface::Note;
 use lk_replica::Datagram;
 use lk_sim_nodes::{End, Seat};
 use lk_types::Genesis;

@@ -1,9 +1,9 @@
 -- By which faults a call ends a node.
 use Rattle.std.proofs.Common.{◌≡◌, ℕ, ◌<◌, Option, Some, None, refl, sym, subst, inl, inr, arith}
-use Rattle.lk_simulated_disk.specs.Memory.{Memory}
-use Rattle.lk_node_io.specs.Faults.{IsStoreFault, fault_number, IsNumberOfCalls, IsNumberOfRevival}
-use Rattle.lk_node_io.specs.declared.fault.ReplicaFault.{ReplicaFault}
-use Rattle.lk_node_io.specs.declared.fault.ReplicaFault.TheVariants as fault
+use Rattle.lk_memory_disk.specs.Memory.{Memory}
+use Rattle.lk_node_interface.specs.Faults.{IsStoreFault, fault_number, IsNumberOfCalls, IsNumberOfRevival}
+use Rattle.lk_node_interface.specs.declared.fault.ReplicaFault.{ReplicaFault}
+use Rattle.lk_node_interface.specs.declared.fault.ReplicaFault.TheVariants as fault
 use Rattle.lk_sim_nodes.specs.Ends.{IsOtherFault, IsSound, IsNumberOfEnd, IsToldEnd, end_by, end_at}
 use Rattle.lk_sim_nodes.specs.declared.end.End.{End}
 

@@ -2,11 +2,11 @@
 use Rattle.std.proofs.Common.{◌≡◌, ℕ, zero, suc, List, [], ◌++◌, take, refl, ap, sym, ◌∙◌, subst, append-nil}
 use Rattle.lk_types.specs.declared.member.Member.{Member}
 use Rattle.lk_disk.specs.Disk.{Disk, after_stop}
-use Rattle.lk_simulated_disk.specs.Memory.{Memory, disk_of}
+use Rattle.lk_memory_disk.specs.Memory.{Memory, disk_of}
 use Rattle.lk_disk.specs.declared.device.Side.{Side}
 use Rattle.lk_store_format.specs.Values.{HeaderValue}
 use Rattle.lk_state.specs.Meanings.{Meaning}
-use Rattle.lk_agreement.specs.Nodes.{View}
+use Rattle.lk_agreement_laws.specs.Nodes.{View}
 use Rattle.lk_node.specs.Calls.{NodeFits}
 use Rattle.lk_node.specs.Histories.{History, Genesis, IsLawful}
 use Rattle.lk_node.specs.Holdings.{Holding}

@@ -1,7 +1,7 @@
 -- Answers and passes, by the datagrams.
 use Rattle.std.proofs.Common.{◌≡◌, ℕ, zero, suc, List, [], ◌∷◌, ◌++◌, take, Some, slice_get, ap, sym, ◌∙◌, subst}
 use Rattle.std.proofs.Common.{append_assoc}
-use Rattle.lk_node_io.specs.declared.note.Note.{Note}
+use Rattle.lk_node_interface.specs.declared.note.Note.{Note}
 use Rattle.lk_node.specs.Histories.{Datagram}
 use Rattle.lk_sim_nodes.specs.Told.{told_by, Tells}
 

@@ -7,7 +7,7 @@ use Rattle.lk_disk.specs.declared.trap.Trap.{Trap}
 use Rattle.lk_log.specs.Rooms.{StaysWithin}
 use Rattle.lk_log.proofs.Room.{within_same, within_still}
 use Rattle.lk_state.specs.Meanings.{Meaning}
-use Rattle.lk_node_io.specs.declared.input.Input.{Input}
+use Rattle.lk_node_interface.specs.declared.input.Input.{Input}
 use Rattle.lk_node.specs.Calls.{LeavesFit}
 use Rattle.lk_node.specs.Histories.{History, Genesis, Datagram}
 use Rattle.lk_node.specs.Holdings.{Holding}

@@ -1,8 +1,8 @@
 -- How a call of a node ends it: which calls fail, by which fault, and what that leaves.
 use Rattle.std.specs.Prelude.{◌≡◌, ℕ, ◌⊎◌, false, true, List, Option, Some, None, Err}
-use Rattle.lk_simulated_disk.specs.Memory.{Memory}
+use Rattle.lk_memory_disk.specs.Memory.{Memory}
 use Rattle.lk_store_format.specs.Values.{HeaderValue}
-use Rattle.lk_node_io.specs.Faults.{RefusedAfter}
+use Rattle.lk_node_interface.specs.Faults.{RefusedAfter}
 use Rattle.lk_replica.specs.Behaviours.{Behaviour}
 use Rattle.lk_sim_nodes.specs.declared.end.End.{End}
 use Rattle.lk_sim_nodes.specs.declared.end.End.TheVariants.{Fault, Stopped}

@@ -1,7 +1,7 @@
 // The calls of a node: it takes an input, compacts, or restarts.
 ghost use Rattle.std.specs.Prelude.{◌≡◌, ◌⊎◌, IfOk, OnErr};
-ghost use Rattle.lk_simulated_disk.specs.Memory.{Memory};
-ghost use Rattle.lk_agreement.specs.Nodes.{View};
+ghost use Rattle.lk_memory_disk.specs.Memory.{Memory};
+ghost use Rattle.lk_agreement_laws.specs.Nodes.{View};
 ghost use Rattle.lk_node.specs.Calls.{heard_by, InputFits};
 ghost use Rattle.lk_node.specs.Histories.{History, IsLawful};
 ghost use Rattle.lk_node.specs.Leavings.{header_of};
@@ -14,7 +14,7 @@ ghost use Rattle.lk_sim_nodes.specs.declared.seat.Life.TheVariants.{Up, Down};
 
 use crate::outcome::{Outcome, count_sends, ended_at, take_down};
 use crate::seat::{Life, Seat, take_device};
-use lk_node_io::Input;
+use lk_node_interface::Input;
 use lk_replica::{MemoryReplica, Taken};
 use lk_store_format::Header;
 use lk_types::{Genesis, NoMemory};

@@ -1,8 +1,8 @@
 // Gives several inputs to a node as one group: it syncs once for all of them.
 ghost use Rattle.std.specs.Prelude.{◌≡◌, ◌⊎◌, [], map, IfOk, OnErr};
 ghost use Rattle.std.specs.List.{AllByRecursion};
-ghost use Rattle.lk_simulated_disk.specs.Memory.{disk_of};
-ghost use Rattle.lk_agreement.specs.Nodes.{View};
+ghost use Rattle.lk_memory_disk.specs.Memory.{disk_of};
+ghost use Rattle.lk_agreement_laws.specs.Nodes.{View};
 ghost use Rattle.lk_node.specs.Calls.{heard_by, InputFits};
 ghost use Rattle.lk_node.specs.Histories.{History, Genesis as GenesisValue, IsLawful};
 ghost use Rattle.lk_node.specs.Holdings.{Holding};
@@ -18,7 +18,7 @@ ghost use Rattle.lk_sim_nodes.specs.declared.seat.Life.TheVariants.{Up};
 use crate::end::End;
 use crate::outcome::{Outcome, count_sends, ended_at, take_down};
 use crate::seat::{Life, Seat, take_device};
-use lk_node_io::Input;
+use lk_node_interface::Input;
 use lk_replica::{Datagram, MemoryReplica, Step, TakenAll};
 use lk_types::NoMemory;
 use std::alloc::Global;

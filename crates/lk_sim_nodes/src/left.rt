@@ -3,8 +3,8 @@ ghost use Rattle.std.specs.Prelude.{◌≡◌, ◌≤◌, map, true, false, IfOk
 ghost use Rattle.lk_sim_nodes.specs.Left.{left_of, is_up};
 
 use crate::seat::{Life, Seat};
+use lk_memory_disk::MemoryDisk;
 use lk_replica::MemoryReplica;
-use lk_simulated_disk::MemoryDisk;
 use lk_types::{NoMemory, NodeNo};
 use std::alloc::Global;
 

@@ -1,9 +1,9 @@
 // Makes the notes of the answers and passes among datagrams.
 ghost use Rattle.std.specs.Prelude.{◌≡◌, ◌++◌, [], ◌∷◌, List, OnOk};
-ghost use Rattle.lk_node_io.specs.declared.note.Note.{Note as NoteValue};
+ghost use Rattle.lk_node_interface.specs.declared.note.Note.{Note as NoteValue};
 ghost use Rattle.lk_sim_nodes.specs.Told.{told_by, listed, Tells};
 
-use lk_node_io::Note;
+use lk_node_interface::Note;
 use lk_replica::Datagram;
 use lk_types::NoMemory;
 use lk_wire::{Content, Message, NodeMessage, read};

@@ -1,10 +1,10 @@
 // The result of a node's call, and how a fault or an armed stop ends the node.
 ghost use Rattle.std.specs.Prelude.{◌≡◌, true, false, IfOk, OnErr};
-ghost use Rattle.lk_simulated_disk.specs.Memory.{disk_of};
-ghost use Rattle.lk_agreement.specs.Nodes.{View};
+ghost use Rattle.lk_memory_disk.specs.Memory.{disk_of};
+ghost use Rattle.lk_agreement_laws.specs.Nodes.{View};
 ghost use Rattle.lk_node.specs.Histories.{History};
 ghost use Rattle.lk_node.specs.Leavings.{DisksFit};
-ghost use Rattle.lk_node_io.specs.Faults.{fault_number};
+ghost use Rattle.lk_node_interface.specs.Faults.{fault_number};
 ghost use Rattle.lk_replica.specs.Behaviours.{disks_by};
 ghost use Rattle.lk_sim_nodes.specs.Ends.{IsOtherFault, IsSound, IsToldEnd, IsOutOfMemory, end_by, end_at};
 ghost use Rattle.lk_sim_nodes.specs.Outcomes.{HasEndedByFault, IsThis, Rests};
@@ -16,9 +16,9 @@ ghost use Rattle.lk_sim_nodes.specs.declared.seat.Life.TheVariants.{Down};
 use crate::end::End;
 use crate::seat::{Life, Seat, stop};
 use lk_disk::{Trap, Trapped};
-use lk_node_io::{Note, ReplicaFault};
+use lk_memory_disk::MemoryDisk;
+use lk_node_interface::{Note, ReplicaFault};
 use lk_replica::{Datagram, MemoryReplica};
-use lk_simulated_disk::MemoryDisk;
 use lk_types::{NoMemory, NodeNo};
 use std::alloc::Global;
 

@@ -1,9 +1,9 @@
 // A node of a world, and its device.
 ghost use Rattle.std.specs.Prelude.{◌≡◌, length};
 ghost use Rattle.lk_disk.specs.Disk.{contents};
-ghost use Rattle.lk_simulated_disk.specs.Memory.{disk_of};
+ghost use Rattle.lk_memory_disk.specs.Memory.{disk_of};
 ghost use Rattle.lk_disk.specs.declared.device.Side.TheVariants.{A, B};
-ghost use Rattle.lk_agreement.specs.Nodes.{View};
+ghost use Rattle.lk_agreement_laws.specs.Nodes.{View};
 ghost use Rattle.lk_node.specs.Histories.{History};
 ghost use Rattle.lk_node.specs.Leavings.{DisksFit};
 ghost use Rattle.lk_replica.specs.Behaviours.{disks_by};
@@ -12,8 +12,8 @@ ghost use Rattle.lk_sim_nodes.specs.Seats.{SeatFits, IsTrapped, device_in, disks
 ghost use Rattle.lk_sim_nodes.specs.declared.seat.Life.TheVariants.{Down};
 
 use lk_disk::{Trap, Trapped};
+use lk_memory_disk::MemoryDisk;
 use lk_replica::MemoryReplica;
-use lk_simulated_disk::MemoryDisk;
 use lk_types::NodeNo;
 use std::alloc::Global;
 use std::mem;

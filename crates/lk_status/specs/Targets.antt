@@ -3,7 +3,7 @@ use Rattle.std.specs.Prelude.{◌≡◌, ⊤, ℕ, Option, Some, None, List, [],
 use Rattle.std.specs.Fmt.{decimal}
 use Rattle.std.specs.declared.net.ip_addr.IpAddr.{IpAddr}
 use Rattle.lk_types.specs.Ranges.{IsPort}
-use Rattle.lk_parsers.specs.Geneses.{IsMemberWord}
+use Rattle.lk_word_parsers.specs.Geneses.{IsMemberWord}
 use Rattle.lk_transport.specs.Hosts.{host_of}
 use Rattle.lk_client.specs.Questions.{known_or}
 use Rattle.lk_status.specs.declared.target.Inquiry.{Inquiry}

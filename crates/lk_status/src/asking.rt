@@ -197,7 +197,7 @@ fn receive_or_probe<S: DatagramSocket>(
     Ok(())
 }
 
-// Whether each target has reported, or receives brought nothing as often as the inquiry's `patience`.
+// Whether each target has reported, or as many receives have timed out as the inquiry's `patience` allows.
 fn is_over(inquiry: &Inquiry, reports: &[Report], silences: u32) -> bool
     ensures over { IsTrue result ↔ IsOver inquiry.now reports.now silences }
     ensures goes_on { result ≡ false → GoesOn inquiry.now reports.now silences }

@@ -8,11 +8,11 @@ ghost use Rattle.lk_status.specs.Rounds.{has_token, report_of};
 ghost use Rattle.lk_status.specs.Targets.{SpellsPlace, SpellTargets, target_address};
 
 use lk_client::destination::Destination;
-use lk_parsers::member::member_of;
-use lk_parsers::operation::port_of;
 use lk_probe::{Probe, Report};
 use lk_transport::fault::ServiceFault;
 use lk_types::{ClientNo, NodeNo, Port};
+use lk_word_parsers::member::member_of;
+use lk_word_parsers::operation::port_of;
 use std::alloc::Global;
 use std::net::{IpAddr, Ipv4Addr, Ipv6Addr, SocketAddr};
 

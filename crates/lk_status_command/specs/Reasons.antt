@@ -10,11 +10,12 @@ use Rattle.lk_status_command.specs.Fields.{is_member, followed}
 -- ---- of a node
 
 abbrev pub deaf_line : ℕ → List ℕ
-deaf_line node = codes "why: node " ++ (decimal node ++ codes " hears nobody: see its --port, the hosts and the keys\n")
+deaf_line node =
+    codes "why: node " ++ (decimal node ++ codes " hears nobody: check its --port, the hosts and the keys\n")
 
 abbrev pub seeking_line : ℕ → List ℕ
 seeking_line node = codes "why: node "
-    ++ (decimal node ++ codes " seeks votes: if that lasts, see its --port, the hosts and the keys\n")
+    ++ (decimal node ++ codes " seeks votes: if that lasts, check its --port, the hosts and the keys\n")
 
 -- it does not lead, and has heard of no leader for 28 ticks
 abbrev pub deaf_reason : Report → List ℕ
@@ -47,7 +48,7 @@ geneses_line = codes "why: two geneses: stop the nodes that were started with an
 abbrev pub mute_text : Option ℕ → List ℕ
 mute_text (Some node) =
     codes "node " ++ (decimal node
-    ++ codes " sends and hears nobody: stop it, and see its --port, the hosts and the keys\n")
+    ++ codes " sends and hears nobody: stop it, and check its --port, the hosts and the keys\n")
 mute_text None = codes "the members do not hear each other\n"
 
 abbrev pub leaderless_line : Option ℕ → List ℕ

@@ -85,7 +85,7 @@ fn write_mute<W: Write>(node: Option<NodeNo>, out: &mut W) -> io::Result<()>
     match node {
         Some(node) => writeln!(
             out,
-            "node {} sends and hears nobody: stop it, and see its --port, the hosts and the keys",
+            "node {} sends and hears nobody: stop it, and check its --port, the hosts and the keys",
             node.get()
         )?,
         None => out.write_all(b"the members do not hear each other\n")?,
@@ -120,7 +120,7 @@ fn write_seeking<W: Write>(node: NodeNo, out: &mut W) -> io::Result<()>
     let node = node.get();
     writeln!(
         out,
-        "why: node {node} seeks votes: if that lasts, see its --port, the hosts and the keys"
+        "why: node {node} seeks votes: if that lasts, check its --port, the hosts and the keys"
     )?;
     Ok(())
 }
@@ -132,7 +132,7 @@ fn write_deaf<W: Write>(node: NodeNo, out: &mut W) -> io::Result<()>
     let node = node.get();
     writeln!(
         out,
-        "why: node {node} hears nobody: see its --port, the hosts and the keys"
+        "why: node {node} hears nobody: check its --port, the hosts and the keys"
     )?;
     Ok(())
 }

@@ -10,7 +10,7 @@ use Rattle.lk_types.specs.declared.vote.Vote.{Vote}
 use Rattle.lk_types.specs.Votes.{are_votes_above}
 use Rattle.lk_store_format.specs.Entries.{are_pairs_above}
 use Rattle.lk_types.specs.Ballots.{is_below}
-use Rattle.lk_store_format.specs.VoteLists.{votes_below, votes_with}
+use Rattle.lk_store_format.specs.VoteLists.{count_below, votes_with}
 use Rattle.lk_store_format.specs.Standings.{better, best_from, vote_at, decided_at, pairs_below, with_pair}
 
 -- the two ways of a test

@@ -5,7 +5,7 @@ use Rattle.std.specs.List.Sorted.{IsNonDecreasingBy, IsPartitionPoint}
 use Rattle.std.proofs.lemmas.Bool.{and_parts, ltb-true}
 use Rattle.lk_types.specs.declared.vote.Vote.{Vote}
 use Rattle.lk_types.specs.Votes.{are_votes_above}
-use Rattle.lk_store_format.specs.VoteLists.{AreRising, votes_below}
+use Rattle.lk_store_format.specs.VoteLists.{AreRising, count_below}
 
 pub rising_parts : (low : ℕ) (v : Vote) (vs : List Vote) → are_votes_above low (v ∷ vs) ≡ true
     → (low < v.position) × (are_votes_above v.position vs ≡ true)
@@ -35,7 +35,7 @@ rising_votes_rise vs rising = votes_rise rising.0 vs rising.1
 
 counted : (i n : ℕ) (vs : List Vote) → n ≤ length vs
     → ((k : ℕ) (d : Vote) → k < n → nat_lt (get_or vs k d).position i ≡ true)
-    → ((d : Vote) → n < length vs → nat_lt (get_or vs n d).position i ≡ false) → n ≡ votes_below i vs
+    → ((d : Vote) → n < length vs → nat_lt (get_or vs n d).position i ≡ false) → n ≡ count_below i vs
 counted i n [] le before behind = omega arith
 counted i zero (v ∷ vs) le before behind = let no' = behind v (omega arith) in rw no' refl
 counted i (suc n) (v ∷ vs) le before behind =
@@ -45,6 +45,6 @@ counted i (suc n) (v ∷ vs) le before behind =
 
 pub point_is_below : (i n : ℕ) (vs : List Vote)
     → IsPartitionPoint (λ (v : Vote). nat_lt v.position i ≡ true) (λ (v : Vote). nat_lt v.position i ≡ false) vs n
-    → n ≤ length vs → n ≡ votes_below i vs
+    → n ≤ length vs → n ≡ count_below i vs
 point_is_below i n vs point le =
     counted i n vs le (λ k d short. point.0 k d (omega arith) short) (λ d short. point.1 n d (omega arith) short)

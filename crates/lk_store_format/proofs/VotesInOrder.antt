@@ -7,7 +7,7 @@ use Rattle.std.proofs.lemmas.Bool.Decides.{nat_tests}
 use Rattle.std.proofs.lemmas.Bool.{eq-eqb}
 use Rattle.lk_types.specs.Ballots.{is_below}
 use Rattle.lk_types.specs.declared.vote.Vote.{Vote}
-use Rattle.lk_store_format.specs.VoteLists.{votes_below, votes_with}
+use Rattle.lk_store_format.specs.VoteLists.{count_below, votes_with}
 
 -- the two ways of a test
 bool_cases : (b : Bool) → (b ≡ true) ⊎ (b ≡ false)
@@ -18,29 +18,29 @@ eqb-false : (a b : ℕ) → a ≢ b → eqb a b ≡ false
 eqb-false a b ne = grind (arith, nat_tests)
 
 module _ (v : Vote) where
-  pub at_end : (vs new : List Vote) → votes_below v.position vs ≡ length vs → new ≡ vs ++ v ∷ [] → new ≡ votes_with v vs
+  pub at_end : (vs new : List Vote) → count_below v.position vs ≡ length vs → new ≡ vs ++ v ∷ [] → new ≡ votes_with v vs
   at_end vs new e is = is ∙ ends vs e
     where
-      ends : (vs : List Vote) → votes_below v.position vs ≡ length vs → vs ++ v ∷ [] ≡ votes_with v vs
+      ends : (vs : List Vote) → count_below v.position vs ≡ length vs → vs ++ v ∷ [] ≡ votes_with v vs
       ends [] e = refl
       ends (w ∷ ws) e = elim (bool_cases (ltb w.position v.position)) [
-        | inl before ↦ let more : suc (votes_below v.position ws) ≡ suc (length ws) = rw before at e in
+        | inl before ↦ let more : suc (count_below v.position ws) ≡ suc (length ws) = rw before at e in
             rw before (ap (λ (l : List Vote). w ∷ l) (ends ws (omega (arith, more))))
         | inr not_before ↦ let none : 0 ≡ suc (length ws) = rw not_before at e in absurd (omega (arith, none))
       ]
 
-  pub at_other : (vs new : List Vote) (w : Vote) → votes_below v.position vs < length vs
-      → w ≡ get_or vs (votes_below v.position vs) w → w.position ≢ v.position
-      → new ≡ insert vs (votes_below v.position vs) v → new ≡ votes_with v vs
+  pub at_other : (vs new : List Vote) (w : Vote) → count_below v.position vs < length vs
+      → w ≡ get_or vs (count_below v.position vs) w → w.position ≢ v.position
+      → new ≡ insert vs (count_below v.position vs) v → new ≡ votes_with v vs
   at_other vs new w short here ne is = is ∙ others vs short here
     where
-      others : (vs : List Vote) → votes_below v.position vs < length vs → w ≡ get_or vs (votes_below v.position vs) w
-          → insert vs (votes_below v.position vs) v ≡ votes_with v vs
+      others : (vs : List Vote) → count_below v.position vs < length vs → w ≡ get_or vs (count_below v.position vs) w
+          → insert vs (count_below v.position vs) v ≡ votes_with v vs
       others [] short here = absurd (omega arith)
       others (x ∷ xs) short here = elim (bool_cases (ltb x.position v.position)) [
         | inl before ↦
-            let short' : suc (votes_below v.position xs) < suc (length xs) = rw before at short in
-            let here' : w ≡ get_or xs (votes_below v.position xs) w = rw before at here in
+            let short' : suc (count_below v.position xs) < suc (length xs) = rw before at short in
+            let here' : w ≡ get_or xs (count_below v.position xs) w = rw before at here in
             rw before (ap (λ (l : List Vote). x ∷ l) (others xs (omega (arith, short')) here'))
         | inr not_before ↦
             let is_x : w ≡ x = rw not_before at here in
@@ -49,18 +49,18 @@ module _ (v : Vote) where
             rw (not_before, differs) refl
       ]
 
-  pub at_below : (vs new : List Vote) (w : Vote) → votes_below v.position vs < length vs
-      → w ≡ get_or vs (votes_below v.position vs) w → w.position ≡ v.position → is_below w.ballot v.ballot ≡ true
-      → new ≡ set vs (votes_below v.position vs) v → new ≡ votes_with v vs
+  pub at_below : (vs new : List Vote) (w : Vote) → count_below v.position vs < length vs
+      → w ≡ get_or vs (count_below v.position vs) w → w.position ≡ v.position → is_below w.ballot v.ballot ≡ true
+      → new ≡ set vs (count_below v.position vs) v → new ≡ votes_with v vs
   at_below vs new w short here same below is = is ∙ sets vs short here
     where
-      sets : (vs : List Vote) → votes_below v.position vs < length vs → w ≡ get_or vs (votes_below v.position vs) w
-          → set vs (votes_below v.position vs) v ≡ votes_with v vs
+      sets : (vs : List Vote) → count_below v.position vs < length vs → w ≡ get_or vs (count_below v.position vs) w
+          → set vs (count_below v.position vs) v ≡ votes_with v vs
       sets [] short here = absurd (omega arith)
       sets (x ∷ xs) short here = elim (bool_cases (ltb x.position v.position)) [
         | inl before ↦
-            let short' : suc (votes_below v.position xs) < suc (length xs) = rw before at short in
-            let here' : w ≡ get_or xs (votes_below v.position xs) w = rw before at here in
+            let short' : suc (count_below v.position xs) < suc (length xs) = rw before at short in
+            let here' : w ≡ get_or xs (count_below v.position xs) w = rw before at here in
             rw before (ap (λ (l : List Vote). x ∷ l) (sets xs (omega (arith, short')) here'))
         | inr not_before ↦
             let is_x : w ≡ x = rw not_before at here in
@@ -71,14 +71,14 @@ module _ (v : Vote) where
             rw (not_before, too, under) refl
       ]
 
-  pub at_above : (vs : List Vote) (w : Vote) → votes_below v.position vs < length vs
-      → w ≡ get_or vs (votes_below v.position vs) w → w.position ≡ v.position
+  pub at_above : (vs : List Vote) (w : Vote) → count_below v.position vs < length vs
+      → w ≡ get_or vs (count_below v.position vs) w → w.position ≡ v.position
       → is_below w.ballot v.ballot ≡ false → vs ≡ votes_with v vs
   at_above [] w short here same above = absurd (omega arith)
   at_above (x ∷ xs) w short here same above = elim (bool_cases (ltb x.position v.position)) [
     | inl before ↦
-        let short' : suc (votes_below v.position xs) < suc (length xs) = rw before at short in
-        let here' : w ≡ get_or xs (votes_below v.position xs) w = rw before at here in
+        let short' : suc (count_below v.position xs) < suc (length xs) = rw before at short in
+        let here' : w ≡ get_or xs (count_below v.position xs) w = rw before at here in
         rw before (ap (λ (l : List Vote). x ∷ l) (at_above xs w (omega (arith, short')) here' same above))
     | inr not_before ↦
         let is_x : w ≡ x = rw not_before at here in

@@ -9,9 +9,9 @@ abbrev pub AreRising : List Vote → Type 0
 AreRising votes = (low : ℕ) × IsTrue (are_votes_above low votes)
 
 -- this many votes of smaller positions come first
-abbrev pub votes_below : ℕ → List Vote → ℕ
-votes_below i [] = 0
-votes_below i (v ∷ vs) = if nat_lt v.position i then suc (votes_below i vs) else 0
+abbrev pub count_below : ℕ → List Vote → ℕ
+count_below i [] = 0
+count_below i (v ∷ vs) = if nat_lt v.position i then suc (count_below i vs) else 0
 
 -- the votes with a later one, in order: of two at a position the one of greater ballot
 abbrev pub votes_with : Vote → List Vote → List Vote

@@ -22,5 +22,5 @@ pub use lk_codec::put_members;
 pub use reading::first_entry;
 pub use standing::Standing;
 pub use stored::Stored;
-pub use votes::{keep_vote, votes_below};
+pub use votes::{count_below, keep_vote};
 pub use writing::{entries_facts, spelled, spelled_base, spelled_parts};

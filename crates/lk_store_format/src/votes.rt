@@ -1,14 +1,14 @@
 // Votes in order of their positions, at each position the one of greatest ballot: an acceptor keeps them like this,
 // and so does what a store's entries stand for.
 ghost use Rattle.std.specs.Prelude.{◌≡◌, ◌≤◌, length, vec_len, vec_capacity, OnOk, OnErr};
-ghost use Rattle.lk_store_format.specs.VoteLists.{AreRising, votes_below, votes_with};
+ghost use Rattle.lk_store_format.specs.VoteLists.{AreRising, count_below, votes_with};
 
 use lk_types::{NoMemory, Position, Vote};
 
 /// Returns how many votes have a smaller position: the index at which a vote at `position` is or belongs.
-pub fn votes_below(position: Position, votes: &[Vote]) -> usize
+pub fn count_below(position: Position, votes: &[Vote]) -> usize
     requires { AreRising votes.now }
-    ensures value { result ≡ votes_below position votes.now }
+    ensures value { result ≡ count_below position votes.now }
     ensures within { result ≤ length votes.now }
 {
     votes.partition_point(|vote| vote.position < position)
@@ -23,7 +23,7 @@ pub fn keep_vote(votes: &mut Vec<Vote>, vote: Vote) -> Result<(), NoMemory>
     ensures err { OnErr result (votes.new.items ≡ votes.old.items) }
     ensures memory { OnErr result (vec_capacity votes.old ≤ vec_len votes.old) }
 {
-    let i = votes_below(vote.position, votes);
+    let i = count_below(vote.position, votes);
     if i == votes.len() {
         votes.push(vote)?;
         return Ok(());

@@ -1,6 +1,6 @@
 //! Clocks that a test sets, and what a tick timer makes of them.
 
-use lk_timing::tick_timer::TickTimer;
+use lk_pacing::tick_timer::TickTimer;
 use std::cell::Cell;
 use std::io;
 use std::test::Fail;

@@ -1,7 +1,7 @@
 //! A post whose first send fails: that is told, the other letters are sent, and the replica goes on.
 
-use crate::node_turns::{Locks, begun};
-use lk_node_io::{Input, Post, SendFault, To};
+use crate::replicas::{Locks, begun};
+use lk_node_interface::{Input, Post, SendFault, To};
 use lk_replica::Replica;
 use std::test::Fail;
 

@@ -1,6 +1,6 @@
 //! Two files of a folder as a device, and files whose calls fail.
 use lk_disk::{AppendFile, DeviceFault, FileDisk, FileFault, LogDisk, Side};
-use lk_simulated_disk::MemoryFile;
+use lk_memory_disk::MemoryFile;
 use std::alloc::Global;
 use std::fs;
 use std::fs::Files;

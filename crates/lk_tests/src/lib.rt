@@ -5,16 +5,10 @@
 #[cfg(test)]
 mod clocks;
 #[cfg(test)]
-mod digits;
-#[cfg(test)]
 mod faltering;
 #[cfg(test)]
 mod files;
 #[cfg(test)]
-mod node_dialogues;
-#[cfg(test)]
-mod node_turns;
-#[cfg(test)]
-mod parts;
+mod replicas;
 #[cfg(test)]
 mod turns;

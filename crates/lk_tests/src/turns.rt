@@ -2,17 +2,17 @@
 ghost use Rattle.std.specs.Prelude.{◌≡◌, [], ⊤};
 
 use crate::clocks::Stopped;
-use crate::node_turns::{Locks, begun};
+use crate::replicas::{Locks, begun};
 use lk_locks::LockTable;
 use lk_memory_socket::MemorySocket;
-use lk_node_io::{Input, Note, Outbox, Post, ReplicaFault};
+use lk_node_interface::{Input, Note, Outbox, Post, ReplicaFault};
 use lk_node_process::demo::{Sockets, run_demo};
+use lk_pacing::pace::Pace;
+use lk_pacing::tick_timer::TickTimer;
 use lk_replica::Group;
-use lk_replica_interface::replica_status::ReplicaStatus;
-use lk_replica_interface::{ProbedState, ServedReplica};
+use lk_served_replica::replica_status::ReplicaStatus;
+use lk_served_replica::{ProbedState, ServedReplica};
 use lk_server::server::{Server, node_turn};
-use lk_timing::pace::Pace;
-use lk_timing::tick_timer::TickTimer;
 use lk_transport::network::Network;
 use lk_transport::receive_buffer::ReceiveBuffer;
 use lk_types::{Ballot, Command, Executed, NodeNo, Position, RealBallot};

@@ -5,9 +5,9 @@ use Rattle.lk_probe.specs.Grammar.{SpellsProbe, node_in}
 use Rattle.lk_probe.specs.declared.probe.Probe.{Probe}
 use Rattle.lk_auth.specs.Seals.{key_list, heard}
 use Rattle.lk_auth.specs.declared.seals.Seals.{Seals}
-use Rattle.lk_node_io.specs.declared.to.To.{To}
-use Rattle.lk_node_io.specs.declared.to.To.TheVariants.{Node, Client}
-use Rattle.lk_transport.specs.Posts.{Tray, Loses, frame_of, keys_for}
+use Rattle.lk_node_interface.specs.declared.to.To.{To}
+use Rattle.lk_node_interface.specs.declared.to.To.TheVariants.{Node, Client}
+use Rattle.lk_transport.specs.Posts.{SendState, Loses, frame_of, keys_for}
 use Rattle.lk_transport.specs.declared.received_probe.ReceivedProbe.{ReceivedProbe}
 
 -- if the nodes have a key, a probe that names a node came sealed: the datagram is shorter than the frame
@@ -45,12 +45,12 @@ keys_to s None = []
 keys_to s (Some to) = keys_for s to
 
 -- a frame is sent there, once, if the socket reveals that, and no letter is kept
-pub record SendsTo (tells : Type 0) (place : SocketAddr) (frame : List ℕ) (old new : Tray) : Type 0 where
+pub record SendsTo (tells : Type 0) (place : SocketAddr) (frame : List ℕ) (old new : SendState) : Type 0 where
   pub own : new.own ≡ old.own
   pub sent : tells → new.sent ≡ old.sent ++ (place, frame) ∷ []
   pub failures : tells → new.failures ≡ old.failures
 
 -- a report goes to where the probe came from, and is sent or lost
-abbrev pub Replies : Type 0 → Seals → ReceivedProbe → List ℕ → Tray → Tray → Type 0
+abbrev pub Replies : Type 0 → Seals → ReceivedProbe → List ℕ → SendState → SendState → Type 0
 Replies tells s a bytes old new =
     SendsTo tells a.from (frame_for s (asker a.probe) bytes) old new ⊎ Loses tells (keys_to s (asker a.probe)) old new

@@ -4,8 +4,8 @@ use Rattle.lk_log.specs.declared.fault.OpenFault.TheVariants as opening
 use Rattle.lk_state.specs.declared.machine.UnpackFault.{UnpackFault}
 use Rattle.lk_state.specs.declared.machine.UnpackFault.TheVariants as unpack
 use Rattle.lk_transport.specs.declared.fault.ServiceFault.{ServiceFault}
-use Rattle.lk_node_io.specs.declared.fault.ReplicaFault.{ReplicaFault}
-use Rattle.lk_node_io.specs.declared.fault.ReplicaFault.TheVariants as replica
+use Rattle.lk_node_interface.specs.declared.fault.ReplicaFault.{ReplicaFault}
+use Rattle.lk_node_interface.specs.declared.fault.ReplicaFault.TheVariants as replica
 use Rattle.lk_transport.specs.declared.fault.ServiceFault.TheVariants.{Device, NoMemory, Damaged, WrongStore, Failed}
 use Rattle.lk_transport.specs.declared.fault.ServiceFault.TheVariants.{Halted}
 

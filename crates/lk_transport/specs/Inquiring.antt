@@ -15,7 +15,7 @@ use Rattle.lk_auth.specs.Seals.{key_list, heard}
 use Rattle.lk_auth.specs.declared.seals.Seals.{Seals}
 use Rattle.lk_transport.specs.Addresses.{AddressBook}
 use Rattle.lk_transport.specs.Askers.{SendsTo}
-use Rattle.lk_transport.specs.Posts.{Tray, Loses}
+use Rattle.lk_transport.specs.Posts.{SendState, Loses}
 use Rattle.lk_transport.specs.declared.received_probe.ReceivedProbe.{ReceivedProbe}
 
 -- ---- whom it asks
@@ -34,14 +34,14 @@ abbrev pub question_by : Seals → ℕ → Probe
 question_by s node = question s.cluster (record { node = node; genesis = s.genesis })
 
 -- the probe is sent there unframed, or lost by a send that failed; nothing is sent if there is no address
-abbrev pub SendsProbe : Type 0 → Probe → Option SocketAddr → Tray → Tray → Type 0
+abbrev pub SendsProbe : Type 0 → Probe → Option SocketAddr → SendState → SendState → Type 0
 SendsProbe tells p None old new = new ≡ old
 SendsProbe tells p (Some place) old new =
     (bytes : List ℕ) × SpellsProbe p bytes × (SendsTo tells place bytes old new ⊎ Loses tells [] old new)
 
 -- the node of that number sends its question to one address at which one is due, if there is such an address, and
 -- nothing else
-pub record AsksOne (tells : Type 0) (now node : ℕ) (old new : AddressBook) (before after : Tray) : Type 0 where
+pub record AsksOne (tells : Type 0) (now node : ℕ) (old new : AddressBook) (before after : SendState) : Type 0 where
   pub place : Option SocketAddr
   pub asked : IsAskedAt now place old new
   pub sends : SendsProbe tells (question_by old.seals node) place before after

@@ -11,9 +11,9 @@ use Rattle.lk_messages.specs.declared.message.Content.{Content}
 use Rattle.lk_messages.specs.declared.message.Content.TheVariants as content
 use Rattle.lk_messages.specs.declared.message.NodeMessage.{NodeMessage}
 use Rattle.lk_messages.specs.declared.message.NodeMessage.TheVariants as message
-use Rattle.lk_node_io.specs.Letters.{LetterValue}
-use Rattle.lk_node_io.specs.declared.to.To.{To}
-use Rattle.lk_node_io.specs.declared.to.To.TheVariants.{Node, Client}
+use Rattle.lk_node_interface.specs.Letters.{LetterValue}
+use Rattle.lk_node_interface.specs.declared.to.To.{To}
+use Rattle.lk_node_interface.specs.declared.to.To.TheVariants.{Node, Client}
 use Rattle.lk_probe.specs.Neighbours.{Meets}
 use Rattle.lk_auth.specs.Clients.{client_keys}
 use Rattle.lk_auth.specs.Seals.{key_list, to_node, replying, framed_by, heard}
@@ -22,7 +22,7 @@ use Rattle.lk_transport.specs.Addresses.{AddressBook, Filter, client_at, node_at
 use Rattle.lk_transport.specs.Hosts.{host_of}
 
 -- its node, the addresses, the kept letters of the node to itself, what the socket has sent, how many of its sends
--- have failed overall and in this step, and the frames that are to arrive, in order
+-- have failed overall and in this group, and the frames that are to arrive, in order
 pub record PostValue : Type 0 where
   pub node : ℕ
   pub addresses : AddressBook
@@ -34,13 +34,13 @@ pub record PostValue : Type 0 where
 
 -- what a letter may change: the kept letters of the node to itself, what the socket has sent, and how many of its
 -- sends have failed
-pub record Tray : Type 0 where
+pub record SendState : Type 0 where
   pub own : List LetterValue
   pub sent : List (SocketAddr × List ℕ)
   pub failures : ℕ
 
-abbrev pub tray_of : PostValue → Tray
-tray_of p = record { own = p.own; sent = p.sent; failures = p.socket_failures }
+abbrev pub send_state_of : PostValue → SendState
+send_state_of p = record { own = p.own; sent = p.sent; failures = p.socket_failures }
 
 -- for a node: its port at its address, or, if that is not known, where it last wrote from
 abbrev pub IsPlaceOf : AddressBook → ℕ → ℕ → Option SocketAddr → Type 0
@@ -65,9 +65,9 @@ keys_for s (Client c) = client_keys c (key_list s.clients)
 keys_for s (Node n port) = key_list s.nodes
 
 -- it begins with the letters LP, as probes and reports do, which are not part of the protocol
-abbrev pub is_beside : List ℕ → Bool
-is_beside (l ∷ p ∷ rest) = if l == 76 then p == 80 else false
-is_beside _ = false
+abbrev pub is_probe_or_report : List ℕ → Bool
+is_probe_or_report (l ∷ p ∷ rest) = if l == 76 then p == 80 else false
+is_probe_or_report _ = false
 
 -- an arrived frame with its source, opened
 abbrev pub opened_as : Filter → SocketAddr × List ℕ → SocketAddr × List ℕ
@@ -75,7 +75,7 @@ opened_as c d = (d.0, heard c.seals d.1)
 
 -- no replica gets it: it is a probe or a report, or came from a node of another genesis
 abbrev pub is_filtered_out : Filter → SocketAddr × List ℕ → Bool
-is_filtered_out c d = is_beside (heard c.seals d.1) || c.strangers d.0
+is_filtered_out c d = is_probe_or_report (heard c.seals d.1) || c.strangers d.0
 
 -- an arrived frame as a replica gets it: opened, or nothing if it is filtered out
 abbrev pub filtered : Filter → SocketAddr × List ℕ → List (SocketAddr × List ℕ)
@@ -97,14 +97,14 @@ IsBoundFor node (Client c) = ⊥
 IsBoundFor node (Node n port) = n ≡ node
 
 -- a letter of the node to itself is kept after the others, and nothing is sent
-pub record KeepsOwnLetter (node : ℕ) (l : LetterValue) (old new : Tray) : Type 0 where
+pub record KeepsOwnLetter (node : ℕ) (l : LetterValue) (old new : SendState) : Type 0 where
   pub bound : IsBoundFor node l.to
   pub own : new.own ≡ old.own ++ l ∷ []
   pub sent : new.sent ≡ old.sent
   pub failures : new.failures ≡ old.failures
 
 -- its frame is sent to its destination, whole and once, if the socket reveals that, and no letter is kept
-pub record Sends (tells : Type 0) (book : AddressBook) (l : LetterValue) (old new : Tray) : Type 0 where
+pub record Sends (tells : Type 0) (book : AddressBook) (l : LetterValue) (old new : SendState) : Type 0 where
   pub own : new.own ≡ old.own
   pub sent : tells → (place : Option SocketAddr) × IsRoute book l.to place
       × (new.sent ≡ old.sent ++ carried place (frame_of book.seals l.to l.bytes))
@@ -112,23 +112,23 @@ pub record Sends (tells : Type 0) (book : AddressBook) (l : LetterValue) (old ne
 
 -- it is lost: either one more send has failed, if the socket reveals that, or its frame ran out of memory, if there is
 -- a key; nothing is sent and no letter is kept
-pub record Loses (tells : Type 0) (keys : List (List ℕ)) (old new : Tray) : Type 0 where
+pub record Loses (tells : Type 0) (keys : List (List ℕ)) (old new : SendState) : Type 0 where
   pub own : new.own ≡ old.own
   pub sent : tells → new.sent ≡ old.sent
   pub failures : tells → (new.failures ≡ one_more old.failures) ⊎ ((keys ≢ []) × (new.failures ≡ old.failures))
 
 -- the fate of a letter of that node with these addresses: kept, sent, or lost by a failed send
-abbrev pub Becomes : Type 0 → ℕ → AddressBook → Tray → LetterValue → Bool → Tray → Type 0
+abbrev pub Becomes : Type 0 → ℕ → AddressBook → SendState → LetterValue → Bool → SendState → Type 0
 Becomes tells node book old l true new = KeepsOwnLetter node l old new ⊎ Sends tells book l old new
 Becomes tells node book old l false new = Loses tells (keys_for book.seals l.to) old new
 
--- the same at a post, of which a letter changes nothing else but the count of failed sends in this step
+-- the same at a post, of which a letter changes nothing else but the count of failed sends in this group
 pub record CarriesLetter (tells : Type 0) (old : PostValue) (l : LetterValue) (is_sent : Bool)
     (new : PostValue) : Type 0 where
   pub node : new.node ≡ old.node
   pub addresses : new.addresses ≡ old.addresses
   pub still : tells → new.incoming ≡ old.incoming
-  pub becomes : Becomes tells old.node old.addresses (tray_of old) l is_sent (tray_of new)
+  pub becomes : Becomes tells old.node old.addresses (send_state_of old) l is_sent (send_state_of new)
 
 -- a node that accepts this message follows its sender: a Prepare, an Accept, a Decided or a Lead
 abbrev pub is_binding : NodeMessage → Bool

@@ -4,7 +4,7 @@ ghost use Rattle.std.specs.Prelude.{◌≡◌, ◌<◌};
 
 use lk_disk::CannotOpen;
 use lk_log::OpenFault;
-use lk_node_io::ReplicaFault;
+use lk_node_interface::ReplicaFault;
 use lk_state::UnpackFault;
 use lk_types::NoMemory;
 use std::alloc::{AllocError, AllocFailed};
@@ -21,7 +21,7 @@ pub enum ServiceFault {
     NoMemory,
     /// Fault 9: the store is damaged.
     Damaged,
-    /// Fault 10: the store belongs to another node or another cluster.
+    /// Fault 10: the store belongs to another node or another genesis.
     WrongStore,
     /// Fault 11: the store failed earlier, or no generation is left for a rebase.
     Failed,
@@ -34,7 +34,7 @@ pub enum ServiceFault {
 }
 
 impl ServiceFault {
-    ghost use Rattle.lk_node_io.specs.Faults.{fault_number};
+    ghost use Rattle.lk_node_interface.specs.Faults.{fault_number};
     ghost use Rattle.lk_transport.specs.Faults.{replica_fault};
 
     /// Converts the fault of a replica that did not start. It is never `Send`, which only a running replica reports.

@@ -5,13 +5,13 @@ ghost use Rattle.lk_probe.specs.Neighbours.{Readmits, bound_in, is_stranger};
 ghost use Rattle.lk_probe.specs.Questions.{IsReportedOf};
 ghost use Rattle.lk_transport.specs.Addresses.{IsSameNetwork};
 ghost use Rattle.lk_transport.specs.Inquiring.{AsksOne, IsAskedAt, LearnsOf, ReadmitsKept, SendsProbe, question_by};
-ghost use Rattle.lk_transport.specs.Posts.{tray_of};
+ghost use Rattle.lk_transport.specs.Posts.{send_state_of};
 
 use crate::addresses::Addresses;
 use crate::post::SocketPost;
 use crate::received_probe::ReceivedProbe;
 use crate::socket::DatagramSocket;
-use lk_node_io::SendFault;
+use lk_node_interface::SendFault;
 use lk_probe::Probe;
 use lk_probe::neighbours::{Neighbour, Origin};
 use lk_probe::reported::{Reported, question};
@@ -97,7 +97,7 @@ impl<S: DatagramSocket + Drop> SocketPost<S> {
     // Sends the question of this node to an address.
     fn send_question(&mut self, place: SocketAddr) -> Result<(), SendFault>
         ensures sends { SendsProbe S.is_observable (question_by self.old.addresses.seals self.old.node) (Some place)
-            (tray_of self.old) (tray_of self.new) }
+            (send_state_of self.old) (send_state_of self.new) }
         ensures still { S.is_observable → self.new.incoming ≡ self.old.incoming }
         ensures others { self.new
             ≡ record self.old {
@@ -114,7 +114,7 @@ impl<S: DatagramSocket + Drop> SocketPost<S> {
     /// question whose send fails counts as asked.
     pub fn probe_next(&mut self, now: u64) -> Result<(), SendFault>
         ensures asks { AsksOne S.is_observable now self.old.node self.old.addresses self.new.addresses
-            (tray_of self.old) (tray_of self.new) }
+            (send_state_of self.old) (send_state_of self.new) }
         ensures network { IsSameNetwork self.old.addresses self.new.addresses }
         ensures still { S.is_observable → self.new.incoming ≡ self.old.incoming }
         ensures others { self.new

@@ -7,7 +7,7 @@ ghost use Rattle.lk_disk.specs.Disk.{HasCause, one_more};
 ghost use Rattle.lk_transport.specs.Addresses.{client_at, node_at, IsSameFilter};
 ghost use Rattle.lk_transport.specs.ReceiveBuffers.{listed};
 ghost use Rattle.lk_auth.specs.Seals.{heard};
-ghost use Rattle.lk_transport.specs.Posts.{IsRoute, IsBoundFor, Becomes, Hears, tray_of, frame_of, keys_for};
+ghost use Rattle.lk_transport.specs.Posts.{IsRoute, IsBoundFor, Becomes, Hears, send_state_of, frame_of, keys_for};
 ghost use Rattle.lk_transport.specs.Askers.{BringsProbe, Replies, asker, frame_for, keys_to};
 
 use crate::addresses::Addresses;
@@ -17,7 +17,7 @@ use crate::receive_buffer::ReceiveBuffer;
 use crate::received_probe::ReceivedProbe;
 use crate::socket::DatagramSocket;
 use lk_auth::{DIGEST, Seals};
-use lk_node_io::{Letter, Post, SendFault, To};
+use lk_node_interface::{Letter, Post, SendFault, To};
 use lk_types::{NoMemory, NodeNo};
 use lk_wire::Datagram;
 use std::alloc::{AllocError, Global};
@@ -329,8 +329,8 @@ impl<S: DatagramSocket + Drop> SocketPost<S> {
     // Frames a letter and sends it over the socket, even one to this node. A letter with no known address is dropped,
     // which is no failure; a failed send, or no memory for the frame, is counted.
     fn transmit(&mut self, to: To, bytes: &[u8]) -> Result<(), SendFault>
-        ensures becomes { Becomes S.is_observable self.old.node self.old.addresses (tray_of self.old)
-            (record { to = to; bytes = bytes.now }) (is_ok result) (tray_of self.new) }
+        ensures becomes { Becomes S.is_observable self.old.node self.old.addresses (send_state_of self.old)
+            (record { to = to; bytes = bytes.now }) (is_ok result) (send_state_of self.new) }
         ensures own { self.new.own ≡ self.old.own }
         ensures node { self.new.node ≡ self.old.node }
         ensures addresses { self.new.addresses ≡ self.old.addresses }
@@ -360,7 +360,7 @@ impl<S: DatagramSocket + Drop> SocketPost<S> {
     /// is not counted in the group.
     pub fn reply(&mut self, asked: &ReceivedProbe, report: &[u8]) -> Result<(), SendFault>
         ensures replies { Replies S.is_observable self.old.addresses.seals asked.now report.now
-            (tray_of self.old) (tray_of self.new) }
+            (send_state_of self.old) (send_state_of self.new) }
         ensures still { S.is_observable → self.new.incoming ≡ self.old.incoming }
         ensures others { self.new
             ≡ record self.old {

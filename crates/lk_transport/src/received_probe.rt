@@ -2,12 +2,12 @@
 
 ghost use Rattle.std.specs.Prelude.{◌≡◌, ◌≢◌, ◌↔◌, [], length, IsTrue, IsSome};
 ghost use Rattle.lk_auth.specs.Seals.{key_list, heard};
-ghost use Rattle.lk_transport.specs.Posts.{is_beside};
+ghost use Rattle.lk_transport.specs.Posts.{is_probe_or_report};
 ghost use Rattle.lk_transport.specs.Askers.{asker, BringsProbe, IsSealedAsNamed};
 ghost use Rattle.lk_transport.specs.Inquiring.{is_of};
 
 use lk_auth::{DIGEST, Seals};
-use lk_node_io::To;
+use lk_node_interface::To;
 use lk_probe::Probe;
 use std::net::SocketAddr;
 
@@ -19,8 +19,8 @@ pub struct ReceivedProbe {
 }
 
 /// Returns whether a datagram begins with the letters LP, as probes and reports do: no replica gets it.
-pub fn is_beside(datagram: &[u8]) -> bool
-    ensures { result ≡ is_beside datagram.now }
+pub fn is_probe_or_report(datagram: &[u8]) -> bool
+    ensures { result ≡ is_probe_or_report datagram.now }
 {
     matches!(datagram, [b'L', b'P', ..])
 }

@@ -6,7 +6,7 @@ ghost use Rattle.std.specs.declared.net.socket_addr.SocketAddr.{SocketAddr as Ad
 ghost use Rattle.lk_disk.specs.Disk.{HasCause};
 
 use crate::fault::ServiceFault;
-use lk_node_io::SendFault;
+use lk_node_interface::SendFault;
 use std::io;
 use std::net::{Ipv4Addr, Net, SocketAddr, UdpSocket};
 use std::time::Duration;

@@ -26,7 +26,7 @@ pub const MAX_VOTES: usize = 2 * MAX_ALPHA as usize;
 pub const MAX_COMMANDS: usize = MAX_ALPHA as usize;
 /// Bytes of a snapshot in one Part.
 pub const MAX_PART: usize = 1024;
-/// Bytes of the longest datagram that is received. None that is sent is as long.
+/// Bytes of the longest datagram that is received; every one that is sent is shorter.
 pub const MAX_DATAGRAM: usize = 8192;
 /// The most bytes of a packed machine, so that its state with members, sessions, votes and pairs fits a Base.
 pub const MAX_MACHINE: usize = 36_000;

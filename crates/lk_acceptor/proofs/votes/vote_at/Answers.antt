@@ -14,17 +14,17 @@ returns-in_err-vote c =
     (λ v. IsVoteAt c.args.position c.args.votes.now v.now
     × ((w : Vote) → IsVoteAt c.args.position c.args.votes.now w → w ≡ v.now)))
     (sym c.from_residual.ensures)
-    (none_stands c.args.position c.votes_below.result c.args.votes.now c.requires c.votes_below.ensures.value
-    (ltb-false c.votes_below.result (length c.args.votes.now) (sym c.in_err-vote.ensures.lookup.0)))
+    (none_stands c.args.position c.count_below.result c.args.votes.now c.requires c.count_below.ensures.value
+    (ltb-false c.count_below.result (length c.args.votes.now) (sym c.in_err-vote.ensures.lookup.0)))
 
 pub returns : goal.returns
 returns c =
     let found = c.in_ok-vote.ensures.lookup in
-    let at = slice_get_read c.args.votes.now _ c.votes_below.result c.in_ok-vote.vote.now refl
-    (ltb-true c.votes_below.result (length c.args.votes.now) (sym found.0)) found.1 in
+    let at = slice_get_read c.args.votes.now _ c.count_below.result c.in_ok-vote.vote.now refl
+    (ltb-true c.count_below.result (length c.args.votes.now) (sym found.0)) found.1 in
     subst (λ (o : Option (Bor Vote)). MatchOption o ((v : Vote) → IsVoteAt c.args.position c.args.votes.now v → ⊥)
     (λ v. IsVoteAt c.args.position c.args.votes.now v.now
     × ((w : Vote) → IsVoteAt c.args.position c.args.votes.now w → w ≡ v.now)))
     (sym c.then_some.ensures)
-    (one_stands c.args.position c.votes_below.result c.args.votes.now c.in_ok-vote.vote c.eq.result c.requires
-    c.votes_below.ensures.value at c.eq.ensures)
+    (one_stands c.args.position c.count_below.result c.args.votes.now c.in_ok-vote.vote c.eq.result c.requires
+    c.count_below.ensures.value at c.eq.ensures)

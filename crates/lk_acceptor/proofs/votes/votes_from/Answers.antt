@@ -11,10 +11,10 @@ on_err (Err e) p = p
 pub returns-in_err-push-clause-memory : goal.returns-in_err-push-clause-memory
 returns-in_err-push-clause-memory c =
     on_err c.from_residual.result
-    (rest_has c.args.first c.votes_below.result c.loop-vote.vote-index c.args.votes.now c.vote-item.result c.requires
-    c.votes_below.ensures.value (omega (arith, c.loop-vote-test.true)) (sym c.vote-item.is))
+    (rest_has c.args.first c.count_below.result c.loop-vote.vote-index c.args.votes.now c.vote-item.result c.requires
+    c.count_below.ensures.value (omega (arith, c.loop-vote-test.true)) (sym c.vote-item.is))
 
 pub returns-clause-ok : goal.returns-clause-ok
 returns-clause-ok c =
     c.loop-vote.invariant ∙ take_all c.loop-vote.vote-index _ c.loop-vote-test.false
-    ∙ rest_is_from c.args.first c.votes_below.result c.args.votes.now c.requires c.votes_below.ensures.value
+    ∙ rest_is_from c.args.first c.count_below.result c.args.votes.now c.requires c.count_below.ensures.value

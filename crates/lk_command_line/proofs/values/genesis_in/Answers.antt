@@ -1,6 +1,6 @@
 use Rattle.std.proofs.Common.{◌≡◌, ◌∙◌, ℕ, List, refl, sym, subst}
 use Rattle.std.specs.Prelude.{codes}
-use Rattle.lk_parsers.specs.Geneses.{SpellsGenesis}
+use Rattle.lk_word_parsers.specs.Geneses.{SpellsGenesis}
 use Rattle.lk_command_line.specs.Arguments.{word_of}
 use Rattle.lk_command_line.proofs.values.genesis_in.Goals as goal
 

@@ -1,6 +1,6 @@
-use Rattle.std.proofs.Common.{rules, inl, inr}
+use Rattle.std.proofs.Common.{inl, inr}
 use Rattle.std.proofs.lemmas.Result.{on_ok_weaker}
-use Rattle.lk_node_process.specs.Turns.{HasFollowedNoStranger, HasFollowedStranger, TellsFailure}
+use Rattle.lk_node_process.specs.Turns.{HasFollowedNoStranger, HasFollowedStranger}
 use Rattle.lk_node_process.proofs.Turning.{on_err_weaker, turn_ended, turn_taken}
 use Rattle.lk_node_process.proofs.running.take_turn.Goals as goal
 
@@ -25,5 +25,5 @@ returns-in-Ok-clause-ends g c =
 pub returns-in-Err-clause-ends : goal.returns-in-Err-clause-ends
 returns-in-Err-clause-ends g c =
     let e = c.in-Err.ensures.ends in
-    let failure : TellsFailure c.node_turn.new.server = search rules in
-    inl (turn_ended e.0 c.args.server.now c.node_turn.new.server e.1 e.2 c.node_turn.ensures.network failure)
+    inl (turn_ended e.0 c.args.server.now c.node_turn.new.server e.1 e.2 c.node_turn.ensures.network
+    c.write_failed_turn.ensures.failure)

@@ -1,7 +1,7 @@
 use Rattle.std.proofs.Common.{◌≡◌, ◌∙◌, Err, arith, rules, true, false, refl, sym, ap, inl, inr}
 use Rattle.lk_log.specs.StoreValue.{disks}
 use Rattle.lk_state.specs.Meanings.{Meaning}
-use Rattle.lk_node_io.specs.Faults.{WantsNoMemory, fault_number}
+use Rattle.lk_node_interface.specs.Faults.{WantsNoMemory, fault_number}
 use Rattle.lk_recovery.proofs.base.rebase_if_due.Goals as goal
 use Rattle.lk_recovery.proofs.Calling.{err_as, errs_as, refused_on}
 use Rattle.lk_recovery.proofs.Rebasing.{ready_as_was, ready_by_rebase, leaves_as_was, leaves_by_rebase}

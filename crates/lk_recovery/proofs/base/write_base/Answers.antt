@@ -13,7 +13,7 @@ use Rattle.lk_log.proofs.StoreLaws.{holds_keeps}
 use Rattle.lk_recovery.proofs.Rebasing.{stays_safe, files_switched}
 use Rattle.lk_recovery.proofs.base.write_base.Goals as goal
 use Rattle.lk_disk.specs.Meters.{start}
-use Rattle.lk_node_io.specs.declared.fault.ReplicaFault.TheVariants as fault
+use Rattle.lk_node_interface.specs.declared.fault.ReplicaFault.TheVariants as fault
 use Rattle.lk_recovery.proofs.Calling.{err_as, refused_after}
 use Rattle.lk_recovery.proofs.Refusing.{rebase_refused}
 use Rattle.lk_recovery.proofs.Spared.{rebase_spares, not_failed_so}

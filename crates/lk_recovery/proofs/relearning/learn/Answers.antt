@@ -1,6 +1,6 @@
 use Rattle.std.proofs.Common.{◌≡◌, ◌∙◌, ◌+◌, ◌++◌, ◌∷◌, [], ℕ, ap, sym, subst, rules}
 use Rattle.lk_learner.specs.Learners.{Command, LearnerValue, IsNext, executed, keeping, advanced}
-use Rattle.lk_node_io.specs.declared.note.Note.TheVariants as note
+use Rattle.lk_node_interface.specs.declared.note.Note.TheVariants as note
 use Rattle.lk_recovery.proofs.Rerunning.{next_kept, none_next}
 use Rattle.lk_recovery.proofs.relearning.learn.Goals as goal
 

@@ -2,7 +2,7 @@ use Rattle.std.proofs.Common.{ℕ, ◌+◌, ◌++◌, ◌∷◌, [], List, eqb, 
 use Rattle.std.proofs.Common.{subst, rules}
 use Rattle.std.proofs.lemmas.Bool.{cases_Bool, eqb-true, eqb-false}
 use Rattle.lk_learner.specs.Learners.{Pair, LearnerValue, executed, keeping, advanced}
-use Rattle.lk_node_io.specs.declared.note.Note.{Note}
+use Rattle.lk_node_interface.specs.declared.note.Note.{Note}
 use Rattle.lk_state.specs.Meanings.{Meaning}
 use Rattle.lk_state.specs.States.{WholeValue}
 use Rattle.lk_recovery.proofs.Rerunning.{Comes, comes_kept, comes_run, comes_reached, comes_noted, comes_to, comes_near}

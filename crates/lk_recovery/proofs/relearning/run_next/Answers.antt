@@ -1,6 +1,6 @@
 use Rattle.std.proofs.Common.{◌≡◌, ℕ, ◌++◌, ◌∷◌, [], Some, sym, ◌∙◌, ap}
 use Rattle.lk_learner.specs.Learners.{Command}
-use Rattle.lk_node_io.specs.declared.note.Note.TheVariants as note
+use Rattle.lk_node_interface.specs.declared.note.Note.TheVariants as note
 use Rattle.lk_state.specs.declared.whole.Ran.{Ran}
 use Rattle.lk_recovery.proofs.relearning.run_next.Goals as goal
 

@@ -9,7 +9,7 @@ use Rattle.lk_log.proofs.Room.{within_same}
 use Rattle.lk_log.specs.StoreValue.{disks}
 use Rattle.lk_state.specs.Meanings.{Meaning}
 use Rattle.lk_recovery.specs.Compacting.{renew_calls}
-use Rattle.lk_node_io.specs.Faults.{fault_number}
+use Rattle.lk_node_interface.specs.Faults.{fault_number}
 use Rattle.lk_recovery.specs.Renewals.{IsNotRenewed}
 use Rattle.lk_recovery.proofs.Refusing.{failed_alone}
 use Rattle.lk_recovery.proofs.Rebasing.{before_fits, goes_fits}

@@ -1,13 +1,13 @@
 use Rattle.std.proofs.Common.{◌≡◌, List, ℕ, [], inl, inr, Err, ◌∙◌, ap, subst, sym, refl, arith}
 use Rattle.lk_types.specs.Geneses.{IsGenesis}
 use Rattle.lk_disk.specs.Meters.{Passes, start}
-use Rattle.lk_node_io.specs.Faults.{fault_number, RefusedAfter, IsNumberOfRevival}
+use Rattle.lk_node_interface.specs.Faults.{fault_number, RefusedAfter, IsNumberOfRevival}
 use Rattle.lk_store_format.specs.Values.{HeaderValue}
 use Rattle.lk_log.specs.Images.{seen}
 use Rattle.lk_log.specs.StoreValue.{disks}
 use Rattle.lk_log.specs.Stores.{Opens}
 use Rattle.lk_state.specs.Meanings.{Meaning, KeepsTexts}
-use Rattle.lk_node_io.specs.declared.fault.ReplicaFault.{ReplicaFault}
+use Rattle.lk_node_interface.specs.declared.fault.ReplicaFault.{ReplicaFault}
 use Rattle.lk_node.specs.Histories.{Genesis}
 use Rattle.lk_node.specs.Leavings.{DisksFit, AllCover}
 use Rattle.lk_node.specs.NodeValue.{NodeValue}

@@ -1,6 +1,6 @@
 use Rattle.std.proofs.Common.{rules, List, take, refl, sym, subst, arith}
 use Rattle.std.proofs.lemmas.List.{take_all}
-use Rattle.lk_node_io.specs.Letters.{LetterValue}
+use Rattle.lk_node_interface.specs.Letters.{LetterValue}
 use Rattle.lk_replica.specs.Posts.{CarriesAll}
 use Rattle.lk_replica.proofs.Carrying.{carries_more}
 use Rattle.lk_replica.proofs.Thinning.{take_one_more, all_sent, delivers_none, after_lost, after_sent}

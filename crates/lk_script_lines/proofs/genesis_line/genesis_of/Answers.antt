@@ -1,8 +1,8 @@
 use Rattle.std.proofs.Common.{rules, ◌≡◌, ◌∙◌, ℕ, List, Some, None, refl, sym, ap, subst, arith}
 use Rattle.lk_types.specs.Genesis.{genesis_fault}
 use Rattle.lk_types.specs.declared.member.Member.{Member}
-use Rattle.lk_parsers.specs.Geneses.{SpellsMembers}
-use Rattle.lk_parsers.proofs.MemberWords.{members_once, at_most_seven}
+use Rattle.lk_word_parsers.specs.Geneses.{SpellsMembers}
+use Rattle.lk_word_parsers.proofs.MemberWords.{members_once, at_most_seven}
 use Rattle.lk_script_lines.proofs.GenesisLaws.{numbers_once}
 use Rattle.lk_script_lines.proofs.genesis_line.genesis_of.Goals as goal
 

@@ -1,6 +1,6 @@
 use Rattle.std.proofs.Common.{rules, ℕ, List, refl, sym, subst}
 use Rattle.std.specs.Prelude.{codes}
-use Rattle.lk_parsers.proofs.Splits.{one_way}
+use Rattle.lk_word_parsers.proofs.Splits.{one_way}
 use Rattle.lk_script_lines.specs.GenesisLines.{SpellsGenesis}
 use Rattle.lk_script_lines.proofs.genesis_line.read_genesis.Goals as goal
 

@@ -1,6 +1,6 @@
 use Rattle.std.proofs.Common.{refl}
-use Rattle.lk_parsers.specs.Words.{HasNoSpace}
-use Rattle.lk_parsers.proofs.Splits.{one_way}
+use Rattle.lk_word_parsers.specs.Words.{HasNoSpace}
+use Rattle.lk_word_parsers.proofs.Splits.{one_way}
 use Rattle.lk_script_lines.specs.WorldLines.{word_of}
 use Rattle.lk_script_lines.specs.declared.event_verb.EventVerb.{EventVerb}
 use Rattle.lk_script_lines.specs.declared.event_verb.EventVerb.TheVariants.{Start, Restart, Tick, Compact, Deliver}

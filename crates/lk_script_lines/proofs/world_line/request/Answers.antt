@@ -1,6 +1,6 @@
 use Rattle.std.proofs.Common.{ℕ, List, refl, sym, subst, arith}
 use Rattle.lk_types.specs.Limits.{max_count, max_client}
-use Rattle.lk_parsers.specs.Operations.{SpellsOp}
+use Rattle.lk_word_parsers.specs.Operations.{SpellsOp}
 use Rattle.lk_script_lines.specs.WorldLines.{Leads}
 use Rattle.lk_script_lines.proofs.WordLaws.{leads_once}
 use Rattle.lk_script_lines.proofs.world_line.request.Goals as goal

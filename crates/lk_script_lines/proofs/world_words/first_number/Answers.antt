@@ -1,6 +1,6 @@
 use Rattle.std.proofs.Common.{refl, arith}
 use Rattle.std.specs.Fmt.{decimal}
-use Rattle.lk_parsers.proofs.Splits.{one_way, number_has_no_space}
+use Rattle.lk_word_parsers.proofs.Splits.{one_way, number_has_no_space}
 use Rattle.lk_script_lines.proofs.world_words.first_number.Goals as goal
 
 pub returns-in_err-number-clause-none : goal.returns-in_err-number-clause-none

@@ -1,5 +1,5 @@
 use Rattle.std.proofs.Common.{rules, refl, inl, inr, sym, subst, subst₂}
-use Rattle.lk_agreement.specs.Worlds.{IsClientRequest}
+use Rattle.lk_agreement_laws.specs.Worlds.{IsClientRequest}
 use Rattle.lk_sim.specs.Refusals.{HasRoom, IsFull}
 use Rattle.lk_sim_nodes.specs.Seats.{IsSeatOf}
 use Rattle.lk_sim.specs.Events.{IsRefused}

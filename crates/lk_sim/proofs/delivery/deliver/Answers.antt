@@ -1,6 +1,6 @@
 use Rattle.std.proofs.Common.{rules, ◌≡◌, ◌∙◌, Some, [], refl, inr, ap, subst}
-use Rattle.lk_agreement.specs.Datagrams.{Datagram}
-use Rattle.lk_agreement.specs.declared.party.Party.TheVariants as party
+use Rattle.lk_agreement_laws.specs.Datagrams.{Datagram}
+use Rattle.lk_agreement_laws.specs.declared.party.Party.TheVariants as party
 use Rattle.lk_sim.specs.Events.{IsGiven, IsHalted, IsRefused, LeftBy}
 use Rattle.lk_sim.specs.Refusals.{HasRoom, datagram_at}
 use Rattle.lk_sim_nodes.specs.Seats.{IsUpAt}

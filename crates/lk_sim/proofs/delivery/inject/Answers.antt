@@ -1,6 +1,6 @@
 use Rattle.std.proofs.Common.{◌≡◌, ℕ, rules, List, Some, refl, inl, inr, ap, subst}
 use Rattle.lk_sim.specs.Events.{IsGiven, IsHalted, IsNotInjected, LeftBy}
-use Rattle.lk_node_io.specs.declared.note.Note.{Note}
+use Rattle.lk_node_interface.specs.declared.note.Note.{Note}
 use Rattle.lk_sim.specs.Heard.{Asks}
 use Rattle.lk_sim.specs.Refusals.{HasRoom}
 use Rattle.lk_sim.specs.Scenes.{Scene}

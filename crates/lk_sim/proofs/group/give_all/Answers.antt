@@ -1,5 +1,5 @@
 use Rattle.std.proofs.Common.{◌≡◌, rules, sym, subst, Err, None, [], map}
-use Rattle.lk_simulated_disk.specs.Memory.{disk_of}
+use Rattle.lk_memory_disk.specs.Memory.{disk_of}
 use Rattle.lk_node.specs.Calls.{heard_by}
 use Rattle.lk_node.specs.Leavings.{DisksFit}
 use Rattle.lk_sim_nodes.specs.Ends.{BreaksTogether}

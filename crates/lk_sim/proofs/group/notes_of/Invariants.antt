@@ -1,5 +1,5 @@
 use Rattle.std.proofs.Common.{List, ◌++◌}
-use Rattle.lk_node_io.specs.declared.note.Note.{Note}
+use Rattle.lk_node_interface.specs.declared.note.Note.{Note}
 use Rattle.lk_replica.specs.Together.{parts_of}
 use Rattle.lk_sim.specs.Groups.{AreNotesOf}
 use Rattle.lk_sim.proofs.group.notes_of.Given as goal

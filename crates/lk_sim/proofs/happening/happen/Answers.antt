@@ -3,7 +3,7 @@ use Rattle.std.specs.Prelude.{IfErr, OnOk}
 use Rattle.lk_sim.specs.Events.{IsGivenTogether, IsNotGrouped, IsNotInjected}
 use Rattle.lk_sim.specs.Groups.{given_by}
 use Rattle.lk_sim.specs.Refusals.{MayGroup}
-use Rattle.lk_sim.specs.declared.event.Turn.{Turn}
+use Rattle.lk_sim.specs.declared.event.GroupInput.{GroupInput}
 use Rattle.lk_sim.specs.Worlds.{scene_of}
 use Rattle.lk_sim.proofs.Running.{if_err, group_refused, injected_refused}
 use Rattle.lk_sim.proofs.happening.happen.Goals as goal
@@ -31,7 +31,7 @@ returns-in-Group-clause-ok g c =
     let b = g.R.MemoryReplica.behaves in
     let same : c.deref.result.now ≡ c.in-Group.turns.items = c.deref.ensures.value in
     rw c.in-Group.is
-    (subst (λ (l : List Turn). OnOk c.group.result
+    (subst (λ (l : List GroupInput). OnOk c.group.result
     (MayGroup (scene_of p) n l
     × IsGivenTogether b (scene_of p) (scene_of c.group.new.parts) n (map (given_by p.sent.items) l))) same
     c.group.ensures.ok)
@@ -44,7 +44,7 @@ returns-in-Group-clause-err g c =
     rw c.in-Group.is
     (if_err _ _ c.group.result
     (λ e k. group_refused g.R.MemoryReplica.behaves (scene_of p) (scene_of c.group.new.parts) n c.in-Group.turns e k)
-    (subst (λ (l : List Turn). IfErr c.group.result
+    (subst (λ (l : List GroupInput). IfErr c.group.result
     (λ e. IsNotGrouped g.R.MemoryReplica.behaves (scene_of p) n l e (scene_of c.group.new.parts)))
     same c.group.ensures.err))
 

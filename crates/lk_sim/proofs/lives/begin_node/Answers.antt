@@ -1,6 +1,6 @@
 use Rattle.std.proofs.Common.{rules, ◌≡◌, [], ◌∷◌, ◌++◌, length, None, Result, Ok, Err, OnErr, refl, ap, sym, subst}
 use Rattle.std.proofs.Common.{inr, ◌∙◌}
-use Rattle.lk_simulated_disk.specs.Memory.{Memory}
+use Rattle.lk_memory_disk.specs.Memory.{Memory}
 use Rattle.lk_disk.specs.declared.device.Side.TheVariants.{A, B}
 use Rattle.lk_node.specs.Leavings.{header_of}
 use Rattle.lk_sim.specs.Events.{ComesUp, LeftByRevival, StartWants}

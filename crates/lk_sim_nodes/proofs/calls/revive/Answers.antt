@@ -1,5 +1,5 @@
 use Rattle.std.proofs.Common.{◌≡◌, refl, sym, subst}
-use Rattle.lk_simulated_disk.specs.Memory.{disk_of}
+use Rattle.lk_memory_disk.specs.Memory.{disk_of}
 use Rattle.lk_node.specs.Leavings.{header_of, DisksFit}
 use Rattle.lk_replica.specs.Behaviours.{disks_by}
 use Rattle.lk_sim_nodes.proofs.Faults.{sound_back}

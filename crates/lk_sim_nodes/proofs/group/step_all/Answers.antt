@@ -1,10 +1,10 @@
 use Rattle.std.proofs.Common.{rules, ◌≡◌, map, sym, subst}
-use Rattle.lk_simulated_disk.specs.Memory.{Memory, disk_of}
+use Rattle.lk_memory_disk.specs.Memory.{Memory, disk_of}
 use Rattle.lk_node.specs.Calls.{heard_by}
 use Rattle.lk_node.specs.Leavings.{DisksFit}
 use Rattle.lk_replica.specs.Behaviours.{disks_by}
 use Rattle.lk_replica.specs.Together.{EachLeavesFit, parts_of}
-use Rattle.lk_node_io.specs.Faults.{fault_number, RefusedAfter}
+use Rattle.lk_node_interface.specs.Faults.{fault_number, RefusedAfter}
 use Rattle.lk_sim_nodes.specs.Ends.{BreaksTogether}
 use Rattle.lk_sim_nodes.specs.Outcomes.{HasStoppedOutOfMemory}
 use Rattle.lk_sim_nodes.specs.Rooms.{AreShort}

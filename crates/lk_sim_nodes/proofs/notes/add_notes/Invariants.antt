@@ -1,5 +1,5 @@
 use Rattle.std.proofs.Common.{◌≡◌, ◌++◌, List, take}
-use Rattle.lk_node_io.specs.declared.note.Note.{Note}
+use Rattle.lk_node_interface.specs.declared.note.Note.{Note}
 use Rattle.lk_sim_nodes.specs.Told.{Tells}
 use Rattle.lk_sim_nodes.proofs.notes.add_notes.Given as goal
 

@@ -1,6 +1,6 @@
 use Rattle.std.proofs.Common.{rules, ◌≡◌, ◌∙◌, ap, length}
 use Rattle.lk_disk.specs.Disk.{contents}
-use Rattle.lk_simulated_disk.specs.Memory.{Memory}
+use Rattle.lk_memory_disk.specs.Memory.{Memory}
 use Rattle.lk_sim_nodes.proofs.seat.lengths.Goals as goal
 use Rattle.lk_sim_nodes.specs.declared.seat.Life.TheVariants.{Up}
 

@@ -2,7 +2,7 @@ use Rattle.std.proofs.Common.{List, Contains, ◌<◌, sym, subst, ◌∙◌, ap
 use Rattle.std.specs.List.{AllByRecursion}
 use Rattle.lk_types.specs.Votes.{IsVote}
 use Rattle.lk_types.specs.declared.vote.Vote.{Vote}
-use Rattle.lk_agreement.specs.Acceptors.{AcceptorState}
+use Rattle.lk_agreement_laws.specs.Acceptors.{AcceptorState}
 use Rattle.lk_types.specs.Ballots.{IsAtMost}
 use Rattle.lk_acceptor.specs.AcceptorValue.{AcceptorValue}
 use Rattle.lk_acceptor.specs.States.{IsOrdered, with_state}

@@ -23,6 +23,6 @@ invariant_of-self-in_default g c = (
       _ c.self.invariant.1 c.own.ensures.state,
 )
 
-pub returns-clause-goes_on : goal.returns-clause-goes_on
-returns-clause-goes_on g c =
+pub returns-clause-safe : goal.returns-clause-safe
+returns-clause-safe g c =
     starts_goes_on _ _ c.args.self.now _ c.args.ballot _ c.requires.own c.requires.below (search rules)

@@ -1,15 +1,15 @@
 use Rattle.std.proofs.Common.{◌≡◌, ◌∙◌, ap, sym, subst}
 use Rattle.lk_state.specs.Meanings.{Meaning}
-use Rattle.lk_agreement.specs.Chosen.{Command, ChosenAt}
-use Rattle.lk_node_io.specs.Outboxes.{OutboxValue, with_note}
-use Rattle.lk_node_io.specs.declared.note.Note.TheVariants as note
+use Rattle.lk_agreement_laws.specs.Chosen.{Command, ChosenAt}
+use Rattle.lk_node_interface.specs.Outboxes.{OutboxValue, with_note}
+use Rattle.lk_node_interface.specs.declared.note.Note.TheVariants as note
 use Rattle.lk_node.specs.Learning.{Learns}
 use Rattle.lk_node.specs.Serving.{ActsSafely}
 use Rattle.lk_node.proofs.DecidingLaws.{decides_goes_on}
 use Rattle.lk_node.proofs.node.Node.decide.Goals as goal
 
-pub returns-clause-goes_on : goal.returns-clause-goes_on
-returns-clause-goes_on g c = λ at.
+pub returns-clause-safe : goal.returns-clause-safe
+returns-clause-safe g c = λ at.
     let m : Meaning = g.M.Machine.meaning in
     let noted : c.note.new.self
     ≡ with_note (note.Counted c.node.result c.args.position c.args.members c.args.command.now) c.args.out.now =
@@ -27,5 +27,5 @@ returns-clause-goes_on g c = λ at.
     c.in_ok-execute.ensures.exact.0
     (subst (λ (o : OutboxValue). ActsSafely m
     (λ h. ChosenAt h.genesis h.sent c.args.position c.args.command.now) c.args.self.now c.learn.new.self o
-    c.learn.new.out) noted c.in_ok-learn.ensures.goes_on)
-    c.in_ok-execute.ensures.goes_on)
+    c.learn.new.out) noted c.in_ok-learn.ensures.safe)
+    c.in_ok-execute.ensures.safe)

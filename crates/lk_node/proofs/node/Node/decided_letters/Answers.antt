@@ -1,10 +1,10 @@
-use Rattle.std.proofs.Common.{◌≡◌, ◌∙◌, ℕ, List, ap, subst}
+use Rattle.std.proofs.Common.{◌∙◌, ℕ, List, ap, subst}
 use Rattle.lk_messages.specs.Grammar.{IsMessage}
 use Rattle.lk_messages.specs.declared.message.NodeMessage.{NodeMessage}
 use Rattle.lk_members.specs.Windows.{RosterValue}
-use Rattle.lk_node_io.specs.DecidedMessages.{decided_message}
-use Rattle.lk_node_io.specs.Recipients.{letters_to}
-use Rattle.lk_node_io.specs.Saying.{saying}
+use Rattle.lk_node_interface.specs.DecidedMessages.{decided_message}
+use Rattle.lk_node_interface.specs.Recipients.{letters_to}
+use Rattle.lk_node_interface.specs.Saying.{saying}
 use Rattle.lk_node.specs.NodeValue.{NodeValue}
 use Rattle.lk_node.proofs.node.Node.decided_letters.Goals as goal
 

@@ -19,5 +19,5 @@ pub positions-preserved : goal.positions-preserved
 positions-preserved g c = (
   went_on _ c.in_ok-execute_one.field-0 _ _ c.positions.self c.positions.out _ _ (cc c.if-not-branch.false)
       c.positions.invariant.0 c.in_ok-execute_one.ensures.exact,
-  then_goes_on _ _ _ c.positions.self _ _ c.positions.out _ c.positions.invariant.1 c.in_ok-execute_one.ensures.goes_on,
+  then_goes_on _ _ _ c.positions.self _ _ c.positions.out _ c.positions.invariant.1 c.in_ok-execute_one.ensures.safe,
 )

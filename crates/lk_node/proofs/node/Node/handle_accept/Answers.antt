@@ -6,8 +6,8 @@ use Rattle.lk_node.proofs.AcceptorLaws.{accept_goes_on}
 use Rattle.lk_node.proofs.LevelLaws.{seen_goes_on}
 use Rattle.lk_node.proofs.node.Node.handle_accept.Goals as goal
 
-pub returns-clause-goes_on : goal.returns-clause-goes_on
-returns-clause-goes_on g c =
+pub returns-clause-safe : goal.returns-clause-safe
+returns-clause-safe g c =
     let acceptor = ap (λ (k : NodeValue). k.acceptor) c.see_round.ensures in
     let ordered = subst (λ (k : NodeValue). IsOrdered k.acceptor.state) c.self.view_is c.facts.ensures.kept in
     seen_goes_on _ _ c.get.result c.args.self.now c.see_round.new.self c.answer_accept.new.self

@@ -2,8 +2,8 @@ use Rattle.std.proofs.Common.{◌≡◌, ◌∙◌, ℕ, ◌+◌, List, length, 
 use Rattle.lk_types.specs.declared.command.Command.{Command}
 use Rattle.lk_messages.specs.declared.message.NodeMessage.TheVariants as kinds
 use Rattle.lk_state.specs.Meanings.{Meaning}
-use Rattle.lk_agreement.specs.Datagrams.{HasSent}
-use Rattle.lk_node_io.specs.Outboxes.{OutboxValue, nothing}
+use Rattle.lk_agreement_laws.specs.Datagrams.{HasSent}
+use Rattle.lk_node_interface.specs.Outboxes.{OutboxValue, nothing}
 use Rattle.lk_node.specs.DecidedPairs.{TakesFirst, TakesPairs, none_yet}
 use Rattle.lk_node.specs.Serving.{ActsSafely}
 use Rattle.lk_node.proofs.LearnerLaws.{told_goes_on, takes_more, walked, not_walked}
@@ -46,8 +46,8 @@ returns-in_default-clause-exact g c =
     absurd (not_walked c.args.decided.now.commands c.pairs.rest c.pairs.index c.pairs.invariant.2
     (omega (arith, many, c.pairs-test.true)) (c.in_ok-others.ensures.none c.in_default.is))
 
-pub returns-in_default-clause-goes_on : goal.returns-in_default-clause-goes_on
-returns-in_default-clause-goes_on g c =
+pub returns-in_default-clause-safe : goal.returns-in_default-clause-safe
+returns-in_default-clause-safe g c =
     let many : c.len-index-end.result ≡ length c.args.decided.now.commands = c.len-index-end.ensures
     ∙ ap (λ (l : List Command). length l) c.commands-2.ensures in
     absurd (not_walked c.args.decided.now.commands c.pairs.rest c.pairs.index c.pairs.invariant.2

@@ -1,7 +1,7 @@
 use Rattle.std.proofs.Common.{◌≡◌, ℕ, drop}
 use Rattle.lk_messages.specs.declared.message.NodeMessage.TheVariants as kinds
-use Rattle.lk_agreement.specs.Datagrams.{HasSent}
-use Rattle.lk_node_io.specs.Outboxes.{nothing}
+use Rattle.lk_agreement_laws.specs.Datagrams.{HasSent}
+use Rattle.lk_node_interface.specs.Outboxes.{nothing}
 use Rattle.lk_node.specs.DecidedPairs.{TakesPairs}
 use Rattle.lk_node.specs.Serving.{ActsSafely}
 use Rattle.lk_node.proofs.node.Node.handle_decided.Given as goal

@@ -2,28 +2,28 @@ use Rattle.std.proofs.Common.{sym, subst}
 use Rattle.std.specs.Prelude.{IfOk}
 use Rattle.lk_wire.specs.Shown.{shown_node}
 use Rattle.lk_wire.specs.declared.viewing.message.NodeMessageRef.{NodeMessageRef}
-use Rattle.lk_agreement.specs.Datagrams.{HasSent}
+use Rattle.lk_agreement_laws.specs.Datagrams.{HasSent}
 use Rattle.lk_state.specs.Meanings.{Meaning}
 use Rattle.lk_types.specs.declared.vote.Vote.{Vote}
-use Rattle.lk_node_io.specs.Outboxes.{nothing}
+use Rattle.lk_node_interface.specs.Outboxes.{nothing}
 use Rattle.lk_node.specs.Deciding.{HearsAccepted}
 use Rattle.lk_node.specs.Serving.{ActsSafely}
 use Rattle.lk_node.specs.Steps.{HearsNode}
 use Rattle.lk_node.proofs.node.Node.handle_node_message.Goals as goal
 
-pub returns-in-Decided-clause-goes_on : goal.returns-in-Decided-clause-goes_on
-returns-in-Decided-clause-goes_on g c =
+pub returns-in-Decided-clause-safe : goal.returns-in-Decided-clause-safe
+returns-in-Decided-clause-safe g c =
     subst (λ (x : NodeMessageRef). IfOk c.handle_decided.result
     (λ o. ActsSafely g.M.Machine.meaning
     (λ h. HasSent h.genesis h.sent c.args.from (shown_node x)) c.args.self.now c.handle_decided.new.self nothing o))
-    (sym c.in-Decided.is) (c.handle_decided.ensures.goes_on c.args.from)
+    (sym c.in-Decided.is) (c.handle_decided.ensures.safe c.args.from)
 
-pub returns-in-Part-clause-goes_on : goal.returns-in-Part-clause-goes_on
-returns-in-Part-clause-goes_on g c =
+pub returns-in-Part-clause-safe : goal.returns-in-Part-clause-safe
+returns-in-Part-clause-safe g c =
     subst (λ (x : NodeMessageRef). IfOk c.handle_part.result
     (λ o. ActsSafely g.M.Machine.meaning
     (λ h. HasSent h.genesis h.sent c.args.from (shown_node x)) c.args.self.now c.handle_part.new.self nothing o))
-    (sym c.in-Part.is) (c.handle_part.ensures.goes_on c.args.from)
+    (sym c.in-Part.is) (c.handle_part.ensures.safe c.args.from)
 
 pub returns-in-Accepted-clause-exact : goal.returns-in-Accepted-clause-exact
 returns-in-Accepted-clause-exact g c =

@@ -1,8 +1,8 @@
 use Rattle.std.proofs.Common.{◌∙◌, ap, sym, subst}
 use Rattle.lk_messages.specs.declared.message.NodeMessage.TheVariants as kinds
-use Rattle.lk_agreement.specs.Datagrams.{HasSent}
+use Rattle.lk_agreement_laws.specs.Datagrams.{HasSent}
 use Rattle.lk_state.specs.Meanings.{Meaning, KeepsTexts}
-use Rattle.lk_node_io.specs.Outboxes.{OutboxValue, nothing}
+use Rattle.lk_node_interface.specs.Outboxes.{OutboxValue, nothing}
 use Rattle.lk_node.specs.Histories.{History}
 use Rattle.lk_node.specs.NodeValue.{NodeValue}
 use Rattle.lk_node.specs.Serving.{ActsSafely}
@@ -11,8 +11,8 @@ use Rattle.lk_node.proofs.LearnerLaws.{unheard}
 use Rattle.lk_node.proofs.Serving.{then_goes_on}
 use Rattle.lk_node.proofs.node.Node.handle_part.Goals as goal
 
-pub returns-then-not-branch-clause-goes_on : goal.returns-then-not-branch-clause-goes_on
-returns-then-not-branch-clause-goes_on g c = λ from.
+pub returns-then-not-branch-clause-safe : goal.returns-then-not-branch-clause-safe
+returns-then-not-branch-clause-safe g c = λ from.
     let m : Meaning = g.M.Machine.meaning in
     let keeps : KeepsTexts g.M.Machine.IsText m =
     record {
@@ -30,8 +30,8 @@ returns-then-not-branch-clause-goes_on g c = λ from.
     (gathers_goes_on m from g.M.Machine.IsText keeps c.in_ok-add_part.field-0 c.args.part.now c.args.self.now
     c.add_part.new.self nothing began c.in_ok-add_part.ensures)
 
-pub returns-clause-goes_on : goal.returns-clause-goes_on
-returns-clause-goes_on g c = λ from.
+pub returns-clause-safe : goal.returns-clause-safe
+returns-clause-safe g c = λ from.
     let m : Meaning = g.M.Machine.meaning in
     let keeps : KeepsTexts g.M.Machine.IsText m =
     record {
@@ -48,4 +48,4 @@ returns-clause-goes_on g c = λ from.
     (gathers_goes_on m from g.M.Machine.IsText keeps c.in_ok-add_part.field-0 c.args.part.now c.args.self.now
     c.add_part.new.self nothing began c.in_ok-add_part.ensures)
     (unheard m Heard c.add_part.new.self c.install_gathered.new.self nothing c.in_ok-out.out
-    c.in_ok-out.ensures.goes_on)
+    c.in_ok-out.ensures.safe)

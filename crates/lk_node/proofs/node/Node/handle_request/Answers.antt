@@ -1,6 +1,20 @@
+-- One tactic for each goal that a wrong body breaks.
+use Rattle.std.proofs.Common.{rules}
+use Rattle.std.proofs.lemmas.Result.{IfOk-weaker}
+use Rattle.lk_node.specs.Asking.{HearsRequest}
 use Rattle.lk_node.proofs.AskingLaws.{request_goes_on}
 use Rattle.lk_node.proofs.node.Node.handle_request.Goals as goal
 
-pub returns-clause-goes_on : goal.returns-clause-goes_on
-returns-clause-goes_on g c =
-    request_goes_on _ c.args.self.now c.take_request.new.self c.args.request.now c.in_ok-out.out c.in_ok-out.ensures
+pub returns-in_default-clause-exact : goal.returns-in_default-clause-exact
+returns-in_default-clause-exact g c = search rules
+
+pub returns-in_default-clause-safe : goal.returns-in_default-clause-safe
+returns-in_default-clause-safe g c =
+    IfOk-weaker c.take_new.result _ _
+    (λ o heard. request_goes_on _ c.args.self.now c.take_new.new.self c.args.request.now o heard)
+    (returns-in_default-clause-exact g c)
+
+pub returns-clause-safe : goal.returns-clause-safe
+returns-clause-safe g c =
+    let heard : HearsRequest c.args.self.now c.args.request.now c.args.self.now c.in_ok-out.out = search rules in
+    request_goes_on _ c.args.self.now c.args.self.now c.args.request.now c.in_ok-out.out heard

@@ -1,6 +1,9 @@
+use Rattle.std.proofs.lemmas.Result.{IfOk-weaker}
 use Rattle.lk_node.proofs.LevelLaws.{want_goes_on}
 use Rattle.lk_node.proofs.node.Node.handle_want.Goals as goal
 
-pub returns-clause-goes_on : goal.returns-clause-goes_on
-returns-clause-goes_on g c =
-    want_goes_on _ c.args.self.now c.args.from c.first.result c.offset.result c.in_ok-out.out c.in_ok-out.ensures
+pub returns-clause-safe : goal.returns-clause-safe
+returns-clause-safe g c =
+    IfOk-weaker c.send_missing.result _ _
+    (λ o feeds. want_goes_on _ c.args.self.now c.args.from c.first.result c.offset.result o feeds)
+    c.send_missing.ensures

@@ -19,5 +19,5 @@ invariant_of-self-2 g c = (
       c.decided.ensures.unchanged,
 )
 
-pub returns-clause-goes_on : goal.returns-clause-goes_on
-returns-clause-goes_on g c = learns_goes_on _ c.args.position c.args.command.now _ _ _ _ (search rules)
+pub returns-clause-safe : goal.returns-clause-safe
+returns-clause-safe g c = learns_goes_on _ c.args.position c.args.command.now _ _ _ _ (search rules)

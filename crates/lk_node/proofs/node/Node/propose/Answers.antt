@@ -11,7 +11,7 @@ votes-smaller g c =
 pub votes-preserved : goal.votes-preserved
 votes-preserved g c = (
   then_goes_on _ (λ h. Unit {0}) c.args.self.now c.votes.self c.propose_next.new.self c.args.out.now c.votes.out
-      c.propose_next.new.out c.votes.invariant.0 c.in_ok-propose_next.ensures.goes_on,
+      c.propose_next.new.out c.votes.invariant.0 c.in_ok-propose_next.ensures.safe,
   next_continues c.in_ok-propose_next.field-0 c.args.self.now c.votes.self c.propose_next.new.self c.args.out.now
       c.votes.out c.propose_next.new.out c.if-branch.true c.votes.invariant.1 c.in_ok-propose_next.ensures.exact,
 )

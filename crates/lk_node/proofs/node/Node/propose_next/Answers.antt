@@ -11,8 +11,8 @@ returns-clause-exact g c = (
       c.send_accepts.new.out c.in_ok-send_accepts.ensures.said,
 )
 
-pub returns-clause-goes_on : goal.returns-clause-goes_on
-returns-clause-goes_on g c =
+pub returns-clause-safe : goal.returns-clause-safe
+returns-clause-safe g c =
     next_goes_on c.args.self.now c.next_vote.new.self c.in-Some.vote c.in-Some.ensures.0 c.in-Some.ensures.1
     _ c.args.out.now c.send_accepts.new.out c.facts.ensures
     (next_fits c.args.self.now c.next_vote.new.self c.in-Some.vote c.in-Some.ensures.0 c.in-Some.ensures.1

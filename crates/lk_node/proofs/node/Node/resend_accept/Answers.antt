@@ -4,11 +4,11 @@ use Rattle.lk_members.specs.Windows.{RosterValue}
 use Rattle.lk_leader.specs.Acceptances.{IsOpen}
 use Rattle.lk_leader.specs.Terms.{LeaderValue}
 use Rattle.lk_node.specs.NodeValue.{NodeValue}
-use Rattle.lk_node.proofs.Reminders.{members_there, offered}
+use Rattle.lk_node.proofs.Reminders.{members_there, offer_goes_on, offered}
 use Rattle.lk_node.proofs.node.Node.resend_accept.Goals as goal
 
-pub returns-in_default : goal.returns-in_default
-returns-in_default g c =
+pub returns-in_default-clause-exact : goal.returns-in_default-clause-exact
+returns-in_default-clause-exact g c =
     inr (
       λ p o. c.in_default.ensures p
           (subst₂ (λ (l : LeaderValue) (r : RosterValue). IsOpen l r c.args.position p)
@@ -16,8 +16,8 @@ returns-in_default g c =
       refl,
     )
 
-pub returns : goal.returns
-returns g c =
+pub returns-clause-exact : goal.returns-clause-exact
+returns-clause-exact g c =
     offered c.args.self.now c.args.ballot c.args.position c.in-Some.ensures.0 c.in-Some-members_at.set.now
     c.in-Some.open.accepted.now c.deref.result.now c.copy-command.result c.args.out.now c.send_to_all.new.out
     (subst₂ (λ (l : LeaderValue) (r : RosterValue). IsOpen l r c.args.position c.in-Some.ensures.0)
@@ -35,3 +35,8 @@ returns-in_default-members_at g c =
     (members_there c.self.inside.leader c.roster-2.result.now c.args.position c.in-Some.ensures.0
     (subst (λ (r : RosterValue). IsOpen c.self.inside.leader r c.args.position c.in-Some.ensures.0)
     (c.roster.ensures ∙ sym c.roster-2.ensures) c.in-Some.ensures.1))))
+
+pub returns-clause-safe : goal.returns-clause-safe
+returns-clause-safe g c =
+    offer_goes_on _ _ c.args.self.now c.args.ballot c.args.position c.args.out.now c.send_to_all.new.out
+    c.facts.ensures c.requires (returns-clause-exact g c)

@@ -5,9 +5,9 @@ use Rattle.std.proofs.lemmas.List.Elements.{Contains-push_cases}
 use Rattle.lk_messages.specs.Grammar.{IsMessage}
 use Rattle.lk_messages.specs.Values.{PartValue}
 use Rattle.lk_messages.specs.declared.message.NodeMessage.TheVariants as kinds
-use Rattle.lk_node_io.specs.Letters.{LetterValue}
-use Rattle.lk_node_io.specs.Outboxes.{nothing, with_letter, with_letters}
-use Rattle.lk_node_io.specs.Saying.{saying}
+use Rattle.lk_node_interface.specs.Letters.{LetterValue}
+use Rattle.lk_node_interface.specs.Outboxes.{nothing, with_letter, with_letters}
+use Rattle.lk_node_interface.specs.Saying.{saying}
 use Rattle.lk_node.specs.CatchingUp.{sending_parts}
 use Rattle.lk_node.specs.NodeValue.{NodeValue}
 use Rattle.lk_node.specs.Telling.{letter_to}

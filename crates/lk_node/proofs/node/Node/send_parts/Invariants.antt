@@ -4,8 +4,8 @@ use Rattle.std.specs.Vec.Iter.{into_iter_items, into_iter_len}
 use Rattle.lk_messages.specs.Grammar.{IsMessage}
 use Rattle.lk_messages.specs.Values.{PartValue}
 use Rattle.lk_messages.specs.declared.message.NodeMessage.TheVariants as kinds
-use Rattle.lk_node_io.specs.Outboxes.{nothing}
-use Rattle.lk_node_io.specs.Saying.{saying}
+use Rattle.lk_node_interface.specs.Outboxes.{nothing}
+use Rattle.lk_node_interface.specs.Saying.{saying}
 use Rattle.lk_node.specs.CatchingUp.{sending_parts}
 use Rattle.lk_node.proofs.node.Node.send_parts.Given as goal
 

@@ -2,7 +2,7 @@ use Rattle.std.proofs.Common.{[], Result, Ok, Err, OnOk}
 use Rattle.lk_log.specs.Rooms.{StaysWithin}
 use Rattle.lk_log.specs.StoreValue.{disks}
 use Rattle.lk_replica.specs.ReplicaValue.{device_of}
-use Rattle.lk_simulated_disk.specs.Memory.{disk_of}
+use Rattle.lk_memory_disk.specs.Memory.{disk_of}
 use Rattle.lk_learner.specs.Learners.{executed}
 use Rattle.lk_state.specs.Meanings.{Meaning}
 use Rattle.lk_node.specs.Calls.{NodeFits, LeavesFit}

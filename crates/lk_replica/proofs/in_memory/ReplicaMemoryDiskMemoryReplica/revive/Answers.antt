@@ -1,10 +1,9 @@
-use Rattle.std.proofs.Common.{◌≡◌, ℕ, ◌+◌, ◌≤◌, ◌⊎◌, inl, inr, List, [], Result, Ok, Err, IfOk, MatchResult, subst}
-use Rattle.std.proofs.Common.{arith}
+use Rattle.std.proofs.Common.{◌≡◌, ℕ, ◌+◌, ◌≤◌, List, [], Result, Ok, Err, IfOk, MatchResult}
 use Rattle.std.specs.Prelude.{IfErr}
 use Rattle.lk_store_format.specs.Values.{HeaderValue}
 use Rattle.lk_log.specs.Rooms.{StaysWithin}
 use Rattle.lk_disk.specs.Disk.{Disk}
-use Rattle.lk_simulated_disk.specs.Memory.{Memory, disk_of}
+use Rattle.lk_memory_disk.specs.Memory.{Memory, disk_of}
 use Rattle.lk_disk.specs.Meters.{Passes}
 use Rattle.lk_disk.specs.declared.device.Side.{Side}
 use Rattle.lk_disk.specs.declared.meter.Meter.{Meter}
@@ -12,7 +11,7 @@ use Rattle.lk_state.specs.Meanings.{Meaning}
 use Rattle.lk_node.specs.Calls.{LeavesFit}
 use Rattle.lk_node.specs.Keeping.{ReplicaHolds}
 use Rattle.lk_node.specs.Leavings.{AllCover}
-use Rattle.lk_node_io.specs.Faults.{fault_number, failures_by, RefusedAfter}
+use Rattle.lk_node_interface.specs.Faults.{fault_number, failures_by, RefusedAfter}
 use Rattle.lk_recovery.specs.Revivals.{IsRefusedFor, CallsOfRevival}
 use Rattle.lk_replica.specs.Revived.{IsNotRevived}
 use Rattle.lk_replica.proofs.OnDevices.{on_device}

@@ -2,14 +2,14 @@ use Rattle.std.proofs.Common.{◌≡◌, ◌∙◌, List, ◌++◌, Result, Ok, 
 use Rattle.std.specs.Prelude.{⊤}
 use Rattle.lk_store_format.specs.Values.{HeaderValue}
 use Rattle.lk_replica.specs.ReplicaValue.{device_of}
-use Rattle.lk_simulated_disk.specs.Memory.{disk_of}
+use Rattle.lk_memory_disk.specs.Memory.{disk_of}
 use Rattle.lk_state.specs.Meanings.{Meaning}
-use Rattle.lk_node_io.specs.Letters.{batch_of}
+use Rattle.lk_node_interface.specs.Letters.{batch_of}
 use Rattle.lk_node.specs.Calls.{NodeFits, LeavesFit}
 use Rattle.lk_node.specs.Histories.{Datagram}
 use Rattle.lk_node.specs.Keeping.{ReplicaHolds}
 use Rattle.lk_node.specs.Leavings.{DisksFit, AllCover}
-use Rattle.lk_node_io.specs.Faults.{fault_number, IsNumberOfCalls}
+use Rattle.lk_node_interface.specs.Faults.{fault_number, IsNumberOfCalls}
 use Rattle.lk_replica.specs.Posts.{MemoryPostValue}
 use Rattle.lk_replica.specs.Taking.{IsOfLast, IsRefused}
 use Rattle.lk_recovery.proofs.Recoveries.{err_as}

@@ -6,16 +6,16 @@ use Rattle.std.specs.List.{AllByRecursion}
 use Rattle.lk_log.specs.StoreValue.{disks}
 use Rattle.lk_log.specs.Rooms.{StaysWithin}
 use Rattle.lk_log.proofs.Room.{within_first, within_still}
-use Rattle.lk_simulated_disk.specs.Memory.{disk_of}
+use Rattle.lk_memory_disk.specs.Memory.{disk_of}
 use Rattle.lk_disk.specs.Meters.{Passes}
 use Rattle.lk_disk.proofs.Devices.{passes_on}
 use Rattle.lk_disk.specs.declared.meter.Meter.{Meter}
-use Rattle.lk_node_io.specs.Letters.{batch_of, LetterValue}
-use Rattle.lk_node_io.specs.declared.input.Input.{Input}
+use Rattle.lk_node_interface.specs.Letters.{batch_of, LetterValue}
+use Rattle.lk_node_interface.specs.declared.input.Input.{Input}
 use Rattle.lk_node.specs.Calls.{heard_by, InputFits, NodeFits}
 use Rattle.lk_node.specs.Keeping.{ReplicaHolds}
 use Rattle.lk_node.specs.Leavings.{DisksFit, AllCover}
-use Rattle.lk_node_io.specs.Faults.{fault_number, RefusedAfter, IsNumberOfCalls}
+use Rattle.lk_node_interface.specs.Faults.{fault_number, RefusedAfter, IsNumberOfCalls}
 use Rattle.lk_replica.specs.Groups.{GroupValue, IsSettled, LeavesInGroup, gather_calls, settle_calls}
 use Rattle.lk_replica.specs.ReplicaValue.{ReplicaValue, device_of}
 use Rattle.lk_replica.specs.Together.{IsTogetherRefused}

@@ -5,7 +5,7 @@ use Rattle.lk_state.specs.Meanings.{Meaning}
 use Rattle.lk_log.proofs.Room.{within_same}
 use Rattle.lk_disk.specs.Meters.{start}
 use Rattle.lk_replica.specs.Compacted.{IsNotCompacted}
-use Rattle.lk_node_io.specs.Faults.{fault_number}
+use Rattle.lk_node_interface.specs.Faults.{fault_number}
 use Rattle.lk_recovery.specs.Rebased.{StandsOnBase, HasSwitchedFiles, LeavesDisks}
 use Rattle.lk_replica.specs.ReplicaValue.{ReplicaValue}
 use Rattle.lk_recovery.proofs.Recoveries.{grown_none, leaves_safe}

@@ -1,10 +1,10 @@
 use Rattle.std.proofs.Common.{◌≡◌, inl, inr, true, false, refl, sym, ap, subst, ◌∙◌, arith}
 use Rattle.std.specs.Prelude.{IfErr}
 use Rattle.lk_disk.specs.Meters.{start}
-use Rattle.lk_node_io.specs.Faults.{fault_number}
+use Rattle.lk_node_interface.specs.Faults.{fault_number}
 use Rattle.lk_log.specs.StoreValue.{disks}
 use Rattle.lk_log.proofs.Room.{within_same}
-use Rattle.lk_node_io.specs.Letters.{batch_of}
+use Rattle.lk_node_interface.specs.Letters.{batch_of}
 use Rattle.lk_node.specs.Calls.{InputFits, NodeFits}
 use Rattle.lk_node.specs.Keeping.{ReplicaHolds}
 use Rattle.lk_replica.specs.Groups.{IsGathered, IsRefusedInGroup, KeepsGroup, LeavesInGroup, as_sent, RemembersInGroup}

@@ -1,7 +1,7 @@
 use Rattle.std.proofs.Common.{subst, Bool, List}
 use Rattle.std.specs.Prelude.{⊤}
 use Rattle.lk_log.specs.StoreValue.{disks}
-use Rattle.lk_node_io.specs.Letters.{LetterValue}
+use Rattle.lk_node_interface.specs.Letters.{LetterValue}
 use Rattle.lk_replica.specs.Groups.{IsSettled, LeavesInGroup}
 use Rattle.lk_replica.specs.Posts.{CarriesAll}
 use Rattle.lk_replica.proofs.Grouped.{settled_node_fits, settled_covers}

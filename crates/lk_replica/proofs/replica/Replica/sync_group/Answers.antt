@@ -3,7 +3,7 @@ use Rattle.std.specs.Prelude.{IfErr, ⊤}
 use Rattle.lk_disk.specs.Meters.{start}
 use Rattle.lk_log.specs.StoreValue.{disks}
 use Rattle.lk_log.proofs.Room.{within_same}
-use Rattle.lk_node_io.specs.Faults.{fault_number}
+use Rattle.lk_node_interface.specs.Faults.{fault_number}
 use Rattle.lk_replica.specs.Groups.{IsRefusedInGroup, IsSettled, LeavesInGroup}
 use Rattle.lk_replica.specs.ReplicaValue.{ReplicaValue}
 use Rattle.lk_replica.proofs.Grouped.{ended_in_group, group_refused}

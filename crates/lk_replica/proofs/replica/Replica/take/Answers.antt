@@ -1,8 +1,8 @@
 use Rattle.std.proofs.Common.{◌≡◌, true, false, List, [], ◌++◌, IfErr, inl, inr, refl, sym, ◌∙◌, ap, subst, arith}
 use Rattle.lk_log.specs.StoreValue.{disks}
-use Rattle.lk_node_io.specs.Letters.{LetterValue, batch_of}
-use Rattle.lk_node_io.specs.Outboxes.{OutboxValue}
-use Rattle.lk_node_io.specs.declared.note.Note.{Note}
+use Rattle.lk_node_interface.specs.Letters.{LetterValue, batch_of}
+use Rattle.lk_node_interface.specs.Outboxes.{OutboxValue}
+use Rattle.lk_node_interface.specs.declared.note.Note.{Note}
 use Rattle.lk_node.specs.Calls.{InputFits, NodeFits, LeavesFit}
 use Rattle.lk_node.specs.Keeping.{ReplicaHolds}
 use Rattle.lk_replica.specs.Posts.{CarriesAll, SendsSome}
@@ -17,7 +17,7 @@ use Rattle.lk_log.proofs.Room.{within_same}
 use Rattle.lk_replica.proofs.replica.Replica.take.Goals as goal
 use Rattle.lk_disk.specs.Meters.{start}
 use Rattle.lk_recovery.specs.Remembering.{ReplicaRemembers}
-use Rattle.lk_node_io.specs.Faults.{fault_number}
+use Rattle.lk_node_interface.specs.Faults.{fault_number}
 
 pub returns-then-self-clause-gives : goal.returns-then-self-clause-gives
 returns-then-self-clause-gives g c = record {

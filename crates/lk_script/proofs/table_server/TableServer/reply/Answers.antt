@@ -1,5 +1,5 @@
 use Rattle.std.proofs.Common.{◌∙◌, sym, ap}
-use Rattle.lk_node_io.specs.KeptReplies.{kept_reply}
+use Rattle.lk_node_interface.specs.KeptReplies.{kept_reply}
 use Rattle.lk_script.proofs.TableServerLaws.{kept}
 use Rattle.lk_script.proofs.table_server.TableServer.reply.Goals as goal
 

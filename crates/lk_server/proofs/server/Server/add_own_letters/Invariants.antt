@@ -1,6 +1,6 @@
 -- So many letters of the node to itself were taken, in order.
 use Rattle.std.proofs.Common.{◌≡◌, List, [], ◌++◌, length}
-use Rattle.lk_node_io.specs.Letters.{LetterValue}
+use Rattle.lk_node_interface.specs.Letters.{LetterValue}
 use Rattle.lk_server.specs.Gatherings.{TakesAll}
 use Rattle.lk_server.specs.Servers.{datagrams_in}
 use Rattle.lk_server.proofs.server.Server.add_own_letters.Given as goal

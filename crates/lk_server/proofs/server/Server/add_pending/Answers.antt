@@ -3,7 +3,7 @@ use Rattle.std.specs.Prelude.{IfOk, OnErr}
 use Rattle.std.specs.declared.net.socket_addr.SocketAddr.{SocketAddr}
 use Rattle.lk_replica.specs.Groups.{GroupValue}
 use Rattle.lk_server.specs.Gatherings.{Finds, TakesWaiting, EndsGroup}
-use Rattle.lk_timing.specs.declared.turn_input.TurnInput.TheVariants.{Something}
+use Rattle.lk_pacing.specs.declared.turn_input.TurnInput.TheVariants.{Something}
 use Rattle.lk_server.specs.Servers.{ServerValue}
 use Rattle.lk_server.proofs.Asking.{keeps_still}
 use Rattle.lk_server.proofs.Carrying.{on_err}

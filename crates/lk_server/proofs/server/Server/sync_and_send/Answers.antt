@@ -1,6 +1,6 @@
 use Rattle.std.proofs.Common.{rules, ◌≡◌, ◌∙◌, refl}
-use Rattle.lk_transport.specs.Posts.{tray_of}
-use Rattle.lk_server.specs.Servers.{tray_at}
+use Rattle.lk_transport.specs.Posts.{send_state_of}
+use Rattle.lk_server.specs.Servers.{send_state_at}
 use Rattle.lk_server.proofs.Carrying.{same_post, hands_on_all, says_nothing}
 use Rattle.lk_server.proofs.server.Server.sync_and_send.Goals as goal
 
@@ -37,7 +37,8 @@ returns-clause-gives g c =
     let same = same_post tells c.release-released.result _ c.begin_group.new.self
     c.release-released.new.post e.hands e.unsent in
     let mine : c.self.inside.replica ≡ c.args.self.now.replica = search rules in
-    let begun : tray_of c.begin_group.new.self ≡ tray_at c.args.self.now.own c.args.self.now = search rules in
+    let begun : send_state_of c.begin_group.new.self ≡ send_state_at c.args.self.now.own c.args.self.now =
+    search rules in
     hands_on_all r.Says r.Gathers tells c.args.self.now _ c.begin_group.new.self c.release-released.new.post
     c.args.group.now c.self.inside.replica mine c.release-released.result e.hands same.0 same.1 begun refl
 

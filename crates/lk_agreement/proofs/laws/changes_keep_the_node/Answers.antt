@@ -1,5 +1,0 @@
-use Rattle.lk_agreement.proofs.Views.{changes_fit}
-use Rattle.lk_agreement.proofs.laws.changes_keep_the_node.Goals as goal
-
-pub returns : goal.returns
-returns c genesis sent n old new sound = changes_fit genesis sent sound n old new

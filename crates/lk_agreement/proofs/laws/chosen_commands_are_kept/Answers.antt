@@ -1,5 +1,0 @@
-use Rattle.lk_agreement.proofs.Runs.{kept_by_majority}
-use Rattle.lk_agreement.proofs.laws.chosen_commands_are_kept.Goals as goal
-
-pub returns : goal.returns
-returns c genesis sent L i v sound chosen at = kept_by_majority genesis sent sound L chosen i v at

@@ -1,5 +1,0 @@
-use Rattle.lk_agreement.proofs.Agree.{one_chosen}
-use Rattle.lk_agreement.proofs.laws.one_command_a_position.Goals as goal
-
-pub returns : goal.returns
-returns c genesis sent i v w sound = one_chosen genesis sent sound i v w

@@ -1,5 +1,0 @@
-use Rattle.lk_agreement.proofs.Runs.{start_fits}
-use Rattle.lk_agreement.proofs.laws.the_start_fits.Goals as goal
-
-pub returns : goal.returns
-returns c = start_fits

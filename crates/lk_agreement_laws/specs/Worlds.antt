@@ -1,0 +1,84 @@
+-- Nodes and everything that was sent, whatever is delivered, lost, repeated or stopped.
+use Rattle.std.specs.Prelude.{◌≡◌, ℕ, ◌≤◌, ◌⊎◌, ◌==◌, if◌then◌else◌, List, [], ◌∷◌, ◌++◌, length, Some, Contains}
+use Rattle.lk_types.specs.declared.command.Request.{Request}
+use Rattle.lk_messages.specs.Grammar.{Spells}
+use Rattle.lk_messages.specs.declared.message.Content.TheVariants as content
+use Rattle.lk_members.specs.Rosters.{members}
+use Rattle.lk_members.specs.Majorities.{IsMajority}
+use Rattle.lk_agreement_laws.specs.declared.party.Party.TheVariants as party
+use Rattle.lk_agreement_laws.specs.Ballots.{BallotValue}
+use Rattle.lk_agreement_laws.specs.Datagrams.{Genesis, Vote, Datagram, Accepted, HasSent}
+use Rattle.lk_agreement_laws.specs.Chosen.{Command, command_at, Chosen}
+use Rattle.lk_agreement_laws.specs.Soundness.{Sound}
+use Rattle.lk_agreement_laws.specs.Nodes.{View, fresh, ViewFits, MayPostAll}
+use Rattle.lk_agreement_laws.specs.Changes.{Changes}
+
+pub record World : Type 0 where
+  pub sent : List Datagram
+  pub views : ℕ → View
+
+-- nothing was sent, and each node is fresh
+abbrev pub start : World
+start = record { sent = []; views = λ n. fresh }
+
+-- the world where these datagrams were sent too
+abbrev pub with_sent : World → List Datagram → World
+with_sent w batch = record { sent = w.sent ++ batch; views = w.views }
+
+-- the world where one node is in another state
+abbrev pub with_view : World → ℕ → View → World
+with_view w n new = record { sent = w.sent; views = λ k. if k == n then new else w.views k }
+
+-- the datagram is a client's request
+pub record IsClientRequest (d : Datagram) : Type 0 where
+  pub client : ℕ
+  pub cluster : ℕ
+  pub request : Request
+  pub from : d.from ≡ party.Client client
+  pub spelled : Spells (record { cluster = cluster; content = content.Request request }) d.bytes
+
+-- a node sends some datagrams, each of which it may send; a client asks; or a node changes. Who hears what was sent,
+-- how often and when, is part of the changes
+pub data Happens (genesis : Genesis) : World → World → Type 0 where
+  sends : {w : World} (n : ℕ) (batch : List Datagram) → MayPostAll genesis w.sent n (w.views n) batch
+      → Happens genesis w (with_sent w batch)
+  asks : {w : World} (d : Datagram) → IsClientRequest d
+      → Happens genesis w (with_sent w (d ∷ []))
+  changes : {w : World} (n : ℕ) (new : View) → Changes genesis w.sent n (w.views n) new
+      → Happens genesis w (with_view w n new)
+
+-- the reachable worlds
+pub data Reaches (genesis : Genesis) : World → Type 0 where
+  begin : Reaches genesis start
+  next : {w w' : World} → Reaches genesis w → Happens genesis w w' → Reaches genesis w'
+
+-- what holds of each of them: the history is sound, and each node fits it
+pub record WorldFits (genesis : Genesis) (w : World) : Type 0 where
+  pub sound : Sound genesis w.sent
+  pub views : (n : ℕ) → ViewFits genesis w.sent n (w.views n)
+
+-- the state holds the command at the position: in its snapshot, or as its vote
+abbrev pub HoldsCommand : View → ℕ → Command → Type 0
+HoldsCommand state i v =
+    ((i ≤ state.acceptor.snapshot_position) × (command_at state.done i ≡ Some v))
+    ⊎ ((x : Vote) × Contains state.acceptor.votes x × (x.position ≡ i) × (x.command ≡ v))
+
+-- a majority of the members that the list names for the position has accepted the command there, and holds it in each
+-- possible state of its nodes
+pub record IsKept (genesis : Genesis) (sent : List Datagram) (L : List Command) (i : ℕ) (v : Command)
+    (may_be : ℕ → View → Type 0) : Type 0 where
+  pub ballot : BallotValue
+  pub nodes : List ℕ
+  pub majority : IsMajority nodes (members genesis L i)
+  pub accepted : (n : ℕ) → Contains nodes n
+      → HasSent genesis sent n (Accepted (record { position = i; ballot = ballot; command = v }))
+  pub held : (n : ℕ) → Contains nodes n → (state : View) → may_be n state → HoldsCommand state i v
+
+-- there are such worlds, and members change in them: a reachable world, and a list of two commands that is chosen in
+-- it. Node 1 alone decides the first, which makes node 2 a member; both decide the second
+pub record MembersChange (genesis : Genesis) (w : World) (L : List Command) : Type 0 where
+  pub reached : Reaches genesis w
+  pub chosen : Chosen genesis w.sent L
+  pub two : length L ≡ 2
+  pub one_member : members genesis L 1 ≡ record { node = 1; port = 7001 } ∷ []
+  pub both : members genesis L 2 ≡ record { node = 1; port = 7001 } ∷ record { node = 2; port = 7002 } ∷ []

@@ -1,7 +1,0 @@
-use Rattle.lk_cluster.specs.Clusters.{scene_of}
-use Rattle.lk_cluster.proofs.laws.a_cluster_serves_exactly_once.Goals as goal
-
-pub returns : goal.returns
-returns g c genesis cluster all =
-    c.operations_take_effect_exactly_once.ensures (scene_of cluster)
-    (c.a_cluster_keeps_the_promise.ensures genesis cluster all)

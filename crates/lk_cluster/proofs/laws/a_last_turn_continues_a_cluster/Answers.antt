@@ -1,9 +1,0 @@
-use Rattle.lk_cluster.specs.Clusters.{ForgesNothing}
-use Rattle.lk_cluster.proofs.Continuing.{last_turn_continues}
-use Rattle.lk_cluster.proofs.Keeping.{forges_nothing}
-use Rattle.lk_cluster.proofs.laws.a_last_turn_continues_a_cluster.Goals as goal
-
-pub returns : goal.returns
-returns g c genesis cluster all place n server at after =
-    last_turn_continues ForgesNothing g.D.LogDisk.is_metered g.S.DatagramSocket.is_observable forges_nothing
-    genesis cluster all place n server after at

@@ -1,8 +1,0 @@
-use Rattle.lk_cluster.specs.Sealing.{IsSealed}
-use Rattle.lk_cluster.proofs.Sealing.{seals_forge_nothing, so_reachable}
-use Rattle.lk_cluster.proofs.laws.a_sealed_cluster_forges_nothing.Goals as goal
-
-pub returns : goal.returns
-returns g c genesis cluster all =
-    so_reachable IsSealed g.D.LogDisk.is_metered g.S.DatagramSocket.is_observable
-    (seals_forge_nothing c.is_told_by_a_node.ensures) genesis cluster all

@@ -1,5 +1,0 @@
-use Rattle.lk_cluster.proofs.Forgetting.{not_forgotten}
-use Rattle.lk_cluster.proofs.laws.no_node_forgets.Goals as goal
-
-pub returns : goal.returns
-returns g c genesis cluster all = not_forgotten cluster (c.a_cluster_keeps_the_promise.ensures genesis cluster all)

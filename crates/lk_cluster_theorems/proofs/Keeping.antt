@@ -1,0 +1,486 @@
+-- What happens to a cluster keeps all that holds of it.
+use Rattle.std.proofs.Common.{◌≡◌, ℕ, ◌⊎◌, true, false, Bool, Option, Some, None, List, [], ◌∷◌, ◌++◌, take, drop, set}
+use Rattle.std.proofs.Common.{zero, suc, Contains, refl, ap, sym, ◌∙◌, subst, subst₂, inl, inr, append-nil, arith}
+use Rattle.std.specs.Prelude.{map}
+use Rattle.std.specs.List.{AllByRecursion}
+use Rattle.std.proofs.lemmas.Bool.{cases_Bool}
+use Rattle.std.proofs.lemmas.List.Elements.{Contains-append_left, Contains-append_right, Contains-push_cases}
+use Rattle.std.specs.declared.net.socket_addr.SocketAddr.{SocketAddr}
+use Rattle.lk_memory_disk.specs.Memory.{Memory, disk_of}
+use Rattle.lk_disk.specs.declared.device.Side.{Side}
+use Rattle.lk_locks.specs.Meaning.{table_meaning}
+use Rattle.lk_agreement_laws.proofs.Histories.{heard_was_sent, cons_cases, contains_more}
+use Rattle.lk_node_interface.specs.Letters.{LetterValue, batch_of, datagram_of}
+use Rattle.lk_node_interface.specs.declared.note.Note.{Note}
+use Rattle.lk_node.specs.Histories.{Genesis, Datagram}
+use Rattle.lk_node.specs.Leavings.{DisksFit}
+use Rattle.lk_replica.specs.Posts.{CarriesAll}
+use Rattle.lk_replica.specs.ReplicaValue.{ReplicaValue, device_of}
+use Rattle.lk_transport.specs.Addresses.{AddressBook}
+use Rattle.lk_transport.specs.Posts.{SendState, Becomes}
+use Rattle.lk_pacing.specs.Paces.{ticks_after, MayFollow}
+use Rattle.lk_server.specs.ProbeHandling.{HandlesProbes}
+use Rattle.lk_served_replica.specs.Showing.{IsShown}
+use Rattle.lk_probe.specs.declared.reported.Reported.{Reported}
+use Rattle.lk_transport.specs.declared.received_probe.ReceivedProbe.{ReceivedProbe}
+use Rattle.lk_server.specs.Servers.{ServerValue, DeliversLetters, Given, IsIdle, one_more, inputs, all_inputs}
+use Rattle.lk_server.specs.Servers.{datagrams_in}
+use Rattle.lk_server.specs.Servers.{IsPrefix, send_state_at}
+use Rattle.lk_pacing.specs.declared.pace.Pace.{Pace}
+use Rattle.lk_pacing.specs.declared.pace.Pace.TheVariants.{Datagrams, Clock}
+use Rattle.lk_sim.specs.Events.{ReplacesSeat, Adds}
+use Rattle.lk_sim.specs.Networks.{MayCome, Steps, Appears, Rests, Stops, nothing}
+use Rattle.lk_sim_nodes.specs.Rooms.{AreShort}
+use Rattle.lk_sim_nodes.specs.Seats.{At, UpFits}
+use Rattle.lk_sim.specs.Traces.{happened}
+use Rattle.lk_sim.specs.Worlds.{WorldInvariant}
+use Rattle.lk_sim_nodes.specs.declared.seat.Life.TheVariants.{Up, Down}
+use Rattle.lk_sim.proofs.Networks.{step_holds, at_set, at_set_here, at_push, nothing_holds, set_twice, went_down}
+use Rattle.lk_cluster_theorems.specs.Clusters.{Node, Cluster, Network, ForgesNothing, ServerStands, server_disks, Says}
+use Rattle.lk_cluster_theorems.specs.Clusters.{Starts}
+use Rattle.lk_cluster_theorems.specs.Clusters.{TakesTurn, Idles, EndsByTurn, Happens, HappenAll, IsReachable}
+use Rattle.lk_cluster_theorems.proofs.Groups.{AllMay, group_leaves}
+use Rattle.lk_cluster_theorems.proofs.Mapped.{device_disks}
+
+-- ---- letters of a node to itself
+
+pub in_map : {X Y : Type 0} (f : X → Y) (xs : List X) (x : X) → Contains xs x → Contains (map f xs) (f x)
+in_map f [] x c = absurd (omega (arith, c.1))
+in_map f (y ∷ xs) x c = elim (cons_cases y xs x c) [
+  | inl here ↦ (0, omega arith, ap f here)
+  | inr later ↦ contains_more (f y) (map f xs) (f x) (in_map f xs x later)
+]
+
+-- letters that were taken, and the others, stood there
+in_front : (k : ℕ) (own : List LetterValue) (l : LetterValue) → Contains (take k own) l → Contains own l
+in_front zero own l c = absurd (omega (arith, c.1))
+in_front (suc k) [] l c = c
+in_front (suc k) (x ∷ own) l c = elim (cons_cases x (take k own) l c) [
+  | inl here ↦ (0, omega arith, here)
+  | inr later ↦ contains_more x own l (in_front k own l later)
+]
+
+in_rest : (k : ℕ) (own : List LetterValue) (l : LetterValue) → Contains (drop k own) l → Contains own l
+in_rest zero own l c = c
+in_rest (suc k) [] l c = c
+in_rest (suc k) (x ∷ own) l c = contains_more x own l (in_rest k own l c)
+
+kept_one : (tells : Type 0) (node : ℕ) (book : AddressBook) (old new : SendState) (x : LetterValue) (is_sent : Bool)
+    → Becomes tells node book old x is_sent new → (l : LetterValue) → Contains new.own l → Contains old.own l ⊎ (x ≡ l)
+kept_one tells node book old new x true (inl keeps) l c =
+    Contains-push_cases old.own x l (subst (λ (ls : List LetterValue). Contains ls l) keeps.own c)
+kept_one tells node book old new x true (inr sends) l c =
+    inl (subst (λ (ls : List LetterValue). Contains ls l) sends.own c)
+kept_one tells node book old new x false loses l c = inl (subst (λ (ls : List LetterValue). Contains ls l) loses.own c)
+
+-- what is kept stood there or was given
+kept_of : (tells : Type 0) (node : ℕ) (book : AddressBook) (old new : SendState) (letters : List LetterValue)
+    → CarriesAll (Becomes tells node book) old letters new → (l : LetterValue) → Contains new.own l
+    → Contains old.own l ⊎ Contains letters l
+kept_of tells node book old new [] all l c = inl (subst (λ (t : SendState). Contains t.own l) all c)
+kept_of tells node book old new (x ∷ letters) all l c = elim (kept_of tells node book all.1 new letters all.3 l c) [
+  | inl before ↦ elim (kept_one tells node book old all.1 x all.0 all.2 l before)
+      [ inl old_one ↦ inl old_one | inr here ↦ inr (0, omega arith, here) ]
+  | inr later ↦ inr (contains_more x letters l later)
+]
+
+-- a server that goes on, all of whose letters to itself were given to be sent
+pub record IsKept (sent : List Datagram) (n : ℕ) (q : ServerValue ReplicaValue) : Type 0 where
+  pub alive : q.replica.failed ≡ false
+  pub own : (l : LetterValue) → Contains q.own l → Contains sent (datagram_of n l)
+
+abbrev pub OwnOf : List Node → List Datagram → Type 0
+OwnOf seats sent =
+    (k : ℕ) (s : Node) → At seats k s → (q : ServerValue ReplicaValue) → s.life ≡ Up q → IsKept sent s.number q
+
+own_later : (sent now : List Datagram) (n : ℕ) (q : ServerValue ReplicaValue)
+    → ((d : Datagram) → Contains sent d → Contains now d) → IsKept sent n q → IsKept now n q
+own_later sent now n q among k = record { alive = k.alive; own = λ l c. among (datagram_of n l) (k.own l c) }
+
+pub same_up : (p q : ServerValue ReplicaValue) → Up p ≡ Up q → p ≡ q
+same_up p q e = cc e
+
+own_set : (seats : List Node) (place : ℕ) (next : Node) (sent now : List Datagram) → OwnOf seats sent
+    → ((d : Datagram) → Contains sent d → Contains now d)
+    → ((q : ServerValue ReplicaValue) → next.life ≡ Up q → IsKept now next.number q) → OwnOf (set seats place next) now
+own_set seats place next sent now old among mine k s at q up = elim (at_set seats place next k s at) [
+  | inl here ↦
+      subst (λ (z : Node). (p : ServerValue ReplicaValue) → z.life ≡ Up p → IsKept now z.number p) here.1 mine q up
+  | inr other ↦ own_later sent now s.number q among (old k s other.1 q up)
+]
+
+-- a server that has taken a turn
+after_turn : (tells : Type 0) (Says : ReplicaValue → List (Option (List ℕ)) → List LetterValue → ReplicaValue → Type 0)
+    (given : List (Option (List ℕ))) (count : ℕ) (sent : List Datagram) (n : ℕ)
+    (server after : ServerValue ReplicaValue)
+    → IsKept sent n server → (h : DeliversLetters Says tells given (drop count server.own) server after)
+    → after.replica.failed ≡ false → IsKept (sent ++ batch_of n h.letters) n after
+after_turn tells Says given count sent n server after kept h alive = record {
+  alive = alive;
+  own = λ l c. elim (kept_of tells after.node after.addresses (send_state_at (drop count server.own) server)
+      (send_state_at after.own after) h.letters h.carried l c) [
+        | inl old ↦
+            Contains-append_left sent (batch_of n h.letters) (datagram_of n l)
+            (kept.own l (in_rest count server.own l old))
+        | inr new ↦
+            Contains-append_right sent (batch_of n h.letters) (datagram_of n l) (in_map (datagram_of n) h.letters l new)
+      ];
+}
+
+-- ---- what comes in a turn
+
+module _ (genesis : Genesis) (sent : List Datagram) where
+  append_may : (first rest : List (Option (List ℕ))) → AllMay genesis sent first → AllMay genesis sent rest
+      → AllMay genesis sent (first ++ rest)
+  append_may [] rest may more = more
+  append_may (o ∷ first) rest may more = (may.0, append_may first rest may.1 more)
+
+  inputs_may : (pace : Pace) (number : ℕ) (bytes : List ℕ) → MayCome genesis sent (Some bytes)
+      → AllMay genesis sent (inputs pace number bytes)
+  inputs_may pace number bytes may =
+      elim (cases_Bool (ticks_after pace number)) [ inl e ↦ rw e (may, (tt, tt)) | inr e ↦ rw e (may, tt) ]
+
+  -- these may
+  abbrev AreFree : List (List ℕ) → Type 0
+  AreFree datagrams = AllByRecursion (λ (bytes : List ℕ). MayCome genesis sent (Some bytes)) datagrams
+
+  all_inputs_may : (pace : Pace) (received : ℕ) (datagrams : List (List ℕ)) → AreFree datagrams
+      → AllMay genesis sent (all_inputs pace received datagrams)
+  all_inputs_may pace received [] may = tt
+  all_inputs_may pace received (bytes ∷ more) may =
+      append_may (inputs pace (one_more received) bytes) (all_inputs pace (one_more received) more)
+      (inputs_may pace (one_more received) bytes may.0) (all_inputs_may pace (one_more received) more may.1)
+
+  -- a tick may always come
+  ticks_may : (pace : Pace) (ticks : List (Option (List ℕ))) → MayFollow pace ticks → AllMay genesis sent ticks
+  ticks_may Datagrams ticks none = subst (λ (l : List (Option (List ℕ))). AllMay genesis sent l) (sym none) tt
+  ticks_may Clock ticks (inl none) = subst (λ (l : List (Option (List ℕ))). AllMay genesis sent l) (sym none) tt
+  ticks_may Clock ticks (inr one) = subst (λ (l : List (Option (List ℕ))). AllMay genesis sent l) (sym one) (tt, tt)
+
+  turn_may : (pace : Pace) (received : ℕ) (datagrams : List (List ℕ)) (given : List (Option (List ℕ)))
+      → Given pace received datagrams given → AreFree datagrams → AllMay genesis sent given
+  turn_may pace received [] given is may =
+      subst (λ (l : List (Option (List ℕ))). AllMay genesis sent l) (sym is) (tt, tt)
+  turn_may pace received (bytes ∷ more) given is may =
+      subst (λ (l : List (Option (List ℕ))). AllMay genesis sent l) (sym is.2)
+      (append_may (all_inputs pace received (bytes ∷ more)) is.0 (all_inputs_may pace received (bytes ∷ more) may)
+      (ticks_may pace is.0 is.1))
+
+  came_may : (came : List (SocketAddr × List ℕ))
+      → AllByRecursion (λ (c : SocketAddr × List ℕ). MayCome genesis sent (Some c.1)) came
+      → AreFree (map (λ (c : SocketAddr × List ℕ). c.1) came)
+  came_may [] may = tt
+  came_may (c ∷ came) may = (may.0, came_may came may.1)
+
+  datagrams_may : (own : List LetterValue) (came : List (SocketAddr × List ℕ))
+      → ((l : LetterValue) → Contains own l → MayCome genesis sent (Some l.bytes))
+      → AllByRecursion (λ (c : SocketAddr × List ℕ). MayCome genesis sent (Some c.1)) came
+      → AreFree (datagrams_in own came)
+  datagrams_may [] came mine may = came_may came may
+  datagrams_may (l ∷ own) came mine may =
+      (mine l (0, omega arith, refl), datagrams_may own came (λ x c. mine x (contains_more l own x c)) may)
+
+  front_may : (given rest : List (Option (List ℕ))) → AllMay genesis sent (given ++ rest) → AllMay genesis sent given
+  front_may [] rest may = tt
+  front_may (o ∷ given) rest may = (may.0, front_may given rest may.1)
+
+  pub given_may : (pace : Pace) (count received : ℕ) (own : List LetterValue) (came : List (SocketAddr × List ℕ))
+      (given : List (Option (List ℕ))) → Given pace received (datagrams_in (take count own) came) given
+      → ((l : LetterValue) → Contains own l → MayCome genesis sent (Some l.bytes))
+      → AllByRecursion (λ (c : SocketAddr × List ℕ). MayCome genesis sent (Some c.1)) came → AllMay genesis sent given
+  given_may pace count received own came given is mine may =
+      turn_may pace received (datagrams_in (take count own) came) given is
+      (datagrams_may (take count own) came (λ l c. mine l (in_front count own l c)) may)
+
+  pub ended_may : (given whole : List (Option (List ℕ))) → IsPrefix given whole → AllMay genesis sent whole
+      → AllMay genesis sent given
+  ended_may given whole front may =
+      front_may given front.0 (subst (λ (g : List (Option (List ℕ))). AllMay genesis sent g) front.1 may)
+
+-- ---- what holds of a cluster
+
+pub record IsSound (c : Cluster) : Type 0 where
+  pub holds : WorldInvariant ServerStands server_disks table_meaning c.genesis c.seats c.sent c.trace
+  pub own : OwnOf c.seats c.sent
+
+-- nothing has happened yet
+pub begun : (genesis : Genesis) → IsSound (nothing genesis)
+begun genesis = record {
+  holds = nothing_holds ServerStands server_disks table_meaning genesis;
+  own = λ k s at q up. absurd (omega (arith, at.0));
+}
+
+-- what the network brings is not forged, where that holds
+abbrev pub Unforged : Network → Type 0
+Unforged May = (c : Cluster) → IsSound c → (server : ServerValue ReplicaValue) (came : List (SocketAddr × List ℕ))
+    → May c.genesis c.sent server came → ForgesNothing c.genesis c.sent server came
+
+module _ (old : Cluster) (w : IsSound old) where
+  -- a letter of the node to itself may come
+  pub own_may : (n : ℕ) (server : ServerValue ReplicaValue) → IsKept old.sent n server → (l : LetterValue)
+      → Contains server.own l → MayCome old.genesis old.sent (Some l.bytes)
+  own_may n server k l c =
+      λ j x said. heard_was_sent old.genesis old.sent w.holds.world.sound (datagram_of n l) (k.own l c) j x said
+
+  -- a server with another one's replica, in its place
+  pub with_replica : (place : ℕ) (node : Node) → At old.seats place node
+      → (server other : ServerValue ReplicaValue) → node.life ≡ Up server
+      → WorldInvariant ServerStands server_disks table_meaning old.genesis
+      (set old.seats place (record { number = node.number; life = Up (record other { replica = server.replica }) }))
+      old.sent old.trace
+  with_replica place node at server other was =
+      let h = happened old.genesis old.sent old.trace in
+      let v = w.holds.views node.number in
+      let q : ServerValue ReplicaValue = record other { replica = server.replica } in
+      let f = (w.holds.seated place node at).up server was in
+      let fits : UpFits ServerStands server_disks table_meaning h v node.number q =
+      record { holding = f.holding; view = f.view; shown = f.shown; fits = f.fits; left = f.left; room = f.room } in
+      went_down ServerStands server_disks table_meaning old.genesis old.seats old.sent old.trace w.holds place node
+      (record { number = node.number; life = Up q }) at refl (record {
+        up = λ p up. subst (λ (z : ServerValue ReplicaValue). UpFits ServerStands server_disks table_meaning h v
+            node.number z) (same_up q p up) fits;
+        down = λ d is. absurd (cc is);
+        room = λ d is. absurd (cc is);
+      })
+
+-- a server as another one, but for what it knows of other addresses, what has come to its socket and was sent by it
+abbrev at_rest : ServerValue ReplicaValue → ServerValue ReplicaValue → ServerValue ReplicaValue
+at_rest server after = record after {
+  addresses = server.addresses;
+  incoming = server.incoming;
+  sent = server.sent;
+  socket_failures = server.socket_failures;
+}
+
+-- by an idle turn and beside the protocol nothing else changes
+at_rest_by : {tells : Type 0} (server after : ServerValue ReplicaValue)
+    → ((frames : List (SocketAddr × List ℕ)) × IsIdle tells frames server after)
+    ⊎ ((asked : Option ReceivedProbe) × (reported : Option Reported)
+    × HandlesProbes IsShown tells asked reported server after) → at_rest server after ≡ server
+at_rest_by server after (inl i) =
+    ap (λ (s : ServerValue ReplicaValue). record s {
+      addresses = server.addresses;
+      sent = server.sent;
+      socket_failures = server.socket_failures;
+    }) i.1.same
+at_rest_by server after (inr a) = ap (λ (s : ServerValue ReplicaValue). at_rest server s) a.2.same
+
+module _ (May : Network) (Metered tells : Type 0) (unforged : Unforged May) where
+  module _ (old new : Cluster) (w : IsSound old) where
+    by_step : Steps ServerStands server_disks table_meaning old new
+        → WorldInvariant ServerStands server_disks table_meaning new.genesis new.seats new.sent new.trace
+    by_step s = step_holds ServerStands server_disks table_meaning old new w.holds s
+
+    among_more : (more : List Datagram) → new.sent ≡ old.sent ++ more → (d : Datagram)
+        → Contains old.sent d → Contains new.sent d
+    among_more more e d c = subst (λ (l : List Datagram). Contains l d) (sym e) (Contains-append_left old.sent more d c)
+
+    own_moved : (s t : Node) (turns : ReplacesSeat old.seats new.seats s t) (more : List Datagram)
+        → new.sent ≡ old.sent ++ more → ((q : ServerValue ReplicaValue) → t.life ≡ Up q → IsKept new.sent t.number q)
+        → OwnOf new.seats new.sent
+    own_moved s t turns more e mine =
+        subst (λ (l : List Node). OwnOf l new.sent) (sym turns.seats)
+        (own_set old.seats turns.place t old.sent new.sent w.own (among_more more e) mine)
+
+    no_up : (t : Node) (d : Memory) → t.life ≡ Down d → (q : ServerValue ReplicaValue) → t.life ≡ Up q
+        → IsKept new.sent t.number q
+    no_up t d down q up = absurd (cc (down, up))
+
+    appears : Appears old new → IsSound new
+    appears a = record {
+      holds = by_step (inl a);
+      own = subst (λ (l : List Node). OwnOf l new.sent) (sym a.seats)
+          (λ k s at q up. elim (at_push old.seats a.seat k s at) [
+            | inl before ↦ own_later old.sent new.sent s.number q (among_more [] a.adds.sent) (w.own k s before q up)
+            | inr here ↦ absurd (let same : Up q ≡ Down a.device = sym up
+                ∙ ap (λ (z : Node). z.life) (sym here.1) ∙ a.down in cc same)
+          ]);
+    }
+
+    starts : Starts old new → IsSound new
+    starts a =
+        let r = a.restarts in
+        record {
+          holds = by_step (inr (inl r));
+          own = own_moved r.seat r.next r.turns [] r.adds.sent (λ q up.
+              subst (λ (z : ServerValue ReplicaValue). IsKept new.sent r.next.number z)
+              (same_up r.replica q (sym r.up ∙ up))
+              (record {
+                alive = a.alive;
+                own = λ l c. absurd (omega (arith, (subst (λ (ls : List LetterValue). Contains ls l) a.own c).1));
+              }));
+        }
+
+    rests : Rests table_meaning old new → IsSound new
+    rests a = record {
+      holds = by_step (inr (inr (inl a)));
+      own = own_moved a.seat a.next a.turns [] a.adds.sent (no_up a.next a.left a.still);
+    }
+
+    stops : Stops server_disks old new → IsSound new
+    stops a = record {
+      holds = by_step (inr (inr (inr (inr (inr a)))));
+      own = own_moved a.seat a.next a.turns [] a.adds.sent (no_up a.next a.left a.down);
+    }
+
+    moved : (seats : List Node) (notes : List Note) (batch : List Datagram) → new.seats ≡ seats
+        → Adds old new notes batch
+        → WorldInvariant ServerStands server_disks table_meaning old.genesis seats (old.sent ++ batch) (old.trace
+        ++ notes)
+        → WorldInvariant ServerStands server_disks table_meaning new.genesis new.seats new.sent new.trace
+    moved seats notes batch same a h =
+        subst (λ g. WorldInvariant ServerStands server_disks table_meaning g new.seats new.sent new.trace)
+        (sym a.genesis)
+        (subst (λ z. WorldInvariant ServerStands server_disks table_meaning old.genesis z new.sent new.trace) (sym same)
+        (subst₂ (λ x y. WorldInvariant ServerStands server_disks table_meaning old.genesis seats x y)
+        (sym a.sent) (sym a.trace) h))
+
+    -- what a server takes in a turn of what waits and comes
+    pub turn_takes : (n count : ℕ) (server : ServerValue ReplicaValue) (came : List (SocketAddr × List ℕ))
+        (given : List (Option (List ℕ)))
+        → Given server.pace server.received (datagrams_in (take count server.own) came) given
+        → IsKept old.sent n server → May old.genesis old.sent server came → AllMay old.genesis old.sent given
+    turn_takes n count server came given is kept may =
+        given_may old.genesis old.sent server.pace count server.received server.own came given is
+        (own_may old w n server kept) (unforged old w server came may)
+
+    takes_turn : TakesTurn May Metered tells old new → IsSound new
+    takes_turn a =
+        let n : ℕ = a.node.number in
+        let kept = w.own a.turns.place a.node a.turns.at a.server a.was in
+        let letters : List LetterValue = a.turn.hands_on.letters in
+        let left = group_leaves old.genesis n old.seats a.turns.place a.node a.turns.at a.after Metered a.turn.given
+        a.server.replica letters a.after.replica a.turn.hands_on.says a.trace old.sent old.trace
+        (turn_takes n 64 a.server a.came a.turn.given a.turn.may kept a.may)
+        (with_replica old w a.turns.place a.node a.turns.at a.server a.after a.was) a.joins in
+        record {
+          holds = moved (set old.seats a.turns.place a.next) a.trace (batch_of n letters) a.turns.seats a.adds
+              (subst (λ (z : Node). WorldInvariant ServerStands server_disks table_meaning old.genesis
+              (set old.seats a.turns.place z) (old.sent ++ batch_of n letters) (old.trace ++ a.trace))
+              (λ i. record { number = sym a.turns.number i; life = sym a.up i }) (left.up a.alive));
+          own = own_moved a.node a.next a.turns (batch_of n letters) a.adds.sent (λ q up.
+              subst (λ (z : ServerValue ReplicaValue). IsKept new.sent a.next.number z)
+              (same_up a.after q (sym a.up ∙ up))
+              (subst₂ (λ (l : List Datagram) (k : ℕ). IsKept l k a.after) (sym a.adds.sent) (sym a.turns.number)
+              (after_turn tells (Says Metered) a.turn.given 64 old.sent n a.server a.after kept
+              a.turn.hands_on a.alive)));
+        }
+
+    -- an idle turn, or what is done beside the protocol
+    idles : Idles tells old new → IsSound new
+    idles a =
+        let replica : a.after.replica ≡ a.server.replica =
+        ap (λ (s : ServerValue ReplicaValue). s.replica) (at_rest_by a.server a.after a.idle) in
+        let waits : a.after.own ≡ a.server.own =
+        ap (λ (s : ServerValue ReplicaValue). s.own) (at_rest_by a.server a.after a.idle) in
+        let mine : record a.after { replica = a.server.replica } ≡ a.after =
+        λ i. record a.after { replica = sym replica i } in
+        let kept = w.own a.turns.place a.node a.turns.at a.server a.was in
+        let still : IsKept (old.sent ++ []) a.node.number a.after = record {
+          alive = ap (λ (r : ReplicaValue). r.failed) replica ∙ kept.alive;
+          own = λ l c. Contains-append_left old.sent [] (datagram_of a.node.number l)
+              (kept.own l (subst (λ (ls : List LetterValue). Contains ls l) waits c));
+        } in
+        record {
+          holds = moved (set old.seats a.turns.place a.next) [] [] a.turns.seats a.adds
+              (subst₂ (λ (x : List Datagram) (y : List Note). WorldInvariant ServerStands server_disks table_meaning
+              old.genesis
+              (set old.seats a.turns.place a.next) x y) (sym (append-nil old.sent)) (sym (append-nil old.trace))
+              (subst (λ (z : Node). WorldInvariant ServerStands server_disks table_meaning old.genesis
+              (set old.seats a.turns.place z) old.sent old.trace)
+              (λ i. record { number = sym a.turns.number i; life = (ap Up mine ∙ sym a.up) i })
+              (with_replica old w a.turns.place a.node a.turns.at a.server a.after a.was)));
+          own = own_moved a.node a.next a.turns [] a.adds.sent (λ q up.
+              subst (λ (z : ServerValue ReplicaValue). IsKept new.sent a.next.number z)
+              (same_up a.after q (sym a.up ∙ up))
+              (subst₂ (λ (l : List Datagram) (k : ℕ). IsKept l k a.after) (sym a.adds.sent)
+              (sym a.turns.number) still));
+        }
+
+    -- other devices with the same disks
+    other_device : (after : ServerValue ReplicaValue) (left : Memory)
+        → ((s : Side) → disk_of left s ≡ server_disks after s) → disk_of (device_of after.replica.store) ≡ disk_of left
+    other_device after left same = λ i side. (sym (device_disks after.replica.store side) ∙ sym (same side)) i
+
+    ends_by_turn : EndsByTurn May Metered tells old new → IsSound new
+    ends_by_turn a =
+        let n : ℕ = a.node.number in
+        let kept = w.own a.turns.place a.node a.turns.at a.server a.was in
+        let batch : List Datagram = batch_of n a.turn.hands_on.letters in
+        let may = ended_may old.genesis old.sent a.turn.given a.turn.first.whole a.turn.first.front
+        (turn_takes n a.turn.count a.server a.came a.turn.first.whole a.turn.first.may kept a.may) in
+        let device : Memory = device_of a.after.replica.store in
+        let seat : Node = record { number = n; life = Down device } in
+        let next : Node = record { number = n; life = Down a.left } in
+        let left = group_leaves old.genesis n old.seats a.turns.place a.node a.turns.at a.after Metered a.turn.given
+        a.server.replica a.turn.hands_on.letters a.after.replica a.turn.hands_on.says a.trace old.sent old.trace may
+        (with_replica old w a.turns.place a.node a.turns.at a.server a.after a.was) a.joins in
+        let first : Cluster = record {
+          genesis = old.genesis;
+          seats = set old.seats a.turns.place seat;
+          sent = old.sent ++ batch;
+          trace = old.trace ++ a.trace;
+          ended = None;
+        } in
+        let last : Cluster = record {
+          genesis = old.genesis;
+          seats = set old.seats a.turns.place next;
+          sent = old.sent ++ batch;
+          trace = old.trace ++ a.trace;
+          ended = None;
+        } in
+        let path = other_device a.after a.left a.same in
+        let rests : Rests table_meaning first last = record {
+          seat = seat;
+          next = next;
+          turns = record {
+            place = a.turns.place;
+            at = at_set_here old.seats a.turns.place seat a.turns.at.0;
+            number = refl;
+            seats = sym (set_twice old.seats a.turns.place seat next);
+          };
+          device = device;
+          down = refl;
+          left = a.left;
+          still = refl;
+          rests = record {
+            ends = λ h e lawful f. subst (λ d. DisksFit table_meaning h n d) path f;
+            short = λ short. subst (λ d. AreShort d) path short;
+          };
+          adds = record {
+            genesis = refl;
+            sent = sym (append-nil (old.sent ++ batch));
+            trace = sym (append-nil (old.trace ++ a.trace));
+          };
+        } in
+        let then_holds = step_holds ServerStands server_disks table_meaning first last (left.down a.ended)
+        (inr (inr (inl rests))) in
+        record {
+          holds = moved (set old.seats a.turns.place a.next) a.trace batch a.turns.seats a.adds
+              (subst (λ (z : Node). WorldInvariant ServerStands server_disks table_meaning old.genesis
+              (set old.seats a.turns.place z) (old.sent ++ batch) (old.trace ++ a.trace))
+              (λ i. record { number = sym a.turns.number i; life = sym a.down i }) then_holds);
+          own = own_moved a.node a.next a.turns batch a.adds.sent (no_up a.next a.left a.down);
+        }
+
+    pub happens : Happens May Metered tells old new → IsSound new
+    happens (inl a) = appears a
+    happens (inr (inl a)) = starts a
+    happens (inr (inr (inl a))) = rests a
+    happens (inr (inr (inr (inl a)))) = takes_turn a
+    happens (inr (inr (inr (inr (inl a))))) = idles a
+    happens (inr (inr (inr (inr (inr (inl a)))))) = ends_by_turn a
+    happens (inr (inr (inr (inr (inr (inr a)))))) = stops a
+
+  all_happen : (first last : Cluster) (clusters : List Cluster) → IsSound first
+      → HappenAll May Metered tells first clusters last → IsSound last
+  all_happen first last [] w all = subst IsSound (sym all) w
+  all_happen first last (next ∷ clusters) w all = all_happen next last clusters (happens first next w all.0) all.1
+
+  -- whatever has happened since it began
+  pub reachable_sound : (genesis : Genesis) (c : Cluster) → IsReachable May Metered tells genesis c → IsSound c
+  reachable_sound genesis c all = all_happen (nothing genesis) c all.0 (begun genesis) all.1
+
+-- what is not forged is not
+pub forges_nothing : Unforged ForgesNothing
+forges_nothing c w server came may = may

@@ -1,0 +1,73 @@
+-- What a server says on an honest device.
+use Rattle.std.proofs.Common.{ℕ, List, Option, Result, Ok, Err, inl, inr}
+use Rattle.std.specs.Prelude.{OnOk, OnErr}
+use Rattle.std.specs.declared.net.socket_addr.SocketAddr.{SocketAddr}
+use Rattle.lk_node_interface.specs.Letters.{LetterValue}
+use Rattle.lk_transport.specs.Addresses.{Filter, filter_of}
+use Rattle.lk_transport.specs.Posts.{all_filtered}
+use Rattle.lk_server.specs.Servers.{ServerValue, DeliversLetters, HasReceived, Turn, LastTurn, TakesTurn}
+
+module _ {R : Type 0} (S T : R → List (Option (List ℕ)) → List LetterValue → R → Type 0)
+    (so : (old : R) (given : List (Option (List ℕ))) (letters : List LetterValue) (new : R) → S old given letters new
+    → T old given letters new) where
+  abbrev pub hands_so : (tells : Type 0) (given : List (Option (List ℕ))) (own : List LetterValue)
+      (old new : ServerValue R) → DeliversLetters S tells given own old new → DeliversLetters T tells given own old new
+  hands_so tells given own old new h =
+      record {
+        letters = h.letters;
+        says = so old.replica given h.letters new.replica h.says;
+        kept = h.kept;
+        carried = h.carried;
+      }
+
+  abbrev pub turn_so : (tells : Type 0) (came : List (SocketAddr × List ℕ)) (old new : ServerValue R)
+      → Turn S tells came old new → Turn T tells came old new
+  turn_so tells came old new t = record {
+    takes = t.takes;
+    given = t.given;
+    may = t.may;
+    hands_on = hands_so tells t.given _ old new t.hands_on;
+    counted = t.counted;
+    ticks = t.ticks;
+    heard = t.heard;
+    same = t.same;
+    alive = t.alive;
+  }
+
+  pub taken_so : (tells : Type 0) (frames : List (SocketAddr × List ℕ)) (old new : ServerValue R)
+      → TakesTurn S tells frames old new → TakesTurn T tells frames old new
+  taken_so tells frames old new (inl t) = inl (turn_so tells (all_filtered (filter_of old.addresses) frames) old new t)
+  taken_so tells frames old new (inr idle) = inr idle
+
+  abbrev pub last_so : (tells : Type 0) (came : List (SocketAddr × List ℕ)) (old new : ServerValue R)
+      → LastTurn S tells came old new → LastTurn T tells came old new
+  last_so tells came old new t = record {
+    takes = t.takes;
+    count = t.count;
+    letters = t.letters;
+    given = t.given;
+    first = t.first;
+    hands_on = hands_so tells t.given _ old new t.hands_on;
+    silent = t.silent;
+    ticks = t.ticks;
+    heard = t.heard;
+    same = t.same;
+    ended = t.ended;
+  }
+
+  pub on_ok_so : {A E : Type 0} (Keeps : List (SocketAddr × List ℕ) → Type 0) (r : Result A E) (tells : Type 0)
+      (old new : ServerValue R)
+      → OnOk r ((frames : List (SocketAddr × List ℕ)) × HasReceived tells frames old new
+      × TakesTurn S tells frames old new × Keeps frames)
+      → OnOk r ((frames : List (SocketAddr × List ℕ)) × HasReceived tells frames old new
+      × TakesTurn T tells frames old new × Keeps frames)
+  on_ok_so Keeps (Ok x) tells old new t = (t.0, t.1, taken_so tells t.0 old new t.2, t.3)
+  on_ok_so Keeps (Err e) tells old new t = tt
+
+  pub on_err_so : {A E : Type 0} (r : Result A E) (tells : Type 0) (filter : Filter) (old new : ServerValue R)
+      → OnErr r ((frames : List (SocketAddr × List ℕ)) × HasReceived tells frames old new
+      × LastTurn S tells (all_filtered filter frames) old new)
+      → OnErr r ((frames : List (SocketAddr × List ℕ)) × HasReceived tells frames old new
+      × LastTurn T tells (all_filtered filter frames) old new)
+  on_err_so (Ok x) tells filter old new t = tt
+  on_err_so (Err e) tells filter old new t = (t.0, t.1, last_so tells (all_filtered filter t.0) old new t.2)

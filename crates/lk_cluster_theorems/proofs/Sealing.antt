@@ -1,0 +1,162 @@
+-- What only nodes seal is not forged.
+use Rattle.std.proofs.Common.{◌≡◌, ◌≢◌, ℕ, inl, inr, Option, Some, List, [], ◌∷◌, ◌++◌, ap, sym, ◌∙◌, subst}
+use Rattle.std.proofs.lemmas.Bool.{cases_Bool}
+use Rattle.std.specs.List.{AllByRecursion}
+use Rattle.std.specs.declared.net.socket_addr.SocketAddr.{SocketAddr}
+use Rattle.lk_types.specs.declared.command.Request.{Request}
+use Rattle.lk_messages.specs.Grammar.{Spells}
+use Rattle.lk_messages.specs.declared.message.Content.TheVariants as content
+use Rattle.lk_messages.specs.declared.message.NodeMessage.{NodeMessage}
+use Rattle.lk_agreement_laws.specs.Datagrams.{said_by}
+use Rattle.lk_agreement_laws.proofs.Histories.{heard_was_sent}
+use Rattle.lk_node_interface.specs.Letters.{LetterValue, batch_of}
+use Rattle.lk_node.specs.Histories.{Genesis, Datagram}
+use Rattle.lk_replica.specs.ReplicaValue.{ReplicaValue}
+use Rattle.lk_auth.specs.Seals.{key_list, heard}
+use Rattle.lk_auth.specs.declared.seals.Seals.{Seals}
+use Rattle.lk_transport.specs.Addresses.{Filter, filter_of}
+use Rattle.lk_transport.specs.Posts.{all_filtered, is_filtered_out}
+use Rattle.lk_server.specs.Premises.{IsToldByANode}
+use Rattle.lk_server.specs.Servers.{ServerValue}
+use Rattle.lk_transport.specs.Chains.{Chain}
+use Rattle.lk_node_process.specs.Turns.{TakesTurn as ServerTurn, letters_in}
+use Rattle.lk_sim.specs.Networks.{MayCome, nothing}
+use Rattle.lk_cluster_theorems.specs.Clusters.{Cluster, Network, ForgesNothing, TakesTurn, EndsByTurn, Happens}
+use Rattle.lk_cluster_theorems.specs.Clusters.{HappenAll}
+use Rattle.lk_cluster_theorems.specs.Clusters.{IsReachable}
+use Rattle.lk_cluster_theorems.specs.Continuing.{MayAllCome}
+use Rattle.lk_cluster_theorems.specs.Sealing.{OnlyNodesSeal, OnlyNodesSealAll, OnlyNodesSealWhatComes, IsSealed}
+use Rattle.lk_cluster_theorems.proofs.Keeping.{IsSound, Unforged, happens, begun}
+
+no_request : (genesis : Genesis) (n : ℕ) (x : NodeMessage) (r : Request) → content.Node n x ≡ content.Request r → ⊥
+no_request genesis n x r e = cc e
+
+-- what is taken of a frame
+pub taken_unforged : (c : Cluster) → IsSound c → (s : Seals) (frame : List ℕ) → IsToldByANode s frame
+    → OnlyNodesSeal c.sent s frame → MayCome c.genesis c.sent (Some (heard s frame))
+taken_unforged c w s frame (inl sealed) only n x spelled =
+    let given = only (heard s frame) sealed in
+    heard_was_sent c.genesis c.sent w.holds.world.sound given.0 given.1 n x
+    (subst (λ (bytes : List ℕ). Spells (said_by c.genesis n x) bytes) (sym given.2) spelled)
+taken_unforged c w s frame (inr free) only n x spelled = let r = free (said_by c.genesis n x) spelled in
+    absurd (no_request c.genesis n x r.0 r.1)
+
+module _ (told : (s : Seals) (frame : List ℕ) → key_list s.nodes ≢ [] → IsToldByANode s frame) where
+  what_comes : (c : Cluster) → IsSound c → (s : Filter) → key_list s.seals.nodes ≢ []
+      → (frames : List (SocketAddr × List ℕ)) → OnlyNodesSealWhatComes c.sent s.seals frames
+      → AllByRecursion (λ (d : SocketAddr × List ℕ). MayCome c.genesis c.sent (Some d.1)) (all_filtered s frames)
+  what_comes c w s key [] only = tt
+  what_comes c w s key (frame ∷ frames) only = elim (cases_Bool (is_filtered_out s frame)) [
+    | inl e ↦ rw e (what_comes c w s key frames only.1)
+    | inr e ↦
+        rw e (taken_unforged c w s.seals frame.1 (told s.seals frame.1 key) only.0, what_comes c w s key frames only.1)
+  ]
+
+  pub seals_forge_nothing : Unforged IsSealed
+  seals_forge_nothing c w server came may =
+      subst (λ (l : List (SocketAddr × List ℕ)). ForgesNothing c.genesis c.sent server l) (sym may.opened)
+      (what_comes c w (filter_of server.addresses) may.has_key may.frames may.only_nodes_seal)
+
+-- ---- turns of a server that has the key
+
+-- what comes in frames
+pub frames_sealed : (s : Seals) → key_list s.nodes ≢ []
+    → (genesis : Genesis) (sent : List Datagram) (server : ServerValue ReplicaValue) → server.addresses.seals ≡ s
+    → (frames came : List (SocketAddr × List ℕ)) → came ≡ all_filtered (filter_of server.addresses) frames
+    → OnlyNodesSealWhatComes sent s frames
+    → IsSealed genesis sent server came
+frames_sealed s key genesis sent server same frames came opened only = record {
+  frames = frames;
+  opened = opened;
+  has_key = subst (λ (z : Seals). key_list z.nodes ≢ []) (sym same) key;
+  only_nodes_seal = subst (λ (z : Seals). OnlyNodesSealWhatComes sent z frames) (sym same) only;
+}
+
+module _ (S : ReplicaValue → List (Option (List ℕ)) → List LetterValue → ReplicaValue → Type 0)
+    (tells : Type 0) (s : Seals) where
+  -- the seals stay the same
+  pub still_sealed : (first : ServerValue ReplicaValue) (states : List (ServerValue ReplicaValue))
+      (last : ServerValue ReplicaValue) → Chain (ServerTurn S tells) first states last → first.addresses.seals ≡ s
+      → last.addresses.seals ≡ s
+  still_sealed first [] last turns same = ap (λ (q : ServerValue ReplicaValue). q.addresses.seals) turns ∙ same
+  still_sealed first (next ∷ states) last turns same = still_sealed next states last turns.1 (turns.0.network.1 ∙ same)
+
+  module _ (n : ℕ) (key : key_list s.nodes ≢ []) (genesis : Genesis) where
+    -- in all of them
+    pub all_sealed : (sent : List Datagram) (first : ServerValue ReplicaValue)
+        (states : List (ServerValue ReplicaValue)) (last : ServerValue ReplicaValue)
+        (turns : Chain (ServerTurn S tells) first states last) → first.addresses.seals ≡ s
+        → OnlyNodesSealAll S tells s n sent first states last turns
+        → MayAllCome S tells IsSealed genesis n sent first states last turns
+    all_sealed sent first [] last turns same only = tt
+    all_sealed sent first (next ∷ states) last turns same only = (
+      frames_sealed s key genesis sent first same turns.0.frames turns.0.came turns.0.opened only.0,
+      all_sealed (sent ++ batch_of n (letters_in S tells turns.0.turn)) next states last turns.1
+          (turns.0.network.1 ∙ same) only.1,
+    )
+
+-- ---- what comes about where nothing is forged
+
+module _ (May : Network) (Metered tells : Type 0) (unforged : Unforged May) where
+  takes_turn : (old new : Cluster) → IsSound old → TakesTurn May Metered tells old new
+      → TakesTurn ForgesNothing Metered tells old new
+  takes_turn old new w a = record {
+    node = a.node;
+    next = a.next;
+    turns = a.turns;
+    server = a.server;
+    was = a.was;
+    after = a.after;
+    up = a.up;
+    came = a.came;
+    may = unforged old w a.server a.came a.may;
+    turn = a.turn;
+    alive = a.alive;
+    trace = a.trace;
+    joins = a.joins;
+    adds = a.adds;
+  }
+
+  ends_by_turn : (old new : Cluster) → IsSound old → EndsByTurn May Metered tells old new
+      → EndsByTurn ForgesNothing Metered tells old new
+  ends_by_turn old new w a = record {
+    node = a.node;
+    next = a.next;
+    turns = a.turns;
+    server = a.server;
+    was = a.was;
+    after = a.after;
+    left = a.left;
+    down = a.down;
+    same = a.same;
+    came = a.came;
+    may = unforged old w a.server a.came a.may;
+    turn = a.turn;
+    ended = a.ended;
+    trace = a.trace;
+    joins = a.joins;
+    adds = a.adds;
+  }
+
+  so_happens : (old new : Cluster) → IsSound old → Happens May Metered tells old new
+      → Happens ForgesNothing Metered tells old new
+  so_happens old new w (inl a) = inl a
+  so_happens old new w (inr (inl a)) = inr (inl a)
+  so_happens old new w (inr (inr (inl a))) = inr (inr (inl a))
+  so_happens old new w (inr (inr (inr (inl a)))) = inr (inr (inr (inl (takes_turn old new w a))))
+  so_happens old new w (inr (inr (inr (inr (inl a))))) = inr (inr (inr (inr (inl a))))
+  so_happens old new w (inr (inr (inr (inr (inr (inl a)))))) =
+      inr (inr (inr (inr (inr (inl (ends_by_turn old new w a))))))
+  so_happens old new w (inr (inr (inr (inr (inr (inr a)))))) = inr (inr (inr (inr (inr (inr a)))))
+
+  so_happen : (first last : Cluster) (clusters : List Cluster) → IsSound first
+      → HappenAll May Metered tells first clusters last → HappenAll ForgesNothing Metered tells first clusters last
+  so_happen first last [] w all = all
+  so_happen first last (next ∷ clusters) w all = (
+    so_happens first next w all.0,
+    so_happen next last clusters (happens May Metered tells unforged first next w all.0) all.1,
+  )
+
+  pub so_reachable : (genesis : Genesis) (c : Cluster) → IsReachable May Metered tells genesis c
+      → IsReachable ForgesNothing Metered tells genesis c
+  so_reachable genesis c all = (all.0, so_happen (nothing genesis) c all.0 (begun genesis) all.1)

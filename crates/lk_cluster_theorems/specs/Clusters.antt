@@ -1,0 +1,197 @@
+-- Nodes of the lock table that run as processes: each is up as a server, or down with its disks. They take turns,
+-- start and stop one after another, in any order.
+use Rattle.std.proofs.Common.{inl, inr}
+use Rattle.std.specs.Prelude.{◌≡◌, ◌⊎◌, ℕ, true, false, Option, Some, None, List, [], ◌∷◌, ◌++◌}
+use Rattle.std.specs.Prelude.{map, drop}
+use Rattle.std.specs.List.{AllByRecursion}
+use Rattle.std.specs.declared.net.socket_addr.SocketAddr.{SocketAddr}
+use Rattle.lk_types.specs.declared.genesis.Genesis.{Genesis}
+use Rattle.lk_disk.specs.Disk.{Disk}
+use Rattle.lk_memory_disk.specs.Memory.{Memory, disk_of}
+use Rattle.lk_disk.specs.declared.device.Side.{Side}
+use Rattle.lk_locks.specs.Meaning.{table_meaning}
+use Rattle.lk_locks.specs.Packed.{IsTableText}
+use Rattle.lk_log.specs.StoreValue.{disks}
+use Rattle.lk_node_interface.specs.Letters.{LetterValue, batch_of}
+use Rattle.lk_node_interface.specs.declared.note.Note.{Note}
+use Rattle.lk_node.specs.Histories.{Datagram, RequestValue}
+use Rattle.lk_node.specs.Holdings.{Holding}
+use Rattle.lk_node.specs.Keeping.{ReplicaHolds}
+use Rattle.lk_replica.specs.Groups.{StepSaid}
+use Rattle.lk_replica.specs.ReplicaValue.{ReplicaValue}
+use Rattle.lk_served_replica.specs.Sayings.{SaysByGroup, IsSilenced, SaysOf}
+use Rattle.lk_server.specs.ProbeHandling.{HandlesProbes}
+use Rattle.lk_served_replica.specs.Showing.{IsShown}
+use Rattle.lk_server.specs.Servers.{ServerValue, Turn, LastTurn, IsIdle}
+use Rattle.lk_probe.specs.declared.reported.Reported.{Reported}
+use Rattle.lk_transport.specs.declared.received_probe.ReceivedProbe.{ReceivedProbe}
+use Rattle.lk_sim.specs.Events.{ReplacesSeat, Adds}
+use Rattle.lk_sim.specs.Networks.{MayCome, AreAsking, TellsOf, RestartsBy, Appears, Restarts, Rests, Stops, nothing}
+use Rattle.lk_sim.specs.Scenes.{Scene}
+use Rattle.lk_sim.specs.Traces.{asked_note}
+use Rattle.lk_sim_nodes.specs.declared.seat.Life.{Life}
+use Rattle.lk_sim_nodes.specs.declared.seat.Life.TheVariants.{Up, Down}
+use Rattle.lk_sim_nodes.specs.declared.seat.Seat.{Seat}
+
+-- a node: its number, and that it is up as a server, or down with its disks
+abbrev pub Node : Type 0
+Node = Seat (ServerValue ReplicaValue)
+
+-- the genesis of a cluster, its nodes, all datagrams that they have produced, in order, including those to themselves
+-- and those whose send has failed, and its trace
+abbrev pub Cluster : Type 0
+Cluster = Scene (ServerValue ReplicaValue)
+
+-- the same life, node and cluster with the replica of each server in its place: the promise is stated for these
+abbrev pub life_of : Life (ServerValue ReplicaValue) → Life ReplicaValue
+life_of (Up s) = Up s.replica
+life_of (Down d) = Down d
+
+abbrev pub seat_of : Node → Seat ReplicaValue
+seat_of s = record { number = s.number; life = life_of s.life }
+
+abbrev pub scene_of : Cluster → Scene ReplicaValue
+scene_of c = record { genesis = c.genesis; seats = map seat_of c.seats; sent = c.sent; trace = c.trace; ended = None }
+
+-- what a server holds, and what its disks hold
+abbrev pub ServerStands : ServerValue ReplicaValue → Genesis → ℕ → Holding → Type 0
+ServerStands s genesis n x = ReplicaHolds table_meaning s.replica.node s.replica.store genesis n x
+
+abbrev pub server_disks : ServerValue ReplicaValue → Side → Disk
+server_disks s = disks s.replica.store
+
+-- the server of that node has started from what these disks have, and no letter to itself is waiting
+pub record IsBegun (genesis : Genesis) (n : ℕ) (old : Side → Disk) (s : ServerValue ReplicaValue) : Type 0 where
+  pub notes : List Note
+  pub restarts : RestartsBy ServerStands server_disks table_meaning genesis n old s notes
+  pub own : s.own ≡ []
+  pub alive : s.replica.failed ≡ false
+
+-- ---- what a network may bring
+
+-- what a server of a cluster with this genesis may take from what arrives in a turn, given what has been sent
+abbrev pub Network : Type 1
+Network = Genesis → List Datagram → ServerValue ReplicaValue → List (SocketAddr × List ℕ) → Type 0
+
+-- whatever the bytes of each say on behalf of a node of the cluster, that node has said. Everything else is free:
+-- datagrams are lost, repeated, late, cut, or come from clients, from other clusters, or from nobody
+abbrev pub ForgesNothing : Network
+ForgesNothing genesis sent server came =
+    AllByRecursion (λ (c : SocketAddr × List ℕ). MayCome genesis sent (Some c.1)) came
+
+-- ---- what a replica says
+
+-- `Metered` says that the devices count their calls
+module _ (Metered : Type 0) where
+  -- the effect of a group on a replica of the lock table, and its letters
+  abbrev pub Says : ReplicaValue → List (Option (List ℕ)) → List LetterValue → ReplicaValue → Type 0
+  Says = SaysOf table_meaning IsTableText Metered
+
+  -- the notes and letters of each step of a group; of a rejected group nothing
+  abbrev pub steps_of : {old new : ReplicaValue} {given : List (Option (List ℕ))} {letters : List LetterValue}
+      → SaysByGroup table_meaning IsTableText Metered old given letters new ⊎ IsSilenced letters new → List StepSaid
+  steps_of (inl s) = s.said
+  steps_of (inr s) = []
+
+-- the first of these steps, or, if there is none, one without notes and letters
+abbrev pub next_step : List StepSaid → StepSaid
+next_step [] = ([], [])
+next_step (step ∷ said) = step
+
+-- what a step of the node of that number, with this input, adds to the trace: the request in the input, its notes, and
+-- the answers and passes that it sends
+pub record JoinsByStep (n : ℕ) (o : Option (List ℕ)) (step : StepSaid) (trace : List Note) : Type 0 where
+  pub request : Option RequestValue
+  pub asks : AreAsking o request
+  pub told : List Note
+  pub tells_of : TellsOf (batch_of n step.1) told
+  pub joins : trace ≡ (asked_note request ++ step.0) ++ told
+
+-- and what a group adds, one step after another
+abbrev pub Joins : ℕ → List (Option (List ℕ)) → List StepSaid → List Note → Type 0
+Joins n [] said trace = trace ≡ []
+Joins n (o ∷ given) said trace =
+    (here : List Note) × (rest : List Note) × (trace ≡ here ++ rest) × JoinsByStep n o (next_step said) here
+    × Joins n given (drop 1 said) rest
+
+-- ---- what happens
+
+-- a node that was down is up as a server with what its disks have, and no letter to itself is waiting
+pub record Starts (old new : Cluster) : Type 0 where
+  pub restarts : Restarts ServerStands server_disks table_meaning old new
+  pub own : restarts.replica.own ≡ []
+  pub alive : restarts.replica.replica.failed ≡ false
+
+-- a node that is up takes an idle turn, or handles probes: its replica is given nothing, and nothing is given
+-- to be sent as a datagram of the node. Only what it knows of the nodes at other addresses, what is to come to its
+-- socket, what that has sent, and how many of its sends have failed may be another. `tells` says that the sockets tell
+-- that
+pub record Idles (tells : Type 0) (old new : Cluster) : Type 0 where
+  pub node : Node
+  pub next : Node
+  pub turns : ReplacesSeat old.seats new.seats node next
+  pub server : ServerValue ReplicaValue
+  pub was : node.life ≡ Up server
+  pub after : ServerValue ReplicaValue
+  pub up : next.life ≡ Up after
+  pub idle : ((frames : List (SocketAddr × List ℕ)) × IsIdle tells frames server after)
+      ⊎ ((asked : Option ReceivedProbe) × (reported : Option Reported)
+      × HandlesProbes IsShown tells asked reported server after)
+  pub adds : Adds old new [] []
+
+-- `May` says what the network may bring, `Metered` that the devices count their calls, and `tells` that the sockets
+-- reveal what they send
+module _ (May : Network) (Metered tells : Type 0) where
+  -- a node that is up takes a turn, in which datagrams may arrive or nothing: its replica takes the input as one
+  -- group, and its letters join what has been sent. `came` is what it takes from what arrives, out of its frame if the
+  -- nodes have a key
+  pub record TakesTurn (old new : Cluster) : Type 0 where
+    pub node : Node
+    pub next : Node
+    pub turns : ReplacesSeat old.seats new.seats node next
+    pub server : ServerValue ReplicaValue
+    pub was : node.life ≡ Up server
+    pub after : ServerValue ReplicaValue
+    pub up : next.life ≡ Up after
+    pub came : List (SocketAddr × List ℕ)
+    pub may : May old.genesis old.sent server came
+    pub turn : Turn (Says Metered) tells came server after
+    pub alive : after.replica.failed ≡ false
+    pub trace : List Note
+    pub joins : Joins node.number turn.given (steps_of Metered turn.hands_on.says.comes) trace
+    pub adds : Adds old new trace (batch_of node.number turn.hands_on.letters)
+
+  -- a turn ends a node, and it is down with the disks that its replica has left
+  pub record EndsByTurn (old new : Cluster) : Type 0 where
+    pub node : Node
+    pub next : Node
+    pub turns : ReplacesSeat old.seats new.seats node next
+    pub server : ServerValue ReplicaValue
+    pub was : node.life ≡ Up server
+    pub after : ServerValue ReplicaValue
+    pub left : Memory
+    pub down : next.life ≡ Down left
+    pub same : (s : Side) → disk_of left s ≡ server_disks after s
+    pub came : List (SocketAddr × List ℕ)
+    pub may : May old.genesis old.sent server came
+    pub turn : LastTurn (Says Metered) tells came server after
+    pub ended : after.replica.failed ≡ true
+    pub trace : List Note
+    pub joins : Joins node.number turn.given (steps_of Metered turn.hands_on.says.comes) trace
+    pub adds : Adds old new trace (batch_of node.number turn.hands_on.letters)
+
+  -- a node appears, with empty disks; it starts, or does not; it takes a turn, or an idle one, or handles
+  -- probes, or ends by a turn; or it stops, up or down, and its disks have what a stop may leave
+  abbrev pub Happens : Cluster → Cluster → Type 0
+  Happens old new =
+      Appears old new ⊎ Starts old new ⊎ Rests table_meaning old new ⊎ TakesTurn old new ⊎ Idles tells old new
+      ⊎ EndsByTurn old new ⊎ Stops server_disks old new
+
+  -- these events happen one after another, and lead to this cluster
+  abbrev pub HappenAll : Cluster → List Cluster → Cluster → Type 0
+  HappenAll first [] last = last ≡ first
+  HappenAll first (next ∷ clusters) last = Happens first next × HappenAll next clusters last
+
+  -- the cluster is reachable: these events lead to it from its genesis
+  abbrev pub IsReachable : Genesis → Cluster → Type 0
+  IsReachable genesis c = (clusters : List Cluster) × HappenAll (nothing genesis) clusters c

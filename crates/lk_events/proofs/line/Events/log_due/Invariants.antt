@@ -1,6 +1,0 @@
--- nothing has changed but what waits
-use Rattle.std.proofs.Common.{◌≡◌}
-use Rattle.lk_events.proofs.line.Events.log_due.Given as goal
-
-abbrev pub invariant-kinds : goal.invariant-kinds
-invariant-kinds g l = l.watch ≡ record l.initial.watch { slots = l.watch.slots }

@@ -1,9 +1,0 @@
-use crate::slot::Slot;
-use lk_types::Answer;
-
-/// The result of a body: its answer, and the name's new slot, if it changes.
-#[derive(Drop)]
-pub struct Row {
-    pub answer: Answer,
-    pub change: Option<Slot>,
-}

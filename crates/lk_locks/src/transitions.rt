@@ -1,0 +1,183 @@
+//! The rules of the lock table: for each body its answer and the new slot of its name, given the slot before and how
+//! many names there are.
+ghost use Rattle.std.specs.Prelude.{◌≡◌, Some, [], ◌∷◌};
+ghost use Rattle.lk_types.specs.declared.answer.Answer.TheVariants.{Shared};
+ghost use Rattle.lk_locks.specs.declared.slot.Holders.TheVariants.{Together};
+ghost use Rattle.lk_locks.specs.Plain.{unchanged, fence_after, first_fence, given, acquired, joined, shared, released};
+ghost use Rattle.lk_locks.specs.Plain.{is_held_at, broken, asked, checked, transition};
+
+use crate::body::Body;
+use crate::sharers::Sharers;
+use crate::slot::{Holders, Slot};
+use crate::transition::Transition;
+use lk_types::limits::MAX_NAMES;
+use lk_types::{Answer, ClientNo, Fence, LastFence};
+
+// Returns an answer that leaves the slot as it is.
+fn unchanged(answer: Answer) -> Transition
+    ensures { result ≡ unchanged answer }
+{
+    let change = None;
+    Transition { answer, change }
+}
+
+// Returns an answer with the new slot of the name.
+fn changed(answer: Answer, fence: Fence, holders: Holders) -> Transition
+    ensures { result ≡ record { answer = answer; change = Some (record { fence = fence; holders = holders }) } }
+{
+    let change = Some(Slot { fence, holders });
+    Transition { answer, change }
+}
+
+// Returns the fence at which a name that nobody holds is granted next, or `Spent` above 2^48.
+fn fence_after(fence: Fence) -> Result<Fence, Answer>
+    ensures { result ≡ fence_after fence }
+{
+    Fence::of(fence.get() + 1).ok_or(Answer::Spent)
+}
+
+// Returns the fence of a new name, which is 1, or `NoRoom` if there are 512 names already.
+fn first_fence(names: usize) -> Result<Fence, Answer>
+    ensures { result ≡ first_fence names }
+{
+    if names >= MAX_NAMES {
+        return Err(Answer::NoRoom);
+    }
+    Ok(Fence::default())
+}
+
+// The result when a client acquires a name. Its present holder gets `Busy` too.
+fn acquire(client: ClientNo, slot: Option<Slot>, names: usize) -> Transition
+    ensures { result ≡ acquired client slot names }
+{
+    let given = match slot {
+        None => first_fence(names),
+        Some(Slot { fence, holders }) => match holders {
+            Holders::Nobody => fence_after(fence),
+            Holders::Alone(holder) => Err(Answer::Busy(holder, fence)),
+            Holders::Together(clients) => Err(Answer::Busy(clients.least(), fence)),
+        },
+    };
+    match given {
+        Ok(fence) => changed(Answer::Granted(fence), fence, Holders::Alone(client)),
+        Err(refusal) => unchanged(refusal),
+    }
+}
+
+// The result when a client shares a name that is shared: a sharer gets its fence again, a new one joins at the same
+// fence, or gets `Busy` if there are eight.
+fn add_sharer(client: ClientNo, fence: Fence, clients: Sharers) -> Transition
+    ensures { result ≡ joined client fence clients }
+{
+    if clients.has(client) {
+        return unchanged(Answer::Shared(fence));
+    }
+    if clients.is_full() {
+        return unchanged(Answer::Busy(clients.least(), fence));
+    }
+    let holders = Holders::Together(clients.with(client));
+    changed(Answer::Shared(fence), fence, holders)
+}
+
+// The result when a client shares a name that nobody holds, given the fence for it or why there is none.
+fn begin_sharing(client: ClientNo, fence: Result<Fence, Answer>) -> Transition
+    ensures { result ≡ given Shared (Together (client ∷ [])) fence }
+{
+    match fence {
+        Ok(fence) => changed(
+            Answer::Shared(fence),
+            fence,
+            Holders::Together(Sharers::one(client)),
+        ),
+        Err(refusal) => unchanged(refusal),
+    }
+}
+
+// The result when a client shares a name.
+fn share(client: ClientNo, slot: Option<Slot>, names: usize) -> Transition
+    ensures { result ≡ shared client slot names }
+{
+    match slot {
+        None => begin_sharing(client, first_fence(names)),
+        Some(Slot { fence, holders }) => match holders {
+            Holders::Nobody => begin_sharing(client, fence_after(fence)),
+            Holders::Alone(holder) => unchanged(Answer::Busy(holder, fence)),
+            Holders::Together(clients) => add_sharer(client, fence, clients),
+        },
+    }
+}
+
+// The result when a client releases a name at a fence. Other sharers keep the name.
+fn release(client: ClientNo, fence: Fence, slot: Option<Slot>) -> Transition
+    ensures { result ≡ released client fence slot }
+{
+    let Some(slot) = slot else {
+        return unchanged(Answer::NotHeld);
+    };
+    if slot.fence != fence {
+        return unchanged(Answer::NotHeld);
+    }
+    match slot.holders.left_by(client) {
+        Some(holders) => changed(Answer::Released, fence, holders),
+        None => unchanged(Answer::NotHeld),
+    }
+}
+
+// Returns whether somebody holds the name of the slot at that fence.
+fn is_held_at(fence: Fence, slot: &Option<Slot>) -> bool
+    ensures { result ≡ is_held_at fence slot.now }
+{
+    match slot {
+        Some(slot) => slot.holders.is_held() && slot.fence == fence,
+        None => false,
+    }
+}
+
+// The result when anybody breaks a name at a fence: it is freed of all who hold it at that fence.
+fn break_up(fence: Fence, slot: Option<Slot>) -> Transition
+    ensures { result ≡ broken fence slot }
+{
+    if !is_held_at(fence, &slot) {
+        return unchanged(Answer::Stale);
+    }
+    changed(Answer::Broken, fence, Holders::Nobody)
+}
+
+// Returns the answer to Ask: who holds the name, or the last fence of a free one, 0 if it was never granted.
+fn ask(slot: Option<Slot>) -> Answer
+    ensures { result ≡ asked slot }
+{
+    let Some(Slot { fence, holders }) = slot else {
+        return Answer::Free(LastFence::default());
+    };
+    match holders {
+        Holders::Nobody => Answer::Free(LastFence::of(fence.get()).unwrap()),
+        Holders::Alone(holder) => Answer::Held(holder, fence),
+        Holders::Together(clients) => Answer::HeldShared(clients.count(), fence),
+    }
+}
+
+// Returns the answer to Check: whether anybody holds the name at that fence.
+fn check(fence: Fence, slot: Option<Slot>) -> Answer
+    ensures { result ≡ checked fence slot }
+{
+    if is_held_at(fence, &slot) {
+        Answer::Valid
+    } else {
+        Answer::Stale
+    }
+}
+
+/// Returns the result of a body, given the slot of its name, `None` if the name is new, and how many names there are.
+pub fn transition(client: ClientNo, body: &Body, slot: Option<Slot>, names: usize) -> Transition
+    ensures { result ≡ transition client body.now slot names }
+{
+    match body {
+        Body::Acquire(_) => acquire(client, slot, names),
+        Body::Release(_, fence) => release(client, *fence, slot),
+        Body::Ask(_) => unchanged(ask(slot)),
+        Body::Check(_, fence) => unchanged(check(*fence, slot)),
+        Body::Share(_) => share(client, slot, names),
+        Body::Break(_, fence) => break_up(*fence, slot),
+    }
+}

@@ -1,0 +1,6 @@
+-- nothing has changed but what waits
+use Rattle.std.proofs.Common.{◌≡◌}
+use Rattle.lk_node_events.proofs.line.Events.log_due.Given as goal
+
+abbrev pub invariant-kinds : goal.invariant-kinds
+invariant-kinds g l = l.watch ≡ record l.initial.watch { slots = l.watch.slots }

@@ -1,0 +1,11 @@
+-- With what the members that are left bring, all that they bring waits.
+use Rattle.std.specs.Prelude.{List, drop}
+use Rattle.lk_node_events.specs.News.{joins}
+use Rattle.lk_node_events.specs.Watches.{PutsNews}
+use Rattle.lk_node_events.specs.declared.rate_limit.RateLimit.{RateLimit}
+use Rattle.lk_node_events.proofs.story.Story.put_joined.Given as goal
+
+abbrev pub invariant-members : goal.invariant-members
+invariant-members l =
+    (new : List RateLimit) → PutsNews l.now l.self l.seen (joins (drop l.member-index l.members)) l.slots.all new
+    → PutsNews l.now l.self l.seen (joins l.members) l.initial.slots.all new

@@ -1,0 +1,9 @@
+use Rattle.lk_node_events.specs.Watches.{nothing, news}
+use Rattle.lk_node_events.proofs.story.Story.put_work.Goals as goal
+
+pub returns : goal.returns
+returns c = news c.wrote.result c.wrote.ensures c.put_some.ensures
+    (news c.installed.result c.installed.ensures c.put_some-2.ensures
+    (news c.unsent.result c.unsent.ensures c.put_some-3.ensures
+    (news c.stranger.result c.stranger.ensures c.put_some-4.ensures
+    (news c.foreign.result c.foreign.ensures c.put_some-5.ensures nothing))))

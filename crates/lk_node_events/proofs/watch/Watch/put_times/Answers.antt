@@ -1,0 +1,28 @@
+use Rattle.std.proofs.Common.{subst, Bool}
+use Rattle.lk_node_events.specs.Timers.{TurnsQuiet}
+use Rattle.lk_node_events.proofs.watch.Watch.put_times.Goals as goal
+
+pub returns : goal.returns
+returns c = record {
+  leaderless = c.observe-leaderless.result;
+  quiet = subst (λ (b : Bool). TurnsQuiet c.args.self.now.quiet c.args.now b c.observe-leaderless.result
+      c.observe-leaderless.new.self) c.has_leader.ensures
+      (record {
+        some = c.observe-leaderless.ensures.some;
+        none = c.observe-leaderless.ensures.none;
+        leader = c.observe-leaderless.ensures.leader;
+        since = c.observe-leaderless.ensures.since;
+        told = c.observe-leaderless.ensures.told;
+        kept = c.observe-leaderless.ensures.kept;
+      });
+  behind = c.observe-lag.result;
+  lag = record {
+    some = c.observe-lag.ensures.some;
+    none = c.observe-lag.ensures.none;
+    becomes = c.observe-lag.ensures.becomes;
+  };
+  mid = c.put_some.new.self.all;
+  first = c.put_some.ensures;
+  second = c.put_some-2.ensures;
+  story = c.forget.ensures;
+}

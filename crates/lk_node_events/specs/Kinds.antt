@@ -1,0 +1,37 @@
+-- The kinds of events, and which of them are warnings.
+use Rattle.std.specs.Prelude.{ℕ, Bool, true, false}
+use Rattle.lk_node_events.specs.declared.event.Event.{Event}
+use Rattle.lk_node_events.specs.declared.event.Event.TheVariants.{Begun, Found, Leads, Ended, Follows, Leaderless}
+use Rattle.lk_node_events.specs.declared.event.Event.TheVariants.{Joined}
+use Rattle.lk_node_events.specs.declared.event.Event.TheVariants.{Left, Wrote, Installed, Unsent, Behind, CaughtUp}
+use Rattle.lk_node_events.specs.declared.event.Event.TheVariants.{OtherGenesis, OtherCluster}
+
+-- how many kinds of events there are
+abbrev pub kinds : ℕ
+kinds = 15
+
+-- the index of an event's kind, below that number
+abbrev pub kind_of : Event → ℕ
+kind_of Begun = 0
+kind_of (Found executed) = 1
+kind_of (Leads ballot) = 2
+kind_of (Ended ballot why) = 3
+kind_of (Follows node) = 4
+kind_of (Leaderless seconds) = 5
+kind_of (Joined node members) = 6
+kind_of (Left node members) = 7
+kind_of (Wrote position) = 8
+kind_of (Installed position node) = 9
+kind_of (Unsent node) = 10
+kind_of (Behind node) = 11
+kind_of (CaughtUp executed) = 12
+kind_of (OtherGenesis node) = 13
+kind_of (OtherCluster count) = 14
+
+-- an operator has to look at it
+abbrev pub is_warning : Event → Bool
+is_warning (Leaderless seconds) = true
+is_warning (Unsent node) = true
+is_warning (OtherGenesis node) = true
+is_warning (OtherCluster count) = true
+is_warning _ = false

@@ -1,0 +1,123 @@
+-- Which events an observation of a node yields, compared with what was reported of it.
+use Rattle.std.specs.Prelude.{◌≡◌, ◌≢◌, ◌<◌, ◌==◌, ℕ, Bool, true, false, List, [], ◌∷◌, ◌++◌, Option, Some, None}
+use Rattle.std.specs.List.{list_any}
+use Rattle.lk_types.specs.declared.member.Member.{Member}
+use Rattle.lk_types.specs.BallotValue.{BallotValue}
+use Rattle.lk_node_events.specs.Observations.{why_of}
+use Rattle.lk_node_events.specs.declared.event.Event.{Event}
+use Rattle.lk_node_events.specs.declared.event.Event.TheVariants.{Begun, Found, Leads, Ended, Follows, Leaderless}
+use Rattle.lk_node_events.specs.declared.event.Event.TheVariants.{Joined}
+use Rattle.lk_node_events.specs.declared.event.Event.TheVariants.{Left, Wrote, Installed, Unsent, Behind, CaughtUp}
+use Rattle.lk_node_events.specs.declared.event.Event.TheVariants.{OtherGenesis, OtherCluster}
+use Rattle.lk_node_events.specs.declared.event.Why.{Why}
+use Rattle.lk_node_events.specs.declared.story.Story.{Story}
+use Rattle.lk_node_events.specs.declared.observation.Observation.{Observation}
+
+abbrev pub is_one_of : ℕ → List Member → Bool
+is_one_of node members = list_any (λ m. m.node == node) members
+
+-- the newer one, where there is one
+abbrev pub newer : Option ℕ → Option ℕ → Option ℕ
+newer None old = old
+newer (Some node) old = Some node
+
+-- the event is due: the observation differs from the story in this way, or the turn has brought it
+abbrev pub IsNews : Story → Observation → Event → Type 0
+IsNews story seen (Leads ballot) = (seen.leads ≡ Some ballot) × (story.leads ≢ Some ballot)
+IsNews story seen (Ended ballot why) =
+    (story.leads ≡ Some ballot) × (seen.leads ≢ Some ballot) × (why ≡ why_of seen ballot)
+IsNews story seen (Follows node) = (seen.follows ≡ Some node) × (story.follows ≢ Some node)
+IsNews story seen (Joined node members) =
+    (members ≡ seen.members) × (is_one_of node seen.members ≡ true) × (is_one_of node story.members ≡ false)
+IsNews story seen (Left node members) =
+    (members ≡ seen.members) × (is_one_of node story.members ≡ true) × (is_one_of node seen.members ≡ false)
+IsNews story seen (Wrote position) = (position ≡ seen.snapshot) × (story.snapshot < position) × (seen.installed ≡ None)
+IsNews story seen (Installed position node) = seen.installed ≡ Some (position, node)
+IsNews story seen (Unsent node) = seen.unsent ≡ Some node
+IsNews story seen (OtherGenesis node) = seen.stranger ≡ Some node
+IsNews story seen (OtherCluster count) = seen.foreign ≡ Some count
+IsNews story seen Begun = ⊥
+IsNews story seen (Found executed) = ⊥
+IsNews story seen (Leaderless seconds) = ⊥
+IsNews story seen (Behind node) = ⊥
+IsNews story seen (CaughtUp executed) = ⊥
+
+-- the story after an observation was reported
+abbrev pub told_with : Observation → Story → Story
+told_with seen story = record {
+  leads = seen.leads;
+  follows = newer seen.follows story.follows;
+  members = seen.members;
+  snapshot = seen.snapshot;
+}
+
+-- the story after it was reported that nobody leads, if it was: then any leader is news
+abbrev pub forgetting : Option Event → Story → Story
+forgetting None story = story
+forgetting (Some event) story = record story { follows = None }
+
+-- the story of a node that was first seen like this
+abbrev pub story_of : Observation → Story
+story_of seen = record { leads = seen.leads; follows = seen.follows; members = seen.members; snapshot = seen.snapshot }
+
+-- ---- news by what it is about
+
+-- who leads: that it leads no more, that it leads, and whom it follows; who is a member: that a node joined, and that
+-- one left; and its work: a snapshot that it wrote, one that it installed, what it could not send, whom it heard of
+-- another genesis, and what it heard of another cluster
+pub data Topic : Type 0 where
+  ending : Topic
+  leading : Topic
+  following : Topic
+  joining : ℕ → Topic
+  leaving : ℕ → Topic
+  writing : Topic
+  installing : Topic
+  failing : Topic
+  meeting : Topic
+  straying : Topic
+
+abbrev pub lead_topics : List Topic
+lead_topics = ending ∷ leading ∷ following ∷ []
+
+-- each member may have joined
+abbrev pub joins : List Member → List Topic
+joins [] = []
+joins (m ∷ ms) = joining m.node ∷ joins ms
+
+-- each may have left
+abbrev pub leaves : List Member → List Topic
+leaves [] = []
+leaves (m ∷ ms) = leaving m.node ∷ leaves ms
+
+-- the members that are seen may have joined, and those of the story may have left
+abbrev pub member_topics : Story → Observation → List Topic
+member_topics story seen = joins seen.members ++ leaves story.members
+
+abbrev pub work_topics : List Topic
+work_topics = writing ∷ installing ∷ failing ∷ meeting ∷ straying ∷ []
+
+abbrev pub topics : Story → Observation → List Topic
+topics story seen = lead_topics ++ (member_topics story seen ++ work_topics)
+
+-- the event has this topic, and is news
+abbrev pub IsNewsOf : Topic → Story → Observation → Event → Type 0
+IsNewsOf ending story seen event =
+    (ballot : BallotValue) × (why : Why) × (event ≡ Ended ballot why) × IsNews story seen (Ended ballot why)
+IsNewsOf leading story seen event = (ballot : BallotValue) × (event ≡ Leads ballot) × IsNews story seen (Leads ballot)
+IsNewsOf following story seen event = (node : ℕ) × (event ≡ Follows node) × IsNews story seen (Follows node)
+IsNewsOf (joining node) story seen event =
+    (members : List Member) × (event ≡ Joined node members) × IsNews story seen (Joined node members)
+IsNewsOf (leaving node) story seen event =
+    (members : List Member) × (event ≡ Left node members) × IsNews story seen (Left node members)
+IsNewsOf writing story seen event = (position : ℕ) × (event ≡ Wrote position) × IsNews story seen (Wrote position)
+IsNewsOf installing story seen event =
+    (position : ℕ) × (node : ℕ) × (event ≡ Installed position node) × IsNews story seen (Installed position node)
+IsNewsOf failing story seen event = (node : ℕ) × (event ≡ Unsent node) × IsNews story seen (Unsent node)
+IsNewsOf meeting story seen event = (node : ℕ) × (event ≡ OtherGenesis node) × IsNews story seen (OtherGenesis node)
+IsNewsOf straying story seen event = (count : ℕ) × (event ≡ OtherCluster count) × IsNews story seen (OtherCluster count)
+
+-- the event is news of this topic; without an event there is no such news
+abbrev pub Gives : Topic → Story → Observation → Option Event → Type 0
+Gives topic story seen (Some event) = IsNewsOf topic story seen event
+Gives topic story seen None = (event : Event) → IsNewsOf topic story seen event → ⊥

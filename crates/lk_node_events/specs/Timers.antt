@@ -1,0 +1,91 @@
+-- Events that depend on how long something lasts: no leader, and being behind.
+use Rattle.std.specs.Prelude.{◌≡◌, ◌≤◌, ◌<◌, ◌+◌, ◌*◌, ◌⊎◌, ℕ, Bool, true, false, Option, Some, None, IfSome, IsSome}
+use Rattle.std.specs.Prelude.{IsNone}
+use Rattle.lk_node_events.specs.declared.event.Event.{Event}
+use Rattle.lk_node_events.specs.declared.event.Event.TheVariants.{Leaderless, Behind, CaughtUp}
+use Rattle.lk_node_events.specs.declared.timers.LeaderlessTimer.{LeaderlessTimer}
+use Rattle.lk_node_events.specs.declared.timers.BehindTimer.{BehindTimer}
+
+-- that time, or this one where there was none
+abbrev pub first_time : Option ℕ → ℕ → ℕ
+first_time None now = now
+first_time (Some time) now = time
+
+-- when it first asked: now, where it has not asked before
+abbrev pub first_asked : Option (ℕ × ℕ) → ℕ → ℕ
+first_asked None now = now
+first_asked (Some asked) now = asked.0
+
+-- there has been no leader for so many whole seconds: at least two, and at least twice those reported last
+pub record IsQuiet (quiet : LeaderlessTimer) (now seconds : ℕ) : Type 0 where
+  pub since : ℕ
+  pub begun : quiet.since ≡ Some since
+  pub passed : since + seconds * 1000 ≤ now
+  pub whole : now < since + (seconds + 1) * 1000
+  pub long : 2 ≤ seconds
+  pub doubled : 2 * quiet.told ≤ seconds
+
+abbrev pub IsQuietNews : LeaderlessTimer → ℕ → Event → Type 0
+IsQuietNews quiet now event = (seconds : ℕ) × (event ≡ Leaderless seconds) × IsQuiet quiet now seconds
+
+-- what a turn with or without a leader brings, and what is known of it then
+pub record TurnsQuiet (old : LeaderlessTimer) (now : ℕ) (has_leader : Bool) (news : Option Event)
+    (new : LeaderlessTimer) : Type 0 where
+  pub some : IfSome news (λ e. (has_leader ≡ false) × IsQuietNews old now e)
+  pub none : IsNone news → (has_leader ≡ true) ⊎ ((e : Event) → IsQuietNews old now e → ⊥)
+  pub leader : has_leader ≡ true → new ≡ record { since = None; told = 0 }
+  pub since : has_leader ≡ false → new.since ≡ Some (first_time old.since now)
+  pub told : IfSome news (λ e. e ≡ Leaderless new.told)
+  pub kept : has_leader ≡ false → IsNone news → new.told ≡ old.told
+
+-- it has been asking for a second, and that is not yet reported
+pub record IsBehind (lag : BehindTimer) (now : ℕ) : Type 0 where
+  pub first : ℕ
+  pub last : ℕ
+  pub asked : lag.asked ≡ Some (first, last)
+  pub long : first + 1000 ≤ now
+  pub untold : lag.told ≡ false
+
+-- it has asked nobody for a second, or the clock was set back
+pub record IsOver (lag : BehindTimer) (now : ℕ) : Type 0 where
+  pub first : ℕ
+  pub last : ℕ
+  pub asked : lag.asked ≡ Some (first, last)
+  pub long : (last + 1000 ≤ now) ⊎ (now < last)
+
+-- the same, and it was reported to be behind
+pub record HasRested (lag : BehindTimer) (now : ℕ) : Type 0 where
+  pub over : IsOver lag now
+  pub told : lag.told ≡ true
+
+-- the event that is due after a turn in which it asked that node, or nobody
+abbrev pub IsLagNews : BehindTimer → ℕ → Option ℕ → ℕ → Event → Type 0
+IsLagNews lag now (Some node) executed event = (event ≡ Behind node) × IsBehind lag now
+IsLagNews lag now None executed event = (event ≡ CaughtUp executed) × HasRested lag now
+
+-- it has asked nothing
+abbrev pub no_lag : BehindTimer
+no_lag = record { asked = None; told = false }
+
+-- what is known after a turn in which it asked: when that began, and what was reported
+pub record HasAsked (old : BehindTimer) (now : ℕ) (news : Option Event) (new : BehindTimer) : Type 0 where
+  pub asked : new.asked ≡ Some (first_asked old.asked now, now)
+  pub told : IsSome news → new.told ≡ true
+  pub kept : IsNone news → new.told ≡ old.told
+
+-- it has asked nobody: what is over is forgotten, and nothing else
+pub record HasPaused (old : BehindTimer) (now : ℕ) (new : BehindTimer) : Type 0 where
+  pub over : IsOver old now → new ≡ no_lag
+  pub kept : (IsOver old now → ⊥) → new ≡ old
+
+-- what is known of it after a turn in which it asks that node, or nobody
+abbrev pub BecomesLag : BehindTimer → ℕ → Option ℕ → Option Event → BehindTimer → Type 0
+BecomesLag old now (Some node) news new = HasAsked old now news new
+BecomesLag old now None news new = HasPaused old now new
+
+-- the event that is due after such a turn, and what is known then
+pub record TurnsLag (old : BehindTimer) (now : ℕ) (wanted : Option ℕ) (executed : ℕ) (news : Option Event)
+    (new : BehindTimer) : Type 0 where
+  pub some : IfSome news (IsLagNews old now wanted executed)
+  pub none : IsNone news → (e : Event) → IsLagNews old now wanted executed e → ⊥
+  pub becomes : BecomesLag old now wanted news new

@@ -1,0 +1,208 @@
+//! The events of a node that an operator wants to know.
+
+ghost use Rattle.std.specs.Prelude.{◌≡◌, ◌≢◌, ◌<◌};
+ghost use Rattle.lk_node_events.specs.Kinds.{kind_of, kinds, is_warning};
+
+use lk_types::{Executed, Members, NodeNo, RealBallot};
+use std::fmt;
+
+/// The number of kinds of events.
+pub const KINDS: usize = 15;
+
+/// Why a node no longer leads.
+#[derive(Clone, Copy, Debug)]
+pub enum Why {
+    /// It has promised a greater ballot, which this node began.
+    Promised(NodeNo),
+    /// It is no member of the next position.
+    NoMember,
+    /// It has heard of a greater ballot.
+    Told,
+}
+
+/// What has happened to a node.
+#[derive(Debug, Drop)]
+pub enum Event {
+    /// It started with an empty store: no promise, and no position executed.
+    Begun,
+    /// It started with its store, by which it has executed this many positions.
+    Found(Executed),
+    /// A majority has promised its ballot.
+    Leads(RealBallot),
+    /// It no longer leads in this ballot.
+    Ended(RealBallot, Why),
+    /// It follows this node.
+    Follows(NodeNo),
+    /// It has neither led nor heard of a leader for this many seconds.
+    Leaderless(u64),
+    /// This node has joined: these are the members of the next position.
+    Joined(NodeNo, Members),
+    /// This node has left: these are the members of the next position.
+    Left(NodeNo, Members),
+    /// It wrote a snapshot of this many positions.
+    Wrote(Executed),
+    /// It installed a snapshot of this many positions, whose last part this node sent.
+    Installed(Executed, NodeNo),
+    /// A datagram to this node could not be sent.
+    Unsent(NodeNo),
+    /// It has been asking for a second for the commands that it missed, this node last.
+    Behind(NodeNo),
+    /// It was behind, and has asked nobody for a second. It has executed this many positions.
+    CaughtUp(Executed),
+    /// This node was started with another genesis.
+    OtherGenesis(NodeNo),
+    /// This many datagrams of another cluster have come.
+    OtherCluster(u64),
+}
+
+impl Event {
+    /// Returns the index of its kind, below `KINDS`: each kind has a slot of its own.
+    pub fn kind(&self) -> usize
+        ensures kind { result ≡ kind_of self.now }
+        ensures few { result < kinds }
+    {
+        match self {
+            Event::Begun => 0,
+            Event::Found(_) => 1,
+            Event::Leads(_) => 2,
+            Event::Ended(_, _) => 3,
+            Event::Follows(_) => 4,
+            Event::Leaderless(_) => 5,
+            Event::Joined(_, _) => 6,
+            Event::Left(_, _) => 7,
+            Event::Wrote(_) => 8,
+            Event::Installed(_, _) => 9,
+            Event::Unsent(_) => 10,
+            Event::Behind(_) => 11,
+            Event::CaughtUp(_) => 12,
+            Event::OtherGenesis(_) => 13,
+            Event::OtherCluster(_) => 14,
+        }
+    }
+
+    /// Whether an operator should look at it.
+    pub fn is_warning(&self) -> bool
+        ensures { result ≡ is_warning self.now }
+    {
+        matches!(
+            self,
+            Event::Leaderless(_)
+                | Event::Unsent(_)
+                | Event::OtherGenesis(_)
+                | Event::OtherCluster(_)
+        )
+    }
+}
+
+impl fmt::Display for Why {
+    fn fmt<W: fmt::Write>(&self, f: &mut fmt::Formatter<W>) -> fmt::Result {
+        match self {
+            Why::Promised(node) => write!(f, "node {} began a greater ballot", node.get()),
+            Why::NoMember => f.write_str("it is not a member"),
+            Why::Told => f.write_str("there is a greater ballot"),
+        }
+    }
+}
+
+// Writes the members.
+fn write_members<W: fmt::Write>(members: &Members, f: &mut fmt::Formatter<W>) -> fmt::Result {
+    f.write_str(", members")?;
+    for member in members.as_slice() {
+        write!(f, " {}:{}", member.node.get(), member.port.get())?;
+    }
+    Ok(())
+}
+
+// Writes who joined or left, and the members.
+fn write_change<W: fmt::Write>(
+    node: NodeNo,
+    change: &str,
+    members: &Members,
+    f: &mut fmt::Formatter<W>,
+) -> fmt::Result {
+    write!(f, "node {} {change}", node.get())?;
+    write_members(members, f)
+}
+
+// Writes that the node leads in a ballot, or, if there is a `why`, that it no longer does.
+fn write_lead<W: fmt::Write>(
+    ballot: RealBallot,
+    why: Option<Why>,
+    f: &mut fmt::Formatter<W>,
+) -> fmt::Result {
+    let ballot = ballot.get();
+    let (round, node) = (ballot.round(), ballot.node());
+    match why {
+        None => write!(f, "leads in ballot {round}.{node}"),
+        Some(why) => write!(f, "no longer leads in ballot {round}.{node}: {why}"),
+    }
+}
+
+// The word for a count: `one` for 1, else `many`.
+fn one_or_many<'a>(count: u64, one: &'a str, many: &'a str) -> &'a str
+    ensures single { count ≡ 1 → result.now ≡ one.now }
+    ensures several { count ≢ 1 → result.now ≡ many.now }
+{
+    if count == 1 { one } else { many }
+}
+
+// Writes after a comma how many positions: `, 1 position`, `, 2 positions`.
+fn write_positions<W: fmt::Write>(number: Executed, f: &mut fmt::Formatter<W>) -> fmt::Result {
+    let number = number.get();
+    let word = one_or_many(number, "position", "positions");
+    write!(f, ", {number} {word}")
+}
+
+// Writes what was done, and up to which number of positions.
+fn write_done<W: fmt::Write>(
+    done: &str,
+    number: Executed,
+    f: &mut fmt::Formatter<W>,
+) -> fmt::Result {
+    f.write_str(done)?;
+    write_positions(number, f)
+}
+
+// Writes that a store was found, and how many positions it has executed.
+fn write_found<W: fmt::Write>(executed: Executed, f: &mut fmt::Formatter<W>) -> fmt::Result {
+    write_done("found its store", executed, f)?;
+    f.write_str(" executed")
+}
+
+// Writes which snapshot was installed.
+fn write_installed<W: fmt::Write>(
+    position: Executed,
+    node: NodeNo,
+    f: &mut fmt::Formatter<W>,
+) -> fmt::Result {
+    write!(f, "installed a snapshot of node {}", node.get())?;
+    write_positions(position, f)
+}
+
+// Writes how many datagrams of another cluster have come.
+fn write_foreign<W: fmt::Write>(count: u64, f: &mut fmt::Formatter<W>) -> fmt::Result {
+    let word = one_or_many(count, "datagram", "datagrams");
+    write!(f, "heard {count} {word} of another cluster")
+}
+
+impl fmt::Display for Event {
+    fn fmt<W: fmt::Write>(&self, f: &mut fmt::Formatter<W>) -> fmt::Result {
+        match self {
+            Event::Begun => f.write_str("began with an empty store"),
+            Event::Found(executed) => write_found(*executed, f),
+            Event::Leads(ballot) => write_lead(*ballot, None, f),
+            Event::Ended(ballot, why) => write_lead(*ballot, Some(*why), f),
+            Event::Follows(node) => write!(f, "follows node {}", node.get()),
+            Event::Leaderless(seconds) => write!(f, "has heard of no leader for {seconds} s"),
+            Event::Joined(node, members) => write_change(*node, "joined", members, f),
+            Event::Left(node, members) => write_change(*node, "left", members, f),
+            Event::Wrote(position) => write_done("wrote a snapshot", *position, f),
+            Event::Installed(position, node) => write_installed(*position, *node, f),
+            Event::Unsent(node) => write!(f, "could not send to node {}", node.get()),
+            Event::Behind(node) => write!(f, "is behind, asks node {}", node.get()),
+            Event::CaughtUp(executed) => write_done("has caught up", *executed, f),
+            Event::OtherGenesis(node) => write!(f, "hears node {} of another genesis", node.get()),
+            Event::OtherCluster(count) => write_foreign(*count, f),
+        }
+    }
+}

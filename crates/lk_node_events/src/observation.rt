@@ -1,0 +1,59 @@
+//! An observation: what is seen of a node after a turn.
+
+ghost use Rattle.std.specs.Prelude.{◌≡◌};
+ghost use Rattle.lk_node_events.specs.Observations.{why_of, has_leader};
+
+use crate::event::Why;
+use lk_types::{Ballot, Executed, Members, NodeNo, RealBallot};
+
+/// What is seen of a node after a turn, and of what it sent in that turn.
+#[derive(Drop)]
+pub struct Observation {
+    /// The ballot in which it leads, where it does.
+    pub leads: Option<RealBallot>,
+    /// The other node that it follows.
+    pub follows: Option<NodeNo>,
+    /// The ballot that it has promised.
+    pub promised: Ballot,
+    /// How many positions it has executed.
+    pub executed: Executed,
+    /// The position of its snapshot.
+    pub snapshot: Executed,
+    /// The snapshot that it installed in the turn, and the node that sent the last part of it.
+    pub installed: Option<(Executed, NodeNo)>,
+    /// The members of the next position.
+    pub members: Members,
+    /// Whether the node is one of them.
+    pub is_member: bool,
+    /// The last node that it asked in the turn for commands that it missed.
+    pub wanted: Option<NodeNo>,
+    /// The last node to which a send failed in the turn.
+    pub unsent: Option<NodeNo>,
+    /// The node of another genesis from which it received in the turn, if that is to be reported.
+    pub stranger: Option<NodeNo>,
+    /// How many datagrams of another cluster have come, if that is to be reported.
+    pub foreign: Option<u64>,
+}
+
+impl Observation {
+    /// Whether somebody leads, as far as the node knows.
+    pub fn has_leader(&self) -> bool
+        ensures { result ≡ has_leader self.now }
+    {
+        self.leads.is_some() || self.follows.is_some()
+    }
+
+    /// Returns why the node no longer leads in `ballot`: it is no member, or else it has promised a greater ballot, or
+    /// else it has heard of one.
+    pub fn why(&self, ballot: RealBallot) -> Why
+        ensures { result ≡ why_of self.now ballot }
+    {
+        if !self.is_member {
+            return Why::NoMember;
+        }
+        match NodeNo::of(self.promised.node()) {
+            Some(node) if ballot.get().is_below(self.promised) => Why::Promised(node),
+            _ => Why::Told,
+        }
+    }
+}

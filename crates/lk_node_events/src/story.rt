@@ -1,0 +1,243 @@
+//! What was last reported of a node, and the events that an observation yields compared with that.
+
+ghost use Rattle.std.specs.Prelude.{◌≡◌};
+ghost use Rattle.lk_node_events.specs.News.{Gives, story_of, forgetting, told_with, is_one_of};
+ghost use Rattle.lk_node_events.specs.News.{ending, leading, following, joining, leaving};
+ghost use Rattle.lk_node_events.specs.News.{writing, installing, failing, meeting, straying};
+ghost use Rattle.lk_node_events.specs.News.{lead_topics, joins, leaves, member_topics, work_topics, topics};
+ghost use Rattle.lk_node_events.specs.Watches.{PutsNews};
+
+use crate::event::Event;
+use crate::observation::Observation;
+use crate::rate_limits::RateLimits;
+use lk_types::{Executed, Member, Members, NodeNo, RealBallot};
+
+/// What was last reported of a node.
+#[derive(Drop)]
+pub struct Story {
+    /// The ballot in which it leads, where it does.
+    pub leads: Option<RealBallot>,
+    /// The node that it followed last.
+    pub follows: Option<NodeNo>,
+    /// The members of the next position.
+    pub members: Members,
+    /// The position of its snapshot.
+    pub snapshot: Executed,
+}
+
+// Whether the node is one of these members.
+fn is_one_of(node: NodeNo, members: &[Member]) -> bool
+    ensures { result ≡ is_one_of node members.now }
+{
+    members.iter().any(|member| member.node == node)
+}
+
+impl Story {
+    /// Returns the story of a node that was first seen like this: all of it passes as reported.
+    pub fn of(seen: Observation) -> Story
+        ensures { result ≡ story_of seen }
+    {
+        let Observation {
+            leads,
+            follows,
+            members,
+            snapshot,
+            ..
+        } = seen;
+        Story {
+            leads,
+            follows,
+            members,
+            snapshot,
+        }
+    }
+
+    /// Returns `Ended` if it no longer leads in the ballot that was reported.
+    pub fn ended(&self, seen: &Observation) -> Option<Event>
+        ensures { Gives ending self.now seen.now result }
+    {
+        let ballot = self.leads?;
+        if seen.leads == self.leads {
+            return None;
+        }
+        Some(Event::Ended(ballot, seen.why(ballot)))
+    }
+
+    /// Returns `Leads` if it leads in a ballot that was not reported.
+    pub fn leads(&self, seen: &Observation) -> Option<Event>
+        ensures { Gives leading self.now seen.now result }
+    {
+        let ballot = seen.leads?;
+        if seen.leads == self.leads {
+            return None;
+        }
+        Some(Event::Leads(ballot))
+    }
+
+    /// Returns `Follows` if it follows another node than was reported.
+    pub fn follows(&self, seen: &Observation) -> Option<Event>
+        ensures { Gives following self.now seen.now result }
+    {
+        let node = seen.follows?;
+        if seen.follows == self.follows {
+            return None;
+        }
+        Some(Event::Follows(node))
+    }
+
+    /// Returns `Joined` if this node is a member now, but was not one in the story.
+    pub fn joined(&self, seen: &Observation, node: NodeNo) -> Option<Event>
+        ensures { Gives (joining node) self.now seen.now result }
+    {
+        let was = is_one_of(node, self.members.as_slice());
+        let is = is_one_of(node, seen.members.as_slice());
+        if was || !is {
+            return None;
+        }
+        Some(Event::Joined(node, seen.members.copy()))
+    }
+
+    /// Returns `Left` if this node was a member in the story, but is not one now.
+    pub fn left(&self, seen: &Observation, node: NodeNo) -> Option<Event>
+        ensures { Gives (leaving node) self.now seen.now result }
+    {
+        let was = is_one_of(node, self.members.as_slice());
+        let is = is_one_of(node, seen.members.as_slice());
+        if is || !was {
+            return None;
+        }
+        Some(Event::Left(node, seen.members.copy()))
+    }
+
+    /// Returns `Wrote` if its snapshot is at a greater position than was reported, and none was installed in the turn.
+    pub fn wrote(&self, seen: &Observation) -> Option<Event>
+        ensures { Gives writing self.now seen.now result }
+    {
+        if seen.installed.is_some() || seen.snapshot.get() <= self.snapshot.get() {
+            return None;
+        }
+        Some(Event::Wrote(seen.snapshot))
+    }
+
+    /// Returns `Installed` if it installed another node's snapshot in the turn.
+    pub fn installed(&self, seen: &Observation) -> Option<Event>
+        ensures { Gives installing self.now seen.now result }
+    {
+        let (position, node) = seen.installed?;
+        Some(Event::Installed(position, node))
+    }
+
+    /// Returns `Unsent` if a send failed in the turn.
+    pub fn unsent(&self, seen: &Observation) -> Option<Event>
+        ensures { Gives failing self.now seen.now result }
+    {
+        let node = seen.unsent?;
+        Some(Event::Unsent(node))
+    }
+
+    /// Returns `OtherGenesis` if it received from a node of another genesis, and that is to be reported.
+    pub fn stranger(&self, seen: &Observation) -> Option<Event>
+        ensures { Gives meeting self.now seen.now result }
+    {
+        let node = seen.stranger?;
+        Some(Event::OtherGenesis(node))
+    }
+
+    /// Returns `OtherCluster` if it received from another cluster, and that is to be reported.
+    pub fn foreign(&self, seen: &Observation) -> Option<Event>
+        ensures { Gives straying self.now seen.now result }
+    {
+        let count = seen.foreign?;
+        Some(Event::OtherCluster(count))
+    }
+
+    // Puts the news of the leader into the slots.
+    fn put_leads(&self, now: u64, seen: &Observation, slots: &mut RateLimits)
+        ensures { PutsNews now self.now seen.now lead_topics slots.old.all slots.new.all }
+    {
+        slots.put_some(now, self.ended(seen));
+        slots.put_some(now, self.leads(seen));
+        slots.put_some(now, self.follows(seen));
+    }
+
+    // Puts `Joined` for each of these members that has joined.
+    fn put_joined(&self, now: u64, seen: &Observation, members: &[Member], slots: &mut RateLimits)
+        ensures { PutsNews now self.now seen.now (joins members.now) slots.old.all slots.new.all }
+    {
+        'members: for member in members {
+            slots.put_some(now, self.joined(seen, member.node));
+        }
+    }
+
+    // Puts `Left` for each of these members that has left.
+    fn put_left(&self, now: u64, seen: &Observation, members: &[Member], slots: &mut RateLimits)
+        ensures { PutsNews now self.now seen.now (leaves members.now) slots.old.all slots.new.all }
+    {
+        'members: for member in members {
+            slots.put_some(now, self.left(seen, member.node));
+        }
+    }
+
+    // Puts the news of the members: several nodes may join or leave in one turn.
+    fn put_members(&self, now: u64, seen: &Observation, slots: &mut RateLimits)
+        ensures { PutsNews now self.now seen.now (member_topics self.now seen.now) slots.old.all slots.new.all }
+    {
+        self.put_joined(now, seen, seen.members.as_slice(), slots);
+        self.put_left(now, seen, self.members.as_slice(), slots);
+    }
+
+    // Puts the news of snapshots, of failed sends, and of datagrams of another genesis or cluster.
+    fn put_work(&self, now: u64, seen: &Observation, slots: &mut RateLimits)
+        ensures { PutsNews now self.now seen.now work_topics slots.old.all slots.new.all }
+    {
+        slots.put_some(now, self.wrote(seen));
+        slots.put_some(now, self.installed(seen));
+        slots.put_some(now, self.unsent(seen));
+        slots.put_some(now, self.stranger(seen));
+        slots.put_some(now, self.foreign(seen));
+    }
+
+    // Puts all news into the slots.
+    fn put_all(&self, now: u64, seen: &Observation, slots: &mut RateLimits)
+        ensures { PutsNews now self.now seen.now (topics self.now seen.now) slots.old.all slots.new.all }
+    {
+        self.put_leads(now, seen, slots);
+        self.put_members(now, seen, slots);
+        self.put_work(now, seen, slots);
+    }
+
+    /// Forgets which leader was reported if `leaderless` is an event: then any leader is news, even the same one.
+    pub fn forget(&mut self, leaderless: &Option<Event>)
+        ensures { self.new ≡ forgetting leaderless.now self.old }
+    {
+        if leaderless.is_some() {
+            self.follows = None;
+        }
+    }
+
+    // Replaces the story by an observation. If that names no leader, the one followed last is kept.
+    fn become_told(&mut self, seen: Observation)
+        ensures { self.new ≡ told_with seen self.old }
+    {
+        let Observation {
+            leads,
+            follows,
+            members,
+            snapshot,
+            ..
+        } = seen;
+        self.leads = leads;
+        self.follows = follows.or(self.follows);
+        self.members = members;
+        self.snapshot = snapshot;
+    }
+
+    /// Puts what is news after a turn into the slots, and remembers it as reported.
+    pub fn observe(&mut self, now: u64, seen: Observation, slots: &mut RateLimits)
+        ensures news { PutsNews now self.old seen (topics self.old seen) slots.old.all slots.new.all }
+        ensures told { self.new ≡ told_with seen self.old }
+    {
+        self.put_all(now, &seen, slots);
+        self.become_told(seen);
+    }
+}

@@ -1,0 +1,145 @@
+//! Events that depend on how long something lasts: no leader, and being behind. Times are milliseconds since 1970.
+
+ghost use Rattle.std.specs.Prelude.{◌≡◌, ◌⊎◌, Some, None, true, false, IfSome, IsSome, IsNone};
+ghost use Rattle.lk_node_events.specs.Timers.{first_time, first_asked, no_lag, IsQuietNews, IsBehind, IsOver};
+ghost use Rattle.lk_node_events.specs.Timers.{HasRested};
+ghost use Rattle.lk_node_events.specs.Timers.{IsLagNews, BecomesLag};
+ghost use Rattle.lk_node_events.specs.declared.event.Event.{Event as EventValue};
+ghost use Rattle.lk_node_events.specs.declared.event.Event.TheVariants.{Leaderless, Behind, CaughtUp};
+
+use crate::event::Event;
+use lk_types::{Executed, NodeNo};
+
+// The milliseconds of a second.
+const SECOND: u64 = 1000;
+
+// The seconds without a leader after which it is first reported: an election takes less.
+const FIRST: u64 = 2;
+
+/// How long a node has had no leader, and what was reported of that.
+#[derive(Clone, Copy)]
+pub struct LeaderlessTimer {
+    /// Since when, `None` while it has a leader.
+    pub since: Option<u64>,
+    /// How many seconds were last reported, 0 if none were.
+    pub told: u64,
+}
+
+/// How long a node has been asking for commands that it missed.
+#[derive(Clone, Copy)]
+pub struct BehindTimer {
+    /// When it first asked, and when it asked last. `None` if it has asked nobody for a second.
+    pub asked: Option<(u64, u64)>,
+    /// Whether `Behind` was reported, so that `CaughtUp` has to follow.
+    pub told: bool,
+}
+
+impl LeaderlessTimer {
+    /// It has a leader.
+    pub const NONE: LeaderlessTimer = LeaderlessTimer {
+        since: None,
+        told: 0,
+    };
+
+    // Notes the start of a time without a leader, or returns `Leaderless` if that has lasted two seconds, and again
+    // each time that it has lasted twice the seconds reported last.
+    fn report_leaderless(&mut self, now: u64) -> Option<Event>
+        ensures some { IfSome result (IsQuietNews self.old now) }
+        ensures none { IsNone result → (e : EventValue) → IsQuietNews self.old now e → ⊥ }
+        ensures told { IfSome result (λ e. e ≡ Leaderless self.new.told) }
+        ensures kept { IsNone result → self.new.told ≡ self.old.told }
+        ensures since { self.new.since ≡ Some (first_time self.old.since now) }
+    {
+        let Some(since) = self.since else {
+            self.since = Some(now);
+            return None;
+        };
+        let seconds = now.saturating_sub(since) / SECOND;
+        if seconds < FIRST || seconds / 2 < self.told {
+            return None;
+        }
+        self.told = seconds;
+        Some(Event::Leaderless(seconds))
+    }
+
+    /// Updates it after a turn, and returns `Leaderless` if that is due. A leader resets it.
+    pub fn observe(&mut self, now: u64, has_leader: bool) -> Option<Event>
+        ensures some { IfSome result (λ e. (has_leader ≡ false) × IsQuietNews self.old now e) }
+        // An event that is due is returned.
+        ensures none { IsNone result → (has_leader ≡ true) ⊎ ((e : EventValue) → IsQuietNews self.old now e → ⊥) }
+        ensures leader { has_leader ≡ true → self.new ≡ record { since = None; told = 0 } }
+        ensures since { has_leader ≡ false → self.new.since ≡ Some (first_time self.old.since now) }
+        ensures told { IfSome result (λ e. e ≡ Leaderless self.new.told) }
+        ensures kept { has_leader ≡ false → IsNone result → self.new.told ≡ self.old.told }
+    {
+        if has_leader {
+            *self = LeaderlessTimer::NONE;
+            return None;
+        }
+        self.report_leaderless(now)
+    }
+}
+
+impl BehindTimer {
+    /// It has asked for nothing.
+    pub const NONE: BehindTimer = BehindTimer {
+        asked: None,
+        told: false,
+    };
+
+    // Notes that the node asks for what it missed. Returns `Behind` once, if it has been asking for a second.
+    fn report_behind(&mut self, now: u64, node: NodeNo) -> Option<Event>
+        ensures some { IfSome result (λ e. (e ≡ Behind node) × IsBehind self.old now) }
+        ensures none { IsNone result → IsBehind self.old now → ⊥ }
+        ensures told { IsSome result → self.new.told ≡ true }
+        ensures kept { IsNone result → self.new.told ≡ self.old.told }
+        ensures asked { self.new.asked ≡ Some (first_asked self.old.asked now, now) }
+    {
+        let Some((first, _)) = self.asked else {
+            self.asked = Some((now, now));
+            return None;
+        };
+        self.asked = Some((first, now));
+        if self.told || now.saturating_sub(first) < SECOND {
+            return None;
+        }
+        self.told = true;
+        Some(Event::Behind(node))
+    }
+
+    // Forgets that the node was behind if it has asked nobody for a second, or the clock was set back. Then returns
+    // `CaughtUp` if `Behind` was reported.
+    fn report_caught_up(&mut self, now: u64, executed: Executed) -> Option<Event>
+        ensures some { IfSome result (λ e. (e ≡ CaughtUp executed) × HasRested self.old now) }
+        ensures none { IsNone result → HasRested self.old now → ⊥ }
+        ensures over { IsOver self.old now → self.new ≡ no_lag }
+        ensures kept { (IsOver self.old now → ⊥) → self.new ≡ self.old }
+    {
+        let Some((_, last)) = self.asked else {
+            return None;
+        };
+        if now >= last && now - last < SECOND {
+            return None;
+        }
+        let was_told = self.told;
+        *self = BehindTimer::NONE;
+        if !was_told {
+            return None;
+        }
+        Some(Event::CaughtUp(executed))
+    }
+
+    /// Updates it after a turn in which the node asked `wanted` for what it missed, or nobody. Returns `Behind` or
+    /// `CaughtUp` if that is due.
+    pub fn observe(&mut self, now: u64, wanted: Option<NodeNo>, executed: Executed) -> Option<Event>
+        ensures some { IfSome result (IsLagNews self.old now wanted executed) }
+        // An event that is due is returned.
+        ensures none { IsNone result → (e : EventValue) → IsLagNews self.old now wanted executed e → ⊥ }
+        ensures becomes { BecomesLag self.old now wanted result self.new }
+    {
+        match wanted {
+            Some(node) => self.report_behind(now, node),
+            None => self.report_caught_up(now, executed),
+        }
+    }
+}

@@ -1,0 +1,80 @@
+//! The watch over a node: finds its events, turn by turn, and keeps them until they may be logged.
+
+ghost use Rattle.std.specs.Prelude.{◌≡◌, replicate, slice_get, Some, None, IfSome};
+ghost use Rattle.lk_node_events.specs.Kinds.{kinds};
+ghost use Rattle.lk_node_events.specs.News.{story_of};
+ghost use Rattle.lk_node_events.specs.Timers.{no_lag};
+ghost use Rattle.lk_node_events.specs.RateLimits.{empty, Waits};
+ghost use Rattle.lk_node_events.specs.declared.rate_limit.RateLimit.{RateLimit as RateLimitValue};
+ghost use Rattle.lk_node_events.specs.Watches.{Puts, TakesOut, TurnsTimes, Turns};
+
+use crate::event::Event;
+use crate::observation::Observation;
+use crate::rate_limit::Line;
+use crate::rate_limits::RateLimits;
+use crate::story::Story;
+use crate::timers::{BehindTimer, LeaderlessTimer};
+
+/// What was reported of a node, and what waits to be logged. Times are milliseconds since 1970.
+#[derive(Drop)]
+pub struct Watch {
+    pub story: Story,
+    pub quiet: LeaderlessTimer,
+    pub lag: BehindTimer,
+    pub slots: RateLimits,
+}
+
+impl Watch {
+    /// Returns a watch that begins with this observation: nothing waits to be logged.
+    pub fn new(seen: Observation) -> Watch
+        ensures story { result.story ≡ story_of seen }
+        ensures quiet { result.quiet ≡ record { since = None; told = 0 } }
+        ensures lag { result.lag ≡ no_lag }
+        ensures slots { result.slots.all ≡ replicate kinds empty }
+    {
+        Watch {
+            story: Story::of(seen),
+            quiet: LeaderlessTimer::NONE,
+            lag: BehindTimer::NONE,
+            slots: RateLimits::new(),
+        }
+    }
+
+    /// Puts an event into the slot of its kind.
+    pub fn put(&mut self, now: u64, event: Event)
+        ensures puts { Puts now event self.old.slots.all self.new.slots.all }
+        ensures others { self.new ≡ record self.old { slots = self.new.slots } }
+    {
+        self.slots.put(now, event);
+    }
+
+    // Puts the events that depend on time: no leader, behind, caught up.
+    fn put_times(&mut self, now: u64, seen: &Observation)
+        ensures { TurnsTimes now seen.now self.old self.new }
+    {
+        let leaderless = self.quiet.observe(now, seen.has_leader());
+        self.story.forget(&leaderless);
+        self.slots.put_some(now, leaderless);
+        let lag = self.lag.observe(now, seen.wanted, seen.executed);
+        self.slots.put_some(now, lag);
+    }
+
+    /// Updates the watch after a turn, and puts the events that this shows into the slots.
+    pub fn observe(&mut self, now: u64, seen: Observation)
+        ensures { Turns now seen self.old self.new }
+    {
+        self.put_times(now, &seen);
+        self.story.observe(now, seen, &mut self.slots);
+    }
+
+    /// Removes and returns the waiting line of that kind, if one is due.
+    pub fn take(&mut self, kind: usize, now: u64) -> Option<Line>
+        ensures line { IfSome result (λ line. TakesOut kind now line self.old.slots.all self.new.slots.all) }
+        ensures others { self.new ≡ record self.old { slots = self.new.slots } }
+        ensures none { result ≡ None → self.new ≡ self.old }
+        ensures waits { result ≡ None → (slot : RateLimitValue)
+            → slice_get self.old.slots.all kind ≡ Some slot → Waits slot now }
+    {
+        self.slots.take(kind, now)
+    }
+}

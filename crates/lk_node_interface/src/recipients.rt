@@ -1,0 +1,79 @@
+// The nodes to which a step sends, and a letter to each of several nodes. The window is the sets of members of the next
+// alpha positions.
+ghost use Rattle.std.specs.Prelude.{◌≡◌, IfOk, OnOk};
+ghost use Rattle.lk_messages.specs.Grammar.{IsMessage};
+ghost use Rattle.lk_node_interface.specs.Recipients.{AreWindowNodes, AreOthers, place_in, to_node, letters_to};
+ghost use Rattle.lk_node_interface.specs.Saying.{saying};
+
+use crate::letter::Letter;
+use crate::spelling::spelled;
+use crate::to::To;
+use lk_members::Roster;
+use lk_store_format::Header;
+use lk_types::{NoMemory, NodeNo};
+use lk_wire::NodeMessage;
+use std::alloc::Global;
+
+/// Returns the nodes that some set of the window names, in rising order, without repetition.
+pub fn window_nodes(alloc: Global, roster: &Roster) -> Result<Vec<NodeNo>, NoMemory>
+    ensures { IfOk result (λ ns. AreWindowNodes roster.now.sets ns.items) }
+{
+    let mut nodes = Vec::new(alloc);
+    let mut low = 0;
+    'walk: while let Some(node) = roster.named_above(low) {
+        nodes.push(node)?;
+        low = node.get();
+    }
+    Ok(nodes)
+}
+
+/// Returns the nodes of the window except this one, in rising order.
+pub fn others(alloc: Global, roster: &Roster, own: NodeNo) -> Result<Vec<NodeNo>, NoMemory>
+    ensures { IfOk result (λ ns. AreOthers roster.now.sets own ns.items) }
+{
+    let all = window_nodes(alloc, roster)?;
+    let mut others = Vec::new(alloc);
+    let nodes = all.as_slice();
+    'nodes: for node in nodes {
+        if *node != own {
+            others.push(*node)?;
+        }
+    }
+    Ok(others)
+}
+
+/// Returns the index of the node, from 0, among the members of the next position; `None` if it is not one of them.
+pub fn place_of(roster: &Roster, node: NodeNo) -> Option<usize>
+    ensures { result ≡ place_in roster.now.sets node }
+{
+    let members = roster.window().get(0)?.as_slice();
+    members.iter().position(|member| member.node == node)
+}
+
+// Addresses a copy of these bytes to a node at its port in the window, or at port 0 if no set names it.
+fn letter_to(alloc: Global, roster: &Roster, node: NodeNo, bytes: &[u8]) -> Result<Letter, NoMemory>
+    ensures { IfOk result (λ l. l ≡ record { to = to_node roster.now.sets node; bytes = bytes.now }) }
+{
+    let to = To::Node(node, roster.port_number_of(node));
+    let bytes = bytes.to_vec(alloc)?;
+    Ok(Letter { to, bytes })
+}
+
+/// Returns a letter with this message for each of the nodes, in order, at its port in the window.
+pub fn letters_to(
+    alloc: Global,
+    header: &Header,
+    roster: &Roster,
+    nodes: &[NodeNo],
+    message: NodeMessage,
+) -> Result<Vec<Letter>, NoMemory>
+    ensures letters { IfOk result (λ ls. ls.items ≡ letters_to header.now roster.now.sets message nodes.now) }
+    ensures fits { OnOk result (IsMessage (saying header.now message)) }
+{
+    let bytes = spelled(alloc, header, message)?;
+    let mut letters = Vec::new(alloc);
+    'nodes: for node in nodes {
+        letters.push(letter_to(alloc, roster, *node, bytes.as_slice())?)?;
+    }
+    Ok(letters)
+}

@@ -1,0 +1,76 @@
+// How many ticks have passed since a leader was heard.
+ghost use Rattle.std.specs.Prelude.{◌≡◌, ◌+◌, ◌≤◌, min};
+ghost use Rattle.lk_node_interface.specs.Ticks.{max_ticks, is_enough};
+
+use std::marker::Model;
+
+// How many ticks the first member waits for a leader before it begins a ballot, and how many more each member waits
+// than the one before it, so that two seldom begin a ballot at once.
+const TICKS_A_PLACE: u8 = 4;
+
+// How many ticks the last of seven members waits. There are at most seven, so no more ticks are counted.
+const MAX_TICKS: u8 = 28;
+
+/// How many ticks have passed since a leader was heard: 0 to 28, where the count stays.
+#[derive(Clone, Copy)]
+pub struct TickCount {
+    count: u8,
+}
+
+impl Model for TickCount {
+    ghost use Rattle.std.specs.Prelude.{ℕ, ◌≤◌};
+
+    ghost Value = { ℕ };
+
+    ghost view = { λ t. t.count };
+
+    ghost inverse = { λ n. record { count = n } };
+
+    ghost invariant = { λ t. t.count ≤ 28 };
+}
+
+impl TickCount {
+    /// Creates a count of 0.
+    pub fn new() -> TickCount
+        ensures { result ≡ 0 }
+    {
+        TickCount { count: 0 }
+    }
+
+    /// Counts one more tick, up to 28.
+    pub fn count_tick(&mut self)
+        ensures { self.new ≡ min (self.old + 1) max_ticks }
+    {
+        if self.count < MAX_TICKS {
+            self.count += 1;
+        }
+    }
+
+    /// Sets the count to 0: a leader was heard.
+    pub fn reset(&mut self)
+        ensures { self.new ≡ 0 }
+    {
+        self.count = 0;
+    }
+
+    /// Returns the count, 0 to 28.
+    pub fn get(&self) -> u8
+        ensures value { result ≡ self.now }
+        ensures most { self.now ≤ max_ticks }
+    {
+        self.count
+    }
+
+    /// Whether a node at this place, from 0, among the members of the next position has waited long enough for a
+    /// leader: 4 ticks, and 4 more for each place. A node that is no member (`None`) never has.
+    pub fn is_enough(&self, place: Option<usize>) -> bool
+        ensures { result ≡ is_enough self.now place }
+    {
+        let ticks = self.get();
+        // The same as 4 + 4 * place <= ticks, without a sum that could overflow.
+        match place {
+            Some(place) => ticks >= TICKS_A_PLACE && place < usize::from(ticks / TICKS_A_PLACE),
+            None => false,
+        }
+    }
+}

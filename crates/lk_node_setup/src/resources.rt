@@ -1,0 +1,189 @@
+//! Opens what a node runs on, and warns if the genesis names its port otherwise.
+
+ghost use Rattle.std.specs.Prelude.{◌≡◌, ◌≢◌, [], Some, None, IfOk, IfSome, OnErr};
+ghost use Rattle.lk_members.specs.Ports.{port_in};
+ghost use Rattle.lk_auth.specs.Seals.{key_list};
+ghost use Rattle.lk_node_setup.specs.OwnProbes.{FindsUnheard, socket_value};
+ghost use Rattle.lk_node_setup.specs.Ports.{misnamed};
+ghost use Rattle.lk_node_setup.specs.KeysOfNode.{AreSealsOf};
+
+use crate::network::{NetworkOptions, network_of};
+use crate::own_probe::unheard_port;
+use lk_auth::{Keys, Seals};
+use lk_disk::SystemDisk;
+use lk_node_files::causes::open_socket_at;
+use lk_node_files::folder::{FolderLock, open_device};
+use lk_pacing::pace::Pace;
+use lk_store_format::Header;
+use lk_transport::fault::ServiceFault;
+use lk_transport::network::Network;
+use lk_transport::socket::{DatagramSocket, LocalSocket};
+use lk_types::{Member, NodeNo, Port};
+use std::alloc::Global;
+use std::fs::{File, Files};
+use std::io::Write;
+use std::net::Net;
+
+/// What the command line of `locks node` asks for: the node with its genesis, its port, what its ticks go by, the
+/// folder of its files, and the options about other machines.
+#[derive(Drop)]
+pub struct NodePlan<'a> {
+    pub header: Header,
+    pub port: Port,
+    pub pace: Pace,
+    pub folder: &'a str,
+    pub options: NetworkOptions<'a>,
+}
+
+/// What a node runs on: the device of its store, its socket, what it knows of the machines outside, what its ticks go
+/// by, and the port that the genesis names, if the node listens at another one and is not heard there.
+#[derive(Drop)]
+pub struct Resources<D: Drop, S: Drop> {
+    pub device: D,
+    pub socket: S,
+    pub network: Network,
+    pub pace: Pace,
+    pub unheard: Option<Port>,
+}
+
+/// The files of a folder as a device.
+pub type FolderDisk = SystemDisk<File>;
+
+// Returns the port that the members give the node, if it is one of them.
+fn named_port(members: &[Member], node: NodeNo) -> Option<Port>
+    ensures { result ≡ port_in node members.now }
+{
+    for member in members {
+        if member.node == node {
+            return Some(member.port);
+        }
+    }
+    None
+}
+
+// Warns that the node does not listen at the port that the genesis names: without a relay in between, it would send
+// but not receive.
+fn write_warning<E: Write>(plan: &NodePlan<'_>, named: Port, err: &mut E) {
+    let (node, named, own) = (plan.header.node().get(), named.get(), plan.port.get());
+    let _ = writeln!(
+        err,
+        "warning: the genesis names node {node} at port {named}, and it listens at port {own}"
+    );
+}
+
+// Returns the port that the genesis gives the node, if it listens at another one.
+fn other_port(plan: &NodePlan<'_>) -> Option<Port>
+    ensures { result ≡ misnamed plan.now.header plan.now.port }
+{
+    let members = plan.header.genesis().members.as_slice();
+    match named_port(members, plan.header.node()) {
+        Some(named) if named != plan.port => Some(named),
+        _ => None,
+    }
+}
+
+// Finds out whether the node is heard at the port that the genesis names, if it listens at another one. Warns if it is
+// not, and returns that port.
+fn warn_of_port<S: DatagramSocket, E: Write>(
+    alloc: Global,
+    plan: &NodePlan<'_>,
+    network: &Network,
+    socket: &mut S,
+    err: &mut E,
+) -> Result<Option<Port>, ServiceFault>
+    ensures finds { S.is_observable
+        → IfOk result (λ unheard. FindsUnheard plan.now.header network.now
+        (misnamed plan.now.header plan.now.port) unheard
+        (socket_value S.sent S.failures S.incoming socket.old) (socket_value S.sent S.failures S.incoming socket.new)) }
+    // Where the ports agree nothing is sent and nothing received.
+    ensures alike { misnamed plan.now.header plan.now.port ≡ None → socket.new ≡ socket.old }
+    ensures some { IfOk result
+        (λ unheard. IfSome unheard (λ port. misnamed plan.now.header plan.now.port ≡ Some port)) }
+    // Where it is heard nothing is warned.
+    ensures quiet { IfOk result (λ unheard. unheard ≡ None → err.new ≡ err.old) }
+    ensures err { OnErr result (socket.new ≡ socket.old) }
+{
+    let unheard = unheard_port(alloc, socket, &plan.header, network, other_port(plan))?;
+    if let Some(named) = unheard {
+        write_warning(plan, named, err);
+    }
+    Ok(unheard)
+}
+
+// Returns what the ticks of a node with these seals go by: the clock if the nodes have a key, so that a stranger's
+// payloads neither bring nor prevent ticks, or else what was asked for.
+fn pace_with(seals: &Seals, asked: Pace) -> Pace
+    ensures key { key_list seals.now.nodes ≢ [] → result ≡ Pace.Clock }
+    ensures none { key_list seals.now.nodes ≡ [] → result ≡ asked }
+{
+    match &seals.nodes {
+        Keys::NoKey => asked,
+        _ => Pace::Clock,
+    }
+}
+
+// Returns a member with a higher number at the port of this one.
+fn sharer(members: &[Member], member: Member) -> Option<Member> {
+    members
+        .iter()
+        .find(|other| member.node < other.node && other.port == member.port)
+        .copied()
+}
+
+// Returns the first two members that share a port.
+fn at_one_port(members: &[Member]) -> Option<(Member, Member)> {
+    for member in members {
+        if let Some(other) = sharer(members, *member) {
+            return Some((*member, other));
+        }
+    }
+    None
+}
+
+// Warns if two members share a port, unless a file of hosts places them on several machines.
+fn warn_of_members<E: Write>(plan: &NodePlan<'_>, err: &mut E) {
+    if plan.options.hosts.is_some() {
+        return;
+    }
+    if let Some((one, other)) = at_one_port(plan.header.genesis().members.as_slice()) {
+        let (one, other, port) = (one.node.get(), other.node.get(), one.port.get());
+        let _ = writeln!(
+            err,
+            "warning: the genesis names nodes {one} and {other} at one port, {port}"
+        );
+    }
+}
+
+/// Opens the resources of a plan's node: its files, which are created if they are missing, and its socket. The folder
+/// stays locked as long as the second value lives. On failure, or if another process serves from the folder, it writes
+/// the reason and returns `CannotOpen`; out of memory, it returns `NoMemory`.
+pub fn open_resources<R: Files<File = File> + Net, E: Write>(
+    rt: &R,
+    alloc: Global,
+    plan: &NodePlan<'_>,
+    err: &mut E,
+) -> Result<(Resources<FolderDisk, LocalSocket>, FolderLock), ServiceFault>
+    // The keys are for the node of the plan, in its cluster.
+    ensures seals { IfOk result (λ r. AreSealsOf plan.now.header r.0.network.seals) }
+    // Where the nodes have a key, ticks go by the clock.
+    ensures pace { IfOk result (λ r. key_list r.0.network.seals.nodes ≢ [] → r.0.pace ≡ Pace.Clock) }
+    // Only the port that the genesis names, where the node listens at another one, may be one at which it is not heard.
+    ensures unheard { IfOk result
+        (λ r. IfSome r.0.unheard (λ port. misnamed plan.now.header plan.now.port ≡ Some port)) }
+{
+    warn_of_members(plan, err);
+    let (network, place) = network_of(rt, alloc, &plan.header, plan.port, &plan.options, err)?;
+    let mut socket = open_socket_at(rt, place, err)?;
+    let unheard = warn_of_port(alloc, plan, &network, &mut socket, err)?;
+    let lock = FolderLock::take(rt, alloc, plan.folder, err)?;
+    let device = open_device(rt, alloc, plan.folder, err)?;
+    let pace = pace_with(&network.seals, plan.pace);
+    let resources = Resources {
+        device,
+        socket,
+        network,
+        pace,
+        unheard,
+    };
+    Ok((resources, lock))
+}

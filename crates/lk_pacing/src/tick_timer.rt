@@ -1,0 +1,116 @@
+//! Measures the 100 ms between two ticks of a server by a monotonic clock.
+
+ghost use Rattle.std.specs.Duration.{as_nanos};
+ghost use Rattle.std.specs.Prelude.{◌≡◌, ◌↔◌, ◌≤◌, ◌-◌, Some, None, true, false};
+ghost use Rattle.lk_pacing.specs.TickTimers.{Leaves, Passes, begun_by, spent};
+
+use std::time::{Clock, Duration, Instant};
+use std::{io, thread};
+
+// The time from one tick to the next, in milliseconds.
+const PERIOD: u64 = 100;
+
+/// A clock that never advances, for a turn without a clock.
+#[derive(Clone, Copy)]
+pub struct FrozenClock;
+
+impl Clock for FrozenClock {
+    fn monotonic(&self) -> io::Result<Duration> {
+        Ok(Duration::ZERO)
+    }
+
+    fn since_1970(&self) -> io::Result<Duration> {
+        Ok(Duration::ZERO)
+    }
+}
+
+/// Measures periods of 100 ms by a monotonic clock. A period begins at the first `left` or `has_passed` after `new` or
+/// `reset`, and at the `has_passed` that ends the one before.
+#[derive(Drop)]
+pub struct TickTimer<C: Clock> {
+    clock: C,
+    // when the current period began; `None` if none has begun
+    began: Option<Instant>,
+}
+
+impl<C: Clock> TickTimer<C> {
+    /// Makes a tick timer whose first period begins at the first `left` or `has_passed`.
+    pub fn new(clock: C) -> TickTimer<C>
+        ensures { result ≡ record { clock = clock; began = None } }
+    {
+        TickTimer { clock, began: None }
+    }
+
+    // Returns the rest of the period at `now`, where one begins if none has.
+    fn left_at(&mut self, now: Instant) -> Duration
+        ensures left { as_nanos result ≡ 100000000 - spent now self.old.began }
+        ensures begins { self.new.began ≡ Some (begun_by now self.old.began) }
+        ensures others { self.new ≡ record self.old { began = self.new.began } }
+    {
+        let began = self.began.unwrap_or(now);
+        self.began = Some(began);
+        Duration::from_millis(PERIOD).saturating_sub(now.duration_since(began))
+    }
+
+    // Returns whether the period has ended at `now`; if so, the next one begins there.
+    fn passes_at(&mut self, now: Instant) -> bool
+        ensures passed { result ≡ true ↔ (100000000 ≤ spent now self.old.began) }
+        ensures again { result ≡ true → self.new.began ≡ Some now }
+        ensures goes_on { result ≡ false → self.new.began ≡ Some (begun_by now self.old.began) }
+        ensures others { self.new ≡ record self.old { began = self.new.began } }
+    {
+        if !self.left_at(now).is_zero() {
+            return false;
+        }
+        self.began = Some(now);
+        true
+    }
+
+    /// Returns the rest of the period: 100 ms if one begins now, or if the clock fails.
+    pub fn left(&mut self) -> Duration
+        // This holds for some reading of the clock: no contract states which.
+        ensures { Leaves self.old.began self.new.began (as_nanos result) }
+    {
+        match Instant::now(&self.clock) {
+            Ok(now) => self.left_at(now),
+            Err(_) => Duration::from_millis(PERIOD),
+        }
+    }
+
+    /// Returns whether the period has ended; if so, the next one begins now. If the clock fails it returns true, so
+    /// that ticks go on, and changes nothing.
+    pub fn has_passed(&mut self) -> bool
+        // This holds for some reading of the clock: no contract states which.
+        ensures { Passes self.old.began self.new.began result }
+    {
+        match Instant::now(&self.clock) {
+            Ok(now) => self.passes_at(now),
+            Err(_) => true,
+        }
+    }
+
+    /// Drops the current period; the next one begins at the next `left` or `has_passed`.
+    pub fn reset(&mut self)
+        ensures { self.new ≡ record self.old { began = None } }
+    {
+        self.began = None;
+    }
+
+    /// Returns the clock's reading, or `None` if it fails.
+    pub fn now(&self) -> Option<Instant> {
+        Instant::now(&self.clock).ok()
+    }
+
+    /// Returns the time since `then`, or zero if the clock failed then or fails now.
+    pub fn since(&self, then: Option<Instant>) -> Duration {
+        match (then, self.now()) {
+            (Some(then), Some(now)) => now.duration_since(then),
+            _ => Duration::ZERO,
+        }
+    }
+
+    /// Sleeps for this time.
+    pub fn sleep(&self, time: Duration) {
+        thread::sleep(&self.clock, time);
+    }
+}
