@@ -12,10 +12,12 @@ use Rattle.lk_replica.specs.ReplicaValue.{ReplicaValue}
 use Rattle.lk_auth.specs.declared.seals.Seals.{Seals}
 use Rattle.lk_transport.specs.declared.fault.ServiceFault.{ServiceFault}
 use Rattle.lk_node_process.specs.Revivals.{IsServerStarted, IsRefusedWith}
-use Rattle.lk_node_process.specs.Turns.{Serves, EndsEarly, EndsEarlyByStranger, letters_in}
+use Rattle.lk_node_process.specs.Turns.{EndsEarlyByStranger, letters_in}
 use Rattle.lk_sim_nodes.specs.declared.seat.Life.TheVariants.{Up, Down}
 use Rattle.lk_cluster_theorems.specs.Clusters.{Cluster, ForgesNothing, server_disks}
 use Rattle.lk_cluster_theorems.specs.Continuing.{HasNode, Continues, MayAllCome, letters_of}
+use Rattle.lk_cluster_theorems.specs.Services.{Service, BrokenService, letters_in_service, letters_to_end}
+use Rattle.lk_cluster_theorems.specs.Services.{sent_before_end, MayComeInService, MayComeBeforeEnd}
 
 -- the cluster has this node at that place, down, with these disks
 pub record IsDownOn (c : Cluster) (place n : ℕ) (disks : Side → Disk) : Type 0 where
@@ -31,26 +33,18 @@ module _ (Metered tells Honest : Type 0)
   -- it has taken this many turns, and they continue the cluster to one in which it is up, if nothing that arrived in
   -- them is forged
   pub record ServesIn (count : ℕ) : Type 0 where
-    pub served : Serves (IsServerStarted table_meaning Honest disks (header_of old.genesis n))
-        (header_of old.genesis n) seals Says tells count
-    pub continues : MayAllCome Says tells ForgesNothing old.genesis n old.sent served.begun served.turns.states
-        served.ended served.turns.chain
-        → Continues ForgesNothing Metered tells genesis old place n (Up served.ended)
-        (letters_of Says tells served.begun served.turns.states served.ended served.turns.chain)
+    pub served : Service Says tells Honest old n disks seals count
+    pub continues : MayComeInService ForgesNothing old n served
+        → Continues ForgesNothing Metered tells genesis old place n (Up served.ended) (letters_in_service served)
 
   -- it has taken fewer turns, and then one that ended it, and they continue the cluster to one in which it is down with
   -- what that turn has left
   pub record EndsIn (most : ℕ) : Type 0 where
-    pub served : EndsEarly (IsServerStarted table_meaning Honest disks (header_of old.genesis n))
-        (header_of old.genesis n) seals Says tells most
-    pub continues : (let said =
-        letters_of Says tells served.begun served.breaks.turns.states served.breaks.last served.breaks.turns.chain in
-        MayAllCome Says tells ForgesNothing old.genesis n old.sent served.begun served.breaks.turns.states
-        served.breaks.last served.breaks.turns.chain
-        → ForgesNothing old.genesis (old.sent ++ batch_of n said) served.breaks.last served.breaks.ends.came
+    pub served : BrokenService Says tells Honest old n disks seals most
+    pub continues : MayComeBeforeEnd ForgesNothing old n served
+        → ForgesNothing old.genesis (sent_before_end n old.sent served) served.breaks.last served.breaks.ends.came
         → (left : Memory) → ((s : Side) → disk_of left s ≡ server_disks served.ended s)
-        → Continues ForgesNothing Metered tells genesis old place n (Down left)
-        (said ++ served.breaks.ends.turn.hands_on.letters))
+        → Continues ForgesNothing Metered tells genesis old place n (Down left) (letters_to_end served)
 
   -- it has taken fewer turns, and then one after which it ended, since it had followed a node of another genesis; they
   -- continue the cluster to one in which it is down with what its device has, as after a stop

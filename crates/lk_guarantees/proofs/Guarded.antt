@@ -19,6 +19,7 @@ use Rattle.lk_types.specs.declared.command.Command.{Command}
 use Rattle.lk_types.specs.declared.command.Command.TheVariants.{Noop, Request}
 use Rattle.lk_types.specs.declared.command.Op.{Op}
 use Rattle.lk_types.specs.declared.command.Op.TheVariants.{Table, Join, Leave, Raise}
+use Rattle.lk_types.specs.declared.command.Request.{Request as Asking}
 use Rattle.lk_types.specs.declared.genesis.Genesis.{Genesis}
 use Rattle.lk_agreement_laws.proofs.Histories.{cons_cases}
 use Rattle.lk_locks.specs.Bodies.{body_of}
@@ -30,7 +31,7 @@ use Rattle.lk_locks.specs.declared.slot.Slot.{Slot as Lock}
 use Rattle.lk_agreement_laws.specs.Datagrams.{Datagram}
 use Rattle.lk_node_interface.specs.declared.note.Note.{Note}
 use Rattle.lk_guarantees.specs.Promise.{IsExplained}
-use Rattle.lk_guarantees.specs.Guarded.{Write, accepted, IsUnder, IsGuarded, AreListed}
+use Rattle.lk_guarantees.specs.Guarded.{Write, accepted, IsUnder, FencesRise, IsGuarded, AreListed}
 use Rattle.lk_guarantees.specs.Plain.{Locks, State, hold, give_again, give_first, acquire_known, acquire, and_one}
 use Rattle.lk_guarantees.specs.Plain.{share_known, share, is_held_by, is_free, is_held_at, release, without, break_lock}
 use Rattle.lk_guarantees.specs.Plain.{first, told_of, asks, use_locks, begin, serve, join, leave, raise, takes_effect}
@@ -239,7 +240,7 @@ one_further L (suc i) c e =
     next (y ∷ xs) zero x h = let is : y ≡ x = cc h in ap (λ z. z ∷ []) is
     next (y ∷ xs) (suc k) x h = ap (λ l. y ∷ l) (next xs k x h)
 
-fold-append : (s : State) (L K : List Command) → fold after_one s (L ++ K) ≡ fold after_one (fold after_one s L) K
+pub fold-append : (s : State) (L K : List Command) → fold after_one s (L ++ K) ≡ fold after_one (fold after_one s L) K
 fold-append s [] K = refl
 fold-append s (c ∷ L) K = fold-append (after_one s c) L K
 
@@ -302,6 +303,31 @@ module _ (genesis : Genesis) (L : List Command) (name : List ℕ) where
     ]
   ]
 
+  same_write : (v w : Write) → v.client ≡ w.client → v.number ≡ w.number → v.fence ≡ w.fence → v ≡ w
+  same_write v w client number fence =
+      ap (λ (c : ℕ). of_parts c v.number v.fence) client ∙ ap (λ (n : ℕ). of_parts w.client n v.fence) number
+      ∙ ap (λ (f : ℕ). of_parts w.client w.number f) fence
+    where
+      of_parts : ℕ → ℕ → ℕ → Write
+      of_parts client number fence = record { client = client; number = number; fence = fence }
+
+  one_request : (v w : Write) (i j : ℕ) (a : IsUnder genesis L name v i) (b : IsUnder genesis L name w j) → i ≡ j
+      → a.request ≡ b.request
+  one_request v w i j a b e =
+      let here : Some (Request a.request) ≡ Some (Request b.request) =
+      sym a.takes.0 ∙ ap (λ (n : ℕ). at L n) e ∙ b.takes.0 in
+      cc here
+
+  once : (v w : Write) (i j : ℕ) → IsUnder genesis L name v i → IsUnder genesis L name w j → v.fence ≡ w.fence
+      → (i ≡ j) × (v ≡ w)
+  once v w i j a b e =
+      let here = one v w i j a b e in
+      let request = one_request v w i j a b here in (
+        here,
+        same_write v w (sym a.of_client ∙ ap (λ (r : Asking). r.client) request ∙ b.of_client)
+        (sym a.of_number ∙ ap (λ (r : Asking). r.number) request ∙ b.of_number) e,
+      )
+
   ordered : (v w : Write) (i j : ℕ) → IsUnder genesis L name v i → IsUnder genesis L name w j
       → v.fence ≤ w.fence → i ≤ j
   ordered v w i j a b le = elim (cases_Bool (ltb j i)) [
@@ -348,6 +374,9 @@ sorted (x ∷ writes) highest front back v w e c = elim (cases_Bool (leb highest
   | inr f ↦ (let there : accepted highest writes ≡ front ++ v ∷ back = rw f at e in
       sorted writes highest front back v w there c)
 ]
+
+pub fences_rise : (genesis : Genesis) (L : List Command) (name : List ℕ) → FencesRise genesis L name
+fences_rise genesis L name = record { later = later_above genesis L name; once = once genesis L name }
 
 pub guarded : (genesis : Genesis) (L : List Command) (name : List ℕ) (writes : List Write)
     → IsGuarded genesis L name writes

@@ -16,6 +16,7 @@ mod Placing
 pub mod Clauses
 mod Linear
 mod Guarded
+mod Joining
 mod ExactlyOnce
 mod Converging
 mod Restarting

@@ -1,6 +1,6 @@
 -- A resource that a name guards: whoever writes to it shows the fence of its grant, and the resource accepts a write
 -- only at or above the highest fence that it has seen.
-use Rattle.std.specs.Prelude.{◌≡◌, ℕ, ◌-◌, ◌≤◌, nat_le, List, [], ◌∷◌, ◌++◌, take, Some, Contains, if◌then◌else◌}
+use Rattle.std.specs.Prelude.{◌≡◌, ℕ, ◌-◌, ◌<◌, ◌≤◌, nat_le, List, [], ◌∷◌, ◌++◌, take, Some, Contains, if◌then◌else◌}
 use Rattle.lk_types.specs.declared.answer.Answer.TheVariants.{Granted}
 use Rattle.lk_types.specs.declared.command.Command.{Command}
 use Rattle.lk_types.specs.declared.command.Op.TheVariants.{Table}
@@ -36,6 +36,14 @@ pub record IsUnder (genesis : Genesis) (L : List Command) (name : List ℕ) (w :
   pub asks : request.op ≡ Table body
   pub acquires : body_of body ≡ Some (Acquire name)
   pub granted : (serve request.client request.op (after genesis (take (i - 1) L))).0 ≡ Granted w.fence
+
+-- the fences of a name's grants rise along the list, and none is given twice
+pub record FencesRise (genesis : Genesis) (L : List Command) (name : List ℕ) : Type 0 where
+  pub later : (v w : Write) (i j : ℕ) → IsUnder genesis L name v i → IsUnder genesis L name w j → i < j
+      → v.fence < w.fence
+  -- what is granted at one fence is granted at one position, to one client, for one request
+  pub once : (v w : Write) (i j : ℕ) → IsUnder genesis L name v i → IsUnder genesis L name w j → v.fence ≡ w.fence
+      → (i ≡ j) × (v ≡ w)
 
 -- whatever writes come to the resource, and whatever list grants them
 pub record IsGuarded (genesis : Genesis) (L : List Command) (name : List ℕ) (writes : List Write) : Type 0 where

@@ -5,6 +5,7 @@ pub mod Promise
 pub mod Events
 pub mod Linear
 pub mod Guarded
+pub mod Joining
 pub mod ExactlyOnce
 pub mod Converging
 pub mod Restarting

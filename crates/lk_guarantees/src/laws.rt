@@ -14,7 +14,8 @@ ghost use Rattle.lk_guarantees.specs.ComingBack.{ComesBack};
 ghost use Rattle.lk_guarantees.specs.Converging.{Converges};
 ghost use Rattle.lk_guarantees.specs.Events.{AreDone, IsDone, IsReachable, IsRun, IsUp};
 ghost use Rattle.lk_guarantees.specs.ExactlyOnce.{AreServedOnce};
-ghost use Rattle.lk_guarantees.specs.Guarded.{AreListed, IsGuarded, Write};
+ghost use Rattle.lk_guarantees.specs.Guarded.{AreListed, FencesRise, IsGuarded, Write};
+ghost use Rattle.lk_guarantees.specs.Joining.{JoinsOnce};
 ghost use Rattle.lk_guarantees.specs.Linear.{IsLinearizable};
 ghost use Rattle.lk_guarantees.specs.Plain.{FixedUnlessChanged, TakesEffectOnce};
 ghost use Rattle.lk_guarantees.specs.Promise.{Explains, KeepsPromise};
@@ -36,6 +37,17 @@ pub fn numbers_take_effect_once()
 /// and the members completes each request that was answered, and keeps the order of real time.
 pub fn worlds_are_linearizable()
     ensures { (world : Scene ReplicaValue) → KeepsPromise world → IsLinearizable world.genesis world.trace }
+{}
+
+/// The fences of a name's exclusive grants rise along a list, and none is given twice (sequencers: Burrows, The Chubby
+/// lock service, 2006).
+pub fn fences_rise()
+    ensures { (genesis : Genesis) (L : List Command) (name : List ℕ) → FencesRise genesis L name }
+{}
+
+/// Whoever joins was never a member before: the number of a node that has left is not given to another one.
+pub fn numbers_join_once()
+    ensures { (genesis : Genesis) (L : List Command) → JoinsOnce genesis L }
 {}
 
 /// A resource that accepts a write only at or above the highest fence that it has seen is guarded by the name: its
