@@ -5,7 +5,7 @@ A line goes from a crate to each one that it stands on, where no other path lead
 libraries of the kit are left out."""
 from scripting import TOP, parser
 
-ROW, WIDTH, GAP, HEIGHT = 74, 104, 18, 30
+ROW, WIDTH, GAP, HEIGHT = 74, 142, 14, 30
 
 
 def stands_on():

@@ -8,11 +8,11 @@ Each file of crates/CRATE/must-fail (or those named, without .edit) is applied t
 checked. A line `refused: module::function` of the file names a function that the check has to refuse; the script says
 which of them it did not. `rt ci` asks only that the crate is refused, and passes over these lines.
 
-A line `named: TEXT` after a line `refused:` says which wrong body that the promises name this function shows. With
---named the script takes each such function of the crates (of all where none is given), applies only the pairs that
-change it, and checks that the prover refuses it. A file with one line `refused:` is one wrong body as a whole, also
-where it changes what its function calls, and is left to the gate, which tries nothing else in it. The last line is
-`N passed, M failed`; --list prints the named bodies and tries none.
+A line `named: TEXT` after a line `refused:` names the wrong body that this function shows, one that must be refused by
+itself. With --named the script takes each such function of the crates (of all where none is given), applies only the
+pairs that change it, and checks that the prover refuses it. A file with one line `refused:` is one wrong body as a
+whole, also where it changes what its function calls, and is left to the gate, which tries nothing else in it. The last
+line is `N passed, M failed`; --list prints the named bodies and tries none.
 
 Run it at the top of the repository once the crates are proved (`rt check`), so that kept work serves. The status is 1
 where something was not refused.

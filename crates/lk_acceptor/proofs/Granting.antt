@@ -10,7 +10,7 @@ use Rattle.lk_types.proofs.Values.{at_most_by_test}
 use Rattle.lk_agreement_laws.proofs.Histories.{cons_cases, contains_more}
 use Rattle.lk_acceptor.proofs.Rising.{first}
 use Rattle.lk_acceptor.specs.AcceptorValue.{AcceptorValue}
-use Rattle.lk_acceptor.specs.Answers.{GrantsPrepare, GrantsAccept, Agrees}
+use Rattle.lk_acceptor.specs.Replies.{GrantsPrepare, GrantsAccept, Agrees}
 
 pub all_below : (end : ℕ) (vs : List Vote) → list_all (λ v. nat_lt v.position end) vs ≡ true → (v : Vote)
     → Contains vs v → v.position < end

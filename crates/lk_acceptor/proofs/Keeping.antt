@@ -12,7 +12,7 @@ use Rattle.lk_agreement_laws.specs.Acceptors.{AcceptorState, TakesVote, TakesSna
 use Rattle.lk_agreement_laws.specs.Changes.{with_promise}
 use Rattle.lk_agreement_laws.proofs.Histories.{at_most_trans, below_at_most, below_self, cons_cases, contains_more}
 use Rattle.lk_agreement_laws.proofs.Histories.{filter_from, filtered_takes_snapshot, only}
-use Rattle.lk_acceptor.specs.Answers.{Agrees}
+use Rattle.lk_acceptor.specs.Replies.{Agrees}
 use Rattle.lk_acceptor.specs.States.{IsOrdered, with_vote, without_votes_to}
 use Rattle.lk_store_format.specs.VoteLists.{votes_with}
 use Rattle.lk_store_format.proofs.VoteParts.{rising_parts}

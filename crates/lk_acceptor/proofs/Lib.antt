@@ -2,5 +2,5 @@ mod Rising
 mod Searching
 mod Keeping
 mod Granting
-mod Answering
+mod Replying
 pub mod Acceptors

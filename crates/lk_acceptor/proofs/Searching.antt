@@ -17,7 +17,7 @@ use Rattle.lk_types.specs.declared.vote.Vote.{Vote}
 use Rattle.lk_agreement_laws.proofs.Histories.{cons_cases, contains_more, filter_from}
 use Rattle.lk_store_format.specs.VoteLists.{AreRising, count_below, votes_with}
 use Rattle.lk_store_format.proofs.VoteParts.{rising_parts}
-use Rattle.lk_acceptor.specs.Answers.{Agrees}
+use Rattle.lk_acceptor.specs.Replies.{Agrees}
 use Rattle.lk_acceptor.specs.VoteLists.{IsVoteAt, HasVoteFrom, votes_from, votes_above}
 use Rattle.lk_acceptor.proofs.Rising.{first, rising_all, from_is_from}
 

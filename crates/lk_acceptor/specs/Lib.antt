@@ -1,4 +1,4 @@
 pub mod AcceptorValue
 pub mod VoteLists
 pub mod States
-pub mod Answers
+pub mod Replies

@@ -6,7 +6,7 @@ ghost use Rattle.lk_types.specs.Votes.{IsVote};
 ghost use Rattle.lk_types.specs.declared.entry.Entry.TheVariants as entry;
 ghost use Rattle.lk_types.specs.declared.vote.Vote.{Vote as VoteValue};
 ghost use Rattle.lk_agreement_laws.specs.Changes.{with_promise};
-ghost use Rattle.lk_acceptor.specs.Answers.{GrantsPrepare, GrantsAccept, Refuses, AnswersPrepare, AnswersAccept};
+ghost use Rattle.lk_acceptor.specs.Replies.{GrantsPrepare, GrantsAccept, Refuses, RepliesToPrepare, RepliesToAccept};
 ghost use Rattle.lk_acceptor.specs.VoteLists.{HasVoteFrom};
 ghost use Rattle.lk_acceptor.specs.States.{IsOrdered, IsAcceptor, with_vote, without_votes_to, with_state};
 
@@ -202,7 +202,7 @@ impl Acceptor {
         first: Position,
         executed: Executed,
     ) -> Result<Response, NoMemory>
-        ensures answer { IfOk result (λ r. AnswersPrepare self.old executed ballot first r self.new) }
+        ensures reply { IfOk result (λ r. RepliesToPrepare self.old executed ballot first r self.new) }
         ensures err { OnErr result (self.new ≡ self.old) }
         ensures memory { OnErr result (GrantsPrepare self.old ballot first) }
         ensures some { OnErr result (HasVoteFrom first self.old.state.votes) }
@@ -222,7 +222,7 @@ impl Acceptor {
     /// Responds to an Accept of a vote, given how many positions are executed: an Accepted or a Nack. An error changes
     /// nothing.
     pub fn accept(&mut self, vote: Vote, executed: Executed) -> Result<Response, NoMemory>
-        ensures answer { IfOk result (λ r. AnswersAccept self.old executed vote r self.new) }
+        ensures reply { IfOk result (λ r. RepliesToAccept self.old executed vote r self.new) }
         ensures err { OnErr result (self.new ≡ self.old) }
         ensures memory { OnErr result (GrantsAccept self.old executed vote × (Contains self.old.state.votes vote → ⊥)) }
     {

@@ -8,9 +8,9 @@ ghost use Rattle.lk_types.specs.Votes.{are_votes_above};
 ghost use Rattle.lk_agreement_laws.specs.Acceptors.{AcceptorState, Covers, TakesVote, TakesSnapshot};
 ghost use Rattle.lk_agreement_laws.specs.Changes.{with_promise};
 ghost use Rattle.lk_agreement_laws.specs.Datagrams.{Genesis, Datagram};
-ghost use Rattle.lk_agreement_laws.specs.Nodes.{View, MaySend};
+ghost use Rattle.lk_agreement_laws.specs.Nodes.{PaxosState, MaySend};
 ghost use Rattle.lk_acceptor.specs.AcceptorValue.{AcceptorValue};
-ghost use Rattle.lk_acceptor.specs.Answers.{GrantsAccept, AnswersPrepare, AnswersAccept};
+ghost use Rattle.lk_acceptor.specs.Replies.{GrantsAccept, RepliesToPrepare, RepliesToAccept};
 ghost use Rattle.lk_acceptor.specs.States.{IsOrdered, with_vote, without_votes_to, acceptor_with, with_written};
 ghost use Rattle.lk_acceptor.specs.declared.response.Response.{Response};
 
@@ -23,41 +23,41 @@ pub fn votes_are_taken_over()
 {}
 
 /// A node whose acceptor is in the state after the call may send the reply, in every history.
-pub fn an_answer_may_be_sent()
-    ensures prepare { (genesis : Genesis) (sent : List Datagram) (w : View) (a : AcceptorValue) (e : ℕ)
+pub fn a_reply_may_be_sent()
+    ensures prepare { (genesis : Genesis) (sent : List Datagram) (w : PaxosState) (a : AcceptorValue) (e : ℕ)
         (b : BallotValue) (first : ℕ) (r : Response) (new : AcceptorValue)
-        → AnswersPrepare a e b first r new → w.acceptor ≡ new.state → MaySend genesis sent w r.reply }
-    ensures accept { (genesis : Genesis) (sent : List Datagram) (w : View) (a : AcceptorValue) (e : ℕ) (x : Vote)
+        → RepliesToPrepare a e b first r new → w.acceptor ≡ new.state → MaySend genesis sent w r.reply }
+    ensures accept { (genesis : Genesis) (sent : List Datagram) (w : PaxosState) (a : AcceptorValue) (e : ℕ) (x : Vote)
         (r : Response) (new : AcceptorValue)
-        → IsOrdered a.state → AnswersAccept a e x r new → w.acceptor ≡ new.state → MaySend genesis sent w r.reply }
+        → IsOrdered a.state → RepliesToAccept a e x r new → w.acceptor ≡ new.state → MaySend genesis sent w r.reply }
 {}
 
 /// The state after the call covers the reply: it holds what the reply commits the node to.
-pub fn an_answer_is_covered()
+pub fn a_reply_is_covered()
     ensures prepare { (a : AcceptorValue) (e : ℕ) (b : BallotValue) (first : ℕ) (r : Response) (new : AcceptorValue)
-        → AnswersPrepare a e b first r new → Covers new.state r.reply }
+        → RepliesToPrepare a e b first r new → Covers new.state r.reply }
     ensures accept { (a : AcceptorValue) (e : ℕ) (x : Vote) (r : Response) (new : AcceptorValue) → IsOrdered a.state
-        → AnswersAccept a e x r new → Covers new.state r.reply }
+        → RepliesToAccept a e x r new → Covers new.state r.reply }
 {}
 
 /// Applying the response's entry, if there is one, to the state before the call gives the state after it. So a restart
 /// recovers that state from the entries.
 pub fn entries_tell_what_is_held()
     ensures prepare { (a : AcceptorValue) (e : ℕ) (b : BallotValue) (first : ℕ) (r : Response) (new : AcceptorValue)
-        → AnswersPrepare a e b first r new → new.state ≡ with_written r.entry a.state }
+        → RepliesToPrepare a e b first r new → new.state ≡ with_written r.entry a.state }
     ensures accept { (a : AcceptorValue) (e : ℕ) (x : Vote) (r : Response) (new : AcceptorValue) → IsOrdered a.state
-        → AnswersAccept a e x r new → new.state ≡ with_written r.entry a.state }
+        → RepliesToAccept a e x r new → new.state ≡ with_written r.entry a.state }
     ensures own { (s : AcceptorState) (b : BallotValue) → IsBelow s.promised b
         → with_promise s b ≡ acceptor_with (entry.Promise b) s }
 {}
 
 /// The state before the call and the message determine the response, its entry and the state after the call.
-pub fn there_is_one_answer()
+pub fn there_is_one_reply()
     ensures prepare { (a : AcceptorValue) (e : ℕ) (b : BallotValue) (first : ℕ) (r q : Response)
         (new other : AcceptorValue)
-        → AnswersPrepare a e b first r new → AnswersPrepare a e b first q other → (r ≡ q) × (new ≡ other) }
+        → RepliesToPrepare a e b first r new → RepliesToPrepare a e b first q other → (r ≡ q) × (new ≡ other) }
     ensures accept { (a : AcceptorValue) (e : ℕ) (x : Vote) (r q : Response) (new other : AcceptorValue)
-        → AnswersAccept a e x r new → AnswersAccept a e x q other → (r ≡ q) × (new ≡ other) }
+        → RepliesToAccept a e x r new → RepliesToAccept a e x q other → (r ≡ q) × (new ≡ other) }
 {}
 
 /// Votes that rise strictly by position within `n` positions are at most `n`, so they fit into a Promise and into a

@@ -2,7 +2,7 @@
 ghost use Rattle.std.specs.Prelude.{◌≡◌, ◌↔◌, nat_lt, Contains, IsTrue, OnErr, IfOk, MatchOption};
 ghost use Rattle.std.specs.List.{list_all};
 ghost use Rattle.lk_types.specs.declared.vote.Vote.{Vote as VoteValue};
-ghost use Rattle.lk_acceptor.specs.Answers.{Agrees};
+ghost use Rattle.lk_acceptor.specs.Replies.{Agrees};
 ghost use Rattle.lk_store_format.specs.VoteLists.{AreRising};
 ghost use Rattle.lk_acceptor.specs.VoteLists.{IsVoteAt, votes_from, votes_above, HasVoteFrom};
 

@@ -82,7 +82,7 @@ module _ (genesis : Genesis) (sent : List Datagram) (sound : Sound genesis sent)
         → HasSent genesis sent r.node (Accepted (vote i b v)) → w ≡ v
     by_report c earlier w lt j r h voted =
         let p = j.promised r h in
-        let x = sound.answers r.node (record { ballot = c; first = r.first; votes = r.votes })
+        let x = sound.complete r.node (record { ballot = c; first = r.first; votes = r.votes })
         (vote i b v) p.1 voted lt p.0 in
         let y = j.highest x.0 (r, h, x.1) x.2 in
         let q = j.promised y.1.0 y.1.1 in

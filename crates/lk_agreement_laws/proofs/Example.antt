@@ -15,10 +15,10 @@ use Rattle.lk_agreement_laws.specs.Datagrams.{HasSent, WasSent}
 use Rattle.lk_agreement_laws.specs.Chosen.{Command, IsAcceptedIn, Chosen, ChosenAt}
 use Rattle.lk_agreement_laws.specs.Soundness.{ReceivedPromise, IsReported, IsReporter}
 use Rattle.lk_agreement_laws.specs.Acceptors.{AcceptorState, TakesVote}
-use Rattle.lk_agreement_laws.specs.Nodes.{Pair, Term, new_term, View, MayPromise, MaySend, MayPost, MayPostAll}
+use Rattle.lk_agreement_laws.specs.Nodes.{Pair, Term, new_term, PaxosState, MayPromise, MaySend, MayPost, MayPostAll}
 use Rattle.lk_agreement_laws.specs.Changes.{MayPropose, AreAmong, promises, accepts, begins, hears, proposes, learns}
 use Rattle.lk_agreement_laws.specs.Changes.{executes}
-use Rattle.lk_agreement_laws.specs.Worlds.{World, start, with_sent, with_view, sends, changes, Reaches, begin, next}
+use Rattle.lk_agreement_laws.specs.Worlds.{World, start, with_sent, with_paxos, sends, changes, Reaches, begin, next}
 use Rattle.lk_agreement_laws.specs.Worlds.{MembersChange}
 use Rattle.lk_agreement_laws.proofs.Lists.{cons_cases, only}
 
@@ -104,7 +104,7 @@ was_said : (sent : List Datagram) (n : ℕ) (m : NodeMessage) → IsMessage (sai
     → Contains sent (say n m) → WasSent alone sent m
 was_said sent n m fits h = record { sender = n; has_sent = has_said sent n m fits h }
 
-post : (sent : List Datagram) (n : ℕ) (w : View) (m : NodeMessage) → IsMessage (said_by alone n m)
+post : (sent : List Datagram) (n : ℕ) (w : PaxosState) (m : NodeMessage) → IsMessage (said_by alone n m)
     → MaySend alone sent w m → MayPostAll alone sent n w (say n m ∷ [])
 post sent n w m fits may d h =
     subst (λ x. MayPost alone sent n w x) (only (say n m) d h)
@@ -271,52 +271,52 @@ no_pairs pairs p h = absurd (omega (arith, h.1))
 abbrev standing_of : List Vote → AcceptorState
 standing_of votes = record { promised = ballot; votes = votes; snapshot_position = 0 }
 
-abbrev one_view : List Vote → List Command → List Pair → Term → View
-one_view votes done pairs t = record { acceptor = standing_of votes; done = done; pairs = pairs; term = Some t }
+abbrev one_state : List Vote → List Command → List Pair → Term → PaxosState
+one_state votes done pairs t = record { acceptor = standing_of votes; done = done; pairs = pairs; term = Some t }
 
-abbrev two_view : List Vote → View
-two_view votes = record { acceptor = standing_of votes; done = []; pairs = []; term = None }
+abbrev two_state : List Vote → PaxosState
+two_state votes = record { acceptor = standing_of votes; done = []; pairs = []; term = None }
 
 abbrev w1 : World
-w1 = with_view start 1 (one_view [] [] [] (new_term ballot))
+w1 = with_paxos start 1 (one_state [] [] [] (new_term ballot))
 
 reach1 : Reaches alone w1
-reach1 = next begin (changes 1 (one_view [] [] [] (new_term ballot)) (begins ballot refl (inl 0-of-1)))
+reach1 = next begin (changes 1 (one_state [] [] [] (new_term ballot)) (begins ballot refl (inl 0-of-1)))
 
 abbrev w2 : World
 w2 = with_sent w1 (say 1 (Promise (promise_from 1)) ∷ [])
 
 reach2 : Reaches alone w2
 reach2 = next reach1 (sends 1 (say 1 (Promise (promise_from 1)) ∷ [])
-    (post w1.sent 1 (w1.views 1) (Promise (promise_from 1)) one_promises promise_1))
+    (post w1.sent 1 (w1.states 1) (Promise (promise_from 1)) one_promises promise_1))
 
 abbrev w3 : World
-w3 = with_view w2 1 (one_view [] [] [] one_heard)
+w3 = with_paxos w2 1 (one_state [] [] [] one_heard)
 
 reach3 : Reaches alone w3
-reach3 = next reach2 (changes 1 (one_view [] [] [] one_heard)
+reach3 = next reach2 (changes 1 (one_state [] [] [] one_heard)
     (hears (new_term ballot) (report 1 1) refl
     (has_said w2.sent 1 (Promise (promise_from 1)) one_promises (0, 0-of-1, refl))))
 
 abbrev w4 : World
-w4 = with_view w3 1 (one_view [] [] [] first_proposed)
+w4 = with_paxos w3 1 (one_state [] [] [] first_proposed)
 
 reach4 : Reaches alone w4
-reach4 = next reach3 (changes 1 (one_view [] [] [] first_proposed) (proposes one_heard 1 join refl first_choice))
+reach4 = next reach3 (changes 1 (one_state [] [] [] first_proposed) (proposes one_heard 1 join refl first_choice))
 
 abbrev w5 : World
 w5 = with_sent w4 (say 1 (Accept first_vote) ∷ [])
 
 reach5 : Reaches alone w5
 reach5 = next reach4 (sends 1 (say 1 (Accept first_vote) ∷ [])
-    (post w4.sent 1 (w4.views 1) (Accept first_vote) one_proposes_first
+    (post w4.sent 1 (w4.states 1) (Accept first_vote) one_proposes_first
     (first_proposed, refl, refl, (0, 0-of-1, refl))))
 
 abbrev w6 : World
-w6 = with_view w5 1 (one_view (first_vote ∷ []) [] [] first_proposed)
+w6 = with_paxos w5 1 (one_state (first_vote ∷ []) [] [] first_proposed)
 
 reach6 : Reaches alone w6
-reach6 = next reach5 (changes 1 (one_view (first_vote ∷ []) [] [] first_proposed)
+reach6 = next reach5 (changes 1 (one_state (first_vote ∷ []) [] [] first_proposed)
     (accepts first_vote (standing_of (first_vote ∷ [])) (inr refl)
     (was_said w5.sent 1 (Accept first_vote) one_proposes_first (1, 1-of-2, refl)) (takes (standing_of []) first_vote)))
 
@@ -325,48 +325,49 @@ w7 = with_sent w6 (say 1 (Accepted first_vote) ∷ [])
 
 reach7 : Reaches alone w7
 reach7 = next reach6 (sends 1 (say 1 (Accepted first_vote) ∷ [])
-    (post w6.sent 1 (w6.views 1) (Accepted first_vote) one_votes_first (refl, (0, 0-of-1, refl))))
+    (post w6.sent 1 (w6.states 1) (Accepted first_vote) one_votes_first (refl, (0, 0-of-1, refl))))
 
 abbrev w8 : World
-w8 = with_view w7 1 (one_view (first_vote ∷ []) [] ((1, join) ∷ []) first_proposed)
+w8 = with_paxos w7 1 (one_state (first_vote ∷ []) [] ((1, join) ∷ []) first_proposed)
 
 reach8 : Reaches alone w8
 reach8 =
-    next reach7 (changes 1 (one_view (first_vote ∷ []) [] ((1, join) ∷ []) first_proposed) (learns 1 join first_chosen))
+    next reach7 (changes 1 (one_state (first_vote ∷ []) [] ((1, join) ∷ []) first_proposed)
+    (learns 1 join first_chosen))
 
 abbrev w9 : World
-w9 = with_view w8 1 (one_view (first_vote ∷ []) (join ∷ []) [] first_proposed)
+w9 = with_paxos w8 1 (one_state (first_vote ∷ []) (join ∷ []) [] first_proposed)
 
 reach9 : Reaches alone w9
-reach9 = next reach8 (changes 1 (one_view (first_vote ∷ []) (join ∷ []) [] first_proposed)
+reach9 = next reach8 (changes 1 (one_state (first_vote ∷ []) (join ∷ []) [] first_proposed)
     (executes join [] (0, 0-of-1, refl) (no_pairs ((1, join) ∷ []))))
 
 abbrev w10 : World
-w10 = with_view w9 2 (two_view [])
+w10 = with_paxos w9 2 (two_state [])
 
 reach10 : Reaches alone w10
-reach10 = next reach9 (changes 2 (two_view []) (promises ballot (inl (inl 0-of-1))))
+reach10 = next reach9 (changes 2 (two_state []) (promises ballot (inl (inl 0-of-1))))
 
 abbrev w11 : World
 w11 = with_sent w10 (say 2 (Promise (promise_from 2)) ∷ [])
 
 reach11 : Reaches alone w11
 reach11 = next reach10 (sends 2 (say 2 (Promise (promise_from 2)) ∷ [])
-    (post w10.sent 2 (w10.views 2) (Promise (promise_from 2)) two_promises promise_2))
+    (post w10.sent 2 (w10.states 2) (Promise (promise_from 2)) two_promises promise_2))
 
 abbrev w12 : World
-w12 = with_view w11 1 (one_view (first_vote ∷ []) (join ∷ []) [] both_heard)
+w12 = with_paxos w11 1 (one_state (first_vote ∷ []) (join ∷ []) [] both_heard)
 
 reach12 : Reaches alone w12
-reach12 = next reach11 (changes 1 (one_view (first_vote ∷ []) (join ∷ []) [] both_heard)
+reach12 = next reach11 (changes 1 (one_state (first_vote ∷ []) (join ∷ []) [] both_heard)
     (hears first_proposed (report 2 2) refl
     (has_said w11.sent 2 (Promise (promise_from 2)) two_promises (3, 3-of-4, refl))))
 
 abbrev w13 : World
-w13 = with_view w12 1 (one_view (first_vote ∷ []) (join ∷ []) [] second_proposed)
+w13 = with_paxos w12 1 (one_state (first_vote ∷ []) (join ∷ []) [] second_proposed)
 
 reach13 : Reaches alone w13
-reach13 = next reach12 (changes 1 (one_view (first_vote ∷ []) (join ∷ []) [] second_proposed)
+reach13 = next reach12 (changes 1 (one_state (first_vote ∷ []) (join ∷ []) [] second_proposed)
     (proposes both_heard 2 Noop refl second_choice))
 
 abbrev w14 : World
@@ -374,14 +375,14 @@ w14 = with_sent w13 (say 1 (Accept second_vote) ∷ [])
 
 reach14 : Reaches alone w14
 reach14 = next reach13 (sends 1 (say 1 (Accept second_vote) ∷ [])
-    (post w13.sent 1 (w13.views 1) (Accept second_vote) one_proposes_second
+    (post w13.sent 1 (w13.states 1) (Accept second_vote) one_proposes_second
     (second_proposed, refl, refl, (1, 1-of-2, refl))))
 
 abbrev w15 : World
-w15 = with_view w14 1 (one_view (first_vote ∷ second_vote ∷ []) (join ∷ []) [] second_proposed)
+w15 = with_paxos w14 1 (one_state (first_vote ∷ second_vote ∷ []) (join ∷ []) [] second_proposed)
 
 reach15 : Reaches alone w15
-reach15 = next reach14 (changes 1 (one_view (first_vote ∷ second_vote ∷ []) (join ∷ []) [] second_proposed)
+reach15 = next reach14 (changes 1 (one_state (first_vote ∷ second_vote ∷ []) (join ∷ []) [] second_proposed)
     (accepts second_vote (standing_of (first_vote ∷ second_vote ∷ [])) (inr refl)
     (was_said w14.sent 1 (Accept second_vote) one_proposes_second (4, 4-of-5, refl))
     (takes (standing_of (first_vote ∷ [])) second_vote)))
@@ -391,13 +392,13 @@ w16 = with_sent w15 (say 1 (Accepted second_vote) ∷ [])
 
 reach16 : Reaches alone w16
 reach16 = next reach15 (sends 1 (say 1 (Accepted second_vote) ∷ [])
-    (post w15.sent 1 (w15.views 1) (Accepted second_vote) one_votes_second (refl, (1, 1-of-2, refl))))
+    (post w15.sent 1 (w15.states 1) (Accepted second_vote) one_votes_second (refl, (1, 1-of-2, refl))))
 
 abbrev w17 : World
-w17 = with_view w16 2 (two_view (second_vote ∷ []))
+w17 = with_paxos w16 2 (two_state (second_vote ∷ []))
 
 reach17 : Reaches alone w17
-reach17 = next reach16 (changes 2 (two_view (second_vote ∷ []))
+reach17 = next reach16 (changes 2 (two_state (second_vote ∷ []))
     (accepts second_vote (standing_of (second_vote ∷ [])) (inr refl)
     (was_said w16.sent 1 (Accept second_vote) one_proposes_second (4, 4-of-6, refl))
     (takes (standing_of []) second_vote)))
@@ -407,7 +408,7 @@ w18 = with_sent w17 (say 2 (Accepted second_vote) ∷ [])
 
 reach18 : Reaches alone w18
 reach18 = next reach17 (sends 2 (say 2 (Accepted second_vote) ∷ [])
-    (post w17.sent 2 (w17.views 2) (Accepted second_vote) two_votes_second (refl, (0, 0-of-1, refl))))
+    (post w17.sent 2 (w17.states 2) (Accepted second_vote) two_votes_second (refl, (0, 0-of-1, refl))))
 
 abbrev pub last : World
 last = w18

@@ -8,7 +8,7 @@ use Rattle.lk_agreement_laws.specs.Ballots.{BallotValue}
 use Rattle.lk_agreement_laws.specs.Datagrams.{NodeMessage, Datagram, Accept, HasSent, WasSent}
 use Rattle.lk_agreement_laws.specs.Chosen.{Command, command_at, IsAcceptedIn, Chosen, ChosenAt, AreChosenFrom}
 use Rattle.lk_agreement_laws.specs.Soundness.{Justified, Sound}
-use Rattle.lk_agreement_laws.specs.Nodes.{View, Stems}
+use Rattle.lk_agreement_laws.specs.Nodes.{PaxosState, Stems}
 use Rattle.lk_agreement_laws.proofs.Agree.{at_same_place, command_within}
 
 module _ (genesis : Genesis) (sent new : List Datagram) where
@@ -59,7 +59,7 @@ module _ (genesis : Genesis) (sent new : List Datagram) where
     highest = j.highest;
   }
 
-  pub still_stems : (w : View) → Stems genesis sent w → Stems genesis (sent ++ new) w
+  pub still_stems : (w : PaxosState) → Stems genesis sent w → Stems genesis (sent ++ new) w
   still_stems w f = record {
     votes = λ x c. let p = f.votes x c in (still_was (Accept x) p.0, p.1);
     done = still_chosen w.done f.done;

@@ -7,9 +7,9 @@ pub use Rattle.lk_agreement_laws.proofs.Ranges.{chosen_was_accepted, chosen_at_f
 pub use Rattle.lk_agreement_laws.proofs.Grow.{still_sent, still_was, still_chosen, still_chosen_at, still_chosen_from}
 pub use Rattle.lk_agreement_laws.proofs.Grow.{still_stems, chosen_push, chosen_take}
 pub use Rattle.lk_agreement_laws.proofs.VoteLists.{pushed_takes_vote, filtered_takes_snapshot, filtered_may_promise}
-pub use Rattle.lk_agreement_laws.proofs.Views.{change_fits, changes_fit, restart_fits, accepted_is_chosen}
+pub use Rattle.lk_agreement_laws.proofs.ChangeLaws.{change_fits, changes_fit, restart_fits, accepted_is_chosen}
 pub use Rattle.lk_agreement_laws.proofs.Runs.{start_fits, covers_both, batch_fits, covers_elsewhere, asked_fits}
-pub use Rattle.lk_agreement_laws.proofs.Runs.{with_view_fits, kept_by_majority}
+pub use Rattle.lk_agreement_laws.proofs.Runs.{with_paxos_fits, kept_by_majority}
 pub use Rattle.lk_agreement_laws.proofs.Slices.{same_length_same, slices_join, whole_slice, still_slice}
 pub use Rattle.lk_agreement_laws.proofs.Slices.{beginning_slice}
 pub use Rattle.lk_agreement_laws.proofs.Lists.{cons_cases, contains_more, filter_from, filter_passes_at, only}

@@ -5,7 +5,7 @@ mod Ranges
 mod Grow
 mod Signed
 mod Sends
-mod Views
+mod ChangeLaws
 mod Runs
 mod VoteLists
 mod Slices

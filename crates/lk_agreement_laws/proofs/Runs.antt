@@ -10,15 +10,15 @@ use Rattle.lk_agreement_laws.specs.Datagrams.{WasSent}
 use Rattle.lk_agreement_laws.specs.Chosen.{Command, command_at, IsAcceptedIn, Chosen}
 use Rattle.lk_agreement_laws.specs.Soundness.{Sound}
 use Rattle.lk_agreement_laws.specs.Acceptors.{AcceptorState, Covers, CoversSent}
-use Rattle.lk_agreement_laws.specs.Nodes.{View, fresh, Stems, ViewFits, MaySend, MayPostAll}
+use Rattle.lk_agreement_laws.specs.Nodes.{PaxosState, fresh, Stems, PaxosFits, MaySend, MayPostAll}
 use Rattle.lk_agreement_laws.specs.Changes.{Becomes}
-use Rattle.lk_agreement_laws.specs.Worlds.{World, start, with_sent, with_view, IsClientRequest, Happens, sends, asks}
+use Rattle.lk_agreement_laws.specs.Worlds.{World, start, with_sent, with_paxos, IsClientRequest, Happens, sends, asks}
 use Rattle.lk_agreement_laws.specs.Worlds.{changes, Reaches, begin, next, WorldFits, HoldsCommand, IsKept}
 use Rattle.lk_agreement_laws.proofs.Lists.{entry_at, only}
 use Rattle.lk_agreement_laws.proofs.Agree.{vote, command_within, entry_chosen, one_chosen, later_value_in}
 use Rattle.lk_agreement_laws.proofs.Signed.{said_alike, asked_is_no_saying, sent_cases}
 use Rattle.lk_agreement_laws.proofs.Sends.{sound_after, fits_after}
-use Rattle.lk_agreement_laws.proofs.Views.{change_fits, changes_fit}
+use Rattle.lk_agreement_laws.proofs.ChangeLaws.{change_fits, changes_fit}
 
 nothing_sent : (genesis : Genesis) (n : ℕ) (m : NodeMessage) → HasSent genesis [] n m → ⊥
 nothing_sent genesis n m h = omega (arith, h.listed.1)
@@ -48,11 +48,11 @@ start_fits genesis = record {
     owned = λ n x p. absurd (nothing_sent genesis n _ p);
     proposed = λ n x p. absurd (nothing_sent genesis n _ p);
     reported = λ n p h. absurd (nothing_sent genesis n _ h);
-    answers = λ n p x h. absurd (nothing_sent genesis n _ h);
+    complete = λ n p x h. absurd (nothing_sent genesis n _ h);
     justified = λ x h. absurd (nothing_was genesis _ h);
     told = λ n d h. absurd (nothing_sent genesis n _ h);
   };
-  views = λ n. record {
+  states = λ n. record {
     covers = λ m h. absurd (nothing_sent genesis n m h);
     stems = fresh_stems genesis;
     term = λ t at. absurd (cc at);
@@ -67,15 +67,15 @@ covers_both genesis sent batch n s before now m h =
 
 -- a batch that a node may send
 module _ (genesis : Genesis) (w : World) (n : ℕ) (batch : List Datagram)
-    (may : MayPostAll genesis w.sent n (w.views n) batch) where
+    (may : MayPostAll genesis w.sent n (w.states n) batch) where
   batch_says : (k : ℕ) (m : NodeMessage) (d : Datagram) → Contains batch d → Spells (said_by genesis k m) d.bytes
-      → (n ≡ k) × MaySend genesis w.sent (w.views k) m
+      → (n ≡ k) × MaySend genesis w.sent (w.states k) m
   batch_says k m d h s =
       let p = may d h in
       let e = said_alike genesis n k p.message m d.bytes p.spelled s in (
         e.0,
-        subst (λ j. MaySend genesis w.sent (w.views j) m) e.0
-            (subst (λ x. MaySend genesis w.sent (w.views n) x) e.1 p.may),
+        subst (λ j. MaySend genesis w.sent (w.states j) m) e.0
+            (subst (λ x. MaySend genesis w.sent (w.states n) x) e.1 p.may),
       )
 
   batch_signed : (d : Datagram) → Contains batch d → (k : ℕ) (m : NodeMessage)
@@ -83,14 +83,14 @@ module _ (genesis : Genesis) (w : World) (n : ℕ) (batch : List Datagram)
   batch_signed d h k m s = (may d h).from ∙ ap party.Node (batch_says k m d h s).0
 
   batch_cases : (k : ℕ) (m : NodeMessage) → HasSent genesis (w.sent ++ batch) k m
-      → HasSent genesis w.sent k m ⊎ ((n ≡ k) × MaySend genesis w.sent (w.views k) m)
+      → HasSent genesis w.sent k m ⊎ ((n ≡ k) × MaySend genesis w.sent (w.states k) m)
   batch_cases k m h = elim (sent_cases genesis w.sent batch k m h)
       [ inl old ↦ inl old | inr now ↦ inr (batch_says k m now.datagram now.listed now.spelled) ]
 
   pub batch_fits : WorldFits genesis w → WorldFits genesis (with_sent w batch)
   batch_fits f = record {
-    sound = sound_after genesis w.sent batch w.views f.sound f.views batch_signed n batch_cases;
-    views = fits_after genesis w.sent batch w.views f.sound f.views batch_signed n batch_cases;
+    sound = sound_after genesis w.sent batch w.states f.sound f.states batch_signed n batch_cases;
+    states = fits_after genesis w.sent batch w.states f.sound f.states batch_signed n batch_cases;
   }
 
   -- the images of other nodes go on covering
@@ -104,8 +104,8 @@ module _ (genesis : Genesis) (w : World) (n : ℕ) (batch : List Datagram)
 pub asked_fits : (genesis : Genesis) (w : World) (d : Datagram) → WorldFits genesis w → IsClientRequest d
     → WorldFits genesis (with_sent w (d ∷ []))
 asked_fits genesis w d f a = record {
-  sound = sound_after genesis w.sent (d ∷ []) w.views f.sound f.views signed 0 cases;
-  views = fits_after genesis w.sent (d ∷ []) w.views f.sound f.views signed 0 cases;
+  sound = sound_after genesis w.sent (d ∷ []) w.states f.sound f.states signed 0 cases;
+  states = fits_after genesis w.sent (d ∷ []) w.states f.sound f.states signed 0 cases;
 }
   where
     silent : (x : Datagram) → Contains (d ∷ []) x → (k : ℕ) (m : NodeMessage) → Spells (said_by genesis k m) x.bytes → ⊥
@@ -117,29 +117,29 @@ asked_fits genesis w d f a = record {
     signed x h k m s = absurd (silent x h k m s)
 
     cases : (k : ℕ) (m : NodeMessage) → HasSent genesis (w.sent ++ d ∷ []) k m
-        → HasSent genesis w.sent k m ⊎ ((0 ≡ k) × MaySend genesis w.sent (w.views k) m)
+        → HasSent genesis w.sent k m ⊎ ((0 ≡ k) × MaySend genesis w.sent (w.states k) m)
     cases k m h = elim (sent_cases genesis w.sent (d ∷ []) k m h)
         [ inl old ↦ inl old | inr now ↦ absurd (silent now.datagram now.listed k m now.spelled) ]
 
 -- another state of one node, which fits
-pub with_view_fits : (genesis : Genesis) (w : World) (n : ℕ) (new : View) → WorldFits genesis w
-    → ViewFits genesis w.sent n new → WorldFits genesis (with_view w n new)
-with_view_fits genesis w n new f g = record { sound = f.sound; views = λ k. at k (k == n) refl }
+pub with_paxos_fits : (genesis : Genesis) (w : World) (n : ℕ) (new : PaxosState) → WorldFits genesis w
+    → PaxosFits genesis w.sent n new → WorldFits genesis (with_paxos w n new)
+with_paxos_fits genesis w n new f g = record { sound = f.sound; states = λ k. at k (k == n) refl }
   where
-    at : (k : ℕ) (t : Bool) → (k == n) ≡ t → ViewFits genesis w.sent k (cond t new (w.views k))
-    at k true e = subst (λ j. ViewFits genesis w.sent j new) (sym (eqb-true k n e)) g
-    at k false e = f.views k
+    at : (k : ℕ) (t : Bool) → (k == n) ≡ t → PaxosFits genesis w.sent k (cond t new (w.states k))
+    at k true e = subst (λ j. PaxosFits genesis w.sent j new) (sym (eqb-true k n e)) g
+    at k false e = f.states k
 
-pub becomes_fits : (genesis : Genesis) (w : World) (n : ℕ) (new : View) → WorldFits genesis w
-    → Becomes genesis w.sent n (w.views n) new → WorldFits genesis (with_view w n new)
+pub becomes_fits : (genesis : Genesis) (w : World) (n : ℕ) (new : PaxosState) → WorldFits genesis w
+    → Becomes genesis w.sent n (w.states n) new → WorldFits genesis (with_paxos w n new)
 becomes_fits genesis w n new f b =
-    with_view_fits genesis w n new f (changes_fit genesis w.sent f.sound n (w.views n) new (f.views n) b)
+    with_paxos_fits genesis w n new f (changes_fit genesis w.sent f.sound n (w.states n) new (f.states n) b)
 
 happens_fits : (genesis : Genesis) (w w' : World) → WorldFits genesis w → Happens genesis w w' → WorldFits genesis w'
 happens_fits genesis w w' f (sends n batch may) = batch_fits genesis w n batch may f
 happens_fits genesis w w' f (asks d a) = asked_fits genesis w d f a
 happens_fits genesis w w' f (changes n new c) =
-    with_view_fits genesis w n new f (change_fits genesis w.sent f.sound n (w.views n) new (f.views n) c)
+    with_paxos_fits genesis w n new f (change_fits genesis w.sent f.sound n (w.states n) new (f.states n) c)
 
 pub reaches_fits : (genesis : Genesis) (w : World) → Reaches genesis w → WorldFits genesis w
 reaches_fits genesis w begin = start_fits genesis
@@ -153,7 +153,7 @@ command_there L K (suc k) v at le = entry_at K k (omega arith)
 -- a majority keeps each command of a chosen list
 module _ (genesis : Genesis) (sent : List Datagram) (sound : Sound genesis sent) (L : List Command)
     (chosen : Chosen genesis sent L) (i : ℕ) (v : Command) (at : command_at L i ≡ Some v) where
-  in_snapshot : (state : View) → Stems genesis sent state → i ≤ state.acceptor.snapshot_position
+  in_snapshot : (state : PaxosState) → Stems genesis sent state → i ≤ state.acceptor.snapshot_position
       → command_at state.done i ≡ Some v
   in_snapshot state s under =
       let u = command_there L state.done i v at (omega (arith, s.snapshot)) in
@@ -170,7 +170,7 @@ module _ (genesis : Genesis) (sent : List Datagram) (sound : Sound genesis sent)
       later_value_in genesis sent sound i L chosen
       (omega (arith, command_within L i v at)) b v a x.ballot x.command lt now
 
-  holds : (state : View) (b : BallotValue) → Stems genesis sent state
+  holds : (state : PaxosState) (b : BallotValue) → Stems genesis sent state
       → IsAcceptedIn genesis sent (members genesis L i) b i v
       → Covers state.acceptor (Accepted (vote i b v)) → HoldsCommand state i v
   holds state b s a c =
@@ -196,7 +196,7 @@ module _ (genesis : Genesis) (sent : List Datagram) (sound : Sound genesis sent)
 -- so do the nodes of a world, as they are
 pub kept_in_world : (genesis : Genesis) (w : World) → WorldFits genesis w → (L : List Command)
     → Chosen genesis w.sent L → (i : ℕ) (v : Command) → command_at L i ≡ Some v
-    → IsKept genesis w.sent L i v (λ n state. state ≡ w.views n)
+    → IsKept genesis w.sent L i v (λ n state. state ≡ w.states n)
 kept_in_world genesis w f L chosen i v at =
     let k = kept_by_majority genesis w.sent f.sound L chosen i v at in
     record {
@@ -205,5 +205,5 @@ kept_in_world genesis w f L chosen i v at =
       majority = k.majority;
       accepted = k.accepted;
       held = λ n h state is. subst (λ s. HoldsCommand s i v) (sym is)
-          (k.held n h (w.views n) ((f.views n).covers, (f.views n).stems));
+          (k.held n h (w.states n) ((f.states n).covers, (f.states n).stems));
     }

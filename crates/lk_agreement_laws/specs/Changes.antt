@@ -7,7 +7,7 @@ use Rattle.lk_agreement_laws.specs.Datagrams.{Genesis, Vote, Datagram, Accept, A
 use Rattle.lk_agreement_laws.specs.Chosen.{Command, Chosen, ChosenAt}
 use Rattle.lk_agreement_laws.specs.Soundness.{ReceivedPromise, WasPromised, IsReported, IsReporter}
 use Rattle.lk_agreement_laws.specs.Acceptors.{AcceptorState, CoversSent, TakesVote, TakesSnapshot}
-use Rattle.lk_agreement_laws.specs.Nodes.{Pair, Acceptance, Term, new_term, View, Stems}
+use Rattle.lk_agreement_laws.specs.Nodes.{Pair, Acceptance, Term, new_term, PaxosState, Stems}
 
 -- why a term may propose the command at the position: it has proposed nothing there, a majority of the members that the
 -- executed list names has promised, and no vote that they report at the position is above one for the command
@@ -29,13 +29,13 @@ AreAmong rest pairs = (p : Pair) → Contains rest p → Contains pairs p
 abbrev pub with_promise : AcceptorState → BallotValue → AcceptorState
 with_promise s b = record { promised = b; votes = s.votes; snapshot_position = s.snapshot_position }
 
-abbrev pub view_with : View → AcceptorState → View
-view_with w s = record { acceptor = s; done = w.done; pairs = w.pairs; term = w.term }
+abbrev pub holding_acceptor : PaxosState → AcceptorState → PaxosState
+holding_acceptor w s = record { acceptor = s; done = w.done; pairs = w.pairs; term = w.term }
 
-abbrev pub view_in : View → Option Term → View
-view_in w t = record { acceptor = w.acceptor; done = w.done; pairs = w.pairs; term = t }
+abbrev pub in_term : PaxosState → Option Term → PaxosState
+in_term w t = record { acceptor = w.acceptor; done = w.done; pairs = w.pairs; term = t }
 
-abbrev pub with_done : View → List Command → List Pair → View
+abbrev pub with_done : PaxosState → List Command → List Pair → PaxosState
 with_done w done pairs = record { acceptor = w.acceptor; done = done; pairs = pairs; term = w.term }
 
 abbrev pub with_report : Term → ReceivedPromise → Term
@@ -51,51 +51,51 @@ with_acceptance t a =
     record { ballot = t.ballot; reports = t.reports; proposals = t.proposals; accepted = t.accepted ++ a ∷ [] }
 
 -- one change of a node, given what was sent so far
-pub data Changes (genesis : Genesis) (sent : List Datagram) (n : ℕ) : View → View → Type 0 where
+pub data Changes (genesis : Genesis) (sent : List Datagram) (n : ℕ) : PaxosState → PaxosState → Type 0 where
   -- it promises a ballot that is not below the promised one
-  promises : {old : View} (b : BallotValue) → IsAtMost old.acceptor.promised b
-      → Changes genesis sent n old (view_with old (with_promise old.acceptor b))
+  promises : {old : PaxosState} (b : BallotValue) → IsAtMost old.acceptor.promised b
+      → Changes genesis sent n old (holding_acceptor old (with_promise old.acceptor b))
   -- it votes for what was proposed, in a ballot that is not below the promised one
-  accepts : {old : View} (x : Vote) (s : AcceptorState) → IsAtMost old.acceptor.promised x.ballot
+  accepts : {old : PaxosState} (x : Vote) (s : AcceptorState) → IsAtMost old.acceptor.promised x.ballot
       → WasSent genesis sent (Accept x) → TakesVote old.acceptor x s
-      → Changes genesis sent n old (view_with old s)
+      → Changes genesis sent n old (holding_acceptor old s)
   -- it writes a snapshot of what it has executed
-  packs : {old : View} (i : ℕ) (s : AcceptorState) → i ≤ length old.done → TakesSnapshot old.acceptor i s
-      → Changes genesis sent n old (view_with old s)
+  packs : {old : PaxosState} (i : ℕ) (s : AcceptorState) → i ≤ length old.done → TakesSnapshot old.acceptor i s
+      → Changes genesis sent n old (holding_acceptor old s)
   -- it begins a ballot of its own, above all that it promised
-  begins : {old : View} (b : BallotValue) → b.node ≡ n → IsBelow old.acceptor.promised b
-      → Changes genesis sent n old (view_in (view_with old (with_promise old.acceptor b)) (Some (new_term b)))
+  begins : {old : PaxosState} (b : BallotValue) → b.node ≡ n → IsBelow old.acceptor.promised b
+      → Changes genesis sent n old (in_term (holding_acceptor old (with_promise old.acceptor b)) (Some (new_term b)))
   -- it hears a promise of its ballot
-  hears : {old : View} (t : Term) (r : ReceivedPromise) → old.term ≡ Some t → WasPromised genesis sent t.ballot r
-      → Changes genesis sent n old (view_in old (Some (with_report t r)))
+  hears : {old : PaxosState} (t : Term) (r : ReceivedPromise) → old.term ≡ Some t → WasPromised genesis sent t.ballot r
+      → Changes genesis sent n old (in_term old (Some (with_report t r)))
   -- it proposes
-  proposes : {old : View} (t : Term) (i : ℕ) (v : Command) → old.term ≡ Some t → MayPropose genesis old.done t i v
-      → Changes genesis sent n old (view_in old (Some (with_proposal t (i, v))))
+  proposes : {old : PaxosState} (t : Term) (i : ℕ) (v : Command) → old.term ≡ Some t → MayPropose genesis old.done t i v
+      → Changes genesis sent n old (in_term old (Some (with_proposal t (i, v))))
   -- it counts a vote for it
-  counts : {old : View} (t : Term) (a : Acceptance) → old.term ≡ Some t
+  counts : {old : PaxosState} (t : Term) (a : Acceptance) → old.term ≡ Some t
       → HasSent genesis sent a.node
       (Accepted (record { position = a.position; ballot = t.ballot; command = a.command }))
-      → Changes genesis sent n old (view_in old (Some (with_acceptance t a)))
+      → Changes genesis sent n old (in_term old (Some (with_acceptance t a)))
   -- its term ends
-  leaves : {old : View} → Changes genesis sent n old (view_in old None)
+  leaves : {old : PaxosState} → Changes genesis sent n old (in_term old None)
   -- it learns what is chosen at a position
-  learns : {old : View} (i : ℕ) (v : Command) → ChosenAt genesis sent i v
+  learns : {old : PaxosState} (i : ℕ) (v : Command) → ChosenAt genesis sent i v
       → Changes genesis sent n old (with_done old old.done (old.pairs ++ (i, v) ∷ []))
   -- it executes the command that it learned of the next position
-  executes : {old : View} (v : Command) (rest : List Pair) → Contains old.pairs (suc (length old.done), v)
+  executes : {old : PaxosState} (v : Command) (rest : List Pair) → Contains old.pairs (suc (length old.done), v)
       → AreAmong rest old.pairs
       → Changes genesis sent n old (with_done old (old.done ++ v ∷ []) rest)
   -- it installs a snapshot of a chosen list, which reaches as far as its own
-  installs : {old : View} (L : List Command) (rest : List Pair) → Chosen genesis sent L
+  installs : {old : PaxosState} (L : List Command) (rest : List Pair) → Chosen genesis sent L
       → old.acceptor.snapshot_position ≤ length L → AreAmong rest old.pairs
       → Changes genesis sent n old (with_done old L rest)
   -- it stops, and restarts from an image of its disk that covers everything it has sent, and stems from what was sent
-  restarts : {old : View} (image : View) → CoversSent genesis sent n image.acceptor
+  restarts : {old : PaxosState} (image : PaxosState) → CoversSent genesis sent n image.acceptor
       → Stems genesis sent image → image.term ≡ None
       → Changes genesis sent n old image
 
 -- any number of changes, one after another
-pub data Becomes (genesis : Genesis) (sent : List Datagram) (n : ℕ) (old : View) : View → Type 0 where
+pub data Becomes (genesis : Genesis) (sent : List Datagram) (n : ℕ) (old : PaxosState) : PaxosState → Type 0 where
   stays : Becomes genesis sent n old old
-  goes_on : {mid new : View} → Becomes genesis sent n old mid → Changes genesis sent n mid new
+  goes_on : {mid new : PaxosState} → Becomes genesis sent n old mid → Changes genesis sent n mid new
       → Becomes genesis sent n old new

@@ -32,14 +32,14 @@ abbrev pub new_term : BallotValue → Term
 new_term b = record { ballot = b; reports = []; proposals = []; accepted = [] }
 
 -- an acceptor's state, the commands that were executed, decided commands of later positions, and the term, if any
-pub record View : Type 0 where
+pub record PaxosState : Type 0 where
   pub acceptor : AcceptorState
   pub done : List Command
   pub pairs : List Pair
   pub term : Option Term
 
 -- nothing promised, voted for or executed
-abbrev pub fresh : View
+abbrev pub fresh : PaxosState
 fresh = record {
   acceptor = record { promised = zero_ballot; votes = []; snapshot_position = 0 };
   done = [];
@@ -64,14 +64,14 @@ pub record TermFits (genesis : Genesis) (sent : List Datagram) (n : ℕ) (s : Ac
   pub justified : (i : ℕ) (v : Command) → Contains t.proposals (i, v) → Justified genesis sent t.ballot i v
 
 -- everything that the node holds stems from what was sent
-pub record Stems (genesis : Genesis) (sent : List Datagram) (w : View) : Type 0 where
+pub record Stems (genesis : Genesis) (sent : List Datagram) (w : PaxosState) : Type 0 where
   pub votes : AreProposed genesis sent w.acceptor
   pub done : Chosen genesis sent w.done
   -- what the snapshot replaced was executed
   pub snapshot : w.acceptor.snapshot_position ≤ length w.done
   pub pairs : (i : ℕ) (v : Command) → Contains w.pairs (i, v) → ChosenAt genesis sent i v
 
-pub record ViewFits (genesis : Genesis) (sent : List Datagram) (n : ℕ) (w : View) : Type 0 where
+pub record PaxosFits (genesis : Genesis) (sent : List Datagram) (n : ℕ) (w : PaxosState) : Type 0 where
   pub covers : CoversSent genesis sent n w.acceptor
   pub stems : Stems genesis sent w
   pub term : (t : Term) → w.term ≡ Some t → TermFits genesis sent n w.acceptor t
@@ -86,7 +86,7 @@ pub record MayPromise (s : AcceptorState) (p : PromiseValue) : Type 0 where
   pub only : (x : Vote) → Contains p.votes x → Contains s.votes x
 
 -- the message is one that the node may send in its present state
-abbrev pub MaySend : Genesis → List Datagram → View → NodeMessage → Type 0
+abbrev pub MaySend : Genesis → List Datagram → PaxosState → NodeMessage → Type 0
 MaySend genesis sent w (Prepare b first) = IsAtMost b w.acceptor.promised
 MaySend genesis sent w (Promise p) = MayPromise w.acceptor p
 MaySend genesis sent w (Accept x) =
@@ -96,12 +96,12 @@ MaySend genesis sent w (Decided d) = AreChosenFrom genesis sent d.first d.comman
 MaySend genesis sent w _ = Unit {0}
 
 -- the datagram is the node's, and spells such a message
-pub record MayPost (genesis : Genesis) (sent : List Datagram) (n : ℕ) (w : View) (d : Datagram) : Type 0 where
+pub record MayPost (genesis : Genesis) (sent : List Datagram) (n : ℕ) (w : PaxosState) (d : Datagram) : Type 0 where
   pub message : NodeMessage
   pub from : d.from ≡ party.Node n
   pub spelled : Spells (said_by genesis n message) d.bytes
   pub may : MaySend genesis sent w message
 
 -- each of them is
-abbrev pub MayPostAll : Genesis → List Datagram → ℕ → View → List Datagram → Type 0
+abbrev pub MayPostAll : Genesis → List Datagram → ℕ → PaxosState → List Datagram → Type 0
 MayPostAll genesis sent n w batch = (d : Datagram) → Contains batch d → MayPost genesis sent n w d

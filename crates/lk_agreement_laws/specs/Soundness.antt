@@ -67,7 +67,7 @@ pub record Sound (genesis : Genesis) (sent : List Datagram) : Type 0 where
   pub reported : (n : ℕ) (p : PromiseValue) → HasSent genesis sent n (Promise p)
       → (x : Vote) → Contains p.votes x → WasSent genesis sent (Accept x) × IsAtMost x.ballot p.ballot
   -- a promise reports, at each position from its first on, each vote of its node in an earlier ballot, or one above it
-  pub answers : (n : ℕ) (p : PromiseValue) (x : Vote) → HasSent genesis sent n (Promise p)
+  pub complete : (n : ℕ) (p : PromiseValue) (x : Vote) → HasSent genesis sent n (Promise p)
       → HasSent genesis sent n (Accepted x)
       → IsBelow x.ballot p.ballot → p.first ≤ x.position → ReportsFrom p.votes x.position x.ballot
   -- what is proposed is justified

@@ -10,24 +10,24 @@ use Rattle.lk_agreement_laws.specs.Ballots.{BallotValue}
 use Rattle.lk_agreement_laws.specs.Datagrams.{Genesis, Vote, Datagram, Accepted, HasSent}
 use Rattle.lk_agreement_laws.specs.Chosen.{Command, command_at, Chosen}
 use Rattle.lk_agreement_laws.specs.Soundness.{Sound}
-use Rattle.lk_agreement_laws.specs.Nodes.{View, fresh, ViewFits, MayPostAll}
+use Rattle.lk_agreement_laws.specs.Nodes.{PaxosState, fresh, PaxosFits, MayPostAll}
 use Rattle.lk_agreement_laws.specs.Changes.{Changes}
 
 pub record World : Type 0 where
   pub sent : List Datagram
-  pub views : ℕ → View
+  pub states : ℕ → PaxosState
 
 -- nothing was sent, and each node is fresh
 abbrev pub start : World
-start = record { sent = []; views = λ n. fresh }
+start = record { sent = []; states = λ n. fresh }
 
 -- the world where these datagrams were sent too
 abbrev pub with_sent : World → List Datagram → World
-with_sent w batch = record { sent = w.sent ++ batch; views = w.views }
+with_sent w batch = record { sent = w.sent ++ batch; states = w.states }
 
 -- the world where one node is in another state
-abbrev pub with_view : World → ℕ → View → World
-with_view w n new = record { sent = w.sent; views = λ k. if k == n then new else w.views k }
+abbrev pub with_paxos : World → ℕ → PaxosState → World
+with_paxos w n new = record { sent = w.sent; states = λ k. if k == n then new else w.states k }
 
 -- the datagram is a client's request
 pub record IsClientRequest (d : Datagram) : Type 0 where
@@ -40,12 +40,12 @@ pub record IsClientRequest (d : Datagram) : Type 0 where
 -- a node sends some datagrams, each of which it may send; a client asks; or a node changes. Who hears what was sent,
 -- how often and when, is part of the changes
 pub data Happens (genesis : Genesis) : World → World → Type 0 where
-  sends : {w : World} (n : ℕ) (batch : List Datagram) → MayPostAll genesis w.sent n (w.views n) batch
+  sends : {w : World} (n : ℕ) (batch : List Datagram) → MayPostAll genesis w.sent n (w.states n) batch
       → Happens genesis w (with_sent w batch)
   asks : {w : World} (d : Datagram) → IsClientRequest d
       → Happens genesis w (with_sent w (d ∷ []))
-  changes : {w : World} (n : ℕ) (new : View) → Changes genesis w.sent n (w.views n) new
-      → Happens genesis w (with_view w n new)
+  changes : {w : World} (n : ℕ) (new : PaxosState) → Changes genesis w.sent n (w.states n) new
+      → Happens genesis w (with_paxos w n new)
 
 -- the reachable worlds
 pub data Reaches (genesis : Genesis) : World → Type 0 where
@@ -55,10 +55,10 @@ pub data Reaches (genesis : Genesis) : World → Type 0 where
 -- what holds of each of them: the history is sound, and each node fits it
 pub record WorldFits (genesis : Genesis) (w : World) : Type 0 where
   pub sound : Sound genesis w.sent
-  pub views : (n : ℕ) → ViewFits genesis w.sent n (w.views n)
+  pub states : (n : ℕ) → PaxosFits genesis w.sent n (w.states n)
 
 -- the state holds the command at the position: in its snapshot, or as its vote
-abbrev pub HoldsCommand : View → ℕ → Command → Type 0
+abbrev pub HoldsCommand : PaxosState → ℕ → Command → Type 0
 HoldsCommand state i v =
     ((i ≤ state.acceptor.snapshot_position) × (command_at state.done i ≡ Some v))
     ⊎ ((x : Vote) × Contains state.acceptor.votes x × (x.position ≡ i) × (x.command ≡ v))
@@ -66,13 +66,13 @@ HoldsCommand state i v =
 -- a majority of the members that the list names for the position has accepted the command there, and holds it in each
 -- possible state of its nodes
 pub record IsKept (genesis : Genesis) (sent : List Datagram) (L : List Command) (i : ℕ) (v : Command)
-    (may_be : ℕ → View → Type 0) : Type 0 where
+    (may_be : ℕ → PaxosState → Type 0) : Type 0 where
   pub ballot : BallotValue
   pub nodes : List ℕ
   pub majority : IsMajority nodes (members genesis L i)
   pub accepted : (n : ℕ) → Contains nodes n
       → HasSent genesis sent n (Accepted (record { position = i; ballot = ballot; command = v }))
-  pub held : (n : ℕ) → Contains nodes n → (state : View) → may_be n state → HoldsCommand state i v
+  pub held : (n : ℕ) → Contains nodes n → (state : PaxosState) → may_be n state → HoldsCommand state i v
 
 -- there are such worlds, and members change in them: a reachable world, and a list of two commands that is chosen in
 -- it. Node 1 alone decides the first, which makes node 2 a member; both decide the second

@@ -13,10 +13,10 @@ ghost use Rattle.lk_agreement_laws.specs.Datagrams.{Genesis, Vote, Datagram, Nod
 ghost use Rattle.lk_agreement_laws.specs.Chosen.{Command, command_at, Chosen, ChosenAt, IsBeginning};
 ghost use Rattle.lk_agreement_laws.specs.Soundness.{Sound};
 ghost use Rattle.lk_agreement_laws.specs.Acceptors.{AcceptorState, CoversSent, TakesVote, TakesSnapshot};
-ghost use Rattle.lk_agreement_laws.specs.Nodes.{Term, View, Stems, ViewFits, MayPromise, MayPostAll};
-ghost use Rattle.lk_agreement_laws.specs.Changes.{view_in, Changes, Becomes};
+ghost use Rattle.lk_agreement_laws.specs.Nodes.{Term, PaxosState, Stems, PaxosFits, MayPromise, MayPostAll};
+ghost use Rattle.lk_agreement_laws.specs.Changes.{in_term, Changes, Becomes};
 ghost use Rattle.lk_agreement_laws.specs.Snapshots.{IsSlice};
-ghost use Rattle.lk_agreement_laws.specs.Worlds.{World, start, with_sent, with_view, IsClientRequest, Reaches};
+ghost use Rattle.lk_agreement_laws.specs.Worlds.{World, start, with_sent, with_paxos, IsClientRequest, Reaches};
 ghost use Rattle.lk_agreement_laws.specs.Worlds.{WorldFits};
 ghost use Rattle.lk_agreement_laws.specs.Worlds.{IsKept, MembersChange};
 
@@ -59,9 +59,9 @@ pub fn chosen_commands_are_kept()
 
 /// What a majority of the members that the executed list names has accepted in a term is chosen.
 pub fn what_a_majority_accepted_is_chosen()
-    ensures { (genesis : Genesis) (sent : List Datagram) (n : ℕ) (w : View) (t : Term) (i : ℕ)
+    ensures { (genesis : Genesis) (sent : List Datagram) (n : ℕ) (w : PaxosState) (t : Term) (i : ℕ)
         (v : Command) (nodes : List ℕ)
-        → ViewFits genesis sent n w → w.term ≡ Some t → i ≤ length w.done + genesis.alpha
+        → PaxosFits genesis sent n w → w.term ≡ Some t → i ≤ length w.done + genesis.alpha
         → IsMajority nodes (members genesis w.done i)
         → ((k : ℕ) → Contains nodes k → Contains t.accepted (record { node = k; position = i; command = v }))
         → ChosenAt genesis sent i v }
@@ -90,25 +90,25 @@ pub fn the_start_fits()
     ensures { (genesis : Genesis) → WorldFits genesis start }
 {}
 
-/// A node that fits what was sent still fits it after any changes. The law needs this node's view alone, so a node
+/// A node that fits what was sent still fits it after any changes. The law needs this node's state alone, so a node
 /// that knows of no other can establish it.
 pub fn changes_keep_the_node()
-    ensures { (genesis : Genesis) (sent : List Datagram) (n : ℕ) (old new : View) → Sound genesis sent
-        → ViewFits genesis sent n old
-        → Becomes genesis sent n old new → ViewFits genesis sent n new }
+    ensures { (genesis : Genesis) (sent : List Datagram) (n : ℕ) (old new : PaxosState) → Sound genesis sent
+        → PaxosFits genesis sent n old
+        → Becomes genesis sent n old new → PaxosFits genesis sent n new }
 {}
 
 /// A change within a node leaves the history sound and every node fitting.
 pub fn changes_keep_the_world()
-    ensures { (genesis : Genesis) (w : World) (n : ℕ) (new : View) → WorldFits genesis w
-        → Becomes genesis w.sent n (w.views n) new → WorldFits genesis (with_view w n new) }
+    ensures { (genesis : Genesis) (w : World) (n : ℕ) (new : PaxosState) → WorldFits genesis w
+        → Becomes genesis w.sent n (w.states n) new → WorldFits genesis (with_paxos w n new) }
 {}
 
 /// Whatever a node is permitted to send in its present state, and a client's request, leave the history sound and every
 /// node fitting.
 pub fn sends_keep_the_world()
     ensures node { (genesis : Genesis) (w : World) (n : ℕ) (batch : List Datagram) → WorldFits genesis w
-        → MayPostAll genesis w.sent n (w.views n) batch → WorldFits genesis (with_sent w batch) }
+        → MayPostAll genesis w.sent n (w.states n) batch → WorldFits genesis (with_sent w batch) }
     ensures client { (genesis : Genesis) (w : World) (d : Datagram) → WorldFits genesis w
         → IsClientRequest d → WorldFits genesis (with_sent w (d ∷ [])) }
 {}
@@ -116,22 +116,22 @@ pub fn sends_keep_the_world()
 /// A restart from any image that covers what its node has sent and stems from what was sent leaves the history sound
 /// and every node fitting.
 pub fn restarts_keep_the_world()
-    ensures { (genesis : Genesis) (w : World) (n : ℕ) (image : View) → WorldFits genesis w
+    ensures { (genesis : Genesis) (w : World) (n : ℕ) (image : PaxosState) → WorldFits genesis w
         → CoversSent genesis w.sent n image.acceptor → Stems genesis w.sent image → image.term ≡ None
-        → WorldFits genesis (with_view w n image) }
+        → WorldFits genesis (with_paxos w n image) }
 {}
 
 /// An image that covers what its node has sent, and what it sends next, covers both together. So if each call syncs
 /// before it sends, every image still covers its node's messages. What other nodes send changes nothing for an image
 /// (`others`), and what an image holds still stems from what was sent.
 pub fn images_go_on_covering()
-    ensures own { (genesis : Genesis) (sent batch : List Datagram) (n : ℕ) (image : View)
+    ensures own { (genesis : Genesis) (sent batch : List Datagram) (n : ℕ) (image : PaxosState)
         → CoversSent genesis sent n image.acceptor → CoversSent genesis batch n image.acceptor
         → CoversSent genesis (sent ++ batch) n image.acceptor }
-    ensures others { (genesis : Genesis) (w : World) (n k : ℕ) (batch : List Datagram) (image : View)
-        → MayPostAll genesis w.sent n (w.views n) batch → (n ≡ k → ⊥)
+    ensures others { (genesis : Genesis) (w : World) (n k : ℕ) (batch : List Datagram) (image : PaxosState)
+        → MayPostAll genesis w.sent n (w.states n) batch → (n ≡ k → ⊥)
         → CoversSent genesis w.sent k image.acceptor → CoversSent genesis (w.sent ++ batch) k image.acceptor }
-    ensures stems { (genesis : Genesis) (sent new : List Datagram) (image : View)
+    ensures stems { (genesis : Genesis) (sent new : List Datagram) (image : PaxosState)
         → Stems genesis sent image → Stems genesis (sent ++ new) image }
 {}
 
@@ -176,16 +176,16 @@ pub fn slices_join()
 pub fn worlds_come_about()
     ensures begins { (genesis : Genesis) → Reaches genesis start }
     ensures sends { (genesis : Genesis) (w : World) (n : ℕ) (batch : List Datagram) → Reaches genesis w
-        → MayPostAll genesis w.sent n (w.views n) batch → Reaches genesis (with_sent w batch) }
+        → MayPostAll genesis w.sent n (w.states n) batch → Reaches genesis (with_sent w batch) }
     ensures asks { (genesis : Genesis) (w : World) (d : Datagram) → Reaches genesis w
         → IsClientRequest d → Reaches genesis (with_sent w (d ∷ [])) }
-    ensures changes { (genesis : Genesis) (w : World) (n : ℕ) (new : View) → Reaches genesis w
-        → Changes genesis w.sent n (w.views n) new → Reaches genesis (with_view w n new) }
-    ensures restarts { (genesis : Genesis) (w : World) (n : ℕ) (image : View) → Reaches genesis w
+    ensures changes { (genesis : Genesis) (w : World) (n : ℕ) (new : PaxosState) → Reaches genesis w
+        → Changes genesis w.sent n (w.states n) new → Reaches genesis (with_paxos w n new) }
+    ensures restarts { (genesis : Genesis) (w : World) (n : ℕ) (image : PaxosState) → Reaches genesis w
         → CoversSent genesis w.sent n image.acceptor → Stems genesis w.sent image → image.term ≡ None
-        → Reaches genesis (with_view w n image) }
+        → Reaches genesis (with_paxos w n image) }
     ensures leaves { (genesis : Genesis) (w : World) (n : ℕ) → Reaches genesis w
-        → Reaches genesis (with_view w n (view_in (w.views n) None)) }
+        → Reaches genesis (with_paxos w n (in_term (w.states n) None)) }
 {}
 
 /// In every reachable world chosen lists agree, and a majority keeps each command of a chosen list.
@@ -195,7 +195,7 @@ pub fn every_world_agrees()
         → Chosen genesis w.sent L → Chosen genesis w.sent K → IsBeginning L K ⊎ IsBeginning K L }
     ensures kept { (genesis : Genesis) (w : World) (L : List Command) (i : ℕ) (v : Command) → Reaches genesis w
         → Chosen genesis w.sent L → command_at L i ≡ Some v
-        → IsKept genesis w.sent L i v (λ n state. state ≡ w.views n) }
+        → IsKept genesis w.sent L i v (λ n state. state ≡ w.states n) }
 {}
 
 /// The laws are not vacuous: some world is reachable in which members change. Node 1 alone decides the first command of

@@ -17,8 +17,8 @@ use Rattle.lk_agreement_laws.proofs.Histories.{cons_cases, contains_more, filter
 use Rattle.lk_node_interface.specs.declared.note.Note.{Note}
 use Rattle.lk_node_interface.specs.declared.note.Note.TheVariants as note
 use Rattle.lk_client.specs.declared.question.Question.{Question}
-use Rattle.lk_guarantees.specs.Promise.{is_reply, AreReplies, nothing_more, an_answer, a_pass, no_reply, is_told}
-use Rattle.lk_guarantees.specs.Promise.{AreTold}
+use Rattle.lk_guarantees.specs.Guarantee.{is_reply, AreReplies, nothing_more, an_answer, a_pass, no_reply, is_told}
+use Rattle.lk_guarantees.specs.Guarantee.{AreTold}
 use Rattle.lk_cluster_theorems.specs.Asking.{Tells, MayReach, HasAnswer}
 
 abbrev noted_as : ℕ → Answered → Note

@@ -20,7 +20,7 @@ use Rattle.lk_replica.specs.ReplicaValue.{ReplicaValue}
 use Rattle.lk_server.specs.Servers.{ServerValue}
 use Rattle.lk_sim_nodes.specs.declared.seat.Life.{Life}
 use Rattle.lk_sim_nodes.specs.declared.seat.Life.TheVariants.{Up, Down}
-use Rattle.lk_guarantees.specs.Promise.{KeepsPromise, MayRemain, MayRemainOf, Remembers, IsCovered, Says}
+use Rattle.lk_guarantees.specs.Guarantee.{MeetsGuarantee, MayRemain, MayRemainOf, Remembers, IsCovered, Says}
 use Rattle.lk_cluster_theorems.specs.Clusters.{Node, Cluster, life_of, seat_of, scene_of}
 use Rattle.lk_cluster_theorems.specs.Forgetting.{HasEmptyDisks, MustBeRemembered}
 use Rattle.lk_cluster_theorems.proofs.Keeping.{in_map}
@@ -75,7 +75,7 @@ forgotten memory (message.Accepted x) must fits none covered =
     not_below_all x.ballot memory.promised fits.1 none covered.0
 forgotten memory _ must fits none covered = must
 
-pub not_forgotten : (c : Cluster) → KeepsPromise (scene_of c) → (node : Node) → Contains c.seats node
+pub not_forgotten : (c : Cluster) → MeetsGuarantee (scene_of c) → (node : Node) → Contains c.seats node
     → (m : NodeMessage) → MustBeRemembered m → HasSent c.genesis c.sent node.number m → HasEmptyDisks node.life → ⊥
 not_forgotten c keeps node here m must sent empty =
     let x = keeps.covered (seat_of node) (in_map seat_of c.seats node here) no_bytes (remain node.life empty) in

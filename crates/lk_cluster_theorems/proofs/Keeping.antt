@@ -230,11 +230,11 @@ module _ (old : Cluster) (w : IsSound old) where
       old.sent old.trace
   with_replica place node at server other was =
       let h = happened old.genesis old.sent old.trace in
-      let v = w.holds.views node.number in
+      let v = w.holds.states node.number in
       let q : ServerValue ReplicaValue = record other { replica = server.replica } in
       let f = (w.holds.seated place node at).up server was in
       let fits : UpFits ServerStands server_disks table_meaning h v node.number q =
-      record { holding = f.holding; view = f.view; shown = f.shown; fits = f.fits; left = f.left; room = f.room } in
+      record { holding = f.holding; paxos = f.paxos; shown = f.shown; fits = f.fits; left = f.left; room = f.room } in
       went_down ServerStands server_disks table_meaning old.genesis old.seats old.sent old.trace w.holds place node
       (record { number = node.number; life = Up q }) at refl (record {
         up = λ p up. subst (λ (z : ServerValue ReplicaValue). UpFits ServerStands server_disks table_meaning h v

@@ -7,7 +7,7 @@ use Rattle.lk_disk.specs.declared.device.Side.{Side}
 use Rattle.lk_disk.specs.declared.device.Side.TheVariants.{A, B}
 use Rattle.lk_locks.specs.Meaning.{table_meaning}
 use Rattle.lk_log.specs.StoreValue.{StoreValue, disks}
-use Rattle.lk_agreement_laws.specs.Nodes.{View}
+use Rattle.lk_agreement_laws.specs.Nodes.{PaxosState}
 use Rattle.lk_node_interface.specs.declared.note.Note.{Note}
 use Rattle.lk_node.specs.Histories.{History, Genesis, Datagram}
 use Rattle.lk_node.specs.Holdings.{Holding}
@@ -55,12 +55,12 @@ ReplicaStands r genesis n x = ReplicaHolds table_meaning r.node r.store genesis 
 abbrev pub replica_disks : ReplicaValue → Side → Disk
 replica_disks r = disk_of (device_of r.store)
 
-module _ (h : History) (v : View) where
+module _ (h : History) (v : PaxosState) where
   up_fits : (n : ℕ) (q : ServerValue ReplicaValue) → UpFits ServerStands server_disks table_meaning h v n q
       → UpFits ReplicaStands replica_disks table_meaning h v n q.replica
   up_fits n q u = record {
     holding = u.holding;
-    view = u.view;
+    paxos = u.paxos;
     shown = u.shown;
     fits = u.fits;
     left = on_device (λ d. DisksFit table_meaning h n d) q.replica.store u.left;
@@ -98,12 +98,12 @@ pub mapped : (genesis : Genesis) (seats : List Node) (sent : List Datagram) (tra
     → WorldInvariant ServerStands server_disks table_meaning genesis seats sent trace
     → WorldInvariant ReplicaStands replica_disks table_meaning genesis (map seat_of seats) sent trace
 mapped genesis seats sent trace w = record {
-  views = w.views;
+  states = w.states;
   world = w.world;
   seated = λ k s c. let a = at_map seat_of seats k s c in
       subst (λ (z : Seat ReplicaValue). SeatFits ReplicaStands replica_disks table_meaning
-      (happened genesis sent trace) (w.views z.number) z) (sym a.2)
-      (seat_fits (happened genesis sent trace) (w.views a.0.number) a.0 (w.seated k a.0 a.1));
+      (happened genesis sent trace) (w.states z.number) z) (sym a.2)
+      (seat_fits (happened genesis sent trace) (w.states a.0.number) a.0 (w.seated k a.0 a.1));
   apart = λ i j s t c d same.
       let a = at_map seat_of seats i s c in
       let b = at_map seat_of seats j t d in

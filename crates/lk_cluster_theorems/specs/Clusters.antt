@@ -42,7 +42,7 @@ Node = Seat (ServerValue ReplicaValue)
 abbrev pub Cluster : Type 0
 Cluster = Scene (ServerValue ReplicaValue)
 
--- the same life, node and cluster with the replica of each server in its place: the promise is stated for these
+-- the same life, node and cluster with the replica of each server in its place: the guarantee is stated for these
 abbrev pub life_of : Life (ServerValue ReplicaValue) → Life ReplicaValue
 life_of (Up s) = Up s.replica
 life_of (Down d) = Down d

@@ -8,7 +8,7 @@ ghost use Rattle.lk_sim.specs.Scenes.{Scene};
 ghost use Rattle.lk_client.specs.Rules.{SendsOnly};
 ghost use Rattle.lk_client.specs.declared.question.Question.{Question};
 ghost use Rattle.lk_guarantees.specs.ExactlyOnce.{FollowsRule};
-ghost use Rattle.lk_guarantees.specs.Promise.{KeepsPromise};
+ghost use Rattle.lk_guarantees.specs.Guarantee.{MeetsGuarantee};
 ghost use Rattle.lk_cluster_theorems.specs.Asking.{AreRuns, HasAnswer, MayAsk, MayReach, OnlyRunAsks, Run, Tells};
 ghost use Rattle.lk_cluster_theorems.specs.Asking.{notes_of};
 
@@ -30,7 +30,7 @@ pub fn runs_follow_the_rule()
 /// The answer that a run returns was given to its request by a node, if what reaches the client is not forged. So the
 /// next run may ask.
 pub fn a_run_returns_a_given_answer()
-    ensures { (world : Scene ReplicaValue) → KeepsPromise world → (q : Question) → q.cluster ≡ world.genesis.cluster
+    ensures { (world : Scene ReplicaValue) → MeetsGuarantee world → (q : Question) → q.cluster ≡ world.genesis.cluster
         → (d : SocketAddr × List ℕ) (answer : Answer) → Tells q d answer → MayReach world.genesis world.sent q d
         → HasAnswer world.trace q.request answer }
 {}

@@ -1,4 +1,5 @@
-//! Laws: a cluster of processes keeps the promise, and whatever a node does leads from a reachable cluster to another.
+//! Laws: a cluster of processes meets the guarantee, and whatever a node does leads from a reachable cluster to
+//! another.
 //! The body of a law calls the laws that its proof uses.
 ghost use Rattle.std.specs.Prelude.{◌≡◌, ◌≢◌, ℕ, true, false, Option, Some, List, [], Contains};
 ghost use Rattle.std.specs.declared.net.socket_addr.SocketAddr.{SocketAddr};
@@ -27,7 +28,7 @@ ghost use Rattle.lk_guarantees.specs.ComingBack.{IsExcused};
 ghost use Rattle.lk_guarantees.specs.Converging.{Converges};
 ghost use Rattle.lk_guarantees.specs.ExactlyOnce.{AreServedOnce};
 ghost use Rattle.lk_guarantees.specs.Linear.{IsLinearizable};
-ghost use Rattle.lk_guarantees.specs.Promise.{KeepsPromise};
+ghost use Rattle.lk_guarantees.specs.Guarantee.{MeetsGuarantee};
 ghost use Rattle.lk_cluster_theorems.specs.Clusters.{Node, Cluster, IsReachable, ForgesNothing, IsBegun, Says};
 ghost use Rattle.lk_cluster_theorems.specs.Clusters.{scene_of};
 ghost use Rattle.lk_cluster_theorems.specs.Clusters.{server_disks};
@@ -51,11 +52,11 @@ use lk_server::laws::is_told_by_a_node;
 use lk_transport::socket::DatagramSocket;
 
 /// Whatever the servers of a cluster do, one after another in any order, and whatever arrives over a network that
-/// forges nothing: the promise holds of everything that they send, of what happens, and of their disks. So the
-/// processes that people run keep the promise of a world of replicas (after IronFleet: Hawblitzel et al., 2015).
-pub fn a_cluster_keeps_the_promise<D: LogDisk, S: DatagramSocket>()
+/// forges nothing: the guarantee holds of everything that they send, of what happens, and of their disks. So the
+/// processes that people run meet the guarantee of a world of replicas (after IronFleet: Hawblitzel et al., 2015).
+pub fn a_cluster_meets_the_guarantee<D: LogDisk, S: DatagramSocket>()
     ensures { (genesis : GenesisValue) (cluster : Cluster)
-        → IsReachable ForgesNothing D.is_metered S.is_observable genesis cluster → KeepsPromise (scene_of cluster) }
+        → IsReachable ForgesNothing D.is_metered S.is_observable genesis cluster → MeetsGuarantee (scene_of cluster) }
 {}
 
 /// The history that clients of such a cluster see is linearizable (Herlihy and Wing, 1990).
@@ -64,7 +65,7 @@ pub fn a_cluster_is_linearizable<D: LogDisk, S: DatagramSocket>()
         → IsReachable ForgesNothing D.is_metered S.is_observable genesis cluster
         → IsLinearizable cluster.genesis cluster.trace }
 {
-    a_cluster_keeps_the_promise::<D, S>();
+    a_cluster_meets_the_guarantee::<D, S>();
     worlds_are_linearizable();
 }
 
@@ -74,7 +75,7 @@ pub fn a_cluster_serves_exactly_once<D: LogDisk, S: DatagramSocket>()
         → IsReachable ForgesNothing D.is_metered S.is_observable genesis cluster
         → AreServedOnce cluster.genesis cluster.sent cluster.trace }
 {
-    a_cluster_keeps_the_promise::<D, S>();
+    a_cluster_meets_the_guarantee::<D, S>();
     operations_take_effect_exactly_once();
 }
 
@@ -83,7 +84,7 @@ pub fn a_cluster_converges<D: LogDisk, S: DatagramSocket>()
     ensures { (genesis : GenesisValue) (cluster : Cluster)
         → IsReachable ForgesNothing D.is_metered S.is_observable genesis cluster → Converges (scene_of cluster) }
 {
-    a_cluster_keeps_the_promise::<D, S>();
+    a_cluster_meets_the_guarantee::<D, S>();
     nodes_converge();
 }
 
@@ -109,13 +110,13 @@ pub fn a_sealed_cluster_forges_nothing<D: LogDisk, S: DatagramSocket>()
     is_told_by_a_node();
 }
 
-/// So a cluster whose nodes share such a key keeps the promise.
-pub fn a_sealed_cluster_keeps_the_promise<D: LogDisk, S: DatagramSocket>()
+/// So a cluster whose nodes share such a key meets the guarantee.
+pub fn a_sealed_cluster_meets_the_guarantee<D: LogDisk, S: DatagramSocket>()
     ensures { (genesis : GenesisValue) (cluster : Cluster)
-        → IsReachable IsSealed D.is_metered S.is_observable genesis cluster → KeepsPromise (scene_of cluster) }
+        → IsReachable IsSealed D.is_metered S.is_observable genesis cluster → MeetsGuarantee (scene_of cluster) }
 {
     a_sealed_cluster_forges_nothing::<D, S>();
-    a_cluster_keeps_the_promise::<D, S>();
+    a_cluster_meets_the_guarantee::<D, S>();
 }
 
 /// A server that starts from the disks of a node continues its cluster: the cluster in which that node is up is
@@ -271,5 +272,5 @@ pub fn no_node_forgets<D: LogDisk, S: DatagramSocket>()
         → (m : NodeMessage) → MustBeRemembered m → HasSent cluster.genesis cluster.sent node.number m
         → HasEmptyDisks node.life → ⊥ }
 {
-    a_cluster_keeps_the_promise::<D, S>();
+    a_cluster_meets_the_guarantee::<D, S>();
 }

@@ -1,4 +1,4 @@
-//! Theorems about clusters: nodes of the lock table that run as processes keep the promises of a simulated world. It
+//! Theorems about clusters: nodes of the lock table that run as processes meet the guarantee of a simulated world. It
 //! also proves that the program runs such a node.
 #![tactic(auto)]
 

@@ -1,4 +1,4 @@
--- The clauses of a world, in the words of the promise.
+-- The clauses of a world, in the words of the guarantee.
 use Rattle.std.proofs.Common.{◌≡◌, ℕ, suc, ◌+◌, ◌-◌, true, List, take, refl, ap, sym, ◌∙◌, arith}
 use Rattle.std.specs.List.{list_all}
 use Rattle.lk_types.specs.declared.genesis.Genesis.{Genesis}
@@ -23,8 +23,8 @@ use Rattle.lk_replica.specs.Together.{ComesToAll}
 use Rattle.lk_sim.specs.Events.{IsExecuted}
 use Rattle.lk_sim.specs.Events as doing
 use Rattle.lk_sim.specs.Packed.{LeavesPacked}
-use Rattle.lk_sim.specs.Promises.{Promises}
-use Rattle.lk_sim.specs.Promises as world
+use Rattle.lk_sim.specs.Guarantees.{WorldGuarantee}
+use Rattle.lk_sim.specs.Guarantees as world
 use Rattle.lk_sim.specs.Runs.{Runs}
 use Rattle.lk_sim.specs.Scenes.{Scene}
 use Rattle.lk_sim_nodes.specs.Seats.{At}
@@ -38,17 +38,17 @@ use Rattle.lk_guarantees.proofs.Doing.{is_done, refused, runs}
 use Rattle.lk_guarantees.proofs.Executing.{has_executed, is_part}
 use Rattle.lk_guarantees.proofs.Keeping.{has_snapshots, compacted, kept, covered, short}
 use Rattle.lk_guarantees.proofs.Telling.{told}
-use Rattle.lk_guarantees.specs.Promise as promise
+use Rattle.lk_guarantees.specs.Guarantee as guarantee
 use Rattle.lk_guarantees.specs.Plain.{at, TakesEffectAt}
 use Rattle.lk_guarantees.specs.Events.{Compacts, IsDone, IsRefused, IsRun}
-use Rattle.lk_guarantees.specs.Promise.{IsChosen, IsExplained, IsOrdered, HaveExecuted, HaveSnapshots, KeepsPromise}
+use Rattle.lk_guarantees.specs.Guarantee.{IsChosen, IsExplained, IsOrdered, HaveExecuted, HaveSnapshots, MeetsGuarantee}
 use Rattle.lk_guarantees.proofs.Effects.{leaves}
 use Rattle.lk_guarantees.proofs.Quorums.{agreed, at_is, members_are, has_sent, is_chosen, chosen_is}
 use Rattle.lk_guarantees.proofs.Explaining.{stands_at, all_fit, answered}
 
 module _ (genesis : Genesis) (sent : List Datagram) (trace : List Note) where
   explains : (L : List Command) → Chosen genesis sent L → Explains table_meaning genesis sent trace L
-      → promise.Explains genesis sent trace L
+      → guarantee.Explains genesis sent trace L
   explains L chosen x =
       let fit = all_fit genesis sent L chosen in
       record {
@@ -117,7 +117,7 @@ snapshots : (genesis : Genesis) (seats : List (Seat ReplicaValue)) (sent : List 
 snapshots genesis seats sent all s here = has_snapshots genesis sent s (all here.0 s (here.1, here.2))
 
 used_once : (genesis : Genesis) (sent : List Datagram) → world.UsesBallotsOnce genesis sent
-    → promise.UsesBallotsOnce genesis sent
+    → guarantee.UsesBallotsOnce genesis sent
 used_once genesis sent u = record {
   own = λ n x says. u.own n x (has_sent genesis sent n (message.Accept x) says);
   once = λ n k i b v w says said.
@@ -125,10 +125,10 @@ used_once genesis sent u = record {
       (record { sender = k; has_sent = has_sent genesis sent k _ said });
 }
 
--- what a world promises is the promise
-pub promised : (w : Scene ReplicaValue)
-    → Promises locks_behave (λ r. r.node.learner.whole) table_meaning w → KeepsPromise w
-promised w p = record {
+-- what is guaranteed of a world is the guarantee
+pub guaranteed : (w : Scene ReplicaValue)
+    → WorldGuarantee locks_behave (λ r. r.node.learner.whole) table_meaning w → MeetsGuarantee w
+guaranteed w p = record {
   explained = explained w.genesis w.sent w.trace p.explained;
   agree = agreed w.genesis w.sent p.agree;
   ballots = used_once w.genesis w.sent p.ballots;

@@ -14,7 +14,7 @@ use Rattle.lk_state.specs.declared.session.Session.{Session}
 use Rattle.lk_guarantees.specs.Converging.{Converges}
 use Rattle.lk_guarantees.specs.Disks.{kept_text}
 use Rattle.lk_guarantees.specs.Plain.{after, at, serve, IsAnswered, Kept, IsKeptOf}
-use Rattle.lk_guarantees.specs.Promise.{IsChosen, IsPrefix, kept_by_replica, KeepsPromise}
+use Rattle.lk_guarantees.specs.Guarantee.{IsChosen, IsPrefix, kept_by_replica, MeetsGuarantee}
 use Rattle.lk_guarantees.proofs.Once.{once}
 use Rattle.lk_guarantees.proofs.Placing.{placed}
 use Rattle.lk_guarantees.proofs.Rising.{Rise}
@@ -174,7 +174,7 @@ module _ (genesis : Genesis) (L : List Command) where
       ∙ ap (λ l. kept j.executed j.incoming j.greatest j.changed j.sessions l) locks
 
 -- chosen lists of one length are one
-module _ (world : Scene ReplicaValue) (p : KeepsPromise world) where
+module _ (world : Scene ReplicaValue) (p : MeetsGuarantee world) where
   one_list : (K L : List Command) → IsChosen world.genesis world.sent K → IsChosen world.genesis world.sent L
       → length K ≡ length L → K ≡ L
   one_list K L k l e = elim (p.agree K L k l) [

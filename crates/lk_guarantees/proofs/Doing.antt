@@ -1,4 +1,4 @@
--- What events do, in the words of the promise.
+-- What events do, in the words of the guarantee.
 use Rattle.std.proofs.Common.{◌≡◌, ℕ, zero, suc, ◌⊎◌, List, [], ◌∷◌, ◌++◌, map, take, set, Option, Some, None, Result}
 use Rattle.std.proofs.Common.{refl, sym, ap, ◌∙◌, inl, inr, append-nil, arith}
 use Rattle.std.proofs.lemmas.List.Elements.{filter_map-append}
@@ -45,7 +45,7 @@ use Rattle.lk_sim_nodes.specs.declared.seat.Life.TheVariants.{Up, Down}
 use Rattle.lk_guarantees.proofs.Falling.{leaves_down}
 use Rattle.lk_guarantees.proofs.Refusing.{none_started, has_cause, leaves_up, takes_as_told}
 use Rattle.lk_guarantees.proofs.Reviving.{same_seat, stands_at, restarts_as_told}
-use Rattle.lk_guarantees.specs.Events as promise
+use Rattle.lk_guarantees.specs.Events as guarantee
 use Rattle.lk_guarantees.specs.Events.{asked_of, requests, AreAskedIn, AreAskedBy, IsFor, ChangesOnly, FallsDown}
 use Rattle.lk_guarantees.specs.Events.{SendsAsAsked, IsStopped, StopsAsAsked, IsSilent}
 
@@ -263,10 +263,10 @@ module _ (b : Behaviour ReplicaValue) where
   brings_adds old new (event.FailAt n count) k = record { notes = []; batch = []; adds = k.adds }
   brings_adds old new (event.Arm n count bytes) k = record { notes = []; batch = []; adds = k.adds }
 
-  grown : (old new : Scene ReplicaValue) → Adding old new → promise.Grows old new
+  grown : (old new : Scene ReplicaValue) → Adding old new → guarantee.Grows old new
   grown old new a = ((a.batch, a.adds.sent), (a.notes, a.adds.trace), a.adds.genesis)
 
-  done_grows : (old new : Scene ReplicaValue) (e : Event) → IsExecuted b old e new → promise.Grows old new
+  done_grows : (old new : Scene ReplicaValue) (e : Event) → IsExecuted b old e new → guarantee.Grows old new
   done_grows old new e d = grown old new (brings_adds old new e d.1)
 
   -- ---- what was asked
@@ -364,7 +364,7 @@ module _ (b : Behaviour ReplicaValue) where
       elim k [ inl same ↦ inl (same_seats old new same.1) | inr wants ↦ wants_falls old new e wants.2 ]
 
   is_refused : (old new : Scene ReplicaValue) (e : Event) (r : Refused) → IsRefused b old e r new
-      → promise.IsRefused old e r new
+      → guarantee.IsRefused old e r new
   is_refused old new e r k =
       let adds = refused_adds old new e r k in
       record {
@@ -436,7 +436,7 @@ module _ (b : Behaviour ReplicaValue) (memory_is : (r : ReplicaValue) → b.memo
   silent old new (event.FailAt n count) k = adds_nothing old new k.adds
   silent old new (event.Arm n count bytes) k = adds_nothing old new k.adds
 
-  pub is_done : (old new : Scene ReplicaValue) (e : Event) → IsExecuted b old e new → promise.IsDone old e new
+  pub is_done : (old new : Scene ReplicaValue) (e : Event) → IsExecuted b old e new → guarantee.IsDone old e new
   is_done old new e d = record {
     asked = brings_asks b old new e d.1;
     only = brings_only b old new e d.0 d.1;
@@ -451,22 +451,22 @@ module _ (b : Behaviour ReplicaValue) (memory_is : (r : ReplicaValue) → b.memo
   }
 
   pub refused : (old new : Scene ReplicaValue) (e : Event) (r : Refused) → IsRefused b old e r new
-      → promise.IsRefused old e r new
+      → guarantee.IsRefused old e r new
   refused old new e r k = is_refused b old new e r k
 
   -- ---- a run
 
-  all_done : (es : List Event) (old new : Scene ReplicaValue) → Passes b es old new → promise.AreDone es old new
+  all_done : (es : List Event) (old new : Scene ReplicaValue) → Passes b es old new → guarantee.AreDone es old new
   all_done [] old new p = p
   all_done (e ∷ es) old new p = (p.0, is_done old p.0 e p.1, all_done es p.0 new p.2)
 
   ends : (events : List Event) (done : ℕ) (o : Option Refused) (last new : Scene ReplicaValue)
-      → StopsAt b events done o last new → promise.EndsSo events done o last new
+      → StopsAt b events done o last new → guarantee.EndsSo events done o last new
   ends events done None last new s = s
   ends events done (Some r) last new s = (s.0, s.1, refused last new s.0 r s.2)
 
   pub runs : (old : Scene ReplicaValue) (events : List Event) (how : RunEnd) (new : Scene ReplicaValue)
-      → Runs b old events how new → promise.IsRun old events how new
+      → Runs b old events how new → guarantee.IsRun old events how new
   runs old events how new r =
       record {
         last = r.last;

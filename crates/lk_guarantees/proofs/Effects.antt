@@ -1,4 +1,4 @@
--- What a list leaves, in the words of the promise and in those of the crates below: the same.
+-- What a list leaves, in the words of the guarantee and in those of the crates below: the same.
 use Rattle.std.proofs.Common.{◌≡◌, ℕ, ◌+◌, Bool, true, false, cond, eqb, ltb, leb, ◌&&◌, List, [], ◌∷◌, ◌++◌, length}
 use Rattle.std.proofs.Common.{length-append, refl, ap, subst, sym, ◌∙◌, inl, inr, arith}
 use Rattle.std.specs.List.{list_all}

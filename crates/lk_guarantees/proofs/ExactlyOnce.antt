@@ -14,7 +14,7 @@ use Rattle.lk_node_interface.specs.declared.note.Note.{Note}
 use Rattle.lk_node_interface.specs.declared.note.Note.TheVariants as note
 use Rattle.lk_guarantees.specs.ExactlyOnce.{Asks, WasAnswered, AsksAfter, FollowsRule, IsServedOnce, AreServedOnce}
 use Rattle.lk_guarantees.specs.Plain.{after, serve, TakesEffectAt}
-use Rattle.lk_guarantees.specs.Promise.{Explains, IsExplained, AreToldInTime}
+use Rattle.lk_guarantees.specs.Guarantee.{Explains, IsExplained, AreToldInTime}
 use Rattle.lk_guarantees.proofs.Once.{once, smaller_first}
 use Rattle.lk_guarantees.proofs.Placing.{placed}
 

@@ -1,4 +1,4 @@
--- What the nodes have executed, in the words of the promise.
+-- What the nodes have executed, in the words of the guarantee.
 use Rattle.std.proofs.Common.{◌≡◌, ℕ, zero, suc, ◌+◌, ◌≤◌, true, eqb, List, [], ◌∷◌, length, take, Option, Some, None}
 use Rattle.std.proofs.Common.{Contains, refl, ap, subst, sym, ◌∙◌, inl, inr, arith}
 use Rattle.std.specs.List.{list_all, AllByRecursion}
@@ -25,7 +25,7 @@ use Rattle.lk_node.specs.Served.{text, BearsOutPart}
 use Rattle.lk_replica.specs.ReplicaValue.{ReplicaValue}
 use Rattle.lk_guarantees.specs.Disks.{IsSnapshot}
 use Rattle.lk_guarantees.specs.Plain.{Kept, IsKeptOf}
-use Rattle.lk_guarantees.specs.Promise.{HasExecuted, IsPart}
+use Rattle.lk_guarantees.specs.Guarantee.{HasExecuted, IsPart}
 use Rattle.lk_guarantees.proofs.Effects.{leaves}
 use Rattle.lk_guarantees.proofs.Rising.{Rise, sessions_rise}
 use Rattle.lk_guarantees.proofs.Quorums.{members_are, is_chosen}

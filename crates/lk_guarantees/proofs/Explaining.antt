@@ -1,4 +1,4 @@
--- What a list explains, and what takes effect before what, in the words of the promise.
+-- What a list explains, and what takes effect before what, in the words of the guarantee.
 use Rattle.std.proofs.Common.{◌≡◌, ℕ, zero, suc, List, [], ◌∷◌, ◌++◌, Option, Some, None, Contains, refl, ap, subst}
 use Rattle.std.proofs.Common.{sym, ◌∙◌, inl, inr, arith}
 use Rattle.std.specs.List.{AllByRecursion}

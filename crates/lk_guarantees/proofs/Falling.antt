@@ -1,4 +1,4 @@
--- What an end leaves, in the words of the promise.
+-- What an end leaves, in the words of the guarantee.
 use Rattle.std.proofs.Common.{◌≡◌, ℕ, List, [], ◌∷◌, map, Option, Some, None, Contains, refl, sym, ◌∙◌, subst, inl, inr}
 use Rattle.std.proofs.Common.{arith}
 use Rattle.std.proofs.lemmas.List.Elements.{Contains-append_right}

@@ -30,7 +30,7 @@ use Rattle.lk_locks.specs.declared.slot.Holders.TheVariants.{Nobody, Alone, Toge
 use Rattle.lk_locks.specs.declared.slot.Slot.{Slot as Lock}
 use Rattle.lk_agreement_laws.specs.Datagrams.{Datagram}
 use Rattle.lk_node_interface.specs.declared.note.Note.{Note}
-use Rattle.lk_guarantees.specs.Promise.{IsExplained}
+use Rattle.lk_guarantees.specs.Guarantee.{IsExplained}
 use Rattle.lk_guarantees.specs.Guarded.{Write, accepted, IsUnder, FencesRise, IsGuarded, AreListed}
 use Rattle.lk_guarantees.specs.Plain.{Locks, State, hold, give_again, give_first, acquire_known, acquire, and_one}
 use Rattle.lk_guarantees.specs.Plain.{share_known, share, is_held_by, is_free, is_held_at, release, without, break_lock}
@@ -325,7 +325,7 @@ module _ (genesis : Genesis) (L : List Command) (name : List ℕ) where
       let request = one_request v w i j a b here in (
         here,
         same_write v w (sym a.of_client ∙ ap (λ (r : Asking). r.client) request ∙ b.of_client)
-        (sym a.of_number ∙ ap (λ (r : Asking). r.number) request ∙ b.of_number) e,
+            (sym a.of_number ∙ ap (λ (r : Asking). r.number) request ∙ b.of_number) e,
       )
 
   ordered : (v w : Write) (i j : ℕ) → IsUnder genesis L name v i → IsUnder genesis L name w j

@@ -16,7 +16,8 @@ use Rattle.lk_types.specs.declared.genesis.Genesis.{Genesis}
 use Rattle.lk_types.specs.declared.member.Member.{Member}
 use Rattle.lk_agreement_laws.proofs.Histories.{cons_cases, filter_from}
 use Rattle.lk_guarantees.specs.Joining.{JoinsAt, JoinsOnce}
-use Rattle.lk_guarantees.specs.Plain.{State, greatest_of, begin, serve, join, leave, raise, takes_effect, after_one, after}
+use Rattle.lk_guarantees.specs.Plain.{State, greatest_of, begin, serve, join, leave, raise, takes_effect}
+use Rattle.lk_guarantees.specs.Plain.{after_one, after}
 use Rattle.lk_guarantees.proofs.Guarded.{fold-append}
 
 -- no member's number is above the greatest
@@ -94,7 +95,8 @@ joined_above node port s e = elim (cases_Bool (leb node s.greatest)) [
 
 module _ (genesis : Genesis) (L : List Command) where
   -- what an earlier entry leaves, seen from a later one
-  climbs : (k j : ℕ) → k ≤ j → Climbs (fold after_one (begin genesis) (take k L)) (fold after_one (begin genesis) (take j L))
+  climbs : (k j : ℕ) → k ≤ j
+      → Climbs (fold after_one (begin genesis) (take k L)) (fold after_one (begin genesis) (take j L))
   climbs k j le =
       let front : take k (take j L) ≡ take k L = take-take k j L le in
       let parts : take k L ++ drop k (take j L) ≡ take j L =

@@ -1,4 +1,4 @@
--- What the disks of the nodes keep, in the words of the promise.
+-- What the disks of the nodes keep, in the words of the guarantee.
 use Rattle.std.proofs.Common.{◌≡◌, ℕ, List, [], Some, Contains, refl, subst, sym, ◌∙◌, inl, inr}
 use Rattle.lk_types.specs.declared.genesis.Genesis.{Genesis}
 use Rattle.lk_disk.specs.Disk.{Disk}
@@ -25,10 +25,10 @@ use Rattle.lk_sim.specs.States.{IsPackedList, KeepsPacked, SumsUpChosen}
 use Rattle.lk_sim_nodes.specs.declared.seat.Seat.{Seat}
 use Rattle.lk_sim_nodes.specs.declared.seat.Life.{Life}
 use Rattle.lk_sim_nodes.specs.declared.seat.Life.TheVariants.{Up, Down}
-use Rattle.lk_guarantees.specs.Promise as promise
+use Rattle.lk_guarantees.specs.Guarantee as guarantee
 use Rattle.lk_guarantees.specs.Disks.{IsSnapshot}
-use Rattle.lk_guarantees.specs.Promise.{device_in, IsShort, MayRemainOf, Remembers, EachImage, HasSnapshot, IsCovered}
-use Rattle.lk_guarantees.specs.Promise.{IsRemembered, Says, IsPrefix}
+use Rattle.lk_guarantees.specs.Guarantee.{device_in, IsShort, MayRemainOf, Remembers, EachImage, HasSnapshot, IsCovered}
+use Rattle.lk_guarantees.specs.Guarantee.{IsRemembered, Says, IsPrefix}
 use Rattle.lk_guarantees.proofs.Executing.{is_snapshot}
 use Rattle.lk_guarantees.proofs.Explaining.{all_fit}
 use Rattle.lk_guarantees.proofs.Quorums.{at_is, members_are, has_sent, is_chosen, chosen_is, stands_in, stood, begins}
@@ -78,7 +78,7 @@ is_covered x (message.Lead b n) c = tt
 
 pub covered : (genesis : Genesis) (seats : List (Seat ReplicaValue)) (sent : List Datagram)
     → ((k : ℕ) (s : Seat ReplicaValue) → At seats k s → CoversAll disks_in table_meaning genesis sent s)
-    → promise.AreCovered genesis seats sent
+    → guarantee.AreCovered genesis seats sent
 covered genesis seats sent all s here =
     each_image genesis s (λ x. CoversSent genesis sent s.number (acceptor_of x))
     (λ x. (m : NodeMessage) → Says genesis sent s.number m → IsCovered x m)
@@ -93,7 +93,7 @@ shorts (Down d) are = (are A, are B)
 
 pub short : (seats : List (Seat ReplicaValue))
     → ((k : ℕ) (s : Seat ReplicaValue) → At seats k s → lengths.AreShort (disks_of disks_in s.life))
-    → promise.AreShort seats
+    → guarantee.AreShort seats
 short seats all s here = shorts s.life (all here.0 s (here.1, here.2))
 
 -- ---- snapshots
@@ -166,7 +166,8 @@ is_remembered genesis sent L i v x (inl p) =
 is_remembered genesis sent L i v x (inr y) = inr y
 
 after_stop : (genesis : Genesis) (seats : List (Seat ReplicaValue)) (sent : List Datagram) (L : List Command) (i : ℕ)
-    (v : Command) → IsKeptBy disks_in table_meaning genesis seats sent L i v → promise.IsKeptBy genesis seats sent L i v
+    (v : Command) → IsKeptBy disks_in table_meaning genesis seats sent L i v
+    → guarantee.IsKeptBy genesis seats sent L i v
 after_stop genesis seats sent L i v k = record {
   among = stands_in k.nodes;
   more_than_half = rw (members_are genesis L i) k.majority.more_than_half;
@@ -182,6 +183,6 @@ after_stop genesis seats sent L i v k = record {
 
 pub kept : (genesis : Genesis) (seats : List (Seat ReplicaValue)) (sent : List Datagram)
     → ((L : List Command) (i : ℕ) (v : Command) → Chosen genesis sent L → command_at L i ≡ Some v
-    → IsKeptBy disks_in table_meaning genesis seats sent L i v) → promise.AreKept genesis seats sent
+    → IsKeptBy disks_in table_meaning genesis seats sent L i v) → guarantee.AreKept genesis seats sent
 kept genesis seats sent all L i v chosen e =
     after_stop genesis seats sent L i v (all L i v (chosen_is genesis sent L chosen) (sym (at_is L i) ∙ e))

@@ -20,7 +20,7 @@ use Rattle.lk_node_interface.specs.declared.note.Note.TheVariants as note
 use Rattle.lk_guarantees.specs.Linear.{Object, object, alone, Sequence, IsLegal, Linearizes, IsLinearizable}
 use Rattle.lk_guarantees.specs.Plain.{State, begin, serve, takes_effect, used, after_one, after, at, IsAnswered}
 use Rattle.lk_guarantees.specs.Plain.{TakesEffectAt}
-use Rattle.lk_guarantees.specs.Promise.{IsChosen, Explains, IsExplained, IsOrdered}
+use Rattle.lk_guarantees.specs.Guarantee.{IsChosen, Explains, IsExplained, IsOrdered}
 use Rattle.lk_guarantees.proofs.Once.{once}
 use Rattle.lk_guarantees.proofs.Placing.{get_middle, take_front}
 use Rattle.lk_guarantees.proofs.Quorums.{at_is}
@@ -169,7 +169,7 @@ cut_where (y ∷ xs) x c = elim (cons_cases y xs x c) [
   | inr later ↦ (let r = cut_where xs x later in (y ∷ r.0, r.1, ap (λ l. y ∷ l) r.2))
 ]
 
--- ---- a list of the promise
+-- ---- a list of the guarantee
 
 module _ (genesis : Genesis) where
   abbrev first : State

@@ -1,4 +1,4 @@
--- Chosen lists, in the words of the promise and in those of the crates below: the same.
+-- Chosen lists, in the words of the guarantee and in those of the crates below: the same.
 use Rattle.std.proofs.Common.{◌≡◌, ℕ, zero, suc, ◌+◌, ◌-◌, ◌≤◌, ◌⊎◌, Bool, true, false, cond, eqb, List, [], ◌∷◌, take}
 use Rattle.std.proofs.Common.{map, filter, fold, count_by, Contains, refl, ap, subst, sym, ◌∙◌, inl, inr, arith}
 use Rattle.std.specs.List.{list_any, list_all}
@@ -11,7 +11,7 @@ use Rattle.lk_members.specs.Rosters.{PlainRoster, is_member, members}
 use Rattle.lk_agreement_laws.specs.Datagrams.{Datagram, HasSent, Accepted}
 use Rattle.lk_agreement_laws.specs.Chosen.{Command, command_at, Chosen, IsAcceptedIn, IsBeginning}
 use Rattle.lk_agreement_laws.proofs.Histories.{cons_cases, contains_more, filter_from, filter_passes_at}
-use Rattle.lk_guarantees.specs.Promise as promise
+use Rattle.lk_guarantees.specs.Guarantee as guarantee
 use Rattle.lk_guarantees.specs.Plain as plainly
 use Rattle.lk_guarantees.specs.Plain.{after, at}
 use Rattle.lk_guarantees.specs.Chosen.{Says, IsAcceptedBy, IsChosen, IsPrefix}
@@ -186,7 +186,7 @@ begins L K b = (b.0, sym b.1)
 
 pub agreed : (genesis : Genesis) (sent : List Datagram)
     → ((L K : List Command) → Chosen genesis sent L → Chosen genesis sent K → IsBeginning L K ⊎ IsBeginning K L)
-    → promise.Agree genesis sent
+    → guarantee.Agree genesis sent
 agreed genesis sent agree L K l k = elim (agree L K (chosen_is genesis sent L l) (chosen_is genesis sent K k)) [
   | inl b ↦ inl (begins L K b)
   | inr b ↦ inr (begins K L b)

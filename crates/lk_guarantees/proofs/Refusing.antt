@@ -1,4 +1,4 @@
--- Why an event is refused, and what one leaves up, in the words of the promise.
+-- Why an event is refused, and what one leaves up, in the words of the guarantee.
 use Rattle.std.proofs.Common.{◌≡◌, ℕ, zero, suc, ◌+◌, ◌-◌, List, [], ◌∷◌, ◌++◌, length, map, slice_get, Option, Some}
 use Rattle.std.proofs.Common.{None, Result, Ok, Contains, refl, ap, sym, ◌∙◌, subst, inl, inr, arith}
 use Rattle.std.specs.Global.{Global}

@@ -14,9 +14,9 @@ use Rattle.lk_agreement_laws.proofs.Histories.{cons_cases, contains_more}
 use Rattle.lk_node_interface.specs.declared.note.Note.{Note}
 use Rattle.lk_node_interface.specs.declared.note.Note.TheVariants as note
 use Rattle.lk_sim_nodes.specs.Told.{told_by}
-use Rattle.lk_guarantees.specs.Promise.{is_reply, AreReplies, nothing_more, an_answer, a_pass, no_reply, is_told}
-use Rattle.lk_guarantees.specs.Promise.{AreTold}
-use Rattle.lk_guarantees.specs.Promise.{Explains}
+use Rattle.lk_guarantees.specs.Guarantee.{is_reply, AreReplies, nothing_more, an_answer, a_pass, no_reply, is_told}
+use Rattle.lk_guarantees.specs.Guarantee.{AreTold}
+use Rattle.lk_guarantees.specs.Guarantee.{Explains}
 use Rattle.lk_guarantees.specs.Replies.{ExplainsReplies}
 
 told_none : (x : Content) → is_reply x ≡ false → told_by x ≡ []

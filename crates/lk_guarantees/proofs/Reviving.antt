@@ -1,4 +1,4 @@
--- What a restart leaves, in the words of the promise.
+-- What a restart leaves, in the words of the guarantee.
 use Rattle.std.proofs.Common.{◌≡◌, ℕ, ◌⊎◌, List, [], set, slice_get, Option, Some, None, Result, Ok, Err, refl, ap, ◌∙◌}
 use Rattle.std.proofs.Common.{subst, inl, inr, append-nil}
 use Rattle.std.proofs.lemmas.Option.{slice_get-get_or}

@@ -1,4 +1,4 @@
--- What was answered is noted: in the words of the promise.
+-- What was answered is noted: in the words of the guarantee.
 use Rattle.std.proofs.Common.{◌≡◌, ℕ, List, [], ◌∷◌, ◌++◌, filter, refl, ap, subst, sym}
 use Rattle.lk_messages.specs.Grammar.{Spells}
 use Rattle.lk_messages.specs.declared.message.Content.{Content}
@@ -10,7 +10,7 @@ use Rattle.lk_node_interface.specs.declared.note.Note.{Note}
 use Rattle.lk_node_interface.specs.declared.note.Note.TheVariants as note
 use Rattle.lk_sim_nodes.specs.Told.{told_by_node, told_by, Tells}
 use Rattle.lk_sim.specs.Traces.{told_in}
-use Rattle.lk_guarantees.specs.Promise.{AreReplies, nothing_more, an_answer, a_pass, no_reply, is_told, AreTold}
+use Rattle.lk_guarantees.specs.Guarantee.{AreReplies, nothing_more, an_answer, a_pass, no_reply, is_told, AreTold}
 
 by_node : (d : Datagram) (ds : List Datagram) (rest : List Note) (cluster node : ℕ) (x : NodeMessage)
     → Spells (record { cluster = cluster; content = content.Node node x }) d.bytes → AreReplies ds rest

@@ -8,7 +8,7 @@ use Rattle.lk_sim.specs.Scenes.{Scene}
 use Rattle.lk_sim_nodes.specs.declared.seat.Life.TheVariants.{Up}
 use Rattle.lk_sim_nodes.specs.declared.seat.Seat.{Seat}
 use Rattle.lk_guarantees.specs.Disks.{kept_text, IsSnapshot}
-use Rattle.lk_guarantees.specs.Promise.{IsChosen, kept_by_replica}
+use Rattle.lk_guarantees.specs.Guarantee.{IsChosen, kept_by_replica}
 
 pub record Converges (world : Scene ReplicaValue) : Type 0 where
   -- two nodes that are up and have executed as much keep the same, and pack it into the same bytes

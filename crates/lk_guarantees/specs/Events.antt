@@ -1,6 +1,6 @@
 -- Events: how a world begins, what each event does to it, when one is refused, and what a run of events does.
 --
--- As in `Promise.antt`, all is restated independently, except for the contract of a replica, which is named.
+-- As in `Guarantee.antt`, all is restated independently, except for the contract of a replica, which is named.
 use Rattle.std.specs.Prelude.{◌≡◌, ℕ, ◌+◌, ◌<◌, ◌≤◌, ◌⊎◌, false, Option, Some, None, Ok, Err, List, [], ◌∷◌, ◌++◌}
 use Rattle.std.specs.Prelude.{length, take, set, slice_get, Contains}
 use Rattle.std.specs.List.{filter_map, flat_map}
@@ -38,7 +38,7 @@ use Rattle.lk_sim_nodes.specs.declared.refused.Refused.TheVariants.{Forged, Worl
 use Rattle.lk_sim_nodes.specs.declared.seat.Life.TheVariants.{Up, Down}
 use Rattle.lk_sim_nodes.specs.declared.seat.Seat.{Seat}
 use Rattle.lk_guarantees.specs.Disks.{EachImage, HasSnapshot}
-use Rattle.lk_guarantees.specs.Promise.{kept_by_replica}
+use Rattle.lk_guarantees.specs.Guarantee.{kept_by_replica}
 
 -- ---- how a world begins
 

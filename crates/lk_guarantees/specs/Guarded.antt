@@ -12,7 +12,7 @@ use Rattle.lk_agreement_laws.specs.Datagrams.{Datagram}
 use Rattle.lk_node_interface.specs.declared.note.Note.{Note}
 use Rattle.lk_node_interface.specs.declared.note.Note.TheVariants as note
 use Rattle.lk_guarantees.specs.Plain.{after, serve, TakesEffectAt}
-use Rattle.lk_guarantees.specs.Promise.{IsChosen}
+use Rattle.lk_guarantees.specs.Guarantee.{IsChosen}
 
 -- a write, with the grant under which it is made: the client and number of the request that was granted, and the fence
 pub record Write : Type 0 where

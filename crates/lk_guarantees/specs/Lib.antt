@@ -1,7 +1,7 @@
 pub mod Plain
 pub mod Chosen
 pub mod Disks
-pub mod Promise
+pub mod Guarantee
 pub mod Events
 pub mod Linear
 pub mod Guarded

@@ -1,4 +1,5 @@
-//! Laws that follow from the definitions of the promise: linearizability, fencing, exactly once, convergence, restarts.
+//! Laws that follow from the definitions of the guarantee: linearizability, fencing, exactly once, convergence,
+//! restarts.
 ghost use Rattle.std.specs.Prelude.{ℕ, List};
 ghost use Rattle.lk_memory_disk.specs.Memory.{Memory};
 ghost use Rattle.lk_store_format.specs.Values.{HeaderValue};
@@ -18,7 +19,7 @@ ghost use Rattle.lk_guarantees.specs.Guarded.{AreListed, FencesRise, IsGuarded, 
 ghost use Rattle.lk_guarantees.specs.Joining.{JoinsOnce};
 ghost use Rattle.lk_guarantees.specs.Linear.{IsLinearizable};
 ghost use Rattle.lk_guarantees.specs.Plain.{FixedUnlessChanged, TakesEffectOnce};
-ghost use Rattle.lk_guarantees.specs.Promise.{Explains, KeepsPromise};
+ghost use Rattle.lk_guarantees.specs.Guarantee.{Explains, MeetsGuarantee};
 ghost use Rattle.lk_guarantees.specs.Replies.{ExplainsReplies};
 ghost use Rattle.lk_guarantees.specs.Restarting.{ComesUp, FindsFormatTwo, IsIdempotent, IsTheSame, ReadsFormatTwo};
 ghost use Rattle.lk_guarantees.specs.Restarting.{stops_and_restarts};
@@ -33,10 +34,10 @@ pub fn numbers_take_effect_once()
     ensures { (genesis : Genesis) (L : List Command) → TakesEffectOnce genesis L }
 {}
 
-/// What clients see of a world that keeps the promise is linearizable: some legal sequential history of the lock table
-/// and the members completes each request that was answered, and keeps the order of real time.
+/// What clients see of a world that meets the guarantee is linearizable: some legal sequential history of the lock
+/// table and the members completes each request that was answered, and keeps the order of real time.
 pub fn worlds_are_linearizable()
-    ensures { (world : Scene ReplicaValue) → KeepsPromise world → IsLinearizable world.genesis world.trace }
+    ensures { (world : Scene ReplicaValue) → MeetsGuarantee world → IsLinearizable world.genesis world.trace }
 {}
 
 /// The fences of a name's exclusive grants rise along a list, and none is given twice (sequencers: Burrows, The Chubby
@@ -58,29 +59,29 @@ pub fn fences_guard_resources()
         → IsGuarded genesis L name writes }
 {}
 
-/// Each grant that a client of a world that keeps the promise was told is in some chosen list, for a name that its
+/// Each grant that a client of a world that meets the guarantee was told is in some chosen list, for a name that its
 /// request acquires.
 pub fn grants_are_listed()
-    ensures { (world : Scene ReplicaValue) → KeepsPromise world → AreListed world.genesis world.sent world.trace }
+    ensures { (world : Scene ReplicaValue) → MeetsGuarantee world → AreListed world.genesis world.sent world.trace }
 {}
 
-/// A list that explains what was noted in a world that keeps the promise explains each datagram to a client.
+/// A list that explains what was noted in a world that meets the guarantee explains each datagram to a client.
 pub fn replies_are_explained()
-    ensures { (world : Scene ReplicaValue) (L : List Command) → KeepsPromise world
+    ensures { (world : Scene ReplicaValue) (L : List Command) → MeetsGuarantee world
         → Explains world.genesis world.sent world.trace L → ExplainsReplies world.genesis world.sent L }
 {}
 
-/// Exactly once: of a world that keeps the promise, each operation of a client that follows the rule takes effect at
+/// Exactly once: of a world that meets the guarantee, each operation of a client that follows the rule takes effect at
 /// one position where it was answered, in the order in which the client asked, and before it is answered the client is
 /// not told Passed.
 pub fn operations_take_effect_exactly_once()
-    ensures { (world : Scene ReplicaValue) → KeepsPromise world → AreServedOnce world.genesis world.sent world.trace }
+    ensures { (world : Scene ReplicaValue) → MeetsGuarantee world → AreServedOnce world.genesis world.sent world.trace }
 {}
 
-/// Convergence: in a world that keeps the promise, nodes that have executed equally many commands have the same state,
-/// to the byte, and so do snapshots of one position.
+/// Convergence: in a world that meets the guarantee, nodes that have executed equally many commands have the same
+/// state, to the byte, and so do snapshots of one position.
 pub fn nodes_converge()
-    ensures { (world : Scene ReplicaValue) → KeepsPromise world → Converges world }
+    ensures { (world : Scene ReplicaValue) → MeetsGuarantee world → Converges world }
 {}
 
 /// Restarts are idempotent: however often a node is stopped and started again, and whatever its disks keep of what was

@@ -1,4 +1,4 @@
-//! The promise: everything that is promised of the lock service in every simulated world, stated a second time in few
+//! The guarantee: everything that holds of the lock service in every simulated world, stated a second time in few
 //! definitions.
 #![tactic(auto)]
 

@@ -1,6 +1,6 @@
-// The simulated world of lock tables, with the promise as the contract of each call.
+// The simulated world of lock tables, with the guarantee as the contract of each call.
 ghost use Rattle.lk_guarantees.specs.Events.{Compacts, IsDone, IsRefused, IsRun, nothing};
-ghost use Rattle.lk_guarantees.specs.Promise.{KeepsPromise};
+ghost use Rattle.lk_guarantees.specs.Guarantee.{MeetsGuarantee};
 ghost use Rattle.std.specs.Prelude.{◌≡◌, OnOk, IfErr};
 
 use lk_locks::LockTable;
@@ -20,9 +20,9 @@ pub fn begin(alloc: Global, genesis: Genesis) -> World<Replicas>
     World::new(alloc, genesis)
 }
 
-/// Executes one event. The promise holds afterwards, whether the event was done or rejected.
+/// Executes one event. The guarantee holds afterwards, whether the event was done or rejected.
 pub fn apply(world: &mut World<Replicas>, event: Event) -> Result<(), Refused>
-    ensures promised { KeepsPromise world.new }
+    ensures guaranteed { MeetsGuarantee world.new }
     // An event that is done has the effect stated for it.
     ensures does { OnOk result (IsDone world.old event world.new) }
     // A node that has compacted has a snapshot of everything that it has executed.
@@ -33,9 +33,9 @@ pub fn apply(world: &mut World<Replicas>, event: Event) -> Result<(), Refused>
     world.apply(event)
 }
 
-/// Executes events in order, up to the first that is rejected. The promise holds afterwards.
+/// Executes events in order, up to the first that is rejected. The guarantee holds afterwards.
 pub fn run(world: &mut World<Replicas>, events: &[Event]) -> RunEnd
-    ensures promised { KeepsPromise world.new }
+    ensures guaranteed { MeetsGuarantee world.new }
     // Each event has the effect stated for it, up to the first that is rejected.
     ensures runs { IsRun world.old events.now result world.new }
 {

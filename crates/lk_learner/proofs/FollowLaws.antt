@@ -9,7 +9,7 @@ use Rattle.std.proofs.lemmas.List.Elements.{Contains-append_left, Contains-push,
 use Rattle.lk_agreement_laws.specs.Datagrams.{Genesis, Datagram}
 use Rattle.lk_agreement_laws.specs.Chosen.{command_at, Chosen, ChosenAt, AreChosenFrom}
 use Rattle.lk_agreement_laws.specs.Soundness.{Sound}
-use Rattle.lk_agreement_laws.specs.Nodes.{View, Stems}
+use Rattle.lk_agreement_laws.specs.Nodes.{PaxosState, Stems}
 use Rattle.lk_agreement_laws.specs.Changes.{AreAmong, with_done, Changes, learns, executes}
 use Rattle.lk_agreement_laws.proofs.Histories.{entry_chosen, chosen_push, cons_cases, contains_more, filter_from}
 use Rattle.lk_agreement_laws.proofs.Histories.{filter_passes_at}
@@ -71,7 +71,7 @@ above_among i ps qs f p c =
 
 -- ---- what is learned is a change that is allowed
 
-pub learning_changes : (genesis : Genesis) (sent : List Datagram) (n : ℕ) (w : View) (i : ℕ) (v : Command)
+pub learning_changes : (genesis : Genesis) (sent : List Datagram) (n : ℕ) (w : PaxosState) (i : ℕ) (v : Command)
     → ChosenAt genesis sent i v → Changes genesis sent n w (with_done w w.done (w.pairs ++ (i, v) ∷ []))
 learning_changes genesis sent n w i v chosen = learns i v chosen
 
@@ -177,7 +177,7 @@ module _ (m : Meaning) (genesis : Genesis) where
       let next : executed l + 1 ≡ suc (length done) = omega (arith, e) in
       subst (λ (i : ℕ). Contains pairs (i, v)) next (f.known (executed l + 1, v) h)
 
-  pub next_chosen : (sent : List Datagram) (w : View) (l : LearnerValue) (v : Command) → Sound genesis sent
+  pub next_chosen : (sent : List Datagram) (w : PaxosState) (l : LearnerValue) (v : Command) → Sound genesis sent
       → Stems genesis sent w → AgreesWithList m genesis w.done w.pairs l → IsNext l v
       → Chosen genesis sent (w.done ++ v ∷ [])
   next_chosen sent w l v sound stems f h =
@@ -193,7 +193,7 @@ module _ (m : Meaning) (genesis : Genesis) where
 
   -- ---- what is run is a change that is allowed
 
-  pub running_changes : (sent : List Datagram) (n : ℕ) (w : View) (l : LearnerValue) (v : Command)
+  pub running_changes : (sent : List Datagram) (n : ℕ) (w : PaxosState) (l : LearnerValue) (v : Command)
       → AgreesWithList m genesis w.done w.pairs l → IsNext l v
       → Changes genesis sent n w (with_done w (w.done ++ v ∷ []) (advanced m v l).pairs)
   running_changes sent n w l v f h =

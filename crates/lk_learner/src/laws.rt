@@ -6,7 +6,7 @@ ghost use Rattle.lk_agreement_laws.specs.Chosen.{command_at, Chosen, ChosenAt};
 ghost use Rattle.lk_agreement_laws.specs.Soundness.{Sound};
 ghost use Rattle.lk_agreement_laws.specs.Snapshots.{IsSlice};
 ghost use Rattle.lk_messages.specs.Values.{PartValue};
-ghost use Rattle.lk_agreement_laws.specs.Nodes.{View, Stems, MaySend};
+ghost use Rattle.lk_agreement_laws.specs.Nodes.{PaxosState, Stems, MaySend};
 ghost use Rattle.lk_agreement_laws.specs.Changes.{with_done, Changes};
 ghost use Rattle.lk_state.specs.Meanings.{Meaning};
 ghost use Rattle.lk_state.specs.States.{SumsUp};
@@ -52,7 +52,7 @@ pub fn a_learner_follows_its_list()
 /// The command that a learner executes next is chosen at the position after its list, so the list with it is chosen: a
 /// learner never executes a pair beyond a gap.
 pub fn what_is_run_is_chosen()
-    ensures chosen { (m : Meaning) (genesis : Genesis) (sent : List Datagram) (w : View) (l : LearnerValue)
+    ensures chosen { (m : Meaning) (genesis : Genesis) (sent : List Datagram) (w : PaxosState) (l : LearnerValue)
         (v : Command) → Sound genesis sent → Stems genesis sent w
         → AgreesWithList m genesis w.done w.pairs l → IsNext l v → Chosen genesis sent (w.done ++ v ∷ []) }
     ensures there { (m : Meaning) (genesis : Genesis) (done : List Command) (pairs : List Pair)
@@ -62,18 +62,18 @@ pub fn what_is_run_is_chosen()
 
 /// The protocol permits a node to keep a chosen pair, and to execute the next command.
 pub fn a_learner_changes_as_it_may()
-    ensures learns { (genesis : Genesis) (sent : List Datagram) (n : ℕ) (w : View) (i : ℕ) (v : Command)
+    ensures learns { (genesis : Genesis) (sent : List Datagram) (n : ℕ) (w : PaxosState) (i : ℕ) (v : Command)
         → ChosenAt genesis sent i v
         → Changes genesis sent n w (with_done w w.done (w.pairs ++ (i, v) ∷ [])) }
-    ensures executes { (m : Meaning) (genesis : Genesis) (sent : List Datagram) (n : ℕ) (w : View) (l : LearnerValue)
-        (v : Command) → AgreesWithList m genesis w.done w.pairs l → IsNext l v
+    ensures executes { (m : Meaning) (genesis : Genesis) (sent : List Datagram) (n : ℕ) (w : PaxosState)
+        (l : LearnerValue) (v : Command) → AgreesWithList m genesis w.done w.pairs l → IsNext l v
         → Changes genesis sent n w (with_done w (w.done ++ v ∷ []) (advanced m v l).pairs) }
 {}
 
 /// A node may send the commands that its learner serves, and they are those of the executed list.
 pub fn what_is_served_is_chosen()
-    ensures may { (m : Meaning) (genesis : Genesis) (sent : List Datagram) (w : View) (l : LearnerValue) (first : ℕ)
-        → Stems genesis sent w → AgreesWithList m genesis w.done w.pairs l
+    ensures may { (m : Meaning) (genesis : Genesis) (sent : List Datagram) (w : PaxosState) (l : LearnerValue)
+        (first : ℕ) → Stems genesis sent w → AgreesWithList m genesis w.done w.pairs l
         → IsServed l first → MaySend genesis sent w (Decided (decided_from first l)) }
     ensures there { (m : Meaning) (genesis : Genesis) (done : List Command) (pairs : List Pair) (l : LearnerValue)
         (i : ℕ) (v : Command) → AgreesWithList m genesis done pairs l

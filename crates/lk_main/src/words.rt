@@ -332,8 +332,8 @@ fn refuse_command_line<W: Write, E: Write>(error: &Error, out: &mut W, err: &mut
     end(wrote, out, err)
 }
 
-/// Reads the command line, whose first word is the program's name, and runs it. Returns status 0; 1 after an error
-/// message as the last line of standard error, or if nothing answered or there is no store; or 2 if the command line
+/// Reads the command line, whose first word is the program's name, and runs it. Returns the status: 0; 1 after a fault,
+/// whose message is the last line of standard error, or if nothing answered or there is no store; 2 if the command line
 /// is invalid.
 pub fn run_words<'a, H: Files<File = File> + Net + Eprint + Clock, R: BufRead, W: Write, E: Write>(
     rt: &H,

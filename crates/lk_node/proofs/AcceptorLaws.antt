@@ -14,13 +14,13 @@ use Rattle.lk_messages.specs.declared.message.NodeMessage.{NodeMessage}
 use Rattle.lk_messages.specs.declared.message.NodeMessage.TheVariants as kinds
 use Rattle.lk_state.specs.Meanings.{Meaning}
 use Rattle.lk_agreement_laws.specs.Acceptors.{AcceptorState, Covers, TakesVote}
-use Rattle.lk_agreement_laws.specs.Changes.{promises, accepts, view_with, with_promise}
+use Rattle.lk_agreement_laws.specs.Changes.{promises, accepts, holding_acceptor, with_promise}
 use Rattle.lk_agreement_laws.specs.Chosen.{Command}
 use Rattle.lk_agreement_laws.specs.Datagrams.{HasSent, WasSent}
-use Rattle.lk_agreement_laws.specs.Nodes.{View, ViewFits, MaySend}
+use Rattle.lk_agreement_laws.specs.Nodes.{PaxosState, PaxosFits, MaySend}
 use Rattle.lk_agreement_laws.proofs.Histories.{change_fits}
 use Rattle.lk_acceptor.specs.AcceptorValue.{AcceptorValue}
-use Rattle.lk_acceptor.specs.Answers.{Promises, Votes, Agrees, AnswersPrepare, AnswersAccept}
+use Rattle.lk_acceptor.specs.Replies.{Promises, Votes, Agrees, RepliesToPrepare, RepliesToAccept}
 use Rattle.lk_acceptor.specs.States.{IsOrdered, with_vote, with_state, with_written}
 use Rattle.lk_acceptor.specs.declared.response.Response.{Response}
 use Rattle.lk_acceptor.proofs.Acceptors.{prepare_may, accept_may, prepare_covered, accept_covered, prepare_written}
@@ -30,7 +30,7 @@ use Rattle.lk_node_interface.specs.Letters.{LetterValue, batch_of}
 use Rattle.lk_node_interface.specs.Outboxes.{OutboxValue, nothing, with_optional}
 use Rattle.lk_node_interface.specs.Saying.{saying}
 use Rattle.lk_node_interface.specs.declared.note.Note.{Note}
-use Rattle.lk_node.specs.Answering.{with_acceptor, replied, reply_to, Responds}
+use Rattle.lk_node.specs.Responding.{with_acceptor, replied, reply_to, Responds}
 use Rattle.lk_node.specs.Entries.{Rests}
 use Rattle.lk_node.specs.Histories.{History, Genesis, Datagram, IsLawful}
 use Rattle.lk_node.specs.Keeping.{TellsDecided, IsKnown}
@@ -46,8 +46,8 @@ use Rattle.lk_node.proofs.Serving.{then_goes_on, says}
 
 -- why an acceptor may come from one state to another by this entry, in a history
 pub record Moves (h : History) (n : ℕ) (old new : AcceptorState) (o : Option Entry) : Type 0 where
-  pub changes : (w : View) → w.acceptor ≡ old → ViewFits h.genesis h.sent n w
-      → ViewFits h.genesis h.sent n (view_with w new)
+  pub changes : (w : PaxosState) → w.acceptor ≡ old → PaxosFits h.genesis h.sent n w
+      → PaxosFits h.genesis h.sent n (holding_acceptor w new)
   pub rests : (e : Entry) → o ≡ Some e → Rests h e
 
 optional_entries : (o : Option Entry) → (with_optional o nothing).letters ≡ []
@@ -81,7 +81,7 @@ moves_goes_on m Heard node a o written binding moves = record {
         lawful = s.lawful;
         whose = s.whose;
         holding = record {
-          view = view_with s.holding.view a.state;
+          paxos = holding_acceptor s.holding.paxos a.state;
           waiting = s.holding.waiting;
           gathered = s.holding.gathered;
         };
@@ -93,14 +93,14 @@ moves_goes_on m Heard node a o written binding moves = record {
           gathered = s.held.gathered;
         };
         fits = record {
-          view = v.changes s.holding.view s.held.acceptor s.fits.view;
+          paxos = v.changes s.holding.paxos s.held.acceptor s.fits.paxos;
           waiting = s.fits.waiting;
           proposals = s.fits.proposals;
           gathered = s.fits.gathered;
         };
         rests = all_rest h o v.rests;
         known = s.known;
-        news = all_known o binding s.holding.view;
+        news = all_known o binding s.holding.paxos;
         may = λ d c. absurd (no_datagram n d (subst (λ ls. Contains (batch_of n ls) d) (optional_entries o) c));
         noted = λ x c. absurd (no_note x (subst (λ ns. Contains ns x) (optional_notes o) c));
       };
@@ -130,7 +130,7 @@ moves_goes_on m Heard node a o written binding moves = record {
         by_kind (entry.Vote x) b e = absurd (cc e)
         by_kind (entry.Decided i c) b e = (tt, tt)
 
-    all_known : (o : Option Entry) → ((e : Entry) → o ≡ Some e → TellsDecided e → ⊥) → (w : View)
+    all_known : (o : Option Entry) → ((e : Entry) → o ≡ Some e → TellsDecided e → ⊥) → (w : PaxosState)
         → (with_optional o nothing).sync ≡ false → AllByRecursion (IsKnown w) (with_optional o nothing).entries
     all_known None b w e = tt
     all_known (Some k) b w e = by_kind k b e
@@ -161,7 +161,7 @@ state_of a s new e = ap (λ (v : AcceptorValue). v.state) e
 unmoved : (h : History) (n : ℕ) (a new : AcceptorValue) (o : Option Entry) → new ≡ a → o ≡ None
     → Moves h n a.state new.state o
 unmoved h n a new o same none = record {
-  changes = λ w is f. subst (λ (s : AcceptorState). ViewFits h.genesis h.sent n (view_with w s))
+  changes = λ w is f. subst (λ (s : AcceptorState). PaxosFits h.genesis h.sent n (holding_acceptor w s))
       (is ∙ ap (λ (v : AcceptorValue). v.state) (sym same)) f;
   rests = λ e is. absurd (none_is e (sym none ∙ is));
 }
@@ -171,9 +171,9 @@ promised_moves : (m : Meaning) (h : History) (n : ℕ) (a : AcceptorValue) (b : 
     (new : AcceptorValue) → IsLawful m h → IsAtMost a.state.promised b → Promises a b first r new
     → Moves h n a.state new.state r.entry
 promised_moves m h n a b first r new lawful most p = record {
-  changes = λ w is f. subst (λ (s : AcceptorState). ViewFits h.genesis h.sent n (view_with w s))
+  changes = λ w is f. subst (λ (s : AcceptorState). PaxosFits h.genesis h.sent n (holding_acceptor w s))
       (ap (λ (s : AcceptorState). with_promise s b) is ∙ sym (state_of a (with_promise a.state b) new p.state))
-      (change_fits h.genesis h.sent lawful.sound n w (view_with w (with_promise w.acceptor b)) f
+      (change_fits h.genesis h.sent lawful.sound n w (holding_acceptor w (with_promise w.acceptor b)) f
       (promises b (subst (λ (s : AcceptorState). IsAtMost s.promised b) (sym is) most)));
   rests = λ x is. elim p.entry [
     | inl above ↦ subst (Rests h) (some_is (entry.Promise b) x (sym above.1 ∙ is)) tt
@@ -187,9 +187,9 @@ voted_moves : (m : Meaning) (h : History) (n : ℕ) (a : AcceptorValue) (x : Vot
     → IsAtMost a.state.promised x.ballot → ((v : Vote) → Contains a.state.votes v → Agrees v x) → Votes a x r new
     → Moves h n a.state new.state r.entry
 voted_moves m h n a x r new lawful was ordered most agree p = record {
-  changes = λ w is f. subst (λ (s : AcceptorState). ViewFits h.genesis h.sent n (view_with w s))
+  changes = λ w is f. subst (λ (s : AcceptorState). PaxosFits h.genesis h.sent n (holding_acceptor w s))
       (sym (state_of a (with_vote a.state x) new p.state))
-      (change_fits h.genesis h.sent lawful.sound n w (view_with w (with_vote a.state x)) f
+      (change_fits h.genesis h.sent lawful.sound n w (holding_acceptor w (with_vote a.state x)) f
       (accepts x (with_vote a.state x) (subst (λ (s : AcceptorState). IsAtMost s.promised x.ballot) (sym is) most) was
       (subst (λ (s : AcceptorState). TakesVote s x (with_vote a.state x)) (sym is)
       (takes_vote a.state x ordered most agree))));
@@ -200,7 +200,7 @@ voted_moves m h n a x r new lawful was ordered most agree p = record {
 }
 
 prepare_moves : (m : Meaning) (h : History) (n : ℕ) (a : AcceptorValue) (e : ℕ) (b : BallotValue) (first : ℕ)
-    (r : Response) (new : AcceptorValue) → IsLawful m h → AnswersPrepare a e b first r new
+    (r : Response) (new : AcceptorValue) → IsLawful m h → RepliesToPrepare a e b first r new
     → Moves h n a.state new.state r.entry
 prepare_moves m h n a e b first r new lawful (inl granted) =
     promised_moves m h n a b first r new lawful granted.0.ballot granted.1
@@ -208,7 +208,7 @@ prepare_moves m h n a e b first r new lawful (inr refused) = unmoved h n a new r
 
 accept_moves : (m : Meaning) (h : History) (n : ℕ) (a : AcceptorValue) (e : ℕ) (x : Vote) (r : Response)
     (new : AcceptorValue) → IsLawful m h → WasSent h.genesis h.sent (kinds.Accept x) → IsOrdered a.state
-    → AnswersAccept a e x r new
+    → RepliesToAccept a e x r new
     → Moves h n a.state new.state r.entry
 accept_moves m h n a e x r new lawful was ordered (inl granted) =
     voted_moves m h n a x r new lawful was ordered granted.0.ballot granted.0.agree granted.1
@@ -217,7 +217,7 @@ accept_moves m h n a e x r new lawful was ordered (inr refused) =
 
 -- their entries are promises and votes
 prepare_binding : (a : AcceptorValue) (e : ℕ) (b : BallotValue) (first : ℕ) (r : Response) (new : AcceptorValue)
-    → AnswersPrepare a e b first r new → (x : Entry) → r.entry ≡ Some x → TellsDecided x → ⊥
+    → RepliesToPrepare a e b first r new → (x : Entry) → r.entry ≡ Some x → TellsDecided x → ⊥
 prepare_binding a e b first r new (inl granted) x is decided = elim granted.1.entry [
   | inl above ↦ subst TellsDecided (some_is x (entry.Promise b) (sym is ∙ above.1)) decided
   | inr same ↦ none_is x (sym same.1 ∙ is)
@@ -225,7 +225,7 @@ prepare_binding a e b first r new (inl granted) x is decided = elim granted.1.en
 prepare_binding a e b first r new (inr refused) x is decided = none_is x (sym refused.1.entry ∙ is)
 
 accept_binding : (a : AcceptorValue) (e : ℕ) (v : Vote) (r : Response) (new : AcceptorValue)
-    → AnswersAccept a e v r new → (x : Entry) → r.entry ≡ Some x → TellsDecided x → ⊥
+    → RepliesToAccept a e v r new → (x : Entry) → r.entry ≡ Some x → TellsDecided x → ⊥
 accept_binding a e v r new (inl granted) x is decided = elim granted.1.entry [
   | inl listed ↦ none_is x (sym listed.1 ∙ is)
   | inr fresh ↦ subst TellsDecided (some_is x (entry.Vote v) (sym is ∙ fresh.1)) decided
@@ -233,26 +233,26 @@ accept_binding a e v r new (inl granted) x is decided = elim granted.1.entry [
 accept_binding a e v r new (inr refused) x is decided = none_is x (sym refused.1.entry ∙ is)
 
 prepare_bears : (a : AcceptorValue) (e : ℕ) (b : BallotValue) (first : ℕ) (r : Response) (new : AcceptorValue)
-    → AnswersPrepare a e b first r new
+    → RepliesToPrepare a e b first r new
     → (m : Meaning) (h : History) (L : List Command) → BearsOutMessage m h L r.reply
 prepare_bears a e b first r new (inl granted) m h L = subst (BearsOutMessage m h L) (sym granted.1.reply) tt
 prepare_bears a e b first r new (inr refused) m h L = subst (BearsOutMessage m h L) (sym refused.1.reply) tt
 
-accept_bears : (a : AcceptorValue) (e : ℕ) (x : Vote) (r : Response) (new : AcceptorValue) → AnswersAccept a e x r new
+accept_bears : (a : AcceptorValue) (e : ℕ) (x : Vote) (r : Response) (new : AcceptorValue) → RepliesToAccept a e x r new
     → (m : Meaning) (h : History) (L : List Command) → BearsOutMessage m h L r.reply
 accept_bears a e x r new (inl granted) m h L = subst (BearsOutMessage m h L) (sym granted.1.reply) tt
 accept_bears a e x r new (inr refused) m h L = subst (BearsOutMessage m h L) (sym refused.1.reply) tt
 
 -- ---- a response
 
-pub responded : {E : Type 0} (old new : NodeValue) (from : ℕ) (Answer : Response → AcceptorValue → Type 0)
+pub responded : {E : Type 0} (old new : NodeValue) (from : ℕ) (Gives : Response → AcceptorValue → Type 0)
     (r : Response) (a : AcceptorValue) (result : Result OutboxValue E)
-    → Answer r a → IfOk result (λ o. o ≡ reply_to (with_acceptor old a) from r)
+    → Gives r a → IfOk result (λ o. o ≡ reply_to (with_acceptor old a) from r)
     → OnOk result (IsMessage (saying old.header r.reply)) → OnOk result (new ≡ replied r.reply (with_acceptor old a))
-    → IfOk result (λ o. Responds old from Answer new o)
-responded old new from Answer r a (Ok o) answer is fits becomes =
-    record { response = r; acceptor = a; answers = answer; becomes = becomes; fits = fits; comes_to = is }
-responded old new from Answer r a (Err e) answer is fits becomes = tt
+    → IfOk result (λ o. Responds old from Gives new o)
+responded old new from Gives r a (Ok o) given is fits becomes =
+    record { response = r; acceptor = a; given = given; becomes = becomes; fits = fits; comes_to = is }
+responded old new from Gives r a (Err e) given is fits becomes = tt
 
 replied_alike : (m : Meaning) (Heard : History → Type 0) (reply : NodeMessage) (node : NodeValue) (out : OutboxValue)
     → ActsSafely m Heard node (replied reply node) out out
@@ -268,16 +268,16 @@ replied_alike m Heard reply node out = by_test (is_granted reply)
     by_test false = yielded_goes_on m Heard node.acceptor.state.promised node out
 
 responds_goes_on : (m : Meaning) (Heard : History → Type 0) (old new : NodeValue) (from : ℕ)
-    (Answer : Response → AcceptorValue → Type 0) (out : OutboxValue) (k : Responds old from Answer new out)
+    (Gives : Response → AcceptorValue → Type 0) (out : OutboxValue) (k : Responds old from Gives new out)
     → k.acceptor.state ≡ with_written k.response.entry old.acceptor.state
     → ((e : Entry) → k.response.entry ≡ Some e → TellsDecided e → ⊥)
     → ((h : History) (n : ℕ) → IsLawful m h → Heard h → Moves h n old.acceptor.state k.acceptor.state k.response.entry)
     → Covers k.acceptor.state k.response.reply
-    → ((genesis : Genesis) (sent : List Datagram) (w : View) → w.acceptor ≡ k.acceptor.state
+    → ((genesis : Genesis) (sent : List Datagram) (w : PaxosState) → w.acceptor ≡ k.acceptor.state
     → MaySend genesis sent w k.response.reply)
     → ((h : History) (L : List Command) → BearsOutMessage m h L k.response.reply)
     → ActsSafely m Heard old new nothing out
-responds_goes_on m Heard old new from Answer out k written binding moves covers may bears =
+responds_goes_on m Heard old new from Gives out k written binding moves covers may bears =
     subst₂ (λ (node : NodeValue) (o : OutboxValue). ActsSafely m Heard old node nothing o) (sym k.becomes)
     (sym k.comes_to)
     (then_goes_on m Heard old (with_acceptor old k.acceptor)
@@ -290,33 +290,33 @@ responds_goes_on m Heard old new from Answer out k written binding moves covers 
     (says m Heard (with_acceptor old k.acceptor) (with_optional k.response.entry nothing)
     (to_node old from) k.response.reply k.fits covers (λ e. absurd (no_rebase k.response.entry e))
     (λ h n loose s heard. (
-      may h.genesis h.sent s.holding.view s.held.acceptor,
-      record { under = s.holding.view.done; chosen = s.fits.view.stems.done; bears = bears h s.holding.view.done },
+      may h.genesis h.sent s.holding.paxos s.held.acceptor,
+      record { under = s.holding.paxos.done; chosen = s.fits.paxos.stems.done; bears = bears h s.holding.paxos.done },
     )))
     (replied_alike m Heard k.response.reply (with_acceptor old k.acceptor) (reply_to old from k.response))))
 
 pub prepare_goes_on : (m : Meaning) (old new : NodeValue) (from e : ℕ) (b : BallotValue) (first : ℕ)
-    (out : OutboxValue) → Responds old from (AnswersPrepare old.acceptor e b first) new out
+    (out : OutboxValue) → Responds old from (RepliesToPrepare old.acceptor e b first) new out
     → ActsSafely m (λ h. Unit {0}) old new nothing out
 prepare_goes_on m old new from e b first out k =
-    responds_goes_on m (λ h. Unit {0}) old new from (AnswersPrepare old.acceptor e b first) out k
-    (prepare_written old.acceptor e b first k.response k.acceptor k.answers)
-    (prepare_binding old.acceptor e b first k.response k.acceptor k.answers)
-    (λ h n lawful heard. prepare_moves m h n old.acceptor e b first k.response k.acceptor lawful k.answers)
-    (prepare_covered old.acceptor e b first k.response k.acceptor k.answers)
-    (λ genesis sent w is. prepare_may genesis sent w old.acceptor e b first k.response k.acceptor k.answers is)
-    (prepare_bears old.acceptor e b first k.response k.acceptor k.answers m)
+    responds_goes_on m (λ h. Unit {0}) old new from (RepliesToPrepare old.acceptor e b first) out k
+    (prepare_written old.acceptor e b first k.response k.acceptor k.given)
+    (prepare_binding old.acceptor e b first k.response k.acceptor k.given)
+    (λ h n lawful heard. prepare_moves m h n old.acceptor e b first k.response k.acceptor lawful k.given)
+    (prepare_covered old.acceptor e b first k.response k.acceptor k.given)
+    (λ genesis sent w is. prepare_may genesis sent w old.acceptor e b first k.response k.acceptor k.given is)
+    (prepare_bears old.acceptor e b first k.response k.acceptor k.given m)
 
 pub accept_goes_on : (m : Meaning) (old new : NodeValue) (from e : ℕ) (x : Vote) (out : OutboxValue)
-    → IsOrdered old.acceptor.state → Responds old from (AnswersAccept old.acceptor e x) new out
+    → IsOrdered old.acceptor.state → Responds old from (RepliesToAccept old.acceptor e x) new out
     → ActsSafely m (λ h. HasSent h.genesis h.sent from (kinds.Accept x)) old new nothing out
 accept_goes_on m old new from e x out ordered k =
     responds_goes_on m (λ h. HasSent h.genesis h.sent from (kinds.Accept x)) old new from
-    (AnswersAccept old.acceptor e x) out k
-    (accept_written old.acceptor e x k.response k.acceptor ordered k.answers)
-    (accept_binding old.acceptor e x k.response k.acceptor k.answers)
+    (RepliesToAccept old.acceptor e x) out k
+    (accept_written old.acceptor e x k.response k.acceptor ordered k.given)
+    (accept_binding old.acceptor e x k.response k.acceptor k.given)
     (λ h n lawful heard. accept_moves m h n old.acceptor e x k.response k.acceptor lawful
-    (record { sender = from; has_sent = heard }) ordered k.answers)
-    (accept_covered old.acceptor e x k.response k.acceptor ordered k.answers)
-    (λ genesis sent w is. accept_may genesis sent w old.acceptor e x k.response k.acceptor ordered k.answers is)
-    (accept_bears old.acceptor e x k.response k.acceptor k.answers m)
+    (record { sender = from; has_sent = heard }) ordered k.given)
+    (accept_covered old.acceptor e x k.response k.acceptor ordered k.given)
+    (λ genesis sent w is. accept_may genesis sent w old.acceptor e x k.response k.acceptor ordered k.given is)
+    (accept_bears old.acceptor e x k.response k.acceptor k.given m)

@@ -68,7 +68,7 @@ waits_goes_on : (m : Meaning) (r : RequestValue) (node : NodeValue) (out : Outbo
     → ActsSafely m (λ h. Contains h.asked r) node (with_waiting r node) out out
 waits_goes_on m r node out =
     change_goes_on m (λ h. Contains h.asked r) node (with_waiting r node) out refl refl (λ h n loose s heard. record {
-      holding = record { view = s.holding.view; waiting = asked r s.holding.waiting; gathered = s.holding.gathered };
+      holding = record { paxos = s.holding.paxos; waiting = asked r s.holding.waiting; gathered = s.holding.gathered };
       held = record {
         acceptor = s.held.acceptor;
         follows = s.held.follows;
@@ -77,7 +77,7 @@ waits_goes_on m r node out =
         gathered = s.held.gathered;
       };
       fits = record {
-        view = s.fits.view;
+        paxos = s.fits.paxos;
         waiting = λ x c. elim (asked_only r s.holding.waiting x c)
             [ inl is ↦ subst (Contains h.asked) is heard | inr old ↦ s.fits.waiting x old ];
         proposals = s.fits.proposals;
@@ -120,7 +120,7 @@ request_goes_on m old new r out k = by_seen (seen_as (session_of r.client old.le
         (kinds.Answer (record { client = r.client; number = r.number; answer = a })) out d.1 tt
         (λ h n loose s. (
           tt,
-          kept_is_replied m h.genesis s.holding.view.done old.learner.whole r.client
+          kept_is_replied m h.genesis s.holding.paxos.done old.learner.whole r.client
               s.held.follows.sums r.number a is,
         )))
     by_seen (seen.Passed last) is d =
@@ -129,6 +129,6 @@ request_goes_on m old new r out k = by_seen (seen_as (session_of r.client old.le
         (kinds.Passed (record { client = r.client; number = r.number; last = last })) out d.1 tt
         (λ h n loose s. (
           tt,
-          last_number_is_replied m h.genesis s.holding.view.done old.learner.whole r.client
+          last_number_is_replied m h.genesis s.holding.paxos.done old.learner.whole r.client
               s.held.follows.sums r.number last is,
         )))

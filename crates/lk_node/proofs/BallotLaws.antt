@@ -8,7 +8,7 @@ use Rattle.lk_messages.specs.declared.message.NodeMessage.TheVariants as kinds
 use Rattle.lk_store_format.specs.Values.{HeaderValue}
 use Rattle.lk_state.specs.Meanings.{Meaning}
 use Rattle.lk_agreement_laws.specs.Acceptors.{AcceptorState}
-use Rattle.lk_agreement_laws.specs.Changes.{begins, view_with, view_in, with_promise}
+use Rattle.lk_agreement_laws.specs.Changes.{begins, holding_acceptor, in_term, with_promise}
 use Rattle.lk_agreement_laws.specs.Nodes.{Term, Pair, new_term}
 use Rattle.lk_agreement_laws.proofs.Histories.{change_fits}
 use Rattle.lk_acceptor.specs.States.{acceptor_with}
@@ -54,7 +54,7 @@ begins_goes_on m Heard node b own below = record {
     lawful = s.lawful;
     whose = s.whose;
     holding = record {
-      view = view_in (view_with s.holding.view (with_promise s.holding.view.acceptor b)) (Some (new_term b));
+      paxos = in_term (holding_acceptor s.holding.paxos (with_promise s.holding.paxos.acceptor b)) (Some (new_term b));
       waiting = s.holding.waiting;
       gathered = s.holding.gathered;
     };
@@ -66,7 +66,7 @@ begins_goes_on m Heard node b own below = record {
       gathered = s.held.gathered;
     };
     fits = record {
-      view = change_fits h.genesis h.sent s.lawful.sound n s.holding.view _ s.fits.view
+      paxos = change_fits h.genesis h.sent s.lawful.sound n s.holding.paxos _ s.fits.paxos
           (begins b (own ∙ ap (λ (w : HeaderValue). w.node) s.whose)
           (subst (λ (a : AcceptorState). IsBelow a.promised b) (sym s.held.acceptor) below));
       waiting = s.fits.waiting;
@@ -96,7 +96,7 @@ asks_goes_on m Heard node b first nodes own below fits =
     (kinds.Prepare b first) fits (inr refl) (λ e. tt)
     (λ o h n loose s heard. (
       subst (λ (a : AcceptorState). IsAtMost b a.promised) (sym s.held.acceptor) (inr refl),
-      record { under = s.holding.view.done; chosen = s.fits.view.stems.done; bears = tt },
+      record { under = s.holding.paxos.done; chosen = s.fits.paxos.stems.done; bears = tt },
     )))
 
 pub starts_goes_on : (m : Meaning) (Heard : History → Type 0) (old new : NodeValue) (b : BallotValue)

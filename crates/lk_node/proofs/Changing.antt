@@ -8,7 +8,7 @@ use Rattle.lk_types.specs.declared.entry.Entry.{Entry}
 use Rattle.lk_messages.specs.declared.message.NodeMessage.{NodeMessage}
 use Rattle.lk_messages.specs.declared.message.NodeMessage.TheVariants as kinds
 use Rattle.lk_agreement_laws.specs.Acceptors.{AcceptorState}
-use Rattle.lk_agreement_laws.specs.Nodes.{Pair, Term, View, MayPromise, MaySend}
+use Rattle.lk_agreement_laws.specs.Nodes.{Pair, Term, PaxosState, MayPromise, MaySend}
 use Rattle.lk_store_format.specs.Values.{HeaderValue}
 use Rattle.lk_state.specs.Meanings.{Meaning}
 use Rattle.lk_acceptor.specs.AcceptorValue.{AcceptorValue}
@@ -52,9 +52,9 @@ alike_goes_on m Heard old new out like leads = record {
     holding = s.holding;
     held = record {
       acceptor = s.held.acceptor ∙ ap (λ (a : AcceptorValue). a.state) (sym like.acceptor);
-      follows = subst (λ (l : LearnerValue). AgreesWithList m h.genesis s.holding.view.done s.holding.view.pairs l)
+      follows = subst (λ (l : LearnerValue). AgreesWithList m h.genesis s.holding.paxos.done s.holding.paxos.pairs l)
           (sym like.learner) s.held.follows;
-      leads = subst₂ (λ (l : LearnerValue) (k : LeaderValue). LeadsOn l k s.holding.view) (sym like.learner)
+      leads = subst₂ (λ (l : LearnerValue) (k : LeaderValue). LeadsOn l k s.holding.paxos) (sym like.learner)
           (sym leads) s.held.leads;
       waiting = s.held.waiting ∙ ap (λ (k : LeaderValue). k.waiting) (sym leads);
       gathered = s.held.gathered ∙ ap (λ (l : LearnerValue). l.gathered) (sym like.learner);
@@ -76,17 +76,17 @@ leaves_goes_on m Heard old new out like leads = record {
   serves = λ h n loose s heard. record {
     lawful = s.lawful;
     whose = like.header ∙ s.whose;
-    holding = record { view = s.holding.view; waiting = []; gathered = s.holding.gathered };
+    holding = record { paxos = s.holding.paxos; waiting = []; gathered = s.holding.gathered };
     held = record {
       acceptor = s.held.acceptor ∙ ap (λ (a : AcceptorValue). a.state) (sym like.acceptor);
-      follows = subst (λ (l : LearnerValue). AgreesWithList m h.genesis s.holding.view.done s.holding.view.pairs l)
+      follows = subst (λ (l : LearnerValue). AgreesWithList m h.genesis s.holding.paxos.done s.holding.paxos.pairs l)
           (sym like.learner) s.held.follows;
       leads = λ k at. absurd (no_term k (sym (ap (λ (l : LeaderValue). l.term) leads) ∙ at));
       waiting = sym (ap (λ (k : LeaderValue). k.waiting) leads);
       gathered = s.held.gathered ∙ ap (λ (l : LearnerValue). l.gathered) (sym like.learner);
     };
     fits = record {
-      view = s.fits.view;
+      paxos = s.fits.paxos;
       waiting = λ r c. absurd (omega (arith, c.1));
       proposals = s.fits.proposals;
       gathered = s.fits.gathered;
@@ -112,16 +112,16 @@ yielded_goes_on m Heard b node out = by_test (is_term_below b node.leader.term)
         (record { header = refl; acceptor = refl; learner = refl }) refl
     by_test false = alike_goes_on m Heard node node out (record { header = refl; acceptor = refl; learner = refl }) refl
 
--- ---- the view goes on
+-- ---- the Paxos state goes on
 
--- the second view has what the first may have sent by: the same acceptor, and the term, if any, with all its proposals
-pub record Grows (old new : View) : Type 0 where
+-- the second state has what the first may have sent by: the same acceptor, and the term, if any, with all its proposals
+pub record Grows (old new : PaxosState) : Type 0 where
   pub acceptor : new.acceptor ≡ old.acceptor
   pub term : (t : Term) → old.term ≡ Some t
       → (u : Term) × (new.term ≡ Some u) × (u.ballot ≡ t.ballot)
       × ((p : Pair) → Contains t.proposals p → Contains u.proposals p)
 
-may_send_on : (genesis : Genesis) (sent : List Datagram) (old new : View) → Grows old new → (x : NodeMessage)
+may_send_on : (genesis : Genesis) (sent : List Datagram) (old new : PaxosState) → Grows old new → (x : NodeMessage)
     → MaySend genesis sent old x → MaySend genesis sent new x
 may_send_on genesis sent old new g (kinds.Prepare b first) may =
     subst (λ (a : AcceptorState). IsAtMost b a.promised) (sym g.acceptor) may
@@ -141,7 +141,7 @@ may_send_on genesis sent old new g (kinds.Elsewhere k) may = may
 may_send_on genesis sent old new g (kinds.Passed p) may = may
 may_send_on genesis sent old new g (kinds.Lead b k) may = may
 
-pub may_go_on : (m : Meaning) (h : History) (n : ℕ) (old new : View) → Grows old new → (d : Datagram)
+pub may_go_on : (m : Meaning) (h : History) (n : ℕ) (old new : PaxosState) → Grows old new → (d : Datagram)
     → MayGo m h n old d → MayGo m h n new d
 may_go_on m h n old new g d k =
     record {
@@ -157,19 +157,19 @@ all_on : (P Q : Entry → Type 0) (es : List Entry) → ((e : Entry) → P e →
 all_on P Q [] f a = tt
 all_on P Q (e ∷ es) f a = (f e a.0, all_on P Q es f a.1)
 
--- what a node holds after a change that leaves its acceptor alone: it fits, the view has grown, and knows what it knew
-pub record IsFollowed (m : Meaning) (h : History) (n : ℕ) (old : View) (new : NodeValue) : Type 0 where
+-- what a node holds after a change that leaves its acceptor alone: it fits, its state has grown, and knows what it knew
+pub record IsFollowed (m : Meaning) (h : History) (n : ℕ) (old : PaxosState) (new : NodeValue) : Type 0 where
   pub holding : Holding
   pub held : IsHeld m new h.genesis holding
   pub fits : HoldingFits m h n holding
-  pub grows : Grows old holding.view
-  pub knows : (e : Entry) → IsKnown old e → IsKnown holding.view e
+  pub grows : Grows old holding.paxos
+  pub knows : (e : Entry) → IsKnown old e → IsKnown holding.paxos e
 
 -- such a change goes on
 pub change_goes_on : (m : Meaning) (Heard : History → Type 0) (old new : NodeValue) (out : OutboxValue)
     → new.header ≡ old.header → new.acceptor.state ≡ old.acceptor.state
     → ((h : History) (n : ℕ) (loose : List Entry) (s : Serves m h n loose old out) → Heard h
-    → IsFollowed m h n s.holding.view new) → ActsSafely m Heard old new out out
+    → IsFollowed m h n s.holding.paxos new) → ActsSafely m Heard old new out out
 change_goes_on m Heard old new out header state f = record {
   binds = λ first b. record {
     header = header ∙ b.header;
@@ -188,9 +188,9 @@ change_goes_on m Heard old new out header state f = record {
         held = u.held;
         fits = u.fits;
         rests = s.rests;
-        known = all_on (IsKnown s.holding.view) (IsKnown u.holding.view) loose u.knows s.known;
-        news = λ e. all_on (IsKnown s.holding.view) (IsKnown u.holding.view) out.entries u.knows (s.news e);
-        may = λ d c. may_go_on m h n s.holding.view u.holding.view u.grows d (s.may d c);
+        known = all_on (IsKnown s.holding.paxos) (IsKnown u.holding.paxos) loose u.knows s.known;
+        news = λ e. all_on (IsKnown s.holding.paxos) (IsKnown u.holding.paxos) out.entries u.knows (s.news e);
+        may = λ d c. may_go_on m h n s.holding.paxos u.holding.paxos u.grows d (s.may d c);
         noted = s.noted;
       };
 }

@@ -15,10 +15,10 @@ use Rattle.lk_messages.specs.declared.message.NodeMessage.TheVariants as kinds
 use Rattle.lk_members.specs.Rosters.{Genesis, members}
 use Rattle.lk_members.specs.Windows.{RosterValue, RosterSumsUp, roster_after}
 use Rattle.lk_members.proofs.Memberships.{length_of_window, set_of_window}
-use Rattle.lk_agreement_laws.specs.Changes.{counts, view_in, with_acceptance}
+use Rattle.lk_agreement_laws.specs.Changes.{counts, in_term, with_acceptance}
 use Rattle.lk_agreement_laws.specs.Chosen.{Command, ChosenAt}
 use Rattle.lk_agreement_laws.specs.Datagrams.{HasSent}
-use Rattle.lk_agreement_laws.specs.Nodes.{Pair, Acceptance, Term, View, ViewFits}
+use Rattle.lk_agreement_laws.specs.Nodes.{Pair, Acceptance, Term, PaxosState, PaxosFits}
 use Rattle.lk_agreement_laws.proofs.Histories.{change_fits, accepted_is_chosen}
 use Rattle.lk_store_format.specs.Values.{HeaderValue}
 use Rattle.lk_state.specs.Meanings.{Meaning}
@@ -128,21 +128,21 @@ module _ (from : ℕ) (x : Vote) (was : NodeValue) (l : LeaderValue) (o : Bool) 
 abbrev acceptance : ℕ → Vote → Acceptance
 acceptance from x = record { node = from; position = x.position; command = x.command }
 
-abbrev voted : ℕ → Vote → View → Term → View
-voted from x w t = view_in w (Some (with_acceptance t (acceptance from x)))
+abbrev voted : ℕ → Vote → PaxosState → Term → PaxosState
+voted from x w t = in_term w (Some (with_acceptance t (acceptance from x)))
 
 abbrev Accepts : ℕ → Vote → History → Type 0
 Accepts from x h = HasSent h.genesis h.sent from (kinds.Accepted x)
 
-knows_voted : (from : ℕ) (x : Vote) (w : View) (t : Term) (e : Entry) → IsKnown w e → IsKnown (voted from x w t) e
+knows_voted : (from : ℕ) (x : Vote) (w : PaxosState) (t : Term) (e : Entry) → IsKnown w e → IsKnown (voted from x w t) e
 knows_voted from x w t (entry.Promise b) k = k
 knows_voted from x w t (entry.Vote y) k = k
 knows_voted from x w t (entry.Decided i c) k = k
 
-voted_fits : (h : History) (n from : ℕ) (x : Vote) (w : View) (t : Term) (m : Meaning) (loose : List Entry)
+voted_fits : (h : History) (n from : ℕ) (x : Vote) (w : PaxosState) (t : Term) (m : Meaning) (loose : List Entry)
     (node : NodeValue) (out : OutboxValue) → Serves m h n loose node out
-    → ViewFits h.genesis h.sent n w → w.term ≡ Some t → t.ballot ≡ x.ballot → Accepts from x h
-    → ViewFits h.genesis h.sent n (voted from x w t)
+    → PaxosFits h.genesis h.sent n w → w.term ≡ Some t → t.ballot ≡ x.ballot → Accepts from x h
+    → PaxosFits h.genesis h.sent n (voted from x w t)
 voted_fits h n from x w t m loose node out s fits at ballot heard =
     change_fits h.genesis h.sent s.lawful.sound n w (voted from x w t) fits
     (counts t (acceptance from x) at
@@ -159,13 +159,13 @@ pub vote_goes_on : (m : Meaning) (from : ℕ) (x : Vote) (node : NodeValue) (out
     (k : IsForProposal node x) → ActsSafely m (Accepts from x) node (with_vote from x node k) out out
 vote_goes_on m from x node out k =
     change_goes_on m (Accepts from x) node (with_vote from x node k) out refl refl (λ h n loose s heard.
-    let w : View = s.holding.view in
+    let w : PaxosState = s.holding.paxos in
     let u = s.held.leads k.term k.current in
     let t : Term = u.0 in
     let more : Term = with_acceptance t (acceptance from x) in
     let r : RosterValue = node.learner.whole.roster in
     record {
-      holding = record { view = voted from x w t; waiting = s.holding.waiting; gathered = s.holding.gathered };
+      holding = record { paxos = voted from x w t; waiting = s.holding.waiting; gathered = s.holding.gathered };
       held = record {
         acceptor = s.held.acceptor;
         follows = s.held.follows;
@@ -181,7 +181,7 @@ vote_goes_on m from x node out k =
         gathered = s.held.gathered;
       };
       fits = record {
-        view = voted_fits h n from x w t m loose node out s s.fits.view u.1 (u.2.ballot ∙ k.vote.ballot) heard;
+        paxos = voted_fits h n from x w t m loose node out s s.fits.paxos u.1 (u.2.ballot ∙ k.vote.ballot) heard;
         waiting = s.fits.waiting;
         proposals = λ q e i v c. s.fits.proposals t u.1 i v
             (subst (λ (z : Term). Contains z.proposals (i, v)) (sym (some_of more q e)) c);
@@ -240,7 +240,7 @@ pub decided_chosen : (m : Meaning) (h : History) (n : ℕ) (loose : List Entry) 
     (from : ℕ) (x : Vote) (k : IsForProposal node x) → BringsMajority from x node k
     → Serves m h n loose node out → Accepts from x h → ChosenAt h.genesis h.sent x.position x.command
 decided_chosen m h n loose node out from x k counted s heard =
-    let w : View = s.holding.view in
+    let w : PaxosState = s.holding.paxos in
     let r : RosterValue = node.learner.whole.roster in
     let u = s.held.leads k.term k.current in
     let t : Term = u.0 in
@@ -249,7 +249,7 @@ decided_chosen m h n loose node out from x k counted s heard =
     (within_window r x.position k.set k.vote.members) u.2 k.vote counted in
     accepted_is_chosen h.genesis h.sent n (voted from x w t)
     (with_acceptance t (acceptance from x)) x.position x.command (accepted_by k.set from k.proposal)
-    (voted_fits h n from x w t m loose node out s s.fits.view u.1 (u.2.ballot ∙ k.vote.ballot) heard)
+    (voted_fits h n from x w t m loose node out s s.fits.paxos u.1 (u.2.ballot ∙ k.vote.ballot) heard)
     refl rests.0 rests.1 rests.2
 
 -- ---- it is noted
@@ -259,10 +259,10 @@ notes_counted : (m : Meaning) (node : NodeValue) (out : OutboxValue) (whose i : 
     → ActsSafely m (Chooses i v) node node out (with_note (note.Counted whose i set v) out)
 notes_counted m node out whose i set v at =
     notes m (Chooses i v) node out (note.Counted whose i set v) tt (λ h n loose s heard.
-    let w : View = s.holding.view in
+    let w : PaxosState = s.holding.paxos in
     let names = list_names h.genesis w.done node.learner.whole.roster i set
     (roster_sums m h.genesis w.done node.learner.whole s.held.follows.sums) at in
-    record { under = w.done; chosen = s.fits.view.stems.done; bears = (names.0, names.1, heard) })
+    record { under = w.done; chosen = s.fits.paxos.stems.done; bears = (names.0, names.1, heard) })
 
 -- ---- and told
 
@@ -304,7 +304,7 @@ decided_go_on m i v was node out (k ∷ nodes) same fits =
     (subst (λ (w : HeaderValue). IsMessage (saying w (decided_message (i, v)))) (sym same) fits) tt (λ e. tt)
     (λ h n loose s heard. (
       chosen_alone h i v heard,
-      record { under = s.holding.view.done; chosen = s.fits.view.stems.done; bears = tt },
+      record { under = s.holding.paxos.done; chosen = s.fits.paxos.stems.done; bears = tt },
     ))))
     (decided_go_on m i v was node sent nodes same fits))
 

@@ -13,7 +13,7 @@ use Rattle.lk_members.specs.Effects.{RequestValue, Noop, Request}
 use Rattle.lk_agreement_laws.specs.Changes.{with_done}
 use Rattle.lk_agreement_laws.specs.Chosen.{Command, command_at}
 use Rattle.lk_agreement_laws.specs.Datagrams.{Genesis, Datagram}
-use Rattle.lk_agreement_laws.specs.Nodes.{Pair, View, Stems}
+use Rattle.lk_agreement_laws.specs.Nodes.{Pair, PaxosState, Stems}
 use Rattle.lk_agreement_laws.specs.Soundness.{Sound}
 use Rattle.lk_agreement_laws.proofs.Histories.{change_fits, cons_cases, contains_more, one_chosen}
 use Rattle.lk_state.specs.Meanings.{Meaning}
@@ -113,13 +113,14 @@ at_before : (done : List Command) (w : Command) (i : ℕ) (v : Command) → comm
 at_before done w zero v e = absurd (cc e)
 at_before done w (suc k) v e = got_before done (w ∷ []) k v e
 
-module _ (m : Meaning) (genesis : Genesis) (sent : List Datagram) (w : View) (l : LearnerValue) (v : Command) where
-  -- the view once it has run what the learner runs next
-  abbrev ran_view : View
-  ran_view = with_done w (w.done ++ v ∷ []) (advanced m v l).pairs
+module _ (m : Meaning) (genesis : Genesis) (sent : List Datagram) (w : PaxosState) (l : LearnerValue)
+    (v : Command) where
+  -- the state once it has run what the learner runs next
+  abbrev ran_state : PaxosState
+  ran_state = with_done w (w.done ++ v ∷ []) (advanced m v l).pairs
 
   knows_still : Sound genesis sent → Stems genesis sent w → AgreesWithList m genesis w.done w.pairs l → IsNext l v
-      → (e : Entry) → IsKnown w e → IsKnown ran_view e
+      → (e : Entry) → IsKnown w e → IsKnown ran_state e
   knows_still sound stems f next (entry.Promise b) k = k
   knows_still sound stems f next (entry.Vote x) k = k
   knows_still sound stems f next (entry.Decided i c) (inr done) = inr (at_before w.done v i c done)
@@ -142,10 +143,10 @@ advances_goes_on m Heard node out v is next =
     let l : LearnerValue = node.learner in
     let moves = ran_moves m v l.whole is.window.0 in
     change_goes_on m Heard node (with_learner node (advanced m v l)) out refl refl (λ h n loose s heard.
-    let w : View = s.holding.view in
+    let w : PaxosState = s.holding.paxos in
     record {
       holding = record {
-        view = ran_view m h.genesis h.sent w l v;
+        paxos = ran_state m h.genesis h.sent w l v;
         waiting = s.holding.waiting;
         gathered = s.holding.gathered;
       };
@@ -164,14 +165,14 @@ advances_goes_on m Heard node out v is next =
         gathered = s.held.gathered;
       };
       fits = record {
-        view = change_fits h.genesis h.sent s.lawful.sound n w (ran_view m h.genesis h.sent w l v) s.fits.view
+        paxos = change_fits h.genesis h.sent s.lawful.sound n w (ran_state m h.genesis h.sent w l v) s.fits.paxos
             (running_changes m h.genesis h.sent n w l v s.held.follows next);
         waiting = s.fits.waiting;
         proposals = s.fits.proposals;
         gathered = s.fits.gathered;
       };
       grows = record { acceptor = refl; term = λ t at. (t, at, refl, λ p c. c) };
-      knows = knows_still m h.genesis h.sent w l v s.lawful.sound s.fits.view.stems s.held.follows next;
+      knows = knows_still m h.genesis h.sent w l v s.lawful.sound s.fits.paxos.stems s.held.follows next;
     })
 
 -- ---- and noted
@@ -237,10 +238,10 @@ notes_ran : (m : Meaning) (Heard : History → Type 0) (node : NodeValue) (out :
     → ActsSafely m Heard node node out (with_note (note.Ran whose i v) out)
 notes_ran m Heard node out v whose i above at =
     notes m Heard node out (note.Ran whose i v) tt (λ h n loose s heard.
-    let w : View = s.holding.view in
+    let w : PaxosState = s.holding.paxos in
     record {
       under = w.done;
-      chosen = s.fits.view.stems.done;
+      chosen = s.fits.paxos.stems.done;
       bears = served_stands m h.genesis w.done w.pairs node.learner i v s.held.follows above at;
     })
 
@@ -266,7 +267,7 @@ settled_goes_on : (m : Meaning) (Heard : History → Type 0) (node : NodeValue) 
 settled_goes_on m Heard node out x =
     change_goes_on m Heard node (settled x node) out refl refl (λ h n loose s heard. record {
       holding = record {
-        view = s.holding.view;
+        paxos = s.holding.paxos;
         waiting = left_by x.client x.number s.holding.waiting;
         gathered = s.holding.gathered;
       };
@@ -278,7 +279,7 @@ settled_goes_on m Heard node out x =
         gathered = s.held.gathered;
       };
       fits = record {
-        view = s.fits.view;
+        paxos = s.fits.paxos;
         waiting = λ r c. s.fits.waiting r (left_from x.client x.number s.holding.waiting r c);
         proposals = s.fits.proposals;
         gathered = s.fits.gathered;
@@ -318,22 +319,22 @@ tells_client m Heard node out s number le at fits = by_test (nat_lt number s.num
         → ActsSafely m Heard node node out
         (with_letter (record { to = to.Client s.client; bytes = spelling (saying node.header (message below)) }) out)
     by_test true e f = says m Heard node out (to.Client s.client) (message true) f tt (λ e. tt) (λ h n loose k heard.
-        let w : View = k.holding.view in (
+        let w : PaxosState = k.holding.paxos in (
           tt,
           record {
             under = w.done;
-            chosen = k.fits.view.stems.done;
+            chosen = k.fits.paxos.stems.done;
             bears = (s.answer, session_is_reply m h.genesis w.done w.pairs node.learner s.client s k.held.follows at);
           },
         ))
     by_test false e f =
         let same : s.number ≡ number = (let ge = ltb-false number s.number e in omega (arith, le, ge)) in
         says m Heard node out (to.Client s.client) (message false) f tt (λ e. tt) (λ h n loose k heard.
-        let w : View = k.holding.view in (
+        let w : PaxosState = k.holding.paxos in (
           tt,
           record {
             under = w.done;
-            chosen = k.fits.view.stems.done;
+            chosen = k.fits.paxos.stems.done;
             bears = subst (λ (j : ℕ). reply m h.genesis w.done s.client j ≡ Some s.answer) same
                 (session_is_reply m h.genesis w.done w.pairs node.learner s.client s k.held.follows at);
           },

@@ -13,7 +13,7 @@ use Rattle.lk_messages.specs.declared.message.NodeMessage.TheVariants as kinds
 use Rattle.lk_agreement_laws.specs.Changes.{with_done, installs}
 use Rattle.lk_agreement_laws.specs.Chosen.{Command, command_at, Chosen, ChosenAt}
 use Rattle.lk_agreement_laws.specs.Datagrams.{HasSent}
-use Rattle.lk_agreement_laws.specs.Nodes.{Pair, View}
+use Rattle.lk_agreement_laws.specs.Nodes.{Pair, PaxosState}
 use Rattle.lk_agreement_laws.specs.Snapshots.{IsSlice}
 use Rattle.lk_agreement_laws.specs.Soundness.{Sound}
 use Rattle.lk_agreement_laws.proofs.Histories.{command_within, entry_chosen, one_chosen, chosen_at_fits, chosen_fits}
@@ -68,9 +68,9 @@ module _ (m : Meaning) (h : History) (n : ℕ) (node : NodeValue) (x : Holding) 
     (g : Option GatheredValue)
     (slices : (k : GatheredValue) → g ≡ Some k
     → IsSlice h.genesis h.sent (text m h.genesis) k.position k.total 0 k.bytes) where
-  gathering_followed : IsFollowed m h n x.view (with_learner node (with_gathered g node.learner))
+  gathering_followed : IsFollowed m h n x.paxos (with_learner node (with_gathered g node.learner))
   gathering_followed = record {
-    holding = record { view = x.view; waiting = x.waiting; gathered = g };
+    holding = record { paxos = x.paxos; waiting = x.waiting; gathered = g };
     held = record {
       acceptor = held.acceptor;
       follows = record {
@@ -85,7 +85,7 @@ module _ (m : Meaning) (h : History) (n : ℕ) (node : NodeValue) (x : Holding) 
       waiting = held.waiting;
       gathered = refl;
     };
-    fits = record { view = fits.view; waiting = fits.waiting; proposals = fits.proposals; gathered = slices };
+    fits = record { paxos = fits.paxos; waiting = fits.waiting; proposals = fits.proposals; gathered = slices };
     grows = record { acceptor = refl; term = λ t at. (t, at, refl, λ p c. c) };
     knows = λ e k. k;
   }
@@ -138,14 +138,14 @@ module _ (m : Meaning) (h : History) (n : ℕ) (node : NodeValue) (x : Holding) 
   far : w.roster.executed ≡ length L
   far = executed_is m h.genesis L w sums
 
-  ran : executed node.learner ≡ length x.view.done
-  ran = executed_is m h.genesis x.view.done node.learner.whole held.follows.sums
+  ran : executed node.learner ≡ length x.paxos.done
+  ran = executed_is m h.genesis x.paxos.done node.learner.whole held.follows.sums
 
   abbrev rest : List Pair
-  rest = pairs_above w.roster.executed x.view.pairs
+  rest = pairs_above w.roster.executed x.paxos.pairs
 
-  abbrev view : View
-  view = with_done x.view L rest
+  abbrev paxos : PaxosState
+  paxos = with_done x.paxos L rest
 
   -- what was decided at a position that L reaches stands there
   stands : (i : ℕ) (v : Command) → ChosenAt h.genesis h.sent i v → i ≤ length L → command_at L i ≡ Some v
@@ -154,29 +154,29 @@ module _ (m : Meaning) (h : History) (n : ℕ) (node : NodeValue) (x : Holding) 
       there.1 ∙ ap Some (one_chosen h.genesis h.sent sound i there.0 v
       (entry_chosen h.genesis h.sent L chosen i there.0 there.1) at)
 
-  knows : (e : Entry) → IsKnown x.view e → IsKnown view e
+  knows : (e : Entry) → IsKnown x.paxos e → IsKnown paxos e
   knows (entry.Promise b) k = absurd k
   knows (entry.Vote y) k = absurd k
   knows (entry.Decided i v) k = elim (cases_lt (length L) i) [
     | inl above ↦ elim k [
-      | inl pair ↦ inl (filter_has (λ (q : Pair). ltb w.roster.executed q.0) x.view.pairs (i, v) pair
+      | inl pair ↦ inl (filter_has (λ (q : Pair). ltb w.roster.executed q.0) x.paxos.pairs (i, v) pair
           (lt-ltb w.roster.executed i (omega (arith, above, far))))
-      | inr at ↦ absurd (omega (arith, above, farther, ran, command_within x.view.done i v at))
+      | inr at ↦ absurd (omega (arith, above, farther, ran, command_within x.paxos.done i v at))
     ]
     | inr within ↦ inr (stands i v
         (elim k [
-          | inl pair ↦ fits.view.stems.pairs i v pair
+          | inl pair ↦ fits.paxos.stems.pairs i v pair
           | inr at ↦
-              entry_chosen h.genesis h.sent x.view.done fits.view.stems.done i v at
+              entry_chosen h.genesis h.sent x.paxos.done fits.paxos.stems.done i v at
         ]) within)
   ]
 
-  install_followed : IsFollowed m h n x.view (with_learner node (installed w node.learner))
+  install_followed : IsFollowed m h n x.paxos (with_learner node (installed w node.learner))
   install_followed = record {
-    holding = record { view = view; waiting = x.waiting; gathered = None };
+    holding = record { paxos = paxos; waiting = x.waiting; gathered = None };
     held = record {
       acceptor = held.acceptor;
-      follows = installed_follows m h.genesis x.view.done L x.view.pairs node.learner w held.follows sums;
+      follows = installed_follows m h.genesis x.paxos.done L x.paxos.pairs node.learner w held.follows sums;
       leads = λ k at.
           let t = held.leads k at in (
             t.0,
@@ -189,9 +189,9 @@ module _ (m : Meaning) (h : History) (n : ℕ) (node : NodeValue) (x : Holding) 
       gathered = refl;
     };
     fits = record {
-      view = change_fits h.genesis h.sent sound n x.view view fits.view
-          (installs L rest chosen (omega (arith, fits.view.stems.snapshot, farther, ran))
-          (λ p c. filter_from (λ (q : Pair). ltb w.roster.executed q.0) x.view.pairs p c));
+      paxos = change_fits h.genesis h.sent sound n x.paxos paxos fits.paxos
+          (installs L rest chosen (omega (arith, fits.paxos.stems.snapshot, farther, ran))
+          (λ p c. filter_from (λ (q : Pair). ltb w.roster.executed q.0) x.paxos.pairs p c));
       waiting = fits.waiting;
       proposals = fits.proposals;
       gathered = λ g at. absurd (cc at);

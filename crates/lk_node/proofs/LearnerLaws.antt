@@ -20,7 +20,7 @@ use Rattle.lk_agreement_laws.specs.Acceptors.{AcceptorState}
 use Rattle.lk_agreement_laws.specs.Changes.{with_done}
 use Rattle.lk_agreement_laws.specs.Chosen.{ChosenAt}
 use Rattle.lk_agreement_laws.specs.Datagrams.{HasSent}
-use Rattle.lk_agreement_laws.specs.Nodes.{Pair, View}
+use Rattle.lk_agreement_laws.specs.Nodes.{Pair, PaxosState}
 use Rattle.lk_agreement_laws.proofs.Histories.{change_fits}
 use Rattle.lk_acceptor.specs.States.{acceptor_with}
 use Rattle.lk_learner.specs.Learners.{IsWanted, keeping}
@@ -75,7 +75,7 @@ writes_decided m Heard node out i v kept chosen = record {
     fits = s.fits;
     rests = all_push (Rests h) out.entries (entry.Decided i v) s.rests (chosen h n loose s heard);
     known = s.known;
-    news = λ e. all_push (IsKnown s.holding.view) out.entries (entry.Decided i v) (s.news (unsynced_before out.sync e))
+    news = λ e. all_push (IsKnown s.holding.paxos) out.entries (entry.Decided i v) (s.news (unsynced_before out.sync e))
         (inl (s.held.follows.known (i, v) kept));
     may = s.may;
     noted = s.noted;
@@ -84,7 +84,7 @@ writes_decided m Heard node out i v kept chosen = record {
 
 -- ---- a pair is kept
 
-knows_more : (w : View) (p : Pair) (e : Entry) → IsKnown w e → IsKnown (with_done w w.done (w.pairs ++ p ∷ [])) e
+knows_more : (w : PaxosState) (p : Pair) (e : Entry) → IsKnown w e → IsKnown (with_done w w.done (w.pairs ++ p ∷ [])) e
 knows_more w p (entry.Promise b) k = k
 knows_more w p (entry.Vote x) k = k
 knows_more w p (entry.Decided i c) (inl pair) = inl (Contains-append_left w.pairs (p ∷ []) (i, c) pair)
@@ -96,10 +96,10 @@ keeps_goes_on : (m : Meaning) (Heard : History → Type 0) (node : NodeValue) (o
     → ActsSafely m Heard node (with_learner node (keeping (i, v) node.learner)) out out
 keeps_goes_on m Heard node out i v chosen =
     change_goes_on m Heard node (with_learner node (keeping (i, v) node.learner)) out refl refl (λ h n loose s heard.
-    let w : View = s.holding.view in
+    let w : PaxosState = s.holding.paxos in
     record {
       holding = record {
-        view = with_done w w.done (w.pairs ++ (i, v) ∷ []);
+        paxos = with_done w w.done (w.pairs ++ (i, v) ∷ []);
         waiting = s.holding.waiting;
         gathered = s.holding.gathered;
       };
@@ -111,7 +111,8 @@ keeps_goes_on m Heard node out i v chosen =
         gathered = s.held.gathered;
       };
       fits = record {
-        view = change_fits h.genesis h.sent s.lawful.sound n w (with_done w w.done (w.pairs ++ (i, v) ∷ [])) s.fits.view
+        paxos = change_fits h.genesis h.sent s.lawful.sound n w (with_done w w.done (w.pairs ++ (i, v) ∷ []))
+            s.fits.paxos
             (learning_changes h.genesis h.sent n w i v (chosen h n loose s heard));
         waiting = s.fits.waiting;
         proposals = s.fits.proposals;

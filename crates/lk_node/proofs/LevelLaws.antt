@@ -11,7 +11,7 @@ use Rattle.lk_messages.specs.declared.message.Nack.{Nack}
 use Rattle.lk_messages.specs.declared.message.NodeMessage.{NodeMessage}
 use Rattle.lk_messages.specs.declared.message.NodeMessage.TheVariants as kinds
 use Rattle.lk_agreement_laws.specs.Acceptors.{Covers}
-use Rattle.lk_agreement_laws.specs.Nodes.{Pair, View, MaySend}
+use Rattle.lk_agreement_laws.specs.Nodes.{Pair, PaxosState, MaySend}
 use Rattle.lk_state.specs.Meanings.{Meaning}
 use Rattle.lk_learner.specs.Following.{AgreesWithList}
 use Rattle.lk_learner.specs.Learners.{LearnerValue, decided_from, wanted}
@@ -45,15 +45,15 @@ idles m Heard node out is = subst (ActsSafely m Heard node node nothing) (sym is
 pub alone_goes_on : (m : Meaning) (Heard : History → Type 0) (node : NodeValue) (to : To) (message : NodeMessage)
     (out : OutboxValue) → SaysAlone node to message out → Covers node.acceptor.state message
     → ((h : History) (n : ℕ) (loose : List Entry) (s : Serves m h n loose node nothing)
-    → MaySend h.genesis h.sent s.holding.view message × BearsOutMessage m h s.holding.view.done message)
+    → MaySend h.genesis h.sent s.holding.paxos message × BearsOutMessage m h s.holding.paxos.done message)
     → ActsSafely m Heard node node nothing out
 alone_goes_on m Heard node to message out k covers may =
     subst (ActsSafely m Heard node node nothing) (sym k.1)
     (says m Heard node nothing to message k.0 covers (λ e. absurd (cc e)) (λ h n loose s heard. (
       (may h n loose s).0,
       record {
-        under = s.holding.view.done;
-        chosen = s.fits.view.stems.done;
+        under = s.holding.paxos.done;
+        chosen = s.fits.paxos.stems.done;
         bears = (may h n loose s).1;
       },
     )))
@@ -108,11 +108,11 @@ sends_parts m Heard node other (p ∷ ps) out fits slices =
     (then_goes_on m Heard node node node out (with_letter one out) (sending_parts node other ps (with_letter one out))
     (says m Heard node out (to_node node other) (kinds.Part p) (fits p (0, omega arith, refl)) tt
     (λ e. tt) (λ h n loose s heard.
-    let w : View = s.holding.view in (
+    let w : PaxosState = s.holding.paxos in (
       tt,
       record {
         under = w.done;
-        chosen = s.fits.view.stems.done;
+        chosen = s.fits.paxos.stems.done;
         bears = part_borne m h w.done w.pairs node.learner p s.held.follows (slices p (0, omega arith, refl));
       },
     )))
@@ -133,8 +133,8 @@ feeds_goes_on : (m : Meaning) (Heard : History → Type 0) (node : NodeValue) (o
 feeds_goes_on m Heard node other first offset out (inl served) =
     alone_goes_on m Heard node (to_node node other) (kinds.Decided (decided_from first node.learner)) out served.1 tt
     (λ h n loose s. (
-      served_chosen m h.genesis h.sent s.holding.view.done s.holding.view.pairs node.learner first
-          s.fits.view.stems.done s.held.follows served.0,
+      served_chosen m h.genesis h.sent s.holding.paxos.done s.holding.paxos.pairs node.learner first
+          s.fits.paxos.stems.done s.held.follows served.0,
       tt,
     ))
 feeds_goes_on m Heard node other first offset out (inr (inl parts)) =

@@ -34,7 +34,7 @@ pub says_all : (m : Meaning) (Heard : History → Type 0) (node : NodeValue) (ou
     (message : NodeMessage) → IsMessage (saying node.header message) → Covers node.acceptor.state message
     → (out.rebase ≡ true → IsLight message)
     → ((o : OutboxValue) (h : History) (n : ℕ) (loose : List Entry) (s : Serves m h n loose node o) → Heard h
-    → MaySend h.genesis h.sent s.holding.view message × IsServed m h message)
+    → MaySend h.genesis h.sent s.holding.paxos message × IsServed m h message)
     → ActsSafely m Heard node node out (telling node nodes message out)
 says_all m Heard node out [] message fits covers light may =
     subst (λ (ls : List LetterValue). ActsSafely m Heard node node out (lettered out ls)) (sym (no_letters out.letters))

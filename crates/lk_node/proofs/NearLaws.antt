@@ -10,7 +10,7 @@ use Rattle.lk_log.specs.Stores.{MayBegin}
 use Rattle.lk_state.specs.Meanings.{Meaning}
 use Rattle.lk_state.specs.Packed.{packed}
 use Rattle.lk_acceptor.specs.AcceptorValue.{AcceptorValue}
-use Rattle.lk_acceptor.specs.Answers.{AnswersPrepare, AnswersAccept}
+use Rattle.lk_acceptor.specs.Replies.{RepliesToPrepare, RepliesToAccept}
 use Rattle.lk_acceptor.specs.States.{IsAcceptor, without_votes_to, with_state}
 use Rattle.lk_acceptor.specs.VoteLists.{votes_above}
 use Rattle.lk_acceptor.specs.declared.response.Response.{Response}
@@ -37,12 +37,12 @@ own_near a new l b n is =
     subst (λ (x : AcceptorValue). AreNear x l) (sym is) (few_near a (with_promise a.state b) l n n.snapshot (λ v c. c))
 
 pub prepare_near : (a new : AcceptorValue) (l : LearnerValue) (e : ℕ) (b : BallotValue) (first : ℕ) (r : Response)
-    → AreNear a l → AnswersPrepare a e b first r new → AreNear new l
+    → AreNear a l → RepliesToPrepare a e b first r new → AreNear new l
 prepare_near a new l e b first r n (inl grants) = own_near a new l b n grants.1.state
 prepare_near a new l e b first r n (inr refuses) = subst (λ (x : AcceptorValue). AreNear x l) (sym refuses.1.state) n
 
 pub accept_near : (a new : AcceptorValue) (l : LearnerValue) (e : ℕ) (x : Vote) (r : Response) → AreNear a l
-    → e ≡ executed l → AnswersAccept a e x r new → AreNear new l
+    → e ≡ executed l → RepliesToAccept a e x r new → AreNear new l
 accept_near a new l e x r n at (inl grants) = subst (λ (k : AcceptorValue). AreNear k l) (sym grants.1.state) (record {
   alpha_is = n.alpha_is;
   snapshot = n.snapshot;

@@ -160,7 +160,7 @@ unfolding whole_after
 roster_sums m genesis done w sums = ap (λ (k : WholeValue). k.roster) sums
 
 module _ (m : Meaning) (h : History) (n : ℕ) (old : NodeValue) (x : Holding) (held : IsHeld m old h.genesis x)
-    (fits : HoldingFits m h n x) (lawful : IsLawful m h) (t : Term) (is : x.view.term ≡ Some t) where
+    (fits : HoldingFits m h n x) (lawful : IsLawful m h) (t : Term) (is : x.paxos.term ≡ Some t) where
   -- what was reported in the term, or waits, was asked
   was_asked : (v : Command)
       → ((y : Vote) × IsReported t.reports y × (y.command ≡ v))
@@ -170,7 +170,7 @@ module _ (m : Meaning) (h : History) (n : ℕ) (old : NodeValue) (x : Holding) (
       subst (WasAsked h) reported.2
       (lawful.asked reported.0
       (lawful.sound.reported r.node (record { ballot = t.ballot; first = r.first; votes = r.votes })
-      ((fits.view.term t is).reports r reported.1.1) reported.0 reported.1.2).0)
+      ((fits.paxos.term t is).reports r reported.1.1) reported.0 reported.1.2).0)
   was_asked v (inr (inl waits)) =
       subst (WasAsked h) (sym waits.2)
       (fits.waiting waits.0 (subst (λ (qs : List RequestValue). Contains qs waits.0) (sym held.waiting) waits.1))
@@ -183,7 +183,7 @@ pub accept_may : (m : Meaning) (h : History) (n : ℕ) (loose : List Entry) (nod
     (s : Serves m h n loose node o) (k : TermValue) (q : ProposalValue) (x : Vote)
     → node.leader.term ≡ Some k → Contains k.proposals q
     → x ≡ record { position = q.position; ballot = k.ballot; command = q.command }
-    → MaySend h.genesis h.sent s.holding.view (kinds.Accept x) × IsServed m h (kinds.Accept x)
+    → MaySend h.genesis h.sent s.holding.paxos (kinds.Accept x) × IsServed m h (kinds.Accept x)
 accept_may m h n loose node o s k q x at among is =
     let lead = s.held.leads k at in (
       (
@@ -192,7 +192,7 @@ accept_may m h n loose node o s k q x at among is =
         lead.2.ballot ∙ ap (λ (y : Vote). y.ballot) (sym is),
         subst (λ (y : Vote). Contains lead.0.proposals (y.position, y.command)) (sym is) (lead.2.proposals q among),
       ),
-      record { under = s.holding.view.done; chosen = s.fits.view.stems.done; bears = tt },
+      record { under = s.holding.paxos.done; chosen = s.fits.paxos.stems.done; bears = tt },
     )
 
 pub proposal_goes_on : (m : Meaning) (old : NodeValue) (x : Vote) (p : ProposesVote old x) (out : OutboxValue)
@@ -211,8 +211,8 @@ proposal_goes_on m old x p out promised fits =
     term_followed m h n old s.holding t (changes.with_proposal t (x.position, x.command))
     (proposed roster x.position x.command k) s.held s.fits s.lawful lead.1
     (proposes t x.position x.command lead.1
-    (proposes_allowed h.genesis s.holding.view.done t k old.leader.waiting roster x.position x.command
-    (roster_sums m h.genesis s.holding.view.done old.learner.whole s.held.follows.sums) lead.2 p.proposes))
+    (proposes_allowed h.genesis s.holding.paxos.done t k old.leader.waiting roster x.position x.command
+    (roster_sums m h.genesis s.holding.paxos.done old.learner.whole s.held.follows.sums) lead.2 p.proposes))
     (proposed_leads t k roster x.position x.command p.proposes.next lead.2)
     refl
     (λ y c. Contains-append_left t.proposals ((x.position, x.command) ∷ []) y c)

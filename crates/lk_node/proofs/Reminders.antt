@@ -42,7 +42,7 @@ asks_go_on m Heard node b before out promised is (inl asks) =
     (λ o h n loose s heard. (
       subst (λ (a : AcceptorState). IsAtMost b a.promised) (sym s.held.acceptor)
           (term_promised node b promised is),
-      record { under = s.holding.view.done; chosen = s.fits.view.stems.done; bears = tt },
+      record { under = s.holding.paxos.done; chosen = s.fits.paxos.stems.done; bears = tt },
     )))
 asks_go_on m Heard node b before out promised is (inr last) =
     subst (ActsSafely m Heard node node before) (sym last.1) (rests_here m Heard node before)
@@ -52,7 +52,8 @@ pub lead_goes_on : (m : Meaning) (Heard : History → Type 0) (node : NodeValue)
 lead_goes_on m Heard node b before out tells =
     subst (ActsSafely m Heard node node before) (sym tells.2.1)
     (says_all m Heard node before tells.0 (kinds.Lead b (executed node.learner)) tells.2.0 tt (λ e. tt)
-    (λ o h n loose s heard. (tt, record { under = s.holding.view.done; chosen = s.fits.view.stems.done; bears = tt })))
+    (λ o h n loose s heard.
+    (tt, record { under = s.holding.paxos.done; chosen = s.fits.paxos.stems.done; bears = tt })))
 
 -- ---- the proposals
 

@@ -66,7 +66,7 @@ pub says : (m : Meaning) (Heard : History → Type 0) (node : NodeValue) (out : 
     (message : NodeMessage) → IsMessage (saying node.header message) → Covers node.acceptor.state message
     → (out.rebase ≡ true → IsLight message)
     → ((h : History) (n : ℕ) (loose : List Entry) (s : Serves m h n loose node out) → Heard h
-    → MaySend h.genesis h.sent s.holding.view message × IsServed m h message)
+    → MaySend h.genesis h.sent s.holding.paxos message × IsServed m h message)
     → ActsSafely m Heard node node out (with_letter (letter node to message) out)
 says m Heard node out to message fits covers light may = record {
   binds = λ first b. record {
@@ -92,15 +92,16 @@ says m Heard node out to message fits covers light may = record {
     may = λ d c. elim (Contains-append_cases (batch_of n out.letters) (datagram_of n (letter node to message) ∷ []) d
         (subst (λ ds. Contains ds d) (mapped_append n out.letters (letter node to message)) c)) [
           | inl before ↦ s.may d before
-          | inr now ↦ subst (MayGo m h n s.holding.view) (only (datagram_of n (letter node to message)) d now) (record {
-            message = message;
-            from = refl;
-            spelled =
-                letter_spelled h.genesis n node.header message
-                (spelling (saying node.header message)) s.whose fits refl;
-            may = (may h n loose s heard).0;
-            served = (may h n loose s heard).1;
-          })
+          | inr now ↦ subst (MayGo m h n s.holding.paxos)
+              (only (datagram_of n (letter node to message)) d now) (record {
+                message = message;
+                from = refl;
+                spelled =
+                    letter_spelled h.genesis n node.header message
+                    (spelling (saying node.header message)) s.whose fits refl;
+                may = (may h n loose s heard).0;
+                served = (may h n loose s heard).1;
+              })
         ];
     noted = s.noted;
   };

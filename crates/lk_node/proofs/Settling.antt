@@ -25,7 +25,7 @@ use Rattle.lk_node_interface.specs.Grants.{is_granted}
 use Rattle.lk_node_interface.specs.Outboxes.{OutboxValue}
 use Rattle.lk_node_interface.specs.declared.input.Input.{Input}
 use Rattle.lk_node_interface.specs.declared.input.Input.TheVariants as input
-use Rattle.lk_node.specs.Answering.{with_acceptor, replied, Responds}
+use Rattle.lk_node.specs.Responding.{with_acceptor, replied, Responds}
 use Rattle.lk_node.specs.Asking.{leader_in, PointsTo, TakesNew, TakesAs}
 use Rattle.lk_node.specs.CatchingUp.{following, HearsLead}
 use Rattle.lk_node.specs.Deciding.{IsOnlyHeard, HearsAccepted}
@@ -71,9 +71,9 @@ replied_learner reply node = by_test (is_granted reply)
     by_test true = yielded_learner node.acceptor.state.promised (record node { ticks = 0 })
     by_test false = yielded_learner node.acceptor.state.promised node
 
-responds_settles : (old new : NodeValue) (from : ℕ) (Answer : Response → AcceptorValue → Type 0) (out : OutboxValue)
-    → Responds old from Answer new out → Settles old new
-responds_settles old new from Answer out k =
+responds_settles : (old new : NodeValue) (from : ℕ) (Gives : Response → AcceptorValue → Type 0) (out : OutboxValue)
+    → Responds old from Gives new out → Settles old new
+responds_settles old new from Gives out k =
     let answered : NodeValue = with_acceptor old k.acceptor in
     stays_as old (replied k.response.reply answered) new (replied_learner k.response.reply answered) k.becomes
 

@@ -17,7 +17,7 @@ use Rattle.lk_members.specs.Windows.{RosterValue}
 use Rattle.lk_agreement_laws.specs.Changes as changes
 use Rattle.lk_agreement_laws.specs.Changes.{Changes, hears}
 use Rattle.lk_agreement_laws.specs.Datagrams.{HasSent}
-use Rattle.lk_agreement_laws.specs.Nodes.{Pair, Term, View}
+use Rattle.lk_agreement_laws.specs.Nodes.{Pair, Term, PaxosState}
 use Rattle.lk_agreement_laws.proofs.Histories.{change_fits}
 use Rattle.lk_acceptor.specs.AcceptorValue.{AcceptorValue}
 use Rattle.lk_leader.specs.LedTerms.{AgreesWithTerm}
@@ -35,9 +35,9 @@ use Rattle.lk_node.specs.Serving.{ActsSafely}
 use Rattle.lk_node.proofs.Changing.{IsFollowed, change_goes_on}
 use Rattle.lk_node.proofs.Serving.{rests_here}
 
--- ---- the view's term changes
+-- ---- the term changes
 
-knows_alike : (w : View) (t : Option Term) (e : Entry) → IsKnown w e → IsKnown (changes.view_in w t) e
+knows_alike : (w : PaxosState) (t : Option Term) (e : Entry) → IsKnown w e → IsKnown (changes.in_term w t) e
 knows_alike w t (entry.Promise b) k = k
 knows_alike w t (entry.Vote x) k = k
 knows_alike w t (entry.Decided i c) k = k
@@ -50,14 +50,14 @@ some_value a b e = cc e
 
 -- a term of the same ballot that has all proposals of the one before, and for which the leader stands
 pub term_followed : (m : Meaning) (h : History) (n : ℕ) (old : NodeValue) (x : Holding) (t u : Term) (k : TermValue)
-    → IsHeld m old h.genesis x → HoldingFits m h n x → IsLawful m h → x.view.term ≡ Some t
-    → Changes h.genesis h.sent n x.view (changes.view_in x.view (Some u))
+    → IsHeld m old h.genesis x → HoldingFits m h n x → IsLawful m h → x.paxos.term ≡ Some t
+    → Changes h.genesis h.sent n x.paxos (changes.in_term x.paxos (Some u))
     → AgreesWithTerm old.learner.whole.roster.executed (length old.learner.whole.roster.sets) u k → u.ballot ≡ t.ballot
     → ((p : Pair) → Contains t.proposals p → Contains u.proposals p)
     → ((i : ℕ) (v : Command) → Contains u.proposals (i, v) → WasAsked h v)
-    → IsFollowed m h n x.view (with_leader old (with_term k old.leader))
+    → IsFollowed m h n x.paxos (with_leader old (with_term k old.leader))
 term_followed m h n old x t u k held fits lawful is change stands ballot grows asked = record {
-  holding = record { view = changes.view_in x.view (Some u); waiting = x.waiting; gathered = x.gathered };
+  holding = record { paxos = changes.in_term x.paxos (Some u); waiting = x.waiting; gathered = x.gathered };
   held = record {
     acceptor = held.acceptor;
     follows = held.follows;
@@ -71,7 +71,7 @@ term_followed m h n old x t u k held fits lawful is change stands ballot grows a
     gathered = held.gathered;
   };
   fits = record {
-    view = change_fits h.genesis h.sent lawful.sound n x.view (changes.view_in x.view (Some u)) fits.view change;
+    paxos = change_fits h.genesis h.sent lawful.sound n x.paxos (changes.in_term x.paxos (Some u)) fits.paxos change;
     waiting = fits.waiting;
     proposals = λ w at i v c. asked i v (subst (λ (y : Term). Contains y.proposals (i, v)) (sym (some_term u w at)) c);
     gathered = fits.gathered;
@@ -85,7 +85,7 @@ term_followed m h n old x t u k held fits lawful is change stands ballot grows a
       λ p c. grows p (subst (λ (y : Term). Contains y.proposals p) (sym (some_term t w (sym is ∙ at))) c),
     );
   };
-  knows = knows_alike x.view (Some u);
+  knows = knows_alike x.paxos (Some u);
 }
 
 -- ---- a promise is heard

@@ -25,7 +25,7 @@ use Rattle.lk_state.specs.declared.session.Session.{Session}
 use Rattle.lk_state.specs.declared.whole.Seen.{Seen}
 use Rattle.lk_state.specs.declared.whole.Seen.TheVariants as seen
 use Rattle.lk_acceptor.specs.AcceptorValue.{AcceptorValue}
-use Rattle.lk_acceptor.specs.Answers.{AnswersPrepare, AnswersAccept}
+use Rattle.lk_acceptor.specs.Replies.{RepliesToPrepare, RepliesToAccept}
 use Rattle.lk_acceptor.specs.declared.response.Response.{Response}
 use Rattle.lk_store_format.specs.Values.{HeaderValue}
 use Rattle.lk_leader.specs.Terms.{TermValue}
@@ -37,7 +37,7 @@ use Rattle.lk_node_interface.specs.KeptReplies.{session_by}
 use Rattle.lk_node_interface.specs.Outboxes.{OutboxValue, nothing, with_optional, with_rebase}
 use Rattle.lk_node_interface.specs.declared.input.Input.{Input}
 use Rattle.lk_node_interface.specs.declared.input.Input.TheVariants as input
-use Rattle.lk_node.specs.Answering.{with_acceptor, replied, Responds}
+use Rattle.lk_node.specs.Responding.{with_acceptor, replied, Responds}
 use Rattle.lk_node.specs.Asking.{leader_in, PointsTo, TakesNew, TakesAs}
 use Rattle.lk_node.specs.Beginning.{next_ballot}
 use Rattle.lk_node.specs.CatchingUp.{HearsLead, HearsNack}
@@ -287,7 +287,7 @@ no_entry : (ahead : ℕ) (s : StandingValue) (o : Option Entry) → o ≡ None �
 no_entry ahead s o none e at = absurd (cc (none, at))
 
 prepared_near : (ahead : ℕ) (s : StandingValue) (a new : AcceptorValue) (e : ℕ) (b : BallotValue) (first : ℕ)
-    (r : Response) → AnswersPrepare a e b first r new
+    (r : Response) → RepliesToPrepare a e b first r new
     → ((x : Entry) → r.entry ≡ Some x → EntryLiesNear ahead s x) × (new.alpha ≡ a.alpha)
 prepared_near ahead s a new e b first r (inl k) = (
   elim k.1.entry [ inl raised ↦ no_vote ahead s b r.entry raised.1 | inr none ↦ no_entry ahead s r.entry none.1 ],
@@ -297,7 +297,7 @@ prepared_near ahead s a new e b first r (inr k) =
     (no_entry ahead s r.entry k.1.entry, ap (λ (x : AcceptorValue). x.alpha) k.1.state)
 
 accepted_near : (ahead : ℕ) (s : StandingValue) (node : NodeValue) (new : AcceptorValue) (v : Vote) (r : Response)
-    → TellsOf ahead s node → AnswersAccept node.acceptor node.learner.whole.roster.executed v r new
+    → TellsOf ahead s node → RepliesToAccept node.acceptor node.learner.whole.roster.executed v r new
     → ((x : Entry) → r.entry ≡ Some x → EntryLiesNear ahead s x) × (new.alpha ≡ node.acceptor.alpha)
 accepted_near ahead s node new v r t (inl k) = (
   elim k.1.entry [
@@ -311,10 +311,10 @@ accepted_near ahead s node new v r t (inr k) =
     (no_entry ahead s r.entry k.1.entry, ap (λ (x : AcceptorValue). x.alpha) k.1.state)
 
 responds_told : (ahead : ℕ) (s : StandingValue) (old new : NodeValue) (from : ℕ)
-    (Answer : Response → AcceptorValue → Type 0) (out : OutboxValue) (k : Responds old from Answer new out)
+    (Gives : Response → AcceptorValue → Type 0) (out : OutboxValue) (k : Responds old from Gives new out)
     → ((x : Entry) → k.response.entry ≡ Some x → EntryLiesNear ahead s x) × (k.acceptor.alpha ≡ old.acceptor.alpha)
     → TellsOf ahead s old → Told ahead s out.entries new
-responds_told ahead s old new from Answer out k near t =
+responds_told ahead s old new from Gives out k near t =
     let answered : NodeValue = with_acceptor old k.acceptor in
     let rests : Rests old new = as_this (replied k.response.reply answered) new k.becomes
     ∙ replied_rests k.response.reply answered ∙ ap (λ (a : ℕ). (old.learner.whole, old.learner.pairs, a)) near.1 in
@@ -402,10 +402,10 @@ node_told : (m : Meaning) (IsText : List ℕ → Type 0) (from : ℕ) (x : NodeM
     (out : OutboxValue) → HearsNode m IsText old from x new out → out.rebase ≡ false → TellsOn old new out.entries
 node_told m IsText from (kinds.Prepare b first) old new out k puts = λ ahead s t.
     responds_told ahead s old new from _ out k
-    (prepared_near ahead s old.acceptor k.acceptor old.learner.whole.roster.executed b first k.response k.answers) t
+    (prepared_near ahead s old.acceptor k.acceptor old.learner.whole.roster.executed b first k.response k.given) t
 node_told m IsText from (kinds.Accept x) old new out k puts = λ ahead s t.
     responds_told ahead s (with_round x.ballot old) new from _ out k
-    (accepted_near ahead s old k.acceptor x k.response t k.answers)
+    (accepted_near ahead s old k.acceptor x k.response t k.given)
     (tells_as ahead s old (with_round x.ballot old) refl t)
 node_told m IsText from (kinds.Promise p) old new out k puts =
     none_told old new out.entries (ap (λ (o : OutboxValue). o.entries) k.1) (promise_rests old new from p out k)

@@ -25,7 +25,7 @@ use Rattle.lk_node_interface.specs.KeptReplies.{session_by}
 use Rattle.lk_node_interface.specs.Outboxes.{OutboxValue}
 use Rattle.lk_node_interface.specs.declared.input.Input.{Input}
 use Rattle.lk_node_interface.specs.declared.input.Input.TheVariants as input
-use Rattle.lk_node.specs.Answering.{with_acceptor, replied, Responds}
+use Rattle.lk_node.specs.Responding.{with_acceptor, replied, Responds}
 use Rattle.lk_node.specs.Asking.{leader_in, PointsTo, TakesNew, TakesAs}
 use Rattle.lk_node.specs.CatchingUp.{HearsLead}
 use Rattle.lk_node.specs.Deciding.{IsOnlyHeard, HearsAccepted}
@@ -66,9 +66,9 @@ replied_wakes reply node = by_test (is_granted reply)
     by_test true = yielded_wakes node.acceptor.state.promised (record node { ticks = 0 })
     by_test false = yielded_wakes node.acceptor.state.promised node
 
-responds_wakes : (old new : NodeValue) (from : ℕ) (Answer : Response → AcceptorValue → Type 0) (out : OutboxValue)
-    → Responds old from Answer new out → Wakes old new
-responds_wakes old new from Answer out k =
+responds_wakes : (old new : NodeValue) (from : ℕ) (Gives : Response → AcceptorValue → Type 0) (out : OutboxValue)
+    → Responds old from Gives new out → Wakes old new
+responds_wakes old new from Gives out k =
     let answered : NodeValue = with_acceptor old k.acceptor in
     as_this (replied k.response.reply answered) new k.becomes ∙ replied_wakes k.response.reply answered
 

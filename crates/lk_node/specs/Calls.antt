@@ -7,7 +7,7 @@ use Rattle.lk_disk.specs.declared.device.Side.{Side}
 use Rattle.lk_state.specs.Meanings.{Meaning}
 use Rattle.lk_agreement_laws.specs.declared.party.Party.TheVariants as party
 use Rattle.lk_agreement_laws.specs.Datagrams.{said_by}
-use Rattle.lk_agreement_laws.specs.Nodes.{View, MaySend}
+use Rattle.lk_agreement_laws.specs.Nodes.{PaxosState, MaySend}
 use Rattle.lk_node_interface.specs.declared.note.Note.{Note}
 use Rattle.lk_node_interface.specs.declared.input.Input.{Input}
 use Rattle.lk_node_interface.specs.declared.input.Input.TheVariants.{Tick, Datagram as Heard}
@@ -28,7 +28,7 @@ InputFits h (Heard bytes) = IsHeard h bytes
 
 -- the datagram is the node's, and spells a message that it may send in its present state, and that a chosen list bears
 -- out
-pub record MayGo (m : Meaning) (h : History) (n : ℕ) (w : View) (d : Datagram) : Type 0 where
+pub record MayGo (m : Meaning) (h : History) (n : ℕ) (w : PaxosState) (d : Datagram) : Type 0 where
   pub message : NodeMessage
   pub from : d.from ≡ party.Node n
   pub spelled : Spells (said_by h.genesis n message) d.bytes
@@ -51,6 +51,6 @@ pub record LeavesFit (m : Meaning) (h : History) (n : ℕ) (Shows : Holding → 
   pub holding : Holding
   pub shown : Shows holding
   pub fits : HoldingFits m h n holding
-  pub may : (d : Datagram) → Contains batch d → MayGo m h n holding.view d
+  pub may : (d : Datagram) → Contains batch d → MayGo m h n holding.paxos d
   pub noted : (x : Note) → Contains notes x → IsOfNode x × IsBorneOut m h x
   pub left : (k : ℕ) → DisksFit m (later h (take k batch)) n disks

@@ -49,7 +49,8 @@ AsksOn node other out =
 
 -- ---- a rejection
 
--- the other node has executed this many positions: it is asked if these are more, and fed from there if they are fewer
+-- if the other node has executed more positions than this node, it is asked for the rest; if fewer, it is sent what it
+-- lacks
 abbrev pub Levels : NodeValue → ℕ → ℕ → OutboxValue → Type 0
 Levels node other theirs out =
     ((executed node.learner < theirs) × AsksOn node other out)

@@ -13,7 +13,7 @@ use Rattle.lk_agreement_laws.specs.Nodes.{Stems}
 use Rattle.lk_node.specs.Histories.{History, Command}
 use Rattle.lk_node.specs.Reaching.{AllLieNear}
 use Rattle.lk_node.specs.Served.{text}
-use Rattle.lk_node.specs.Leavings.{header_of, acceptor_of, view_of}
+use Rattle.lk_node.specs.Leavings.{header_of, acceptor_of, paxos_of}
 
 -- what the whole entries of a live file have to be, for the image to fit
 pub record EntriesFit (m : Meaning) (h : History) (n : ℕ) (es : List Stored) : Type 0 where
@@ -24,7 +24,7 @@ pub record EntriesFit (m : Meaning) (h : History) (n : ℕ) (es : List Stored) :
   pub position : length under ≡ standing.position
   pub snapshot : standing.snapshot ≡ text m h.genesis under
   pub covers : CoversSent h.genesis h.sent n (acceptor_of standing)
-  pub stems : Stems h.genesis h.sent (view_of standing under)
+  pub stems : Stems h.genesis h.sent (paxos_of standing under)
   pub near : AllLieNear h.genesis.alpha standing
 
 -- a vote rests on its Accept, which was sent, a decided command on being chosen, and a promise on nothing

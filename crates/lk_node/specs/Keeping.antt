@@ -12,7 +12,7 @@ use Rattle.lk_log.specs.Stores.{HoldsEntries}
 use Rattle.lk_state.specs.Meanings.{Meaning}
 use Rattle.lk_agreement_laws.specs.Acceptors.{AcceptorState}
 use Rattle.lk_agreement_laws.specs.Chosen.{command_at}
-use Rattle.lk_agreement_laws.specs.Nodes.{Term, View}
+use Rattle.lk_agreement_laws.specs.Nodes.{Term, PaxosState}
 use Rattle.lk_leader.specs.Terms.{TermValue, LeaderValue}
 use Rattle.lk_learner.specs.Following.{AgreesWithList}
 use Rattle.lk_learner.specs.Learners.{LearnerValue}
@@ -29,8 +29,8 @@ TellsDecided (Promise b) = ⊥
 TellsDecided (Vote x) = ⊥
 TellsDecided (Decided i c) = Unit {0}
 
--- the entry tells of a decided command that the view knows: it is among its pairs, or was executed
-abbrev pub IsKnown : View → Entry → Type 0
+-- the entry tells of a decided command that the node knows: it is among its pairs, or was executed
+abbrev pub IsKnown : PaxosState → Entry → Type 0
 IsKnown w (Promise b) = ⊥
 IsKnown w (Vote x) = ⊥
 IsKnown w (Decided i c) = Contains w.pairs (i, c) ⊎ (command_at w.done i ≡ Some c)
@@ -47,17 +47,17 @@ pub record StoreKeeps (whose : HeaderValue) (store : StoreValue) (acceptor : Acc
   pub stands : StandsFor entries standing
   pub remembers : acceptor_of standing ≡ acceptor
 
--- the leader's term, if any, stands for the view's
-abbrev pub LeadsOn : LearnerValue → LeaderValue → View → Type 0
+-- the leader's term, if any, stands for the one of the Paxos state
+abbrev pub LeadsOn : LearnerValue → LeaderValue → PaxosState → Type 0
 LeadsOn l leader w = (k : TermValue) → leader.term ≡ Some k
     → (t : Term) × (w.term ≡ Some t) × AgreesWithTerm l.whole.roster.executed (length l.whole.roster.sets) t k
 
 -- what a node holds: what its acceptor does, the commands that its state sums up, those that are decided and wait for
 -- an earlier one, a term for which its leader stands, the requests that wait, and the snapshot being gathered
 pub record IsHeld (m : Meaning) (node : NodeValue) (genesis : Genesis) (x : Holding) : Type 0 where
-  pub acceptor : x.view.acceptor ≡ node.acceptor.state
-  pub follows : AgreesWithList m genesis x.view.done x.view.pairs node.learner
-  pub leads : LeadsOn node.learner node.leader x.view
+  pub acceptor : x.paxos.acceptor ≡ node.acceptor.state
+  pub follows : AgreesWithList m genesis x.paxos.done x.paxos.pairs node.learner
+  pub leads : LeadsOn node.learner node.leader x.paxos
   pub waiting : x.waiting ≡ node.leader.waiting
   pub gathered : x.gathered ≡ node.learner.gathered
 
@@ -67,7 +67,7 @@ pub record ReplicaHolds (m : Meaning) (node : NodeValue) (store : StoreValue) (g
     (x : Holding) : Type 0 where
   pub whose : node.header ≡ header_of genesis n
   pub keeps : StoreKeeps (header_of genesis n) store node.acceptor.state
-  pub known : AllByRecursion (IsKnown x.view) keeps.loose
+  pub known : AllByRecursion (IsKnown x.paxos) keeps.loose
   pub held : IsHeld m node genesis x
   pub told : IsTold genesis.alpha keeps.standing keeps.loose node
 
@@ -76,7 +76,7 @@ pub record HoldsBeforeRebase (m : Meaning) (node : NodeValue) (store : StoreValu
     (x : Holding) : Type 0 where
   pub whose : node.header ≡ header_of genesis n
   pub keeps : StoreKeeps (header_of genesis n) store node.acceptor.state
-  pub known : AllByRecursion (IsKnown x.view) keeps.loose
+  pub known : AllByRecursion (IsKnown x.paxos) keeps.loose
   pub held : IsHeld m node genesis x
   pub some : 1 ≤ genesis.alpha
   pub near : EntriesLieNear genesis.alpha keeps.standing keeps.loose

@@ -10,7 +10,7 @@ use Rattle.lk_log.specs.Images.{Image, MayLeaveBoth}
 use Rattle.lk_log.specs.Stores.{Found}
 use Rattle.lk_agreement_laws.specs.Datagrams.{NodeMessage}
 use Rattle.lk_agreement_laws.specs.Acceptors.{AcceptorState, Covers, CoversSent}
-use Rattle.lk_agreement_laws.specs.Nodes.{View, Stems}
+use Rattle.lk_agreement_laws.specs.Nodes.{PaxosState, Stems}
 use Rattle.lk_node.specs.Histories.{History, Genesis, Command}
 use Rattle.lk_node.specs.Reaching.{AllLieNear}
 use Rattle.lk_node.specs.Served.{text}
@@ -23,9 +23,9 @@ header_of genesis n = record { node = n; cluster = genesis.cluster; alpha = gene
 abbrev pub acceptor_of : StandingValue → AcceptorState
 acceptor_of s = record { promised = s.promised; votes = s.votes; snapshot_position = s.position }
 
--- the view of a node that has just restarted from it, once its snapshot is unpacked: that of these commands
-abbrev pub view_of : StandingValue → List Command → View
-view_of s under = record { acceptor = acceptor_of s; done = under; pairs = s.pairs; term = None }
+-- the Paxos state of a node that has just restarted from it, once its snapshot is unpacked: that of these commands
+abbrev pub paxos_of : StandingValue → List Command → PaxosState
+paxos_of s under = record { acceptor = acceptor_of s; done = under; pairs = s.pairs; term = None }
 
 -- the standing of the image's live file, or that of a new store if there is none
 pub record StandsAs (whose : HeaderValue) (zero : List ℕ) (image : Image) (s : StandingValue) : Type 0 where
@@ -43,7 +43,7 @@ pub record ImageFits (m : Meaning) (h : History) (n : ℕ) (image : Image) : Typ
   pub position : length under ≡ standing.position
   pub snapshot : standing.snapshot ≡ text m h.genesis under
   pub covers : CoversSent h.genesis h.sent n (acceptor_of standing)
-  pub stems : Stems h.genesis h.sent (view_of standing under)
+  pub stems : Stems h.genesis h.sent (paxos_of standing under)
   pub near : AllLieNear h.genesis.alpha standing
 
 -- each image that a stop may leave of these disks does

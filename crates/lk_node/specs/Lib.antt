@@ -12,7 +12,7 @@ pub mod Yielding
 pub mod Replying
 pub mod CatchingUp
 pub mod Asking
-pub mod Answering
+pub mod Responding
 pub mod Steps
 pub mod Learning
 pub mod Executing

@@ -62,9 +62,9 @@ pub record Serves (m : Meaning) (h : History) (n : ℕ) (loose : List Entry) (no
   pub held : IsHeld m now h.genesis holding
   pub fits : HoldingFits m h n holding
   pub rests : AllByRecursion (Rests h) out.entries
-  pub known : AllByRecursion (IsKnown holding.view) loose
-  pub news : out.sync ≡ false → AllByRecursion (IsKnown holding.view) out.entries
-  pub may : (d : Datagram) → Contains (batch_of n out.letters) d → MayGo m h n holding.view d
+  pub known : AllByRecursion (IsKnown holding.paxos) loose
+  pub news : out.sync ≡ false → AllByRecursion (IsKnown holding.paxos) out.entries
+  pub may : (d : Datagram) → Contains (batch_of n out.letters) d → MayGo m h n holding.paxos d
   pub noted : (x : Note) → Contains out.notes x → IsOfNode x × IsBorneOut m h x
 
 -- A part of a step continues what the parts before it did, in each history in which it heard this.

@@ -6,13 +6,13 @@ use Rattle.lk_messages.specs.declared.message.Content.TheVariants as content
 use Rattle.lk_messages.specs.declared.message.Message.{Message}
 use Rattle.lk_messages.specs.declared.message.NodeMessage.{NodeMessage}
 use Rattle.lk_messages.specs.declared.message.NodeMessage.TheVariants as kinds
-use Rattle.lk_acceptor.specs.Answers.{AnswersPrepare, AnswersAccept}
+use Rattle.lk_acceptor.specs.Replies.{RepliesToPrepare, RepliesToAccept}
 use Rattle.lk_agreement_laws.specs.Datagrams.{HasSent}
 use Rattle.lk_state.specs.Meanings.{Meaning}
 use Rattle.lk_node_interface.specs.Outboxes.{OutboxValue, nothing}
 use Rattle.lk_node_interface.specs.declared.input.Input.{Input}
 use Rattle.lk_node_interface.specs.declared.input.Input.TheVariants as input
-use Rattle.lk_node.specs.Answering.{Responds}
+use Rattle.lk_node.specs.Responding.{Responds}
 use Rattle.lk_node.specs.Asking.{HearsRequest}
 use Rattle.lk_node.specs.CatchingUp.{HearsWant, HearsNack, HearsLead}
 use Rattle.lk_node.specs.Histories.{History}
@@ -36,9 +36,9 @@ StandsStill old new out = (new ≡ old) × (out ≡ nothing)
 -- what the node does with a message of another node, or of itself. `IsText` says which texts are those of a machine
 abbrev pub HearsNode : Meaning → (List ℕ → Type 0) → NodeValue → ℕ → NodeMessage → NodeValue → OutboxValue → Type 0
 HearsNode m IsText old from (kinds.Prepare b first) new out =
-    Responds old from (AnswersPrepare old.acceptor old.learner.whole.roster.executed b first) new out
+    Responds old from (RepliesToPrepare old.acceptor old.learner.whole.roster.executed b first) new out
 HearsNode m IsText old from (kinds.Accept x) new out =
-    Responds (with_round x.ballot old) from (AnswersAccept old.acceptor old.learner.whole.roster.executed x) new out
+    Responds (with_round x.ballot old) from (RepliesToAccept old.acceptor old.learner.whole.roster.executed x) new out
 HearsNode m IsText old from (kinds.Promise p) new out = HearsPromise old from p new out
 HearsNode m IsText old from (kinds.Accepted x) new out = HearsAccepted m from x old new out
 HearsNode m IsText old from (kinds.Decided d) new out =

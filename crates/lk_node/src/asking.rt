@@ -38,7 +38,7 @@ impl<M: Machine> Node<M> {
         self.outbox_with(To::Client(client), NodeMessage::Elsewhere(elsewhere))
     }
 
-    // Handles a request that is new: queues it if there is a term, and redirects its client otherwise.
+    // Handles a new request: queues it for `propose` if there is a term, and redirects its client otherwise.
     fn take_new(&mut self, request: &Request) -> Result<Outbox, NoMemory>
         ensures { IfOk result (λ o. TakesNew self.old.leader.term self.old request.now self.new o) }
     {

@@ -2,7 +2,6 @@
 //! disk, socket or clock.
 #![tactic(auto)]
 
-mod answering;
 mod asking;
 mod catching_up;
 mod deciding;
@@ -14,6 +13,7 @@ mod learning;
 mod node;
 mod packing;
 mod reminding;
+mod responding;
 mod sending;
 mod showing;
 mod step;

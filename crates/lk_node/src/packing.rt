@@ -14,8 +14,8 @@ use lk_store_format::Standing;
 use lk_types::NoMemory;
 
 impl<M: Machine> Node<M> {
-    /// Returns the Base for the other file: everything that the node holds, with a snapshot of its state in place of
-    /// what it has executed. Changes nothing in the node: see `set_snapshot`.
+    /// Returns what the Base of the other file is to hold: everything that the node holds, with a snapshot of its state
+    /// in place of what it has executed. Changes nothing in the node: see `set_snapshot`.
     pub fn standing(&self) -> Result<Standing, NoMemory>
         ensures value { IfOk result (λ s. s ≡ standing_of self.now) }
         ensures may { IfOk result MayBegin }

@@ -54,7 +54,7 @@ fn observation_of<M: Machine>(node: &Node<M>, events: &TurnEvents) -> Observatio
     }
 }
 
-// Returns whether the store of a node that has started was empty: nothing executed, and no ballot promised.
+// Returns whether a node has started as from an empty store: it has executed nothing, and promised no ballot.
 fn is_empty<M: Machine>(node: &Node<M>) -> bool {
     node.executed().get() == 0 && node.promised().round() == 0
 }

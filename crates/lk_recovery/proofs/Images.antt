@@ -19,7 +19,7 @@ use Rattle.lk_log.proofs.StoreLaws.{keeps_every, put_keeps_every, opening_every}
 use Rattle.lk_state.specs.Meanings.{Meaning}
 use Rattle.lk_agreement_laws.specs.Datagrams.{NodeMessage}
 use Rattle.lk_agreement_laws.specs.Acceptors.{Covers}
-use Rattle.lk_agreement_laws.specs.Nodes.{View, ViewFits}
+use Rattle.lk_agreement_laws.specs.Nodes.{PaxosState, PaxosFits}
 use Rattle.lk_agreement_laws.proofs.Histories.{entry_chosen}
 use Rattle.lk_node.specs.Entries.{EntriesFit, Rests}
 use Rattle.lk_node.specs.Histories.{History, Genesis}
@@ -187,14 +187,14 @@ put_covers m genesis n old new ks loose given x holds keeps c =
 
 -- ---- what is known was chosen
 
-pub known_rests : (h : History) (n : ℕ) (w : View) → ViewFits h.genesis h.sent n w → (e : Entry)
+pub known_rests : (h : History) (n : ℕ) (w : PaxosState) → PaxosFits h.genesis h.sent n w → (e : Entry)
     → IsKnown w e → Rests h e
 known_rests h n w f (Promise b) k = absurd k
 known_rests h n w f (Vote x) k = absurd k
 known_rests h n w f (Decided i c) (inl pair) = f.stems.pairs i c pair
 known_rests h n w f (Decided i c) (inr at) = entry_chosen h.genesis h.sent w.done f.stems.done i c at
 
-pub known_rest : (h : History) (n : ℕ) (w : View) → ViewFits h.genesis h.sent n w → (es : List Entry)
+pub known_rest : (h : History) (n : ℕ) (w : PaxosState) → PaxosFits h.genesis h.sent n w → (es : List Entry)
     → AllByRecursion (IsKnown w) es → AllByRecursion (Rests h) es
 known_rest h n w f [] all = tt
 known_rest h n w f (e ∷ es) all = (known_rests h n w f e all.0, known_rest h n w f es all.1)

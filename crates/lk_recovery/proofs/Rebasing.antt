@@ -27,7 +27,7 @@ use Rattle.lk_log.proofs.StoreLaws.{rebase_every}
 use Rattle.lk_state.specs.Meanings.{Meaning}
 use Rattle.lk_state.specs.Packed.{packed}
 use Rattle.lk_agreement_laws.specs.Acceptors.{AcceptorState, Covers, AreProposed, TakesSnapshot}
-use Rattle.lk_agreement_laws.specs.Changes.{view_with, packs}
+use Rattle.lk_agreement_laws.specs.Changes.{holding_acceptor, packs}
 use Rattle.lk_agreement_laws.proofs.Histories.{at_most_below, below_self, change_fits}
 use Rattle.lk_acceptor.specs.States.{IsOrdered, without_votes_to}
 use Rattle.lk_acceptor.proofs.Acceptors.{takes_snapshot}
@@ -201,12 +201,12 @@ module _ (m : Meaning) (genesis : Genesis) (n : ℕ) (node : NodeValue) (old new
     (shown : HoldsBeforeRebase m node old genesis n x)
     (may : MayBegin (standing_of node)) (close : HoldsNear node) where
   window : length node.learner.whole.roster.sets ≡ genesis.alpha
-  window = window_is m genesis x.view.done node.learner.whole shown.held.follows.sums
+  window = window_is m genesis x.paxos.done node.learner.whole shown.held.follows.sums
 
   -- what the node then holds
   abbrev pub here : Holding
   here = record {
-    view = view_with x.view (without_votes_to x.view.acceptor (executed node.learner));
+    paxos = holding_acceptor x.paxos (without_votes_to x.paxos.acceptor (executed node.learner));
     waiting = x.waiting;
     gathered = x.gathered;
   }
@@ -220,7 +220,7 @@ module _ (m : Meaning) (genesis : Genesis) (n : ℕ) (node : NodeValue) (old new
     known = tt;
     held = record {
       acceptor = ap (λ (a : AcceptorState). without_votes_to a (executed node.learner)) shown.held.acceptor;
-      follows = here_follows m genesis x.view.done x.view.pairs node.learner shown.held.follows;
+      follows = here_follows m genesis x.paxos.done x.paxos.pairs node.learner shown.held.follows;
       leads = shown.held.leads;
       waiting = shown.held.waiting;
       gathered = shown.held.gathered;
@@ -244,8 +244,8 @@ module _ (m : Meaning) (h : History) (n : ℕ) (node : NodeValue) (old new : Sto
     (shown : HoldsBeforeRebase m node old h.genesis n x)
     (may : MayBegin (standing_of node)) (close : HoldsNear node) (lawful : IsLawful m h)
     (fits : HoldingFits m h n x) where
-  far : executed node.learner ≡ length x.view.done
-  far = executed_is m h.genesis x.view.done node.learner.whole shown.held.follows.sums
+  far : executed node.learner ≡ length x.paxos.done
+  far = executed_is m h.genesis x.paxos.done node.learner.whole shown.held.follows.sums
 
   -- the snapshot and the votes above it fit
   pub base_fits : EntriesFit m h n (Base (next_base old (standing_of node)) ∷ [])
@@ -253,19 +253,19 @@ module _ (m : Meaning) (h : History) (n : ℕ) (node : NodeValue) (old new : Sto
     standing = standing_of node;
     header = base_header m h.genesis n node old new shown.keeps may close.0.snapshot;
     stands = base_stands m h.genesis n node old new shown.keeps may close.0.snapshot;
-    under = x.view.done;
+    under = x.paxos.done;
     position = sym far;
     snapshot = ap packed shown.held.follows.sums;
     covers = λ y sent. snapshot_covers node.acceptor.state
         (without_votes_to node.acceptor.state (executed node.learner)) (executed node.learner)
         (takes m h.genesis n node old new shown.keeps may close.0.snapshot) y
-        (subst (λ (a : AcceptorState). Covers a y) shown.held.acceptor (fits.view.covers y sent));
+        (subst (λ (a : AcceptorState). Covers a y) shown.held.acceptor (fits.paxos.covers y sent));
     stems = record {
-      votes = λ v c. subst (AreProposed h.genesis h.sent) shown.held.acceptor fits.view.stems.votes v
+      votes = λ v c. subst (AreProposed h.genesis h.sent) shown.held.acceptor fits.paxos.stems.votes v
           ((takes m h.genesis n node old new shown.keeps may close.0.snapshot).only v c);
-      done = fits.view.stems.done;
+      done = fits.paxos.stems.done;
       snapshot = omega (arith, far);
-      pairs = λ i v c. fits.view.stems.pairs i v (shown.held.follows.known (i, v) c);
+      pairs = λ i v c. fits.paxos.stems.pairs i v (shown.held.follows.known (i, v) c);
     };
     near = record {
       votes = λ v c. (
@@ -290,7 +290,7 @@ module _ (m : Meaning) (h : History) (n : ℕ) (node : NodeValue) (old new : Sto
       (next_base old (standing_of node)) → DisksFit m h n (disks old) → DisksFit m h n (disks new)
   rebase_fits keeps left =
       let k = shown.keeps in
-      let rests = known_rest h n x.view fits.view k.loose shown.known in
+      let rests = known_rest h n x.paxos fits.paxos k.loose shown.known in
       entries_fit m h n (disks new) (λ image kept. elim (keeps image kept) [
         | inl at ↦ (
           k.entries ++ plain (take at.0 k.loose),
@@ -303,10 +303,10 @@ module _ (m : Meaning) (h : History) (n : ℕ) (node : NodeValue) (old new : Sto
 
   pub here_fits : HoldingFits m h n (here m h.genesis n node old new x shown may close)
   here_fits = record {
-    view = change_fits h.genesis h.sent lawful.sound n x.view
-        (view_with x.view (without_votes_to x.view.acceptor (executed node.learner))) fits.view
-        (packs (executed node.learner) (without_votes_to x.view.acceptor (executed node.learner)) (omega (arith, far))
-        (takes_snapshot x.view.acceptor (executed node.learner) (omega (arith, far, fits.view.stems.snapshot))));
+    paxos = change_fits h.genesis h.sent lawful.sound n x.paxos
+        (holding_acceptor x.paxos (without_votes_to x.paxos.acceptor (executed node.learner))) fits.paxos
+        (packs (executed node.learner) (without_votes_to x.paxos.acceptor (executed node.learner)) (omega (arith, far))
+        (takes_snapshot x.paxos.acceptor (executed node.learner) (omega (arith, far, fits.paxos.stems.snapshot))));
     waiting = fits.waiting;
     proposals = fits.proposals;
     gathered = fits.gathered;
@@ -329,7 +329,7 @@ module _ (m : Meaning) (genesis : Genesis) (n : ℕ) (node : NodeValue) (old new
     (shown : ReplicaHolds m node old genesis n x)
     (may : MayBegin (standing_of node)) (within : node.acceptor.state.snapshot_position ≤ executed node.learner) where
   pub all_stand : HoldsEntries new (Base (next_base old (standing_of node)) ∷ []) []
-      → AllStandAt m genesis n (disks new) (executed node.learner) x.view.done
+      → AllStandAt m genesis n (disks new) (executed node.learner) x.paxos.done
   all_stand holds image left =
       let live = synced_live new (Base (next_base old (standing_of node)) ∷ []) holds image left in (
         standing_of node,
@@ -340,7 +340,7 @@ module _ (m : Meaning) (genesis : Genesis) (n : ℕ) (node : NodeValue) (old new
           stands = base_stands m genesis n node old new shown.keeps may within;
         },
         refl,
-        sym (executed_is m genesis x.view.done node.learner.whole shown.held.follows.sums),
+        sym (executed_is m genesis x.paxos.done node.learner.whole shown.held.follows.sums),
         ap packed shown.held.follows.sums,
       )
 

@@ -27,7 +27,7 @@ use Rattle.lk_state.proofs.Wholes.{ran-whole_after, states_fit}
 use Rattle.lk_agreement_laws.specs.Acceptors.{CoversSent}
 use Rattle.lk_agreement_laws.specs.Datagrams.{NodeMessage}
 use Rattle.lk_agreement_laws.specs.Chosen.{command_at, Chosen, ChosenAt}
-use Rattle.lk_agreement_laws.specs.Nodes.{Stems, View}
+use Rattle.lk_agreement_laws.specs.Nodes.{Stems, PaxosState}
 use Rattle.lk_agreement_laws.proofs.Histories.{chosen_push, chosen_fits, chosen_short}
 use Rattle.lk_learner.specs.Following.{AgreesWithList}
 use Rattle.lk_learner.specs.Learners.{Pair}
@@ -40,7 +40,7 @@ use Rattle.lk_node_interface.specs.declared.fault.ReplicaFault.TheVariants as fa
 use Rattle.lk_node.specs.Histories.{History, Genesis, Command, Datagram, later, IsLawful}
 use Rattle.lk_node.specs.Holdings.{Holding, HoldingFits}
 use Rattle.lk_node.specs.Keeping.{ReplicaHolds}
-use Rattle.lk_node.specs.Leavings.{header_of, acceptor_of, view_of, ImageFits, DisksFit, AllCover}
+use Rattle.lk_node.specs.Leavings.{header_of, acceptor_of, paxos_of, ImageFits, DisksFit, AllCover}
 use Rattle.lk_node.specs.Calls.{LeavesFit, NodeFits}
 use Rattle.lk_node.specs.NodeValue.{NodeValue}
 use Rattle.lk_recovery.specs.Remembering.{ReplicaRemembers}
@@ -64,12 +64,12 @@ nothing_later m h n disks f k =
 
 -- what is held by an image alone, before anything of it is executed, fits
 abbrev pub held_by : (m : Meaning) (h : History) (n : ℕ) (image : Image) → ImageFits m h n image → Holding
-held_by m h n image f = record { view = view_of f.standing f.under; waiting = []; gathered = None }
+held_by m h n image f = record { paxos = paxos_of f.standing f.under; waiting = []; gathered = None }
 
 pub held_fits : (m : Meaning) (h : History) (n : ℕ) (image : Image) (f : ImageFits m h n image)
     → HoldingFits m h n (held_by m h n image f)
 held_fits m h n image f = record {
-  view = record { covers = f.covers; stems = f.stems; term = λ t at. absurd (cc at) };
+  paxos = record { covers = f.covers; stems = f.stems; term = λ t at. absurd (cc at) };
   waiting = λ r c. absurd (omega (arith, c.1));
   proposals = λ t at. absurd (cc at);
   gathered = λ g at. absurd (cc at);
@@ -206,8 +206,8 @@ module _ (m : Meaning) (IsText : List ℕ → Type 0) (keeps : KeepsTexts IsText
   abbrev under : List Command
   under = entries.under
 
-  stems : Stems h.genesis h.sent (view_of s under)
-  stems = subst (λ (t : StandingValue). Stems h.genesis h.sent (view_of t under)) same entries.stems
+  stems : Stems h.genesis h.sent (paxos_of s under)
+  stems = subst (λ (t : StandingValue). Stems h.genesis h.sent (paxos_of t under)) same entries.stems
 
   place : length under ≡ s.position
   place = entries.position ∙ ap (λ (t : StandingValue). t.position) same
@@ -232,18 +232,18 @@ module _ (m : Meaning) (IsText : List ℕ → Type 0) (keeps : KeepsTexts IsText
   chosen = subst (λ (e : ℕ). Chosen h.genesis h.sent (under ++ run_from e s.pairs)) (sym at)
       (run_chosen m h lawful under s.pairs stems.done stems.pairs)
 
-  abbrev view : View
-  view =
+  abbrev paxos : PaxosState
+  paxos =
       record { acceptor = acceptor_of s; done = under ++ ran; pairs = (relearned m r.whole s.pairs).pairs; term = None }
 
   abbrev holding : Holding
-  holding = record { view = view; waiting = []; gathered = None }
+  holding = record { paxos = paxos; waiting = []; gathered = None }
 
   holding_fits : HoldingFits m h n holding
   holding_fits =
       let longer : length (under ++ ran) ≡ length under + length ran = length-append under ran in
       record {
-        view = record {
+        paxos = record {
           covers = subst (λ (t : StandingValue). CoversSent h.genesis h.sent n (acceptor_of t)) same entries.covers;
           stems = record {
             votes = stems.votes;

@@ -57,7 +57,7 @@ pub record HasSwitchedFiles (m : Meaning) (Metered : Type 0) (node : NodeValue) 
   pub syncs : (genesis : Genesis) (n : ℕ) (x : NodeMessage) → StoreKeeps (header_of genesis n) store node.acceptor.state
       → Covers node.acceptor.state x → AllCover m genesis n (disks after) x
   pub stands : (genesis : Genesis) (n : ℕ) (held : Holding) → ReplicaHolds m node store genesis n held
-      → AllStandAt m genesis n (disks after) (executed new.learner) held.view.done
+      → AllStandAt m genesis n (disks after) (executed new.learner) held.paxos.done
 
 -- each image that a stop may leave of the store fits each history that the node fitted, and covers what every image
 -- covered; neither file has grown, except up to the size of a Base

@@ -10,9 +10,9 @@ use Rattle.lk_log.specs.Stores.{HoldsEntries, MayBegin, next_base}
 use Rattle.lk_log.proofs.StoreLaws.{one_standing}
 use Rattle.lk_state.specs.Meanings.{Meaning}
 use Rattle.lk_agreement_laws.specs.Acceptors.{Covers, CoversSent}
-use Rattle.lk_agreement_laws.specs.Changes.{view_with}
+use Rattle.lk_agreement_laws.specs.Changes.{holding_acceptor}
 use Rattle.lk_agreement_laws.specs.Datagrams.{said_by}
-use Rattle.lk_agreement_laws.specs.Nodes.{View, MaySend}
+use Rattle.lk_agreement_laws.specs.Nodes.{PaxosState, MaySend}
 use Rattle.lk_agreement_laws.proofs.Histories.{still_stems, covers_both}
 use Rattle.lk_acceptor.specs.States.{without_votes_to}
 use Rattle.lk_acceptor.proofs.Acceptors.{takes_snapshot}
@@ -26,7 +26,7 @@ use Rattle.lk_node.specs.Entries.{EntriesFit}
 use Rattle.lk_node.specs.Histories.{History, Genesis, Datagram, later, IsLawful}
 use Rattle.lk_node.specs.Holdings.{Holding, HoldingFits}
 use Rattle.lk_node.specs.Keeping.{StoreKeeps, ReplicaHolds, HoldsBeforeRebase}
-use Rattle.lk_node.specs.Leavings.{header_of, acceptor_of, view_of}
+use Rattle.lk_node.specs.Leavings.{header_of, acceptor_of, paxos_of}
 use Rattle.lk_node.specs.NodeValue.{NodeValue}
 use Rattle.lk_node.specs.Packing.{standing_of, with_snapshot}
 use Rattle.lk_node.specs.Reaching.{HoldsNear}
@@ -40,8 +40,8 @@ use Rattle.lk_recovery.proofs.Recoveries.{here_fits}
 use Rattle.lk_replica.proofs.Thinning.{batch_among}
 
 -- all but promises and votes may still be sent
-light_may : (h : History) (w : View) (i : ℕ) (x : NodeMessage) → IsLight x → MaySend h.genesis h.sent w x
-    → MaySend h.genesis h.sent (view_with w (without_votes_to w.acceptor i)) x
+light_may : (h : History) (w : PaxosState) (i : ℕ) (x : NodeMessage) → IsLight x → MaySend h.genesis h.sent w x
+    → MaySend h.genesis h.sent (holding_acceptor w (without_votes_to w.acceptor i)) x
 light_may h w i (kinds.Prepare b first) light may = may
 light_may h w i (kinds.Promise p) light may = absurd light
 light_may h w i (kinds.Accept v) light may = may
@@ -62,7 +62,7 @@ module _ (m : Meaning) (h : History) (n : ℕ) (node : NodeValue) (old new : Sto
     (may : MayBegin (standing_of node)) (close : HoldsNear node) (lawful : IsLawful m h) (fits : HoldingFits m h n x)
     (out : OutboxValue) (tells : (l : LetterValue) → Contains out.letters l
     → Tells node.header node.acceptor.state out.rebase l)
-    (goes : (d : Datagram) → Contains (batch_of n out.letters) d → MayGo m h n x.view d)
+    (goes : (d : Datagram) → Contains (batch_of n out.letters) d → MayGo m h n x.paxos d)
     (light : (d : Datagram) (c : Contains (batch_of n out.letters) d) → IsLight (goes d c).message)
     (noted : (k : Note) → Contains out.notes k → IsOfNode k × IsBorneOut m h k)
     (holds : HoldsEntries new (Base (next_base old (standing_of node)) ∷ []) [])
@@ -92,7 +92,7 @@ module _ (m : Meaning) (h : History) (n : ℕ) (node : NodeValue) (old new : Sto
     covers = covers_both h.genesis h.sent (take k (batch_of n sent)) n (acceptor_of base.standing) base.covers
         (subst (λ (s : StandingValue). CoversSent h.genesis (take k (batch_of n sent)) n (acceptor_of s)) same
         (sent_covered k));
-    stems = still_stems h.genesis h.sent (take k (batch_of n sent)) (view_of base.standing base.under) base.stems;
+    stems = still_stems h.genesis h.sent (take k (batch_of n sent)) (paxos_of base.standing base.under) base.stems;
     near = base.near;
   }
 
@@ -109,7 +109,7 @@ module _ (m : Meaning) (h : History) (n : ℕ) (node : NodeValue) (old new : Sto
           message = k.message;
           from = k.from;
           spelled = k.spelled;
-          may = light_may h x.view (executed node.learner) k.message (light d listed) k.may;
+          may = light_may h x.paxos (executed node.learner) k.message (light d listed) k.may;
           served = k.served;
         };
     noted = noted;

@@ -24,7 +24,8 @@ pub compacted : {T : Type 0} (m : Meaning) (old new : ReplicaValue) (r : Result 
 compacted m old new (Ok x) done becomes alive = record {
   rebases = done.rebases;
   stands = λ genesis n x shown. on_device
-      (λ d. AllStandAt m genesis n d (executed new.node.learner) x.view.done) new.store (done.stands genesis n x shown);
+      (λ d. AllStandAt m genesis n d (executed new.node.learner) x.paxos.done) new.store
+      (done.stands genesis n x shown);
   calls = done.calls tt;
   alive = alive;
   store_alive = becomes.store_alive;

@@ -22,7 +22,7 @@ use Rattle.lk_log.proofs.StoreLaws.{all_stand, header_more, one_standing, plain_
 use Rattle.lk_state.specs.Meanings.{Meaning}
 use Rattle.lk_agreement_laws.specs.Acceptors.{AcceptorState, Covers, CoversSent}
 use Rattle.lk_agreement_laws.specs.Datagrams.{said_by}
-use Rattle.lk_agreement_laws.specs.Nodes.{View}
+use Rattle.lk_agreement_laws.specs.Nodes.{PaxosState}
 use Rattle.lk_agreement_laws.proofs.Histories.{said_alike, still_stems, still_was, still_chosen_at, covers_both}
 use Rattle.lk_node_interface.specs.Letters.{LetterValue, datagram_of, batch_of}
 use Rattle.lk_node_interface.specs.Outboxes.{OutboxValue, nothing}
@@ -33,7 +33,7 @@ use Rattle.lk_node.specs.Histories.{History, Genesis, Datagram, later}
 use Rattle.lk_node.specs.Holdings.{Holding}
 use Rattle.lk_node.specs.Keeping.{TellsDecided, IsKnown, StoreKeeps, ReplicaHolds}
 use Rattle.lk_node.specs.Reaching.{IsTold, TellsOn}
-use Rattle.lk_node.specs.Leavings.{header_of, acceptor_of, view_of, DisksFit, AllCover}
+use Rattle.lk_node.specs.Leavings.{header_of, acceptor_of, paxos_of, DisksFit, AllCover}
 use Rattle.lk_replica.specs.Posts.{AreOf}
 use Rattle.lk_recovery.specs.Remembering.{ReplicaRemembers}
 use Rattle.lk_node.specs.NodeValue.{NodeValue}
@@ -62,7 +62,7 @@ all_map P Q (x ∷ xs) f a = (f x a.0, all_map P Q xs f a.1)
 pub record KeepsToo (whose : HeaderValue) (new : StoreValue) (b : AcceptorState) (standing : StandingValue)
     (loose es : List Entry) (sync : Bool) : Type 0 where
   pub keeps : StoreKeeps whose new b
-  pub known : (w : View) → AllByRecursion (IsKnown w) loose → (sync ≡ false → AllByRecursion (IsKnown w) es)
+  pub known : (w : PaxosState) → AllByRecursion (IsKnown w) loose → (sync ≡ false → AllByRecursion (IsKnown w) es)
       → AllByRecursion (IsKnown w) keeps.loose
   pub told : (ahead : ℕ) (node now : NodeValue) → IsTold ahead standing loose node → TellsOn node now es
       → IsTold ahead keeps.standing keeps.loose now
@@ -203,7 +203,8 @@ module _ (m : Meaning) (h : History) (n : ℕ) (node new : NodeValue) (old store
       put_fits m h n old store f.shown.keeps.entries f.shown.keeps.standing unsynced out.entries f.shown.keeps.holds
       f.shown.keeps.stands keeps
       (all_append (Rests h) unsynced out.entries
-      (all_map (IsKnown f.holding.view) (Rests h) unsynced (known_rests h n f.holding.view f.fits.view) f.shown.known)
+      (all_map (IsKnown f.holding.paxos) (Rests h) unsynced (known_rests h n f.holding.paxos f.fits.paxos)
+      f.shown.known)
       served.rests)
       (told_behind h.genesis.alpha f.shown.keeps.standing unsynced out.entries node new f.shown.told on).near f.left
 
@@ -213,8 +214,8 @@ module _ (m : Meaning) (h : History) (n : ℕ) (node new : NodeValue) (old store
     tells : (l : LetterValue) → Contains sent l → Tells new.header new.acceptor.state out.rebase l
     tells l c = (bound m (λ k. InputFits k i) node new out g).tells l (among l c)
 
-    known : AllByRecursion (IsKnown served.holding.view) k.keeps.loose
-    known = k.known served.holding.view served.known served.news
+    known : AllByRecursion (IsKnown served.holding.paxos) k.keeps.loose
+    known = k.known served.holding.paxos served.known served.news
 
     entries : EntriesFit m h n k.keeps.entries
     entries = held_fit m h n store k.keeps.entries (plain k.keeps.loose) k.keeps.holds left
@@ -236,7 +237,7 @@ module _ (m : Meaning) (h : History) (n : ℕ) (node new : NodeValue) (old store
           (subst (CoversSent h.genesis (take j (batch_of n sent)) n) (sym remembers)
           (batch_covered h.genesis n new out.rebase sent served.whose tells j));
       stems = still_stems h.genesis h.sent (take j (batch_of n sent))
-          (view_of entries.standing entries.under) entries.stems;
+          (paxos_of entries.standing entries.under) entries.stems;
       near = entries.near;
     }
 
@@ -244,9 +245,9 @@ module _ (m : Meaning) (h : History) (n : ℕ) (node new : NodeValue) (old store
     told = k.told h.genesis.alpha node new f.shown.told on
 
     loose_rest : (j : ℕ) → AllByRecursion (Rests (later h (take j (batch_of n sent)))) k.keeps.loose
-    loose_rest j = all_map (IsKnown served.holding.view) (Rests (later h (take j (batch_of n sent)))) k.keeps.loose
+    loose_rest j = all_map (IsKnown served.holding.paxos) (Rests (later h (take j (batch_of n sent)))) k.keeps.loose
         (λ e is. still_rests h (take j (batch_of n sent)) e
-        (known_rests h n served.holding.view served.fits.view e is)) known
+        (known_rests h n served.holding.paxos served.fits.paxos e is)) known
 
     pub put_goes : LeavesFit m h n (ReplicaHolds m new store h.genesis n) (disks store) out.notes (batch_of n sent)
     put_goes = record {

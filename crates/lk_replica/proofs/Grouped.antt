@@ -34,7 +34,7 @@ use Rattle.lk_log.proofs.StoreLaws.{seen_left, synced_live, of_every}
 use Rattle.lk_state.specs.Meanings.{Meaning}
 use Rattle.lk_agreement_laws.specs.Acceptors.{AcceptorState}
 use Rattle.lk_agreement_laws.specs.Datagrams.{said_by}
-use Rattle.lk_agreement_laws.specs.Nodes.{View}
+use Rattle.lk_agreement_laws.specs.Nodes.{PaxosState}
 use Rattle.lk_node_interface.specs.Letters.{LetterValue, datagram_of, batch_of}
 use Rattle.lk_node_interface.specs.Outboxes.{OutboxValue, nothing}
 use Rattle.lk_node_interface.specs.declared.input.Input.{Input}
@@ -194,12 +194,13 @@ begin_fits m h n node s f = record {
     fits = f.fits;
     left = f.left;
   };
-  rests = all_known h n f.holding.view f.shown.keeps.loose f.shown.known (known_rests h n f.holding.view f.fits.view);
+  rests = all_known h n f.holding.paxos f.shown.keeps.loose f.shown.known
+      (known_rests h n f.holding.paxos f.fits.paxos);
   near = f.shown.told.near;
   left = f.left;
 }
   where
-    all_known : (h : History) (n : ℕ) (w : View) (es : List Entry) → AllByRecursion (IsKnown w) es
+    all_known : (h : History) (n : ℕ) (w : PaxosState) (es : List Entry) → AllByRecursion (IsKnown w) es
         → ((e : Entry) → IsKnown w e → Rests h e) → AllByRecursion (Rests h) es
     all_known h n w [] all f = tt
     all_known h n w (e ∷ es) all f = (f e all.0, all_known h n w es all.1 f)
@@ -250,7 +251,7 @@ module _ (whose : HeaderValue) (old store : StoreValue) (a b : AcceptorState) (o
       (as_synced_holds store k.entries (plain k.loose ++ plain out.entries) added))
 
   -- and knows what it has written unsynced
-  pub known_more : (w : View) (needs_sync after : Bool) → after ≡ needs_sync_after needs_sync out
+  pub known_more : (w : PaxosState) (needs_sync after : Bool) → after ≡ needs_sync_after needs_sync out
       → (loose : List Entry) → (needs_sync ≡ false → AllByRecursion (IsKnown w) loose)
       → (out.sync ≡ false → AllByRecursion (IsKnown w) out.entries)
       → after ≡ false → AllByRecursion (IsKnown w) (loose ++ out.entries)
@@ -288,7 +289,7 @@ module _ (whose : HeaderValue) (old store : StoreValue) (a b : AcceptorState) (o
 
 -- what it knew unsynced as it will be, it knew unsynced
 known_before : (m : Meaning) (h : History) (n : ℕ) (node : NodeValue) (s : StoreValue) (needs_sync : Bool)
-    (f : GroupFits m h n node s needs_sync) (w : View)
+    (f : GroupFits m h n node s needs_sync) (w : PaxosState)
     → AllByRecursion (IsKnown w) (group_fits m h n node s needs_sync f).shown.keeps.loose → needs_sync ≡ false
     → AllByRecursion (IsKnown w) f.shown.keeps.loose
 known_before m h n node s false f w known none = known
@@ -352,7 +353,7 @@ module _ (m : Meaning) (h : History) (n : ℕ) (node new : NodeValue) (old store
   leaves_as_sent =
       put_leaves m h n node new (as_sent needs_sync old) (as_sent after store) i out fits heard g on at_least
 
-  known_now : (w : View) → AllByRecursion (IsKnown w) fits.shown.keeps.loose
+  known_now : (w : PaxosState) → AllByRecursion (IsKnown w) fits.shown.keeps.loose
       → (out.sync ≡ false → AllByRecursion (IsKnown w) out.entries) → after ≡ false
       → AllByRecursion (IsKnown w) (f.shown.keeps.loose ++ out.entries)
   known_now w known news =
@@ -390,7 +391,7 @@ module _ (m : Meaning) (h : History) (n : ℕ) (node new : NodeValue) (old store
         shown = record {
           whose = s.whose;
           keeps = gathered_more;
-          known = known_now s.holding.view s.known s.news;
+          known = known_now s.holding.paxos s.known s.news;
           held = s.held;
           tells = tells_now;
           near = near_after;
@@ -443,7 +444,7 @@ module _ (m : Meaning) (h : History) (n : ℕ) (node new : NodeValue) (old store
             whose = v.whose;
             keeps = gathered_more m h n node new old store needs_sync i out s.fits heard g on is added;
             known = known_now m h n node new old store needs_sync i out s.fits heard g on is added
-                v.holding.view v.known v.news;
+                v.holding.paxos v.known v.news;
             held = v.held;
             tells = tells_now m h n node new old store needs_sync i out s.fits heard g on is added;
             near = near_after m h n node new old store needs_sync i out s.fits heard g on is added;

@@ -21,7 +21,7 @@ use Rattle.lk_state.specs.Meanings.{Meaning}
 pub record IsCompacted (m : Meaning) (old new : ReplicaValue) : Type 0 where
   pub rebases : Rebases old.node old.store new.node new.store
   pub stands : (genesis : Genesis) (n : ℕ) (x : Holding) → ReplicaHolds m old.node old.store genesis n x
-      → AllStandAt m genesis n (disk_of (device_of new.store)) (executed new.node.learner) x.view.done
+      → AllStandAt m genesis n (disk_of (device_of new.store)) (executed new.node.learner) x.paxos.done
   pub calls : Passes old.store.meter new.store.meter rebase_calls
   pub alive : new.failed ≡ false
   pub store_alive : new.store.failed ≡ false

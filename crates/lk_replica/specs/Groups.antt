@@ -79,7 +79,7 @@ pub record HoldsInGroup (m : Meaning) (node : NodeValue) (store : StoreValue) (n
     (n : ℕ) (x : Holding) : Type 0 where
   pub whose : node.header ≡ header_of genesis n
   pub keeps : StoreKeepsInGroup (header_of genesis n) store needs_sync node.acceptor.state
-  pub known : needs_sync ≡ false → AllByRecursion (IsKnown x.view) keeps.loose
+  pub known : needs_sync ≡ false → AllByRecursion (IsKnown x.paxos) keeps.loose
   pub held : IsHeld m node genesis x
   pub tells : TellsOf genesis.alpha (with_all keeps.loose keeps.standing) node
   pub near : needs_sync ≡ false → EntriesLieNear genesis.alpha keeps.standing keeps.loose
@@ -171,8 +171,9 @@ pub record KeepsGroup (m : Meaning) (Hears : History → Type 0) (node : NodeVal
   pub said : (genesis : Genesis) (n : ℕ) → RemembersInGroup node store group.needs_sync genesis n
       → IsCovered m genesis n group store → IsCovered m genesis n now after
 
--- what a step of a group leaves on the disks, however it ends: the same, but the files are no longer than that only if
--- the live one was shorter than what makes a rebase due; and neither has grown by more than a step except by a Base
+-- what a step of a group leaves on the disks, however it ends: as `LeavesInGroup`, with two differences. The files have
+-- their bound only if the live one was shorter than what makes a rebase due, and each grows by at most one step, unless
+-- a Base was written to it
 pub record StepLeavesInGroup (m : Meaning) (Hears : History → Type 0) (most : ℕ) (node : NodeValue)
     (store : StoreValue) (needs_sync : Bool) (after : Side → Disk) : Type 0 where
   pub ends : (h : History) (n : ℕ) → GroupStays m h n node store needs_sync → Hears h → DisksFit m h n after

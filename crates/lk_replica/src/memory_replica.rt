@@ -172,7 +172,7 @@ pub trait MemoryReplica: Sized + Drop {
         // At Ok every image stands for a snapshot of everything executed.
         ensures stands { (genesis : Genesis) (n : ℕ) (held : Holding) → Shows self.old genesis n held
             → OnOk result (AllStandAt meaning genesis n (disks_by behaves self.new)
-            (whole self.new).roster.executed held.view.done) }
+            (whole self.new).roster.executed held.paxos.done) }
         // However it ends, neither file has grown, except up to the size of a Base.
         ensures room { StaysWithin max_base (disks_by behaves self.old) (disks_by behaves self.new) }
         // At Ok its device has made the changing calls of a rebase, and all have passed. After error 7 one has failed;
@@ -199,13 +199,13 @@ pub trait MemoryReplica: Sized + Drop {
 
     // Its state sums up the commands that it holds as executed.
     ghost sums_up: { (r : Self) (genesis : Genesis) (n : ℕ) (x : Holding) → Shows r genesis n x
-        → SumsUp meaning genesis x.view.done (whole r) };
+        → SumsUp meaning genesis x.paxos.done (whole r) };
 
     // After a compaction every image that a stop may leave of its disks stands for the packed text of everything that
     // it has executed.
     ghost packed: { (old new : Self) (genesis : Genesis) (n : ℕ) (x : Holding) → Shows old genesis n x
         → behaves.Compacts old new (Ok tt)
-        → AllStandAt meaning genesis n (disks_by behaves new) (whole new).roster.executed x.view.done };
+        → AllStandAt meaning genesis n (disks_by behaves new) (whole new).roster.executed x.paxos.done };
 
     // A trap belongs to its device, and shows nowhere else.
     ghost traps_alone: { TrapsAlone behaves };

@@ -49,8 +49,10 @@ pub trait ServedReplica: Sized + Drop {
     /// Takes a tick or a datagram into a group, as `Replica::gather` does. Nothing is sent before `release`, and
     /// nothing of a rejected group ever is. Any error ends the replica.
     fn gather(&mut self, input: Input, group: &mut Group) -> Result<(), ReplicaFault>
+        // The group goes on with one input more.
         ensures gathers { OnOk result
             (GathersMore Gathers (heard_by input.entry ∷ []) group.old group.new self.old self.new) }
+        // The group ends, and has said nothing.
         ensures silent { OnErr result
             (SaysNoMore Says Gathers (heard_by input.entry ∷ []) group.old self.old self.new) }
         ensures broken { OnErr result (failed self.new ≡ true) }

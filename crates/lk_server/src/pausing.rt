@@ -80,7 +80,7 @@ pub(crate) fn receive_or_pause<S: DatagramSocket + Drop, C: Clock>(
 
 impl<R: ServedReplica, S: DatagramSocket + Drop> Server<R, S> {
     // Records how long the end of this group took since `began`, and how many letters it had, if it needed a sync.
-    // Later pauses depend on both.
+    // Later pauses depend on both. Contracts do not see pauses, so none sees a change here.
     pub(crate) fn note_sync<C: Clock>(
         &mut self,
         group: &Group,

@@ -10,7 +10,7 @@ use Rattle.lk_messages.specs.declared.message.Content.TheVariants as content
 use Rattle.lk_messages.proofs.Spellings.{one_message}
 use Rattle.lk_state.specs.Meanings.{Meaning}
 use Rattle.lk_agreement_laws.specs.Datagrams.{NodeMessage, Accept, said_by, HasSent}
-use Rattle.lk_agreement_laws.specs.Nodes.{ViewFits}
+use Rattle.lk_agreement_laws.specs.Nodes.{PaxosFits}
 use Rattle.lk_agreement_laws.specs.Worlds.{IsClientRequest, WorldFits}
 use Rattle.lk_agreement_laws.proofs.Histories.{still_chosen, still_stems}
 use Rattle.lk_agreement_laws.proofs.Histories.{only}
@@ -43,7 +43,7 @@ module _ {R : Type 0} (Shows : R → Genesis → ℕ → Holding → Type 0) (di
     (genesis : Genesis) (seats : List (Seat R)) (sent : List Datagram) (trace : List Note)
     (w : WorldInvariant Shows disks m genesis seats sent trace) (r : RequestValue) where
   -- datagrams of clients
-  module _ (more : List Datagram) (fits : WorldFits genesis (record { sent = sent ++ more; views = w.views }))
+  module _ (more : List Datagram) (fits : WorldFits genesis (record { sent = sent ++ more; states = w.states }))
       (silent : (d : Datagram) → Contains more d → (n : ℕ) (x : NodeMessage) → Spells (said_by genesis n x) d.bytes → ⊥)
       (tells : Tells more []) (asks : (d : Datagram) → Contains more d → (q : RequestValue) (cluster : ℕ)
       → Spells (record { cluster = cluster; content = content.Request q }) d.bytes → q ≡ r) where
@@ -64,14 +64,14 @@ module _ {R : Type 0} (Shows : R → Genesis → ℕ → Holding → Type 0) (di
     images n d f = disks_move m genesis sent (sent ++ more) (asked_in trace) (asked_in (trace ++ notes)) n d
         (λ s c x h. c x (old_sent n x h)) (still_stems genesis sent more) f
 
-    seated : (k : ℕ) (t : Seat R) → At seats k t → SeatFits Shows disks m since (w.views t.number) t
+    seated : (k : ℕ) (t : Seat R) → At seats k t → SeatFits Shows disks m since (w.states t.number) t
     seated k t at = let f = w.seated k t at in record {
       up = λ q is. let u = f.up q is in record {
         holding = u.holding;
-        view = u.view;
+        paxos = u.paxos;
         shown = u.shown;
         fits = still_holding genesis sent more (asked_in trace) (asked_in (trace ++ notes)) among m t.number u.holding
-            (subst (λ v. ViewFits genesis (sent ++ more) t.number v) (sym u.view) (fits.views t.number)) u.fits;
+            (subst (λ v. PaxosFits genesis (sent ++ more) t.number v) (sym u.paxos) (fits.states t.number)) u.fits;
         left = images t.number (disks q) u.left;
         room = u.room;
       };
@@ -81,7 +81,7 @@ module _ {R : Type 0} (Shows : R → Genesis → ℕ → Holding → Type 0) (di
 
     goes_on : WorldInvariant Shows disks m genesis seats (sent ++ more) (trace ++ notes)
     goes_on = record {
-      views = w.views;
+      states = w.states;
       world = fits;
       seated = seated;
       apart = w.apart;
@@ -111,13 +111,13 @@ module _ {R : Type 0} (Shows : R → Genesis → ℕ → Holding → Type 0) (di
   pub injected_holds : WorldInvariant Shows disks m genesis seats sent (trace ++ note.Asked r ∷ [])
   injected_holds = subst (λ l. WorldInvariant Shows disks m genesis seats l (trace ++ note.Asked r ∷ []))
       (append-nil sent)
-      (goes_on [] (subst (λ l. WorldFits genesis (record { sent = l; views = w.views }))
+      (goes_on [] (subst (λ l. WorldFits genesis (record { sent = l; states = w.states }))
       (sym (append-nil sent)) w.world) (λ d c. absurd (omega (arith, c.1))) refl (λ d c. absurd (omega (arith, c.1))))
 
   -- a client's datagram
   pub asked_holds : (d : Datagram) (a : IsClientRequest d) → a.request ≡ r
       → WorldInvariant Shows disks m genesis seats (sent ++ d ∷ []) (trace ++ note.Asked r ∷ [])
-  asked_holds d a is = goes_on (d ∷ []) (asked_fits genesis (record { sent = sent; views = w.views }) d w.world a)
+  asked_holds d a is = goes_on (d ∷ []) (asked_fits genesis (record { sent = sent; states = w.states }) d w.world a)
       (λ x c n k said. asked_is_no_saying genesis d a n k
       (subst (λ (z : Datagram). Spells (said_by genesis n k) z.bytes) (sym (only d x c)) said))
       (record { cluster = a.cluster; content = content.Request a.request }, [], a.spelled, refl, refl)

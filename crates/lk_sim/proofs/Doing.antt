@@ -6,7 +6,7 @@ use Rattle.lk_memory_disk.specs.Memory.{Memory}
 use Rattle.lk_disk.specs.Meters.{stopping}
 use Rattle.lk_store_format.specs.Values.{HeaderValue}
 use Rattle.lk_state.specs.Meanings.{Meaning}
-use Rattle.lk_agreement_laws.specs.Nodes.{View}
+use Rattle.lk_agreement_laws.specs.Nodes.{PaxosState}
 use Rattle.lk_node_interface.specs.declared.note.Note.{Note}
 use Rattle.lk_node.specs.Histories.{History, Genesis, Datagram, RequestValue}
 use Rattle.lk_node.specs.Holdings.{Holding}
@@ -375,14 +375,14 @@ module _ {R : Type 0} (Shows : R → Genesis → ℕ → Holding → Type 0) (b 
   since = asked_maybe Shows (disks_by b) m genesis seats sent trace w o
 
   -- a node that was halted keeps all that holds
-  pub halted_holds : (off : Seat R) → off.number ≡ s.number → (d : Memory) → off.life ≡ Down d → (v : View)
+  pub halted_holds : (off : Seat R) → off.number ≡ s.number → (d : Memory) → off.life ≡ Down d → (v : PaxosState)
       → SeatFits Shows (disks_by b) m h v off → WorldInvariant Shows (disks_by b) m genesis (set seats i off) sent trace
   halted_holds off same d down v f =
       went_off Shows (disks_by b) m genesis seats sent trace w i s off at same (asked_in asked) v d down f
 
   module _ (mine : List Note) (batch : List Datagram)
       (goes : (q : R) → t.life ≡ Up q → SeatGoes Shows (disks_by b) m h t mine batch)
-      (down : (d : Memory) → t.life ≡ Down d → SeatFits Shows (disks_by b) m h (since.views s.number) t)
+      (down : (d : Memory) → t.life ≡ Down d → SeatFits Shows (disks_by b) m h (since.states s.number) t)
       (cases : ((q : R) × (t.life ≡ Up q)) ⊎ Ends t mine batch) where
     abbrev mid : Option End → Scene R
     mid ended = record { genesis = genesis; seats = set seats i t; sent = sent; trace = trace; ended = ended }
@@ -424,7 +424,7 @@ module _ {R : Type 0} (Shows : R → Genesis → ℕ → Holding → Type 0) (b 
         let now : List Note = trace ++ ((asked_note o ++ mine) ++ k.told) in
         let w2 : WorldInvariant Shows (disks_by b) m genesis (set seats i t) (sent
         ++ batch) now = added k.told k.tells in
-        let f : SeatFits Shows (disks_by b) m (happened genesis (sent ++ batch) now) (w2.views t.number) t =
+        let f : SeatFits Shows (disks_by b) m (happened genesis (sent ++ batch) now) (w2.states t.number) t =
         w2.seated i t here in
         subst (λ g. WorldInvariant Shows (disks_by b) m g new.seats new.sent new.trace) (sym k.adds.genesis)
         (subst (λ z. WorldInvariant Shows (disks_by b) m genesis z new.sent new.trace) (sym k.seats)
@@ -433,14 +433,14 @@ module _ {R : Type 0} (Shows : R → Genesis → ℕ → Holding → Type 0) (b 
         (went_down Shows (disks_by b) m genesis (set seats i t) (sent ++ batch) now w2 i t k.next here
         (k.number ∙ ap (λ (z : Seat R). z.number) same)
         (k.fits _ _ (subst (λ z. SeatFits Shows (disks_by b) m (happened genesis (sent ++ batch) now)
-        (w2.views t.number) z) (sym same) f)))))
+        (w2.states t.number) z) (sym same) f)))))
 
-    -- it fits to some view
-    fits_some : (v : View) × SeatFits Shows (disks_by b) m h v t
+    -- it fits some state
+    fits_some : (v : PaxosState) × SeatFits Shows (disks_by b) m h v t
     fits_some = elim cases [
       | inl u ↦ (let f = goes u.0 u.1 in
-          (f.goes.holding.view, goes_fits Shows (disks_by b) m genesis sent (asked_in asked) t mine batch f))
-      | inr e ↦ (since.views s.number, down e.device e.down)
+          (f.goes.holding.paxos, goes_fits Shows (disks_by b) m genesis sent (asked_in asked) t mine batch f))
+      | inr e ↦ (since.states s.number, down e.device e.down)
     ]
 
     -- that it was given up does too

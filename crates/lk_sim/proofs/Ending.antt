@@ -6,7 +6,7 @@ use Rattle.lk_disk.specs.Disk.{Disk}
 use Rattle.lk_memory_disk.specs.Memory.{Memory}
 use Rattle.lk_disk.specs.declared.device.Side.{Side}
 use Rattle.lk_state.specs.Meanings.{Meaning}
-use Rattle.lk_agreement_laws.specs.Nodes.{View}
+use Rattle.lk_agreement_laws.specs.Nodes.{PaxosState}
 use Rattle.lk_node_interface.specs.declared.note.Note.{Note}
 use Rattle.lk_node.specs.Histories.{History, Genesis, Datagram, RequestValue}
 use Rattle.lk_node.specs.Holdings.{Holding}
@@ -18,25 +18,25 @@ use Rattle.lk_sim_nodes.specs.declared.seat.Seat.{Seat}
 use Rattle.lk_sim_nodes.specs.declared.seat.Life.TheVariants.{Down}
 use Rattle.lk_sim.proofs.Lists.{at_set, at_set_here, at_set_other}
 
--- a node that is down fits whatever view stands for its number
-pub any_view : {R : Type 0} (Shows : R → Genesis → ℕ → Holding → Type 0) (disks : R → Side → Disk) (m : Meaning)
-    (h : History) (v x : View) (s : Seat R) (d : Memory) → s.life ≡ Down d
+-- a node that is down fits whatever state stands for its number
+pub any_state : {R : Type 0} (Shows : R → Genesis → ℕ → Holding → Type 0) (disks : R → Side → Disk) (m : Meaning)
+    (h : History) (v x : PaxosState) (s : Seat R) (d : Memory) → s.life ≡ Down d
     → SeatFits Shows disks m h v s → SeatFits Shows disks m h x s
-any_view Shows disks m h v x s d down f = record { up = λ q is. absurd (cc (down, is)); down = f.down; room = f.room }
+any_state Shows disks m h v x s d down f = record { up = λ q is. absurd (cc (down, is)); down = f.down; room = f.room }
 
--- a node is replaced by one of the same number that fits to the same view
+-- a node is replaced by one of the same number that fits the same state
 module _ {R : Type 0} (Shows : R → Genesis → ℕ → Holding → Type 0) (disks : R → Side → Disk) (m : Meaning)
     (genesis : Genesis) (seats : List (Seat R)) (sent : List Datagram) (trace : List Note)
     (w : WorldInvariant Shows disks m genesis seats sent trace)
     (i : ℕ) (s new : Seat R) (at : At seats i s) (number : new.number ≡ s.number)
-    (fits : SeatFits Shows disks m (happened genesis sent trace) (w.views s.number) new) where
+    (fits : SeatFits Shows disks m (happened genesis sent trace) (w.states s.number) new) where
   abbrev h : History
   h = happened genesis sent trace
 
-  seated : (k : ℕ) (t : Seat R) → At (set seats i new) k t → SeatFits Shows disks m h (w.views t.number) t
+  seated : (k : ℕ) (t : Seat R) → At (set seats i new) k t → SeatFits Shows disks m h (w.states t.number) t
   seated k t c = elim (at_set seats i new k t c) [
-    | inl e ↦ subst (λ z. SeatFits Shows disks m h (w.views z.number) z) e.1
-        (subst (λ k. SeatFits Shows disks m h (w.views k) new) (sym number) fits)
+    | inl e ↦ subst (λ z. SeatFits Shows disks m h (w.states z.number) z) e.1
+        (subst (λ k. SeatFits Shows disks m h (w.states k) new) (sym number) fits)
     | inr o ↦ w.seated k t o.1
   ]
 
@@ -65,7 +65,7 @@ module _ {R : Type 0} (Shows : R → Genesis → ℕ → Holding → Type 0) (di
 
   pub ends : WorldInvariant Shows disks m genesis (set seats i new) sent trace
   ends = record {
-    views = w.views;
+    states = w.states;
     world = w.world;
     seated = seated;
     apart = apart;
@@ -85,13 +85,13 @@ pub goes_fits : {R : Type 0} (Shows : R → Genesis → ℕ → Holding → Type
     (genesis : Genesis) (sent : List Datagram) (asked : List RequestValue) (s : Seat R)
     (notes : List Note) (batch : List Datagram)
     → (g : SeatGoes Shows disks m (record { genesis = genesis; sent = sent; asked = asked }) s notes batch)
-    → SeatFits Shows disks m (record { genesis = genesis; sent = sent; asked = asked }) g.goes.holding.view s
+    → SeatFits Shows disks m (record { genesis = genesis; sent = sent; asked = asked }) g.goes.holding.paxos s
 goes_fits Shows disks m genesis sent asked s notes batch g = record {
   up = λ q is. let same : g.replica ≡ q = cc (g.up, is) in
       subst (λ r. UpFits Shows disks m
-      (record { genesis = genesis; sent = sent; asked = asked }) g.goes.holding.view s.number r) same (record {
+      (record { genesis = genesis; sent = sent; asked = asked }) g.goes.holding.paxos s.number r) same (record {
         holding = g.goes.holding;
-        view = refl;
+        paxos = refl;
         shown = g.goes.shown;
         fits = g.goes.fits;
         left = subst (λ l. DisksFit m (record { genesis = genesis; sent = l; asked = asked }) s.number

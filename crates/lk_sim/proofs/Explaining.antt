@@ -108,11 +108,11 @@ module _ {R : Type 0} (Shows : R → Genesis → ℕ → Holding → Type 0) (di
       (i.standing, i.stands, (i.under, i.stems.done, i.position, i.snapshot))
 
   pub states : (whole : R → WholeValue)
-      → ((r : R) (g : Genesis) (n : ℕ) (x : Holding) → Shows r g n x → SumsUp m g x.view.done (whole r))
+      → ((r : R) (g : Genesis) (n : ℕ) (x : Holding) → Shows r g n x → SumsUp m g x.paxos.done (whole r))
       → (k : ℕ) (s : Seat R) → At seats k s → SumsUpChosen whole disks m genesis sent s
   states whole sums k s at = let f = w.seated k s at in record {
     executed = λ r is. let u = f.up r is in
-        (u.holding.view.done, u.fits.view.stems.done, sums r genesis s.number u.holding u.shown);
+        (u.holding.paxos.done, u.fits.paxos.stems.done, sums r genesis s.number u.holding u.shown);
     kept = λ r is. packed_lists s.number (disks r) (f.up r is).left;
     left = λ d is. packed_lists s.number (disk_of d) (f.down d is);
   }

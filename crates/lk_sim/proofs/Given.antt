@@ -5,7 +5,7 @@ use Rattle.lk_disk.specs.Disk.{Disk}
 use Rattle.lk_memory_disk.specs.Memory.{Memory, disk_of}
 use Rattle.lk_disk.specs.declared.device.Side.{Side}
 use Rattle.lk_state.specs.Meanings.{Meaning}
-use Rattle.lk_agreement_laws.specs.Nodes.{View}
+use Rattle.lk_agreement_laws.specs.Nodes.{PaxosState}
 use Rattle.lk_node_interface.specs.declared.note.Note.{Note}
 use Rattle.lk_node.specs.Histories.{Genesis, Datagram, RequestValue}
 use Rattle.lk_node.specs.Holdings.{Holding}
@@ -42,16 +42,16 @@ module _ {R : Type 0} (Shows : R → Genesis → ℕ → Holding → Type 0) (di
     (w : WorldInvariant Shows disks m genesis seats sent trace) (i : ℕ) (s new : Seat R) (at : At seats i s)
     (number : new.number ≡ s.number) where
   -- it went down
-  pub went_down : SeatFits Shows disks m (happened genesis sent trace) (w.views s.number) new
+  pub went_down : SeatFits Shows disks m (happened genesis sent trace) (w.states s.number) new
       → WorldInvariant Shows disks m genesis (set seats i new) sent trace
   went_down f = ends Shows disks m genesis seats sent trace w i s new at number f
 
   -- it went down, whatever was asked meanwhile
-  pub went_off : (asked : List RequestValue) (v : View) (d : Memory) → new.life ≡ Down d
+  pub went_off : (asked : List RequestValue) (v : PaxosState) (d : Memory) → new.life ≡ Down d
       → SeatFits Shows disks m (record { genesis = genesis; sent = sent; asked = asked }) v new
       → WorldInvariant Shows disks m genesis (set seats i new) sent trace
   went_off asked v d down f =
-      went_down (down_fits Shows disks m (happened genesis sent trace) (w.views s.number) new d down
+      went_down (down_fits Shows disks m (happened genesis sent trace) (w.states s.number) new d down
       (disks_move m genesis sent sent asked (asked_in trace) new.number (disk_of d) (λ x c. c) (λ x c. c)
       (f.down d down)) (f.room d down))
 

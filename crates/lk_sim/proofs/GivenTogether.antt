@@ -228,7 +228,7 @@ module _ {R : Type 0} (Shows : R → Genesis → ℕ → Holding → Type 0) (b 
       → WorldInvariant Shows (disks_by b) m genesis (set seats i off) sent trace
   down_holds off same d down fit short =
       went_down Shows (disks_by b) m genesis seats sent trace w i s off at same
-      (down_fits Shows (disks_by b) m h (w.views s.number) off d down fit short)
+      (down_fits Shows (disks_by b) m h (w.states s.number) off d down fit short)
 
   -- one that is up, with what it noted and sent
   taken_holds : (r q : R) (is : List Input) (steps : List Step) (batch : List Datagram) (notes : List Note)
@@ -258,7 +258,7 @@ module _ {R : Type 0} (Shows : R → Genesis → ℕ → Holding → Type 0) (b 
         let same : k.seat ≡ t = at_same (set seats i t) i k.seat t k.at (at_set_here seats i t at.0) in
         let here : At (set seats i t) i t = at_set_here seats i t at.0 in
         let f : SeatFits Shows (disks_by b) m (happened genesis (sent ++ batch) (trace ++ k.notes))
-        (now.views t.number) t = now.seated i t here in
+        (now.states t.number) t = now.seated i t here in
         subst (λ g. WorldInvariant Shows (disks_by b) m g new.seats new.sent new.trace) (sym k.adds.genesis)
         (subst (λ z. WorldInvariant Shows (disks_by b) m genesis z new.sent new.trace) (sym k.seats)
         (subst₂ (λ x y. WorldInvariant Shows (disks_by b) m genesis (set (set seats i t) i k.next) x y)
@@ -266,7 +266,7 @@ module _ {R : Type 0} (Shows : R → Genesis → ℕ → Holding → Type 0) (b 
         (went_down Shows (disks_by b) m genesis (set seats i t) (sent ++ batch) (trace ++ k.notes) now i t k.next here
         (k.number ∙ ap (λ (z : Seat R). z.number) same)
         (k.fits _ _ (subst (λ z. SeatFits Shows (disks_by b) m (happened genesis (sent ++ batch) (trace ++ k.notes))
-        (now.views t.number) z) (sym same) f)))))
+        (now.states t.number) z) (sym same) f)))))
 
     -- what a group came to keeps all that holds
     pub settled_steps_hold : (new : Scene R) (r : R) (is : List Input) (given : List (Option (List ℕ)))

@@ -50,7 +50,7 @@ module _ {R : Type 0} (Shows : R → Genesis → ℕ → Holding → Type 0) (di
       let u = (w.seated i s at).up r up in
       let g : LeavesFit m (happened genesis sent trace) s.number (Shows q genesis s.number) (disks q) [] [] =
       goes.1 (happened genesis sent trace)
-      (node_fits Shows disks m (happened genesis sent trace) (w.views s.number) s.number r
+      (node_fits Shows disks m (happened genesis sent trace) (w.states s.number) s.number r
       (lawful Shows disks m genesis seats sent trace w) u) in
       let last = goes_on Shows disks m genesis seats sent trace w i s
       (seat_with s.number q) at q refl refl [] [] [] g refl (stepped_short (disks r) (disks q) goes.2 u.room) in
@@ -67,7 +67,7 @@ module _ {R : Type 0} (Shows : R → Genesis → ℕ → Holding → Type 0) (di
       let h = happened genesis sent trace in
       let u = (w.seated i s at).up r up in
       let g : LeavesFit m h s.number (Shows mid genesis s.number) (disks mid) one.0 one.1 =
-      goes.4 h (node_fits Shows disks m h (w.views s.number) s.number r
+      goes.4 h (node_fits Shows disks m h (w.states s.number) s.number r
       (lawful Shows disks m genesis seats sent trace w) u) (fits x were.0) in
       let next = goes_on Shows disks m genesis seats sent trace w i s
       (seat_with s.number mid) at mid refl refl one.0 names.0 one.1 g names.2
@@ -108,7 +108,7 @@ module _ {R : Type 0} (Shows : R → Genesis → ℕ → Holding → Type 0) (di
       let h = happened genesis sent trace in
       let u = (w.seated i s at).up r up in
       let g : LeavesFit m h s.number (Shows mid genesis s.number) (disks mid) one.0 one.1 =
-      goes.4 h (node_fits Shows disks m h (w.views s.number) s.number r
+      goes.4 h (node_fits Shows disks m h (w.states s.number) s.number r
       (lawful Shows disks m genesis seats sent trace w) u) (fits x were.0) in
       let next = goes_on Shows disks m genesis seats sent trace w i s
       (seat_with s.number mid) at mid refl refl one.0 names.0 one.1 g names.2

@@ -4,7 +4,7 @@ use Rattle.lk_disk.specs.Disk.{Disk}
 use Rattle.lk_disk.specs.declared.device.Side.{Side}
 use Rattle.lk_state.specs.Meanings.{Meaning}
 use Rattle.lk_agreement_laws.specs.Acceptors.{AcceptorState, CoversSent}
-use Rattle.lk_agreement_laws.specs.Nodes.{View, Stems, ViewFits}
+use Rattle.lk_agreement_laws.specs.Nodes.{PaxosState, Stems, PaxosFits}
 use Rattle.lk_agreement_laws.proofs.Histories.{still_chosen_at}
 use Rattle.lk_agreement_laws.proofs.Histories.{still_slice}
 use Rattle.lk_node_interface.specs.declared.note.Note.{Note}
@@ -18,7 +18,7 @@ use Rattle.lk_node.specs.Leavings.{DisksFit}
 pub disks_move : (m : Meaning) (genesis : Genesis) (sent now : List Datagram) (asked since : List RequestValue)
     (n : ℕ) (disks : Side → Disk)
     → ((s : AcceptorState) → CoversSent genesis sent n s → CoversSent genesis now n s)
-    → ((w : View) → Stems genesis sent w → Stems genesis now w)
+    → ((w : PaxosState) → Stems genesis sent w → Stems genesis now w)
     → DisksFit m (record { genesis = genesis; sent = sent; asked = asked }) n disks
     → DisksFit m (record { genesis = genesis; sent = now; asked = since }) n disks
 disks_move m genesis sent now asked since n disks covers stems f image may =
@@ -46,10 +46,10 @@ module _ (genesis : Genesis) (sent more : List Datagram) (asked since : List Req
   still_asked Noop a = tt
   still_asked (Request r) a = among r a
 
-  pub still_holding : (m : Meaning) (n : ℕ) (x : Holding) → ViewFits genesis (sent ++ more) n x.view
+  pub still_holding : (m : Meaning) (n : ℕ) (x : Holding) → PaxosFits genesis (sent ++ more) n x.paxos
       → HoldingFits m before n x → HoldingFits m after n x
-  still_holding m n x view f = record {
-    view = view;
+  still_holding m n x paxos f = record {
+    paxos = paxos;
     waiting = λ r c. among r (f.waiting r c);
     proposals = λ t at i v c. still_asked v (f.proposals t at i v c);
     gathered = λ g at. still_slice genesis sent more (text m genesis) g.position g.total 0 g.bytes (f.gathered g at);

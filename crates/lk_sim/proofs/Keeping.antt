@@ -10,7 +10,7 @@ use Rattle.lk_agreement_laws.proofs.Histories.{chosen_agree, kept_by_majority}
 use Rattle.lk_node_interface.specs.declared.note.Note.{Note}
 use Rattle.lk_node.specs.Histories.{Genesis, Datagram, Command}
 use Rattle.lk_node.specs.Holdings.{Holding}
-use Rattle.lk_node.specs.Leavings.{view_of, DisksFit}
+use Rattle.lk_node.specs.Leavings.{paxos_of, DisksFit}
 use Rattle.lk_sim.specs.Traces.{happened}
 use Rattle.lk_sim_nodes.specs.Seats.{disks_of, At, SeatFits}
 use Rattle.lk_sim.specs.Kept.{CoversAll, IsKeptBy}
@@ -24,7 +24,7 @@ module _ {R : Type 0} (Shows : R → Genesis → ℕ → Holding → Type 0) (di
     (genesis : Genesis) (seats : List (Seat R)) (sent : List Datagram) (trace : List Note)
     (w : WorldInvariant Shows disks m genesis seats sent trace) where
   its_disks_fit : (s : Seat R) (life : Life R) → s.life ≡ life
-      → SeatFits Shows disks m (happened genesis sent trace) (w.views s.number) s
+      → SeatFits Shows disks m (happened genesis sent trace) (w.states s.number) s
       → DisksFit m (happened genesis sent trace) s.number (disks_of disks life)
   its_disks_fit s (Up r) is f = (f.up r is).left
   its_disks_fit s (Down d) is f = f.down d is
@@ -34,7 +34,7 @@ module _ {R : Type 0} (Shows : R → Genesis → ℕ → Holding → Type 0) (di
   fit_at k s at = its_disks_fit s s.life refl (w.seated k s at)
 
   its_files_are_short : (s : Seat R) (life : Life R) → s.life ≡ life
-      → SeatFits Shows disks m (happened genesis sent trace) (w.views s.number) s → AreShort (disks_of disks life)
+      → SeatFits Shows disks m (happened genesis sent trace) (w.states s.number) s → AreShort (disks_of disks life)
   its_files_are_short s (Up r) is f = (f.up r is).room
   its_files_are_short s (Down d) is f = f.room d is
 
@@ -61,11 +61,11 @@ module _ {R : Type 0} (Shows : R → Genesis → ℕ → Holding → Type 0) (di
                 a.3,
                 λ image may.
                     let f = fit_at a.0 a.1 a.2 image may in
-                    let covers : CoversSent genesis sent n (view_of f.standing f.under).acceptor =
-                    subst (λ z. CoversSent genesis sent z (view_of f.standing f.under).acceptor) a.3 f.covers in (
+                    let covers : CoversSent genesis sent n (paxos_of f.standing f.under).acceptor =
+                    subst (λ z. CoversSent genesis sent z (paxos_of f.standing f.under).acceptor) a.3 f.covers in (
                       f.standing,
                       f.stands,
-                      elim (k.held n c (view_of f.standing f.under) (covers, f.stems)) [
+                      elim (k.held n c (paxos_of f.standing f.under) (covers, f.stems)) [
                         | inl under ↦ inl (
                           under.0,
                           record {

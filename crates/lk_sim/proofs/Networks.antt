@@ -29,7 +29,7 @@ use Rattle.lk_sim.proofs.Asking.{asked_last}
 use Rattle.lk_sim_nodes.proofs.Fitting.{stopped_fit, node_fits, down_fits}
 use Rattle.lk_sim.proofs.Explaining.{lawful, explains, agree, states, ordered, told_in_time}
 use Rattle.lk_sim.proofs.Keeping.{room, covered, kept}
-use Rattle.lk_sim.specs.Promises.{Promises}
+use Rattle.lk_sim.specs.Guarantees.{WorldGuarantee}
 use Rattle.lk_replica.specs.Behaviours.{Behaviour, disks_by}
 use Rattle.lk_state.specs.States.{WholeValue, SumsUp}
 pub use Rattle.lk_sim.proofs.Given.{asked_maybe, set_twice, went_down}
@@ -133,7 +133,7 @@ module _ {R : Type 0} (Shows : R → Genesis → ℕ → Holding → Type 0) (di
       moved_silent old new (set old.seats a.turns.place a.next) a.turns.seats a.adds
       (went_down Shows disks m old.genesis old.seats old.sent old.trace w a.turns.place a.seat a.next
       a.turns.at a.turns.number
-      (down_fits Shows disks m h (w.views a.seat.number) a.next a.left a.still
+      (down_fits Shows disks m h (w.states a.seat.number) a.next a.left a.still
       (subst (λ k. DisksFit m h k (disk_of a.left)) (sym a.turns.number) left)
       (a.rests.short (f.room a.device a.down))))
 
@@ -141,17 +141,17 @@ module _ {R : Type 0} (Shows : R → Genesis → ℕ → Holding → Type 0) (di
     abbrev before : History
     before = happened old.genesis old.sent old.trace
 
-    fit : SeatFits Shows disks m before (w.views a.seat.number) a.seat
+    fit : SeatFits Shows disks m before (w.states a.seat.number) a.seat
     fit = w.seated a.turns.place a.seat a.turns.at
 
     stopped_by : (was : Side → Disk) → ((s : Side) → (k : ℕ) × (disk_of a.left s ≡ after_stop k (was s)))
         → DisksFit m before a.seat.number was → AreShort was
-        → SeatFits Shows disks m before (w.views a.seat.number) a.next
-    stopped_by was kept f short = down_fits Shows disks m before (w.views a.seat.number) a.next a.left a.down
+        → SeatFits Shows disks m before (w.states a.seat.number) a.next
+    stopped_by was kept f short = down_fits Shows disks m before (w.states a.seat.number) a.next a.left a.down
         (subst (λ k. DisksFit m before k (disk_of a.left)) (sym a.turns.number)
         (stopped_fit m before a.seat.number was (disk_of a.left) kept f)) (kept_short was (disk_of a.left) kept short)
 
-    of_life : (life : Life R) → a.seat.life ≡ life → SeatFits Shows disks m before (w.views a.seat.number) a.next
+    of_life : (life : Life R) → a.seat.life ≡ life → SeatFits Shows disks m before (w.states a.seat.number) a.next
     of_life (Up r) is = stopped_by (disks r) (a.was_up r is) (fit.up r is).left (fit.up r is).room
     of_life (Down d) is = stopped_by (disk_of d) (a.was_down d is) (fit.down d is) (fit.room d is)
 
@@ -169,13 +169,13 @@ module _ {R : Type 0} (Shows : R → Genesis → ℕ → Holding → Type 0) (di
     since = asked_maybe Shows disks m old.genesis old.seats old.sent old.trace w o
 
     fits_before : (place : ℕ) (seat : Seat R) → At old.seats place seat → (r : R) → seat.life ≡ Up r
-        → UpFits Shows disks m (happened old.genesis old.sent asked) (since.views seat.number) seat.number r
+        → UpFits Shows disks m (happened old.genesis old.sent asked) (since.states seat.number) seat.number r
     fits_before place seat at r was = (since.seated place seat at).up r was
 
     node_before : (place : ℕ) (seat : Seat R) → At old.seats place seat → (r : R) → seat.life ≡ Up r
         → NodeFits m (happened old.genesis old.sent asked) seat.number (Shows r old.genesis seat.number) (disks r)
     node_before place seat at r was =
-        node_fits Shows disks m (happened old.genesis old.sent asked) (since.views seat.number) seat.number r
+        node_fits Shows disks m (happened old.genesis old.sent asked) (since.states seat.number) seat.number r
         (lawful Shows disks m old.genesis old.seats old.sent asked since) (fits_before place seat at r was)
 
   goes_on : (old new : Scene R) → HoldsOf old → GoesOn Shows disks m old new → HoldsOf new
@@ -215,7 +215,7 @@ module _ {R : Type 0} (Shows : R → Genesis → ℕ → Holding → Type 0) (di
       moved_still old new (set old.seats a.turns.place a.next) (asked_note a.request) a.turns.seats a.adds
       (went_down Shows disks m old.genesis old.seats old.sent trace now a.turns.place a.seat a.next
       a.turns.at a.turns.number
-      (down_fits Shows disks m h (now.views a.seat.number) a.next a.left a.down
+      (down_fits Shows disks m h (now.states a.seat.number) a.next a.left a.down
       (subst (λ k. DisksFit m h k (disk_of a.left)) (sym a.turns.number) left) room))
 
   -- a step keeps all that holds
@@ -239,11 +239,11 @@ module _ {R : Type 0} (Shows : R → Genesis → ℕ → Holding → Type 0) (di
   network_holds genesis scenes last all =
       steps_hold (nothing genesis) last scenes (nothing_holds Shows disks m genesis) all
 
--- what is promised of a world is promised of a network
+-- what is guaranteed of a world is guaranteed of a network
 pub promises_of : {R : Type 0} (Shows : R → Genesis → ℕ → Holding → Type 0) (b : Behaviour R)
     (whole : R → WholeValue) (m : Meaning)
-    → ((r : R) (g : Genesis) (n : ℕ) (x : Holding) → Shows r g n x → SumsUp m g x.view.done (whole r)) → (w : Scene R)
-    → WorldInvariant Shows (disks_by b) m w.genesis w.seats w.sent w.trace → Promises b whole m w
+    → ((r : R) (g : Genesis) (n : ℕ) (x : Holding) → Shows r g n x → SumsUp m g x.paxos.done (whole r)) → (w : Scene R)
+    → WorldInvariant Shows (disks_by b) m w.genesis w.seats w.sent w.trace → WorldGuarantee b whole m w
 promises_of Shows b whole m sums w h = record {
   explained = (h.list, h.chosen, explains Shows (disks_by b) m w.genesis w.seats w.sent w.trace h);
   agree = agree Shows (disks_by b) m w.genesis w.seats w.sent w.trace h;

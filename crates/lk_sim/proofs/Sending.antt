@@ -13,12 +13,12 @@ use Rattle.lk_messages.specs.declared.message.Content.TheVariants as content
 use Rattle.lk_messages.proofs.Spellings.{one_message}
 use Rattle.lk_state.specs.Meanings.{Meaning}
 use Rattle.lk_agreement_laws.specs.Datagrams.{NodeMessage, Vote, Accept, said_by, HasSent, WasSent}
-use Rattle.lk_agreement_laws.specs.Nodes.{View, ViewFits, MaySend, MayPostAll}
+use Rattle.lk_agreement_laws.specs.Nodes.{PaxosState, PaxosFits, MaySend, MayPostAll}
 use Rattle.lk_agreement_laws.specs.Chosen.{Chosen}
-use Rattle.lk_agreement_laws.specs.Worlds.{World, with_view, with_sent, WorldFits}
+use Rattle.lk_agreement_laws.specs.Worlds.{World, with_paxos, with_sent, WorldFits}
 use Rattle.lk_agreement_laws.proofs.Histories.{still_chosen, still_stems}
 use Rattle.lk_agreement_laws.proofs.Histories.{said_alike, sent_cases}
-use Rattle.lk_agreement_laws.proofs.Histories.{with_view_fits, batch_fits, covers_elsewhere}
+use Rattle.lk_agreement_laws.proofs.Histories.{with_paxos_fits, batch_fits, covers_elsewhere}
 use Rattle.lk_node_interface.specs.declared.note.Note.{Note}
 use Rattle.lk_node_interface.specs.declared.note.Note.TheVariants as note
 use Rattle.lk_node.specs.Histories.{History, Genesis, Datagram, Command, RequestValue, WasAsked, later}
@@ -42,14 +42,14 @@ use Rattle.lk_sim.proofs.Ordering.{still_in_time}
 use Rattle.lk_sim.proofs.Explaining.{request_asked}
 use Rattle.lk_sim.specs.Orders.{RestsOn}
 
--- one view in the place of a number's
-pub same_view : (n : ℕ) (y v : View) → (t : Bool) → (n == n) ≡ t → cond t y v ≡ y
-same_view n y v true e = refl
-same_view n y v false e = absurd (eqb-false n n e refl)
+-- one state in the place of a number's
+pub same_state : (n : ℕ) (y v : PaxosState) → (t : Bool) → (n == n) ≡ t → cond t y v ≡ y
+same_state n y v true e = refl
+same_state n y v false e = absurd (eqb-false n n e refl)
 
-pub other_view : (k n : ℕ) (y v : View) → (k ≡ n → ⊥) → (t : Bool) → (k == n) ≡ t → cond t y v ≡ v
-other_view k n y v ne true e = absurd (ne (eqb-true k n e))
-other_view k n y v ne false e = refl
+pub other_state : (k n : ℕ) (y v : PaxosState) → (k ≡ n → ⊥) → (t : Bool) → (k == n) ≡ t → cond t y v ≡ v
+other_state k n y v ne true e = absurd (ne (eqb-true k n e))
+other_state k n y v ne false e = refl
 
 no_request : (genesis : Genesis) (n : ℕ) (x : NodeMessage) (r : RequestValue) (cluster : ℕ) (bytes : List ℕ)
     → Spells (said_by genesis n x) bytes
@@ -72,22 +72,22 @@ module _ {R : Type 0} (Shows : R → Genesis → ℕ → Holding → Type 0) (di
   abbrev n : ℕ
   n = s.number
 
-  abbrev y : View
-  y = g.holding.view
+  abbrev y : PaxosState
+  y = g.holding.paxos
 
   abbrev before : World
-  before = record { sent = sent; views = w.views }
+  before = record { sent = sent; states = w.states }
 
   abbrev now : World
-  now = with_view before n y
+  now = with_paxos before n y
 
   now_fits : WorldFits genesis now
-  now_fits = with_view_fits genesis before n y w.world g.fits.view
+  now_fits = with_paxos_fits genesis before n y w.world g.fits.paxos
 
-  here : now.views n ≡ y
-  here = same_view n y (w.views n) (n == n) refl
+  here : now.states n ≡ y
+  here = same_state n y (w.states n) (n == n) refl
 
-  may : MayPostAll genesis sent n (now.views n) batch
+  may : MayPostAll genesis sent n (now.states n) batch
   may d c =
       let p = g.may d c in
       record {
@@ -106,13 +106,13 @@ module _ {R : Type 0} (Shows : R → Genesis → ℕ → Holding → Type 0) (di
   abbrev since : History
   since = happened genesis (sent ++ batch) (trace ++ notes)
 
-  own : UpFits Shows disks m since (now.views n) n r
+  own : UpFits Shows disks m since (now.states n) n r
   own = record {
     holding = g.holding;
-    view = sym here;
+    paxos = sym here;
     shown = g.shown;
     fits = still_holding genesis sent batch (asked_in trace) (asked_in (trace ++ notes)) among m n g.holding
-        (subst (λ v. ViewFits genesis (sent ++ batch) n v) here (after_fits.views n)) g.fits;
+        (subst (λ v. PaxosFits genesis (sent ++ batch) n v) here (after_fits.states n)) g.fits;
     left = disks_move m genesis (sent ++ batch) (sent ++ batch) (asked_in trace) (asked_in (trace ++ notes)) n
         (disks r) (λ x c. c) (λ x c. c)
         (subst (λ b. DisksFit m (later (happened genesis sent trace) b) n (disks r)) (take-length batch)
@@ -126,20 +126,20 @@ module _ {R : Type 0} (Shows : R → Genesis → ℕ → Holding → Type 0) (di
       (λ x c. covers_elsewhere genesis now n batch may k x (λ e. ne (sym e)) c) (still_stems genesis sent batch) f
 
   elsewhere : (t : Seat R) → (t.number ≡ n → ⊥)
-      → SeatFits Shows disks m (happened genesis sent trace) (w.views t.number) t
-      → SeatFits Shows disks m since (now.views t.number) t
+      → SeatFits Shows disks m (happened genesis sent trace) (w.states t.number) t
+      → SeatFits Shows disks m since (now.states t.number) t
   elsewhere t ne f = record {
     up = λ q is. let u = f.up q is in
-        let same : now.views t.number ≡ w.views t.number =
-        other_view t.number n y (w.views t.number) ne (t.number == n) refl in
+        let same : now.states t.number ≡ w.states t.number =
+        other_state t.number n y (w.states t.number) ne (t.number == n) refl in
         record {
           holding = u.holding;
-          view = u.view ∙ sym same;
+          paxos = u.paxos ∙ sym same;
           shown = u.shown;
           fits =
               still_holding genesis sent batch (asked_in trace) (asked_in (trace ++ notes)) among m t.number u.holding
-              (subst (λ v. ViewFits genesis (sent ++ batch) t.number v) (same ∙ sym u.view)
-              (after_fits.views t.number)) u.fits;
+              (subst (λ v. PaxosFits genesis (sent ++ batch) t.number v) (same ∙ sym u.paxos)
+              (after_fits.states t.number)) u.fits;
           left = others t.number ne (disks q) u.left;
           room = u.room;
         };
@@ -147,17 +147,17 @@ module _ {R : Type 0} (Shows : R → Genesis → ℕ → Holding → Type 0) (di
     room = f.room;
   }
 
-  seated : (k : ℕ) (t : Seat R) → At (set seats i new) k t → SeatFits Shows disks m since (now.views t.number) t
+  seated : (k : ℕ) (t : Seat R) → At (set seats i new) k t → SeatFits Shows disks m since (now.states t.number) t
   seated k t c = elim (at_set seats i new k t c) [
-    | inl e ↦ subst (λ z. SeatFits Shows disks m since (now.views z.number) z) e.1 own_seat
+    | inl e ↦ subst (λ z. SeatFits Shows disks m since (now.states z.number) z) e.1 own_seat
     | inr o ↦ elsewhere t (λ same. o.0 (w.apart k i t s o.1 at same)) (w.seated k t o.1)
   ]
     where
-      own_seat : SeatFits Shows disks m since (now.views new.number) new
+      own_seat : SeatFits Shows disks m since (now.states new.number) new
       own_seat = record {
         up = λ q is. let same : r ≡ q = cc (up, is) in
-            subst (λ z. UpFits Shows disks m since (now.views new.number) new.number z) same
-            (subst (λ k. UpFits Shows disks m since (now.views k) k r) (sym number) own);
+            subst (λ z. UpFits Shows disks m since (now.states new.number) new.number z) same
+            (subst (λ k. UpFits Shows disks m since (now.states k) k r) (sym number) own);
         down = λ d is. absurd (cc (up, is));
         room = λ d is. absurd (cc (up, is));
       }
@@ -278,7 +278,7 @@ module _ {R : Type 0} (Shows : R → Genesis → ℕ → Holding → Type 0) (di
       let b = all_borne genesis sent w.world.sound BearsDatagram
       (λ L rest d bears k x said. message_longer m h L rest x (bears k x said)) batch of_datagram a.0 a.1 in
       record {
-        views = now.views;
+        states = now.states;
         world = after_fits;
         seated = seated;
         apart = apart;

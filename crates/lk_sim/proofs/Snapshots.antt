@@ -27,7 +27,7 @@ on_ok P Q (Err e) f p = tt
 module _ {R : Type 0} (b : Behaviour R) (Shows : R → Genesis → ℕ → Holding → Type 0)
     (whole : R → WholeValue) (m : Meaning)
     (law : (old new : R) (genesis : Genesis) (n : ℕ) (x : Holding) → Shows old genesis n x → b.Compacts old new (Ok tt)
-    → AllStandAt m genesis n (disks_by b new) (whole new).roster.executed x.view.done) where
+    → AllStandAt m genesis n (disks_by b new) (whole new).roster.executed x.paxos.done) where
   stands_packed : (old new : Scene R) → WorldInvariant Shows (disks_by b) m old.genesis old.seats old.sent old.trace
       → (n : ℕ)
       → (k : IsCompacted b old new n) → GoesOnCompacted b old new k.replica k.next
@@ -50,11 +50,11 @@ module _ {R : Type 0} (b : Behaviour R) (Shows : R → Genesis → ℕ → Holdi
           (
             g.2,
             (
-              u.holding.view.done,
-              subst₂ (λ z l. Chosen z l u.holding.view.done) (sym p.adds.genesis)
-                  (sym (p.adds.sent ∙ append-nil old.sent)) u.fits.view.stems.done,
+              u.holding.paxos.done,
+              subst₂ (λ z l. Chosen z l u.holding.paxos.done) (sym p.adds.genesis)
+                  (sym (p.adds.sent ∙ append-nil old.sent)) u.fits.paxos.stems.done,
               g.3,
-              subst (λ z. g.0.snapshot ≡ text m z u.holding.view.done) (sym p.adds.genesis) g.4,
+              subst (λ z. g.0.snapshot ≡ text m z u.holding.paxos.done) (sym p.adds.genesis) g.4,
             ),
           ),
         );

@@ -45,7 +45,7 @@ empty_fits m h n disks empty silent image may = record {
   position = refl;
   snapshot = refl;
   covers = λ x c. absurd (silent x c);
-  stems = still_stems h.genesis [] h.sent fresh ((start_fits h.genesis).views n).stems;
+  stems = still_stems h.genesis [] h.sent fresh ((start_fits h.genesis).states n).stems;
   near = record { votes = λ v c. absurd (omega (arith, c.1)); pairs = λ p c. absurd (omega (arith, c.1)) };
 }
   where
@@ -80,7 +80,7 @@ module _ {R : Type 0} (Shows : R → Genesis → ℕ → Holding → Type 0) (di
   silent : (x : NodeMessage) → HasSent genesis sent new.number x → ⊥
   silent x h = let a = w.known new.number x h in unused a.0 a.1 a.2 a.3
 
-  mine : SeatFits Shows disks m (happened genesis sent trace) (w.views new.number) new
+  mine : SeatFits Shows disks m (happened genesis sent trace) (w.states new.number) new
   mine = record {
     up = λ q is. absurd (cc (down, is));
     down = λ d is. let same : device ≡ d = cc (down, is) in
@@ -92,11 +92,11 @@ module _ {R : Type 0} (Shows : R → Genesis → ℕ → Holding → Type 0) (di
 
   pub starts : WorldInvariant Shows disks m genesis (seats ++ new ∷ []) sent trace
   starts = record {
-    views = w.views;
+    states = w.states;
     world = w.world;
     seated = λ k t c. elim (at_push seats new k t c) [
       | inl old ↦ w.seated k t old
-      | inr e ↦ subst (λ z. SeatFits Shows disks m (happened genesis sent trace) (w.views z.number) z) e.1 mine
+      | inr e ↦ subst (λ z. SeatFits Shows disks m (happened genesis sent trace) (w.states z.number) z) e.1 mine
     ];
     apart = λ j k t u c d e. elim (at_push seats new j t c) [
       | inl a ↦ elim (at_push seats new k u d) [
@@ -123,7 +123,7 @@ module _ {R : Type 0} (Shows : R → Genesis → ℕ → Holding → Type 0) (di
 pub nothing_holds : {R : Type 0} (Shows : R → Genesis → ℕ → Holding → Type 0) (disks : R → Side → Disk) (m : Meaning)
     (genesis : Genesis) → WorldInvariant Shows disks m genesis [] [] []
 nothing_holds Shows disks m genesis = record {
-  views = λ n. fresh;
+  states = λ n. fresh;
   world = start_fits genesis;
   seated = λ k t c. absurd (omega (arith, c.0));
   apart = λ j k t u c. absurd (omega (arith, c.0));
@@ -131,7 +131,7 @@ nothing_holds Shows disks m genesis = record {
   requests = λ d q cluster c. absurd (omega (arith, c.1));
   proposed = λ x c. absurd (omega (arith, c.has_sent.listed.1));
   list = [];
-  chosen = ((start_fits genesis).views 0).stems.done;
+  chosen = ((start_fits genesis).states 0).stems.done;
   notes = λ x c. absurd (omega (arith, c.1));
   messages = λ n x c. absurd (omega (arith, c.listed.1));
   told = refl;

@@ -12,6 +12,6 @@ pub mod Orders
 pub mod Kept
 pub mod Packed
 pub mod Worlds
-pub mod Promises
+pub mod Guarantees
 pub mod Runs
 pub mod Networks

@@ -1,7 +1,7 @@
 -- What a world keeps of a node's call or group: the notes and datagrams that it adds, and whether the node stopped.
 use Rattle.std.specs.Prelude.{◌≡◌, ℕ, List, [], ◌++◌, Option, set}
 use Rattle.lk_state.specs.Meanings.{Meaning}
-use Rattle.lk_agreement_laws.specs.Nodes.{View}
+use Rattle.lk_agreement_laws.specs.Nodes.{PaxosState}
 use Rattle.lk_node_interface.specs.declared.note.Note.{Note}
 use Rattle.lk_node.specs.Histories.{History, Genesis, Datagram}
 use Rattle.lk_node.specs.Holdings.{Holding}
@@ -39,7 +39,8 @@ pub record HasSettled {R : Type 0} (Shows : R → Genesis → ℕ → Holding �
   pub number : next.number ≡ seat.number
   pub seats : new.seats ≡ set old.seats i next
   pub rests : Rests b stop seat next
-  pub fits : (h : History) (w : View) → SeatFits Shows (disks_by b) m h w seat → SeatFits Shows (disks_by b) m h w next
+  pub fits : (h : History) (w : PaxosState) → SeatFits Shows (disks_by b) m h w seat
+      → SeatFits Shows (disks_by b) m h w next
   pub adds : Adds old new ((asked ++ mine) ++ told) batch
   pub ended : new.ended ≡ how
 
@@ -64,7 +65,8 @@ pub record HasSettledSteps {R : Type 0} (Shows : R → Genesis → ℕ → Holdi
   pub number : next.number ≡ seat.number
   pub seats : new.seats ≡ set old.seats i next
   pub rests : Rests b stop seat next
-  pub fits : (h : History) (w : View) → SeatFits Shows (disks_by b) m h w seat → SeatFits Shows (disks_by b) m h w next
+  pub fits : (h : History) (w : PaxosState) → SeatFits Shows (disks_by b) m h w seat
+      → SeatFits Shows (disks_by b) m h w next
   pub adds : Adds old new notes batch
   pub ended : new.ended ≡ how
 
@@ -77,6 +79,7 @@ pub record HasGivenUp {R : Type 0} (Shows : R → Genesis → ℕ → Holding �
   pub number : next.number ≡ seat.number
   pub seats : new.seats ≡ set old.seats i next
   pub halted : next.life ≡ Down (stopped_on 0 0 (device_in b seat.life))
-  pub fits : (h : History) (w : View) → SeatFits Shows (disks_by b) m h w seat → SeatFits Shows (disks_by b) m h w next
+  pub fits : (h : History) (w : PaxosState) → SeatFits Shows (disks_by b) m h w seat
+      → SeatFits Shows (disks_by b) m h w next
   pub adds : Adds old new [] []
   pub ended : new.ended ≡ old.ended

@@ -7,7 +7,7 @@ use Rattle.lk_messages.specs.declared.message.Content.TheVariants as content
 use Rattle.lk_state.specs.Meanings.{Meaning}
 use Rattle.lk_agreement_laws.specs.Datagrams.{NodeMessage, Vote, Accept, HasSent, WasSent}
 use Rattle.lk_agreement_laws.specs.Chosen.{Chosen}
-use Rattle.lk_agreement_laws.specs.Nodes.{View}
+use Rattle.lk_agreement_laws.specs.Nodes.{PaxosState}
 use Rattle.lk_agreement_laws.specs.Worlds.{WorldFits}
 use Rattle.lk_node_interface.specs.declared.note.Note.{Note}
 use Rattle.lk_node.specs.Histories.{Genesis, Datagram, Command, RequestValue, WasAsked}
@@ -24,12 +24,12 @@ use Rattle.lk_sim.specs.declared.world_parts.WorldParts.{WorldParts}
 pub record WorldInvariant {R : Type 0} (Shows : R → Genesis → ℕ → Holding → Type 0) (disks : R → Side
     → Disk) (m : Meaning)
     (genesis : Genesis) (seats : List (Seat R)) (sent : List Datagram) (trace : List Note) : Type 0 where
-  -- a view for each number, which everything that was sent fits
-  pub views : ℕ → View
-  pub world : WorldFits genesis (record { sent = sent; views = views })
+  -- a Paxos state for each number, which everything that was sent fits
+  pub states : ℕ → PaxosState
+  pub world : WorldFits genesis (record { sent = sent; states = states })
   -- each node that was started fits, one for each number, and nobody else has sent anything
   pub seated : (k : ℕ) (s : Seat R) → At seats k s
-      → SeatFits Shows disks m (happened genesis sent trace) (views s.number) s
+      → SeatFits Shows disks m (happened genesis sent trace) (states s.number) s
   pub apart : (i j : ℕ) (s t : Seat R) → At seats i s → At seats j t → s.number ≡ t.number → i ≡ j
   pub known : (n : ℕ) (x : NodeMessage) → HasSent genesis sent n x
       → (k : ℕ) × (s : Seat R) × At seats k s × (s.number ≡ n)

@@ -1,17 +1,17 @@
-//! A law about networks of processes: everything promised of a world holds of them too.
+//! A law about networks of processes: everything guaranteed of a world holds of them too.
 ghost use Rattle.std.specs.Prelude.{List};
 ghost use Rattle.lk_types.specs.declared.genesis.Genesis.{Genesis as GenesisValue};
 ghost use Rattle.lk_replica.specs.Behaviours.{disks_by};
 ghost use Rattle.lk_sim.specs.Networks.{StepsAll, nothing};
-ghost use Rattle.lk_sim.specs.Promises.{Promises};
+ghost use Rattle.lk_sim.specs.Guarantees.{WorldGuarantee};
 ghost use Rattle.lk_sim.specs.Scenes.{Scene};
 
 use lk_replica::MemoryReplica;
 
 /// Whatever the processes of a network have done, one step at a time in any order (`StepsAll`), everything that is
-/// promised of a world holds of them. So the promises do not rest on how the simulator executes events.
-pub fn networks_promise_what_worlds_do<R: MemoryReplica>()
+/// guaranteed of a world holds of them. So the guarantee does not rest on how the simulator executes events.
+pub fn networks_guarantee_what_worlds_do<R: MemoryReplica>()
     ensures { (genesis : GenesisValue) (scenes : List (Scene R)) (last : Scene R)
         → StepsAll R.Shows (disks_by R.behaves) R.meaning (nothing genesis) scenes last
-        → Promises R.behaves R.whole R.meaning last }
+        → WorldGuarantee R.behaves R.whole R.meaning last }
 {}

@@ -1,4 +1,4 @@
-// The simulated world that callers see, and what is promised of it after each event.
+// The simulated world that callers see, and what is guaranteed of it after each event.
 use crate::end::RunEnd;
 use crate::event::Event;
 use crate::happening::{happen, happen_all};
@@ -40,7 +40,7 @@ impl<R: MemoryReplica> World<R> {
     ghost use Rattle.lk_sim_nodes.specs.Seats.{disks_of, At, HasNo};
     ghost use Rattle.lk_sim_nodes.specs.Left.{left_of};
     ghost use Rattle.lk_sim.specs.Packed.{LeavesPacked};
-    ghost use Rattle.lk_sim.specs.Promises.{Promises};
+    ghost use Rattle.lk_sim.specs.Guarantees.{WorldGuarantee};
     ghost use Rattle.lk_sim.specs.Runs.{Runs};
     ghost use Rattle.lk_sim_nodes.specs.declared.seat.Seat.{Seat as SeatValue};
 
@@ -60,8 +60,8 @@ impl<R: MemoryReplica> World<R> {
         }
     }
 
-    /// Executes one event. Done or rejected, all of `Promises` holds afterwards: among others, some chosen list of
-    /// no-ops and asked requests explains everything that was noted and sent.
+    /// Executes one event. Done or rejected, all of `WorldGuarantee` holds afterwards: among others, some chosen list
+    /// of no-ops and asked requests explains everything that was noted and sent.
     ///
     /// A rejected event changes nothing, except that under `WorldMemory` a node that was stepping, compacting or
     /// restarting may have stopped.
@@ -69,7 +69,7 @@ impl<R: MemoryReplica> World<R> {
         ensures does { OnOk result (IsExecuted R.behaves self.old event self.new) }
         ensures refused { IfErr result (λ e. IsRefused R.behaves self.old event e self.new) }
         ensures grows { Grows self.old self.new }
-        ensures promised { Promises R.behaves R.whole R.meaning self.new }
+        ensures guaranteed { WorldGuarantee R.behaves R.whole R.meaning self.new }
         // After a compaction, whatever a stop may leave of the node's disks has a snapshot of everything executed.
         ensures packed { OnOk result (LeavesPacked R.whole (disks_by R.behaves) R.meaning event self.new) }
     {
@@ -78,11 +78,11 @@ impl<R: MemoryReplica> World<R> {
         result
     }
 
-    /// Executes events in order, up to the first that is rejected. What `apply` promises holds afterwards.
+    /// Executes events in order, up to the first that is rejected. What `apply` guarantees holds afterwards.
     pub fn run(&mut self, events: &[Event]) -> RunEnd
         ensures runs { Runs R.behaves self.old events.now result self.new }
         ensures grows { Grows self.old self.new }
-        ensures promised { Promises R.behaves R.whole R.meaning self.new }
+        ensures guaranteed { WorldGuarantee R.behaves R.whole R.meaning self.new }
     {
         let how = happen_all(&mut self.parts, events);
         self.facts();
@@ -141,9 +141,9 @@ impl<R: MemoryReplica> World<R> {
         all_left(alloc, seats)
     }
 
-    /// Makes the promises available to proofs about this world. The function does nothing.
+    /// Makes the guarantee available to proofs about this world. The function does nothing.
     pub fn facts(&self)
-        ensures promised { Promises R.behaves R.whole R.meaning self.now }
+        ensures guaranteed { WorldGuarantee R.behaves R.whole R.meaning self.now }
     {
         let _ = &self.parts;
     }

@@ -6,7 +6,7 @@ use Rattle.lk_memory_disk.specs.Memory.{Memory, disk_of}
 use Rattle.lk_disk.specs.declared.device.Side.{Side}
 use Rattle.lk_store_format.specs.Values.{HeaderValue}
 use Rattle.lk_state.specs.Meanings.{Meaning}
-use Rattle.lk_agreement_laws.specs.Nodes.{View}
+use Rattle.lk_agreement_laws.specs.Nodes.{PaxosState}
 use Rattle.lk_node.specs.Calls.{NodeFits}
 use Rattle.lk_node.specs.Histories.{History, Genesis, IsLawful}
 use Rattle.lk_node.specs.Holdings.{Holding}
@@ -55,7 +55,7 @@ same_header x a g n cluster alpha members e c l m same =
     e ∙ rw (c, l, m) (ap (λ (z : Genesis). header_of z n) (sym same))
 
 module _ {R : Type 0} (Shows : R → Genesis → ℕ → Holding → Type 0) (disks : R → Side → Disk) (m : Meaning)
-    (h : History) (w : View) where
+    (h : History) (w : PaxosState) where
   pub node_fits : (n : ℕ) (r : R) → IsLawful m h → UpFits Shows disks m h w n r
       → NodeFits m h n (Shows r h.genesis n) (disks r)
   node_fits n r lawful u =
@@ -91,7 +91,7 @@ module _ {R : Type 0} (Shows : R → Genesis → ℕ → Holding → Type 0) (di
 
 -- where a node is down, what a stop may leave of it fits as it did
 pub down_left : {R : Type 0} (Shows : R → Genesis → ℕ → Holding → Type 0) (b : Behaviour R) (m : Meaning) (h : History)
-    (w : View) (s : Seat R) (d : Memory) → s.life ≡ Down d → SeatFits Shows (disks_by b) m h w s
+    (w : PaxosState) (s : Seat R) (d : Memory) → s.life ≡ Down d → SeatFits Shows (disks_by b) m h w s
     → DisksFit m h s.number (disk_of (device_in b s.life)) × AreShort (disk_of (device_in b s.life))
 down_left Shows b m h w s d down f = (
   subst (λ (l : Life _). DisksFit m h s.number (disk_of (device_in b l))) (sym down) (f.down d down),

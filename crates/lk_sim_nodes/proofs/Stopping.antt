@@ -11,7 +11,7 @@ use Rattle.lk_disk.specs.declared.device.Side.TheVariants.{A, B}
 use Rattle.lk_disk.specs.declared.trap.Trap.{Trap}
 use Rattle.lk_disk.specs.declared.trap.Trap.TheVariants.{Off, Fail, Arm}
 use Rattle.lk_state.specs.Meanings.{Meaning}
-use Rattle.lk_agreement_laws.specs.Nodes.{View}
+use Rattle.lk_agreement_laws.specs.Nodes.{PaxosState}
 use Rattle.lk_node_interface.specs.declared.note.Note.{Note}
 use Rattle.lk_node.specs.Histories.{History, Genesis, Datagram, later}
 use Rattle.lk_node.specs.Holdings.{Holding}
@@ -92,11 +92,11 @@ module _ {R : Type 0} (b : Behaviour R) (alone : TrapsAlone b) (Shows : R → Ge
         (goes_before m h n (Shows r h.genesis n) (disks_by b r) notes up.0 all g))
 
   -- a node whose trap is set fits as it did
-  pub trapped_fits : (m : Meaning) (h : History) (w : View) (n : ℕ) (t : Trap) (r : R)
+  pub trapped_fits : (m : Meaning) (h : History) (w : PaxosState) (n : ℕ) (t : Trap) (r : R)
       → UpFits Shows (disks_by b) m h w n r → UpFits Shows (disks_by b) m h w n (b.with_trap t r)
   trapped_fits m h w n t r u = record {
     holding = u.holding;
-    view = u.view;
+    paxos = u.paxos;
     shown = shows_on t r h.genesis n u.holding u.shown;
     fits = u.fits;
     left = same_disks m h n (disks_by b r) (disks_by b (b.with_trap t r)) (trapped_disks t r) u.left;

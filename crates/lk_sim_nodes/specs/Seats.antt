@@ -7,7 +7,7 @@ use Rattle.lk_disk.specs.declared.device.Side.{Side}
 use Rattle.lk_disk.specs.declared.trap.Trap.{Trap}
 use Rattle.lk_disk.specs.declared.trap.Trap.TheVariants.{Off}
 use Rattle.lk_state.specs.Meanings.{Meaning}
-use Rattle.lk_agreement_laws.specs.Nodes.{View}
+use Rattle.lk_agreement_laws.specs.Nodes.{PaxosState}
 use Rattle.lk_node_interface.specs.declared.note.Note.{Note}
 use Rattle.lk_node.specs.Histories.{History, Genesis, Datagram}
 use Rattle.lk_node.specs.Calls.{LeavesFit}
@@ -73,11 +73,11 @@ IsTrapped {R = R} b s t trap =
 
 -- ---- how a node fits what has happened
 
--- a replica that is up holds this view and what fits, and so does whatever a stop may leave of it; its files are short
+-- a replica that is up holds this state and what fits, and so does whatever a stop may leave of it; its files are short
 pub record UpFits {R : Type 0} (Shows : R → Genesis → ℕ → Holding → Type 0) (disks : R → Side → Disk) (m : Meaning)
-    (h : History) (w : View) (n : ℕ) (r : R) : Type 0 where
+    (h : History) (w : PaxosState) (n : ℕ) (r : R) : Type 0 where
   pub holding : Holding
-  pub view : holding.view ≡ w
+  pub paxos : holding.paxos ≡ w
   pub shown : Shows r h.genesis n holding
   pub fits : HoldingFits m h n holding
   pub left : DisksFit m h n (disks r)
@@ -85,7 +85,7 @@ pub record UpFits {R : Type 0} (Shows : R → Genesis → ℕ → Holding → Ty
 
 -- a node is up like this, or its disks fit
 pub record SeatFits {R : Type 0} (Shows : R → Genesis → ℕ → Holding → Type 0) (disks : R → Side → Disk) (m : Meaning)
-    (h : History) (w : View) (s : Seat R) : Type 0 where
+    (h : History) (w : PaxosState) (s : Seat R) : Type 0 where
   pub up : (r : R) → s.life ≡ Up r → UpFits Shows disks m h w s.number r
   pub down : (d : Memory) → s.life ≡ Down d → DisksFit m h s.number (disk_of d)
   pub room : (d : Memory) → s.life ≡ Down d → AreShort (disk_of d)

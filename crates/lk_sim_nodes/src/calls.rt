@@ -1,7 +1,7 @@
 // The calls of a node: it takes an input, compacts, or restarts.
 ghost use Rattle.std.specs.Prelude.{◌≡◌, ◌⊎◌, IfOk, OnErr};
 ghost use Rattle.lk_memory_disk.specs.Memory.{Memory};
-ghost use Rattle.lk_agreement_laws.specs.Nodes.{View};
+ghost use Rattle.lk_agreement_laws.specs.Nodes.{PaxosState};
 ghost use Rattle.lk_node.specs.Calls.{heard_by, InputFits};
 ghost use Rattle.lk_node.specs.Histories.{History, IsLawful};
 ghost use Rattle.lk_node.specs.Leavings.{header_of};
@@ -29,11 +29,11 @@ pub fn step<R: MemoryReplica>(
 ) -> Result<Outcome, NoMemory>
     requires up { (r : R) × (seat.old.life ≡ Up r) }
     ensures number { seat.new.number ≡ seat.old.number }
-    ensures goes { (h : History) (w : View) → IsLawful R.meaning h
+    ensures goes { (h : History) (w : PaxosState) → IsLawful R.meaning h
         → SeatFits R.Shows (disks_by R.behaves) R.meaning h w seat.old → InputFits h input.entry
         → IfOk result (λ o. (q : R) → seat.new.life ≡ Up q
         → SeatGoes R.Shows (disks_by R.behaves) R.meaning h seat.new o.notes.items o.sent.items) }
-    ensures falls { (h : History) (w : View) → IsLawful R.meaning h
+    ensures falls { (h : History) (w : PaxosState) → IsLawful R.meaning h
         → SeatFits R.Shows (disks_by R.behaves) R.meaning h w seat.old → InputFits h input.entry
         → (d : Memory) → seat.new.life ≡ Down d → SeatFits R.Shows (disks_by R.behaves) R.meaning h w seat.new }
     ensures exact { (r : R) → seat.old.life ≡ Up r
@@ -74,11 +74,11 @@ pub fn compact_node<R: MemoryReplica>(
 ) -> Result<Outcome, NoMemory>
     requires up { (r : R) × (seat.old.life ≡ Up r) }
     ensures number { seat.new.number ≡ seat.old.number }
-    ensures goes { (h : History) (w : View) → IsLawful R.meaning h
+    ensures goes { (h : History) (w : PaxosState) → IsLawful R.meaning h
         → SeatFits R.Shows (disks_by R.behaves) R.meaning h w seat.old
         → IfOk result (λ o. (q : R) → seat.new.life ≡ Up q
         → SeatGoes R.Shows (disks_by R.behaves) R.meaning h seat.new o.notes.items o.sent.items) }
-    ensures falls { (h : History) (w : View) → IsLawful R.meaning h
+    ensures falls { (h : History) (w : PaxosState) → IsLawful R.meaning h
         → SeatFits R.Shows (disks_by R.behaves) R.meaning h w seat.old
         → (d : Memory) → seat.new.life ≡ Down d → SeatFits R.Shows (disks_by R.behaves) R.meaning h w seat.new }
     ensures exact { (r : R) → seat.old.life ≡ Up r
@@ -112,11 +112,11 @@ pub fn revive<R: MemoryReplica>(
     genesis: &Genesis,
 ) -> Result<Outcome, NoMemory>
     ensures number { seat.new.number ≡ seat.old.number }
-    ensures goes { (h : History) (w : View) → h.genesis ≡ genesis.now → IsLawful R.meaning h
+    ensures goes { (h : History) (w : PaxosState) → h.genesis ≡ genesis.now → IsLawful R.meaning h
         → SeatFits R.Shows (disks_by R.behaves) R.meaning h w seat.old
         → IfOk result (λ o. (q : R) → seat.new.life ≡ Up q
         → SeatGoes R.Shows (disks_by R.behaves) R.meaning h seat.new o.notes.items o.sent.items) }
-    ensures falls { (h : History) (w : View) → h.genesis ≡ genesis.now → IsLawful R.meaning h
+    ensures falls { (h : History) (w : PaxosState) → h.genesis ≡ genesis.now → IsLawful R.meaning h
         → SeatFits R.Shows (disks_by R.behaves) R.meaning h w seat.old
         → (d : Memory) → seat.new.life ≡ Down d → SeatFits R.Shows (disks_by R.behaves) R.meaning h w seat.new }
     ensures exact { (d : Memory) → seat.old.life ≡ Down d
@@ -124,7 +124,7 @@ pub fn revive<R: MemoryReplica>(
         (header_of genesis.now seat.old.number) seat.new o.notes.items o.sent.items o.ended o.stop
         ⊎ HasEndedByFault (StaysDown R.behaves d (header_of genesis.now seat.old.number)) seat.new o.notes.items
         o.sent.items o.ended o.stop) }
-    ensures told { (h : History) (w : View) → h.genesis ≡ genesis.now → IsLawful R.meaning h
+    ensures told { (h : History) (w : PaxosState) → h.genesis ≡ genesis.now → IsLawful R.meaning h
         → SeatFits R.Shows (disks_by R.behaves) R.meaning h w seat.old → IfOk result (λ o. IsToldEnd o.ended) }
     ensures wants { (d : Memory) → seat.old.life ≡ Down d
         → OnErr result (HasStoppedOutOfMemory (StaysDown R.behaves d

@@ -2,7 +2,7 @@
 ghost use Rattle.std.specs.Prelude.{◌≡◌, ◌⊎◌, [], map, IfOk, OnErr};
 ghost use Rattle.std.specs.List.{AllByRecursion};
 ghost use Rattle.lk_memory_disk.specs.Memory.{disk_of};
-ghost use Rattle.lk_agreement_laws.specs.Nodes.{View};
+ghost use Rattle.lk_agreement_laws.specs.Nodes.{PaxosState};
 ghost use Rattle.lk_node.specs.Calls.{heard_by, InputFits};
 ghost use Rattle.lk_node.specs.Histories.{History, Genesis as GenesisValue, IsLawful};
 ghost use Rattle.lk_node.specs.Holdings.{Holding};
@@ -63,7 +63,7 @@ pub fn step_all<R: MemoryReplica>(
         → EachLeavesFit R.Shows (disks_by R.behaves) R.meaning seat.old.number r inputs.entry.items q
         (parts_of o.steps.items o.sent.items)) }
     // However it ends, whatever a stop may leave of it fits if nothing of the group is sent.
-    ensures leaves { (h : History) (w : View) → IsLawful R.meaning h
+    ensures leaves { (h : History) (w : PaxosState) → IsLawful R.meaning h
         → SeatFits R.Shows (disks_by R.behaves) R.meaning h w seat.old → AllByRecursion (InputFits h) inputs.entry.items
         → DisksFit R.meaning h seat.new.number (disk_of (device_in R.behaves seat.new.life))
         × AreShort (disk_of (device_in R.behaves seat.new.life)) }

@@ -1,7 +1,7 @@
 // The result of a node's call, and how a fault or an armed stop ends the node.
 ghost use Rattle.std.specs.Prelude.{◌≡◌, true, false, IfOk, OnErr};
 ghost use Rattle.lk_memory_disk.specs.Memory.{disk_of};
-ghost use Rattle.lk_agreement_laws.specs.Nodes.{View};
+ghost use Rattle.lk_agreement_laws.specs.Nodes.{PaxosState};
 ghost use Rattle.lk_node.specs.Histories.{History};
 ghost use Rattle.lk_node.specs.Leavings.{DisksFit};
 ghost use Rattle.lk_node_interface.specs.Faults.{fault_number};
@@ -35,7 +35,7 @@ pub struct Outcome {
 /// Stops the node if `at` is the number of bytes of an armed stop; each disk keeps up to so many unsynced bytes.
 pub fn carry_out_stop<R: MemoryReplica>(alloc: Global, seat: &mut Seat<R>, at: Option<usize>)
     ensures number { seat.new.number ≡ seat.old.number }
-    ensures fits { (h : History) (w : View) → SeatFits R.Shows (disks_by R.behaves) R.meaning h w seat.old
+    ensures fits { (h : History) (w : PaxosState) → SeatFits R.Shows (disks_by R.behaves) R.meaning h w seat.old
         → SeatFits R.Shows (disks_by R.behaves) R.meaning h w seat.new }
     ensures rests { Rests R.behaves at seat.old seat.new }
 {
@@ -66,7 +66,7 @@ pub fn take_down<R: MemoryReplica>(
     fault: ReplicaFault,
 ) -> Result<Outcome, NoMemory>
     ensures number { seat.new.number ≡ seat.old.number }
-    ensures fits { (h : History) (w : View) → DisksFit R.meaning h seat.old.number (disk_of device)
+    ensures fits { (h : History) (w : PaxosState) → DisksFit R.meaning h seat.old.number (disk_of device)
         → AreShort (disk_of device) → SeatFits R.Shows (disks_by R.behaves) R.meaning h w seat.new }
     ensures fallen { IfOk result
         (λ o. HasEndedByFault (IsThis (fault_number fault) device) seat.new o.notes.items o.sent.items o.ended o.stop) }

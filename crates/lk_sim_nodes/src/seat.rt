@@ -3,7 +3,7 @@ ghost use Rattle.std.specs.Prelude.{◌≡◌, length};
 ghost use Rattle.lk_disk.specs.Disk.{contents};
 ghost use Rattle.lk_memory_disk.specs.Memory.{disk_of};
 ghost use Rattle.lk_disk.specs.declared.device.Side.TheVariants.{A, B};
-ghost use Rattle.lk_agreement_laws.specs.Nodes.{View};
+ghost use Rattle.lk_agreement_laws.specs.Nodes.{PaxosState};
 ghost use Rattle.lk_node.specs.Histories.{History};
 ghost use Rattle.lk_node.specs.Leavings.{DisksFit};
 ghost use Rattle.lk_replica.specs.Behaviours.{disks_by};
@@ -44,9 +44,9 @@ fn vacate<R: Drop>(alloc: Global, seat: &mut Seat<R>) -> Life<R>
 pub fn take_device<R: MemoryReplica>(alloc: Global, seat: &mut Seat<R>) -> MemoryDisk
     ensures number { seat.new.number ≡ seat.old.number }
     ensures is { result ≡ device_in R.behaves seat.old.life }
-    ensures fits { (h : History) (w : View) → SeatFits R.Shows (disks_by R.behaves) R.meaning h w seat.old
+    ensures fits { (h : History) (w : PaxosState) → SeatFits R.Shows (disks_by R.behaves) R.meaning h w seat.old
         → DisksFit R.meaning h seat.old.number (disk_of result) }
-    ensures room { (h : History) (w : View) → SeatFits R.Shows (disks_by R.behaves) R.meaning h w seat.old
+    ensures room { (h : History) (w : PaxosState) → SeatFits R.Shows (disks_by R.behaves) R.meaning h w seat.old
         → AreShort (disk_of result) }
 {
     match vacate(alloc, seat) {
@@ -58,7 +58,7 @@ pub fn take_device<R: MemoryReplica>(alloc: Global, seat: &mut Seat<R>) -> Memor
 /// Stops the node; its disks A and B keep up to `x` and `y` of their unsynced bytes. A pending trap is gone.
 pub fn stop<R: MemoryReplica>(alloc: Global, seat: &mut Seat<R>, x: usize, y: usize)
     ensures number { seat.new.number ≡ seat.old.number }
-    ensures fits { (h : History) (w : View) → SeatFits R.Shows (disks_by R.behaves) R.meaning h w seat.old
+    ensures fits { (h : History) (w : PaxosState) → SeatFits R.Shows (disks_by R.behaves) R.meaning h w seat.old
         → SeatFits R.Shows (disks_by R.behaves) R.meaning h w seat.new }
     ensures stopped { seat.new.life ≡ Down (stopped_on x y (device_in R.behaves seat.old.life)) }
 {
@@ -71,7 +71,7 @@ pub fn stop<R: MemoryReplica>(alloc: Global, seat: &mut Seat<R>, x: usize, y: us
 /// Sets the trap of the node's device, up or down, in place of a pending one.
 pub fn set_trap<R: MemoryReplica>(seat: &mut Seat<R>, trap: Trap)
     ensures number { seat.new.number ≡ seat.old.number }
-    ensures fits { (h : History) (w : View) → SeatFits R.Shows (disks_by R.behaves) R.meaning h w seat.old
+    ensures fits { (h : History) (w : PaxosState) → SeatFits R.Shows (disks_by R.behaves) R.meaning h w seat.old
         → SeatFits R.Shows (disks_by R.behaves) R.meaning h w seat.new }
     ensures trapped { IsTrapped R.behaves seat.old seat.new trap }
 {

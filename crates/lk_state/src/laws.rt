@@ -39,7 +39,7 @@ pub fn last_is_replied()
         → last_served m genesis L client ≡ Some s → reply m genesis L client s.number ≡ Some s.answer }
 {}
 
-/// Each reply is the answer to an entry that takes effect, at its place in the list.
+/// Each reply is the answer that some entry of the list gets where it takes effect.
 pub fn replies_stand()
     ensures { (m : Meaning) (genesis : Genesis) (L : List Command) (client number : ℕ) (a : Answer)
         → reply m genesis L client number ≡ Some a

@@ -68,6 +68,7 @@ fn put_pairs(out: &mut BytesMut, list: &[(Position, Command)]) -> Result<(), All
     Ok(())
 }
 
+// Appends a standing: the promised ballot, the position, the snapshot, the votes and the pairs.
 fn put_standing(out: &mut BytesMut, value: &Standing) -> Result<(), AllocError>
     requires { IsStanding value.now }
     ensures { OnOk result (out.new.items ≡ out.old.items ++ standing value.now) }

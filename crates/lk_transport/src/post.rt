@@ -264,7 +264,7 @@ impl<S: DatagramSocket + Drop> SocketPost<S> {
         self.socket.cause()
     }
 
-    /// Begins a group: resets what `send_summary` returns.
+    /// Begins a group: from now on `send_summary` counts anew.
     pub fn begin_group(&mut self)
         ensures { self.new ≡ record self.old { failures = 0 } }
     {

@@ -8,7 +8,7 @@ use crate::viewing::message::MessageRef;
 use crate::viewing::view;
 use std::marker::Model;
 
-/// The bytes of a datagram with the result of `view`, so that they are parsed only once, on arrival. A contract sees
+/// The bytes of a datagram with the result of `view`, so that they are checked only once, on arrival. A contract sees
 /// the bytes.
 #[derive(Drop)]
 pub struct Datagram<'a> {

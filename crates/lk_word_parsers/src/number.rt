@@ -4,7 +4,7 @@ ghost use Rattle.std.specs.Prelude.{◌≡◌, ◌≤◌, ◌↔◌, ℕ, ◌<�
 ghost use Rattle.std.specs.Fmt.{decimal};
 ghost use Rattle.lk_word_parsers.specs.Words.{is_plain};
 
-// Whether digits have no sign, and no leading zero unless it is the only digit.
+// Whether the text of a number without a minus has no plus either, and no leading zero unless it is the only digit.
 fn is_plain(digits: &[u8]) -> bool
     ensures { result ≡ is_plain digits.now }
 {

@@ -1,4 +1,4 @@
-use Rattle.lk_acceptor.proofs.Answering.{prepare_written, accept_written, own_written}
+use Rattle.lk_acceptor.proofs.Replying.{prepare_written, accept_written, own_written}
 use Rattle.lk_acceptor.proofs.laws.entries_tell_what_is_held.Goals as goal
 
 pub returns-clause-prepare : goal.returns-clause-prepare

@@ -1,4 +1,4 @@
-use Rattle.lk_agreement_laws.proofs.Views.{changes_fit}
+use Rattle.lk_agreement_laws.proofs.ChangeLaws.{changes_fit}
 use Rattle.lk_agreement_laws.proofs.laws.changes_keep_the_node.Goals as goal
 
 pub returns : goal.returns

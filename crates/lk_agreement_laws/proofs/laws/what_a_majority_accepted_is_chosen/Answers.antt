@@ -1,4 +1,4 @@
-use Rattle.lk_agreement_laws.proofs.Views.{accepted_is_chosen}
+use Rattle.lk_agreement_laws.proofs.ChangeLaws.{accepted_is_chosen}
 use Rattle.lk_agreement_laws.proofs.laws.what_a_majority_accepted_is_chosen.Goals as goal
 
 pub returns : goal.returns

@@ -3,4 +3,4 @@ use Rattle.lk_cluster_theorems.proofs.laws.a_cluster_converges.Goals as goal
 
 pub returns : goal.returns
 returns g c genesis cluster all =
-    c.nodes_converge.ensures (scene_of cluster) (c.a_cluster_keeps_the_promise.ensures genesis cluster all)
+    c.nodes_converge.ensures (scene_of cluster) (c.a_cluster_meets_the_guarantee.ensures genesis cluster all)

@@ -3,4 +3,4 @@ use Rattle.lk_cluster_theorems.proofs.laws.a_cluster_is_linearizable.Goals as go
 
 pub returns : goal.returns
 returns g c genesis cluster all =
-    c.worlds_are_linearizable.ensures (scene_of cluster) (c.a_cluster_keeps_the_promise.ensures genesis cluster all)
+    c.worlds_are_linearizable.ensures (scene_of cluster) (c.a_cluster_meets_the_guarantee.ensures genesis cluster all)

@@ -4,4 +4,4 @@ use Rattle.lk_cluster_theorems.proofs.laws.a_cluster_serves_exactly_once.Goals a
 pub returns : goal.returns
 returns g c genesis cluster all =
     c.operations_take_effect_exactly_once.ensures (scene_of cluster)
-    (c.a_cluster_keeps_the_promise.ensures genesis cluster all)
+    (c.a_cluster_meets_the_guarantee.ensures genesis cluster all)

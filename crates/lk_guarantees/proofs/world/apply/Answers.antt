@@ -1,8 +1,8 @@
-use Rattle.lk_guarantees.proofs.Clauses.{promised, compacts, on_ok, if_err, done, not_done}
+use Rattle.lk_guarantees.proofs.Clauses.{guaranteed, compacts, on_ok, if_err, done, not_done}
 use Rattle.lk_guarantees.proofs.world.apply.Goals as goal
 
-pub returns-clause-promised : goal.returns-clause-promised
-returns-clause-promised c = promised c.apply.new.self c.apply.ensures.promised
+pub returns-clause-guaranteed : goal.returns-clause-guaranteed
+returns-clause-guaranteed c = guaranteed c.apply.new.self c.apply.ensures.guaranteed
 
 pub returns-clause-does : goal.returns-clause-does
 returns-clause-does c = on_ok _ _ _ (done c.args.world.now c.apply.new.self c.args.event) c.apply.ensures.does

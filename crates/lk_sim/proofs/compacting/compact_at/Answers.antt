@@ -21,7 +21,7 @@ returns-in_err-outcome-clause-holds g c =
     halted_holds _ g.R.MemoryReplica.behaves _ p.genesis p.seats.items p.sent.items p.trace.items c.requires.holds
     c.args.i s c.compact_node.new.seat at c.compact_node.ensures.number None c.compact_node.new.seat
     c.compact_node.ensures.number _ k.down
-    (v.views s.number) (c.in_err-outcome.ensures.falls _ (v.views s.number) (lawful _ _ _ _ _ _ _ v)
+    (v.states s.number) (c.in_err-outcome.ensures.falls _ (v.states s.number) (lawful _ _ _ _ _ _ _ v)
     (v.seated c.args.i s at) _ k.down)
 
 pub returns-in_err-outcome-clause-halted : goal.returns-in_err-outcome-clause-halted
@@ -48,8 +48,8 @@ returns-in_err-finish_call-clause-holds g c =
     let e = c.in_ok-outcome.ensures in
     given_up_holds _ g.R.MemoryReplica.behaves _ p.genesis p.seats.items p.sent.items p.trace.items c.requires.holds
     c.args.i s c.compact_node.new.seat at c.compact_node.ensures.number None _ _
-    (e.goes _ (v.views s.number) (lawful _ _ _ _ _ _ _ v) (v.seated c.args.i s at))
-    (e.falls _ (v.views s.number) (lawful _ _ _ _ _ _ _ v) (v.seated c.args.i s at))
+    (e.goes _ (v.states s.number) (lawful _ _ _ _ _ _ _ v) (v.seated c.args.i s at))
+    (e.falls _ (v.states s.number) (lawful _ _ _ _ _ _ _ v) (v.seated c.args.i s at))
     (packed_cases g.R.MemoryReplica.behaves _ _ _ _ _ _ (e.exact u.1 (rw (at_same _ _ _ _ at u.2) u.4)))
     p.ended (scene_of c.finish_call.new.parts) c.in_err-finish_call.ensures.err
 
@@ -73,8 +73,8 @@ returns-clause-holds g c =
     let e = c.in_ok-outcome.ensures in
     settled_holds _ g.R.MemoryReplica.behaves _ p.genesis p.seats.items p.sent.items p.trace.items c.requires.holds
     c.args.i s c.compact_node.new.seat at c.compact_node.ensures.number None _ _
-    (e.goes _ (v.views s.number) (lawful _ _ _ _ _ _ _ v) (v.seated c.args.i s at))
-    (e.falls _ (v.views s.number) (lawful _ _ _ _ _ _ _ v) (v.seated c.args.i s at))
+    (e.goes _ (v.states s.number) (lawful _ _ _ _ _ _ _ v) (v.seated c.args.i s at))
+    (e.falls _ (v.states s.number) (lawful _ _ _ _ _ _ _ v) (v.seated c.args.i s at))
     (packed_cases g.R.MemoryReplica.behaves _ _ _ _ _ _ (e.exact u.1 (rw (at_same _ _ _ _ at u.2) u.4)))
     p.ended _ _ (scene_of c.finish_call.new.parts) c.in_ok-finish_call.ensures.ok
 

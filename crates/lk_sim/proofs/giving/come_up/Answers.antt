@@ -21,7 +21,7 @@ returns-in_err-outcome-clause-holds g c =
     (rw (at_same _ _ _ _ at c.requires.down.1.2) c.requires.down.1.4) in
     halted_holds _ g.R.MemoryReplica.behaves _ p.genesis p.seats.items p.sent.items p.trace.items c.requires.holds
     c.args.i s c.revive.new.seat at c.revive.ensures.number None c.revive.new.seat c.revive.ensures.number _ k.down
-    (v.views s.number) (c.in_err-outcome.ensures.falls _ (v.views s.number) refl (lawful _ _ _ _ _ _ _ v)
+    (v.states s.number) (c.in_err-outcome.ensures.falls _ (v.states s.number) refl (lawful _ _ _ _ _ _ _ v)
     (v.seated c.args.i s at) _ k.down)
 
 pub returns-in_err-outcome-clause-halted : goal.returns-in_err-outcome-clause-halted
@@ -54,8 +54,8 @@ returns-in_err-finish_call-clause-holds g c =
     let e = c.in_ok-outcome.ensures in
     given_up_holds _ g.R.MemoryReplica.behaves _ p.genesis p.seats.items p.sent.items p.trace.items c.requires.holds
     c.args.i s c.revive.new.seat at c.revive.ensures.number None _ _
-    (e.goes _ (v.views s.number) refl (lawful _ _ _ _ _ _ _ v) (v.seated c.args.i s at))
-    (e.falls _ (v.views s.number) refl (lawful _ _ _ _ _ _ _ v) (v.seated c.args.i s at))
+    (e.goes _ (v.states s.number) refl (lawful _ _ _ _ _ _ _ v) (v.seated c.args.i s at))
+    (e.falls _ (v.states s.number) refl (lawful _ _ _ _ _ _ _ v) (v.seated c.args.i s at))
     (revived_cases g.R.MemoryReplica.behaves _ _ _ _ _ _ _ (e.exact d.1 (rw (at_same _ _ _ _ at d.2) d.4)))
     p.ended (scene_of c.finish_call.new.parts) c.in_err-finish_call.ensures.err
 
@@ -86,8 +86,8 @@ returns-clause-holds g c =
     let e = c.in_ok-outcome.ensures in
     settled_holds _ g.R.MemoryReplica.behaves _ p.genesis p.seats.items p.sent.items p.trace.items c.requires.holds
     c.args.i s c.revive.new.seat at c.revive.ensures.number None _ _
-    (e.goes _ (v.views s.number) refl (lawful _ _ _ _ _ _ _ v) (v.seated c.args.i s at))
-    (e.falls _ (v.views s.number) refl (lawful _ _ _ _ _ _ _ v) (v.seated c.args.i s at))
+    (e.goes _ (v.states s.number) refl (lawful _ _ _ _ _ _ _ v) (v.seated c.args.i s at))
+    (e.falls _ (v.states s.number) refl (lawful _ _ _ _ _ _ _ v) (v.seated c.args.i s at))
     (revived_cases g.R.MemoryReplica.behaves _ _ _ _ _ _ _ (e.exact d.1 (rw (at_same _ _ _ _ at d.2) d.4)))
     p.ended _ _ (scene_of c.finish_call.new.parts) c.in_ok-finish_call.ensures.ok
 
@@ -98,7 +98,7 @@ returns-clause-back g c n d =
     let at : At p.seats.items c.args.i s = (search rules, sym c.index_mut.ensures.value) in
     let v = since _ g.R.MemoryReplica.behaves _ p.genesis p.seats.items p.sent.items p.trace.items c.requires.holds
     c.args.i s c.revive.new.seat at c.revive.ensures.number None in
-    let goes = c.in_ok-outcome.ensures.goes _ (v.views s.number) refl (lawful _ _ _ _ _ _ _ v)
+    let goes = c.in_ok-outcome.ensures.goes _ (v.states s.number) refl (lawful _ _ _ _ _ _ _ v)
     (v.seated c.args.i s at) in
     let is : s.number ≡ n = rw (at_same _ _ _ _ at d.2) d.3 in
     let down : s.life ≡ Down d.1 = rw (at_same _ _ _ _ at d.2) d.4 in
@@ -106,5 +106,5 @@ returns-clause-back g c n d =
     (scene_of c.finish_call.new.parts) _ _ c.args.i n s c.revive.new.seat d.1 _ _ _ _ at is down
     c.revive.ensures.number (λ q up x e. ((goes q up).goes.noted x e).0)
     c.in_ok-finish_call.ensures.ok
-    (c.in_ok-outcome.ensures.told _ (v.views s.number) refl (lawful _ _ _ _ _ _ _ v) (v.seated c.args.i s at))
+    (c.in_ok-outcome.ensures.told _ (v.states s.number) refl (lawful _ _ _ _ _ _ _ v) (v.seated c.args.i s at))
     (c.in_ok-outcome.ensures.exact d.1 down)

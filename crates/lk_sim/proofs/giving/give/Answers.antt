@@ -21,7 +21,7 @@ returns-in_err-outcome-clause-holds g c =
     let k = c.in_err-outcome.ensures.wants u.1 (rw (at_same _ _ _ _ at u.2) u.4) in
     halted_holds _ g.R.MemoryReplica.behaves _ p.genesis p.seats.items p.sent.items p.trace.items c.requires.holds
     c.args.i s c.step.new.seat at c.step.ensures.number c.args.asked c.step.new.seat c.step.ensures.number _ k.down
-    (v.views s.number) (c.in_err-outcome.ensures.falls _ (v.views s.number) (lawful _ _ _ _ _ _ _ v)
+    (v.states s.number) (c.in_err-outcome.ensures.falls _ (v.states s.number) (lawful _ _ _ _ _ _ _ v)
     (v.seated c.args.i s at) c.requires.heard _ k.down)
 
 pub returns-in_err-outcome-clause-halted : goal.returns-in_err-outcome-clause-halted
@@ -48,8 +48,8 @@ returns-in_err-finish_call-clause-holds g c =
     let e = c.in_ok-outcome.ensures in
     given_up_holds _ g.R.MemoryReplica.behaves _ p.genesis p.seats.items p.sent.items p.trace.items c.requires.holds
     c.args.i s c.step.new.seat at c.step.ensures.number c.args.asked _ _
-    (e.goes _ (v.views s.number) (lawful _ _ _ _ _ _ _ v) (v.seated c.args.i s at) c.requires.heard)
-    (e.falls _ (v.views s.number) (lawful _ _ _ _ _ _ _ v) (v.seated c.args.i s at) c.requires.heard)
+    (e.goes _ (v.states s.number) (lawful _ _ _ _ _ _ _ v) (v.seated c.args.i s at) c.requires.heard)
+    (e.falls _ (v.states s.number) (lawful _ _ _ _ _ _ _ v) (v.seated c.args.i s at) c.requires.heard)
     (taken_cases g.R.MemoryReplica.behaves _ _ _ _ _ _ _ (e.exact u.1 (rw (at_same _ _ _ _ at u.2) u.4)))
     p.ended (scene_of c.finish_call.new.parts) c.in_err-finish_call.ensures.err
 
@@ -78,8 +78,8 @@ returns-clause-holds g c =
     let e = c.in_ok-outcome.ensures in
     settled_holds _ g.R.MemoryReplica.behaves _ p.genesis p.seats.items p.sent.items p.trace.items c.requires.holds
     c.args.i s c.step.new.seat at c.step.ensures.number c.args.asked _ _
-    (e.goes _ (v.views s.number) (lawful _ _ _ _ _ _ _ v) (v.seated c.args.i s at) c.requires.heard)
-    (e.falls _ (v.views s.number) (lawful _ _ _ _ _ _ _ v) (v.seated c.args.i s at) c.requires.heard)
+    (e.goes _ (v.states s.number) (lawful _ _ _ _ _ _ _ v) (v.seated c.args.i s at) c.requires.heard)
+    (e.falls _ (v.states s.number) (lawful _ _ _ _ _ _ _ v) (v.seated c.args.i s at) c.requires.heard)
     (taken_cases g.R.MemoryReplica.behaves _ _ _ _ _ _ _ (e.exact u.1 (rw (at_same _ _ _ _ at u.2) u.4)))
     p.ended _ _ (scene_of c.finish_call.new.parts) c.in_ok-finish_call.ensures.ok
 
@@ -90,7 +90,7 @@ returns-clause-given g c n u =
     let at : At p.seats.items c.args.i s = (search rules, sym c.index_mut.ensures.value) in
     let v = since _ g.R.MemoryReplica.behaves _ p.genesis p.seats.items p.sent.items p.trace.items c.requires.holds
     c.args.i s c.step.new.seat at c.step.ensures.number c.args.asked in
-    let goes = c.in_ok-outcome.ensures.goes _ (v.views s.number) (lawful _ _ _ _ _ _ _ v)
+    let goes = c.in_ok-outcome.ensures.goes _ (v.states s.number) (lawful _ _ _ _ _ _ _ v)
     (v.seated c.args.i s at) c.requires.heard in
     given g.R.MemoryReplica.behaves (scene_of p)
     (scene_of c.finish_call.new.parts) _ _ c.args.i n s c.step.new.seat u.1 _ _ _ _ _ _ at

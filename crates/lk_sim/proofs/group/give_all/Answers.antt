@@ -25,7 +25,7 @@ returns-in_err-outcome-clause-holds g c =
     let b = g.R.MemoryReplica.behaves in
     let u = c.requires.up.1 in
     let k = c.in_err-outcome.ensures.wants u.1 (rw (at_same _ _ _ _ at u.2) u.4) in
-    let left = c.step_all.ensures.leaves _ (w.views s.number) (lawful _ _ _ _ _ _ _ w) (w.seated c.args.i s at)
+    let left = c.step_all.ensures.leaves _ (w.states s.number) (lawful _ _ _ _ _ _ _ w) (w.seated c.args.i s at)
     (all_heard _ _ _ p.genesis p.seats.items p.sent.items p.trace.items w _ c.requires.heard) in
     down_holds _ b _ p.genesis p.seats.items p.sent.items p.trace.items w c.args.i s c.step_all.new.seat at
     c.step_all.ensures.number c.step_all.new.seat c.step_all.ensures.number _ k.down
@@ -53,7 +53,7 @@ returns-in_err-finish_group-clause-holds g c =
     let s = c.index_mut.result.now in
     let at : At p.seats.items c.args.i s = (search rules, sym c.index_mut.ensures.value) in
     let w = c.requires.holds in
-    let left = c.step_all.ensures.leaves _ (w.views s.number) (lawful _ _ _ _ _ _ _ w) (w.seated c.args.i s at)
+    let left = c.step_all.ensures.leaves _ (w.states s.number) (lawful _ _ _ _ _ _ _ w) (w.seated c.args.i s at)
     (all_heard _ _ _ p.genesis p.seats.items p.sent.items p.trace.items w _ c.requires.heard) in
     given_up_still _ g.R.MemoryReplica.behaves _ p.genesis p.seats.items p.sent.items p.trace.items w c.args.i s
     c.step_all.new.seat at c.step_all.ensures.number p.ended [] [] None None
@@ -82,7 +82,7 @@ returns-clause-holds g c =
     let u = c.requires.up.1 in
     let up : s.life ≡ Up u.1 = rw (at_same _ _ _ _ at u.2) u.4 in
     let f = (w.seated c.args.i s at).up u.1 up in
-    let left = c.step_all.ensures.leaves _ (w.views s.number) (lawful _ _ _ _ _ _ _ w) (w.seated c.args.i s at)
+    let left = c.step_all.ensures.leaves _ (w.states s.number) (lawful _ _ _ _ _ _ _ w) (w.seated c.args.i s at)
     (all_heard _ _ _ p.genesis p.seats.items p.sent.items p.trace.items w _ c.requires.heard) in
     settled_steps_hold _ g.R.MemoryReplica.behaves _ p.genesis p.seats.items p.sent.items p.trace.items w c.args.i s
     c.step_all.new.seat at c.step_all.ensures.number p.ended _ _ _ _ (scene_of c.finish_group.new.parts) u.1

@@ -12,7 +12,7 @@ returns-clause-holds g c =
     let at : At p.seats.items c.in_ok-i.i s = (search rules, sym c.index_mut.ensures.value) in
     went_down _ _ _ p.genesis p.seats.items p.sent.items p.trace.items w c.in_ok-i.i s c.set_trap.new.seat at
     c.set_trap.ensures.number
-    (c.set_trap.ensures.fits _ (w.views s.number) (w.seated c.in_ok-i.i s at))
+    (c.set_trap.ensures.fits _ (w.states s.number) (w.seated c.in_ok-i.i s at))
 
 pub returns-clause-ok : goal.returns-clause-ok
 returns-clause-ok g c =

@@ -42,8 +42,8 @@ returns-clause-holds g c =
     let pushed : c.push.new.self.items ≡ p.seats.items ++ c.carry_out_stop.new.seat ∷ [] = search rules in
     settled_holds _ g.R.MemoryReplica.behaves _ p.genesis (p.seats.items ++ s ∷ []) p.sent.items p.trace.items w
     (length p.seats.items) s c.revive.new.seat at c.revive.ensures.number None _ _
-    (e.goes _ (v.views s.number) refl (lawful _ _ _ _ _ _ _ v) (v.seated _ s at))
-    (e.falls _ (v.views s.number) refl (lawful _ _ _ _ _ _ _ v) (v.seated _ s at))
+    (e.goes _ (v.states s.number) refl (lawful _ _ _ _ _ _ _ v) (v.seated _ s at))
+    (e.falls _ (v.states s.number) refl (lawful _ _ _ _ _ _ _ v) (v.seated _ s at))
     (revived_cases g.R.MemoryReplica.behaves _ _ _ _ _ _ _ (e.exact c.new.result refl))
     p.ended _ _ new (record {
       told = k.told;
@@ -74,7 +74,7 @@ returns-clause-ok g c =
     let at = at_end p.seats.items s in
     let v = since _ g.R.MemoryReplica.behaves _ p.genesis (p.seats.items ++ s ∷ []) p.sent.items p.trace.items w
     (length p.seats.items) s c.revive.new.seat at c.revive.ensures.number None in
-    let goes = c.in_ok-outcome.ensures.goes _ (v.views s.number) refl (lawful _ _ _ _ _ _ _ v) (v.seated _ s at) in
+    let goes = c.in_ok-outcome.ensures.goes _ (v.states s.number) refl (lawful _ _ _ _ _ _ _ v) (v.seated _ s at) in
     let k = c.in_ok-add.ensures.ok in
     let q = c.add.new.parts in
     let new : Scene g.row.R.Denot =
@@ -97,7 +97,7 @@ returns-clause-ok g c =
           _ _ _ c.revive.ensures.number c.carry_out_stop.ensures.number c.carry_out_stop.ensures.rests
           (λ q up x c. ((goes q up).goes.noted x c).0)
           (record { genesis = k.adds.genesis; sent = k.adds.sent; trace = k.adds.trace }) k.tells k.ended
-          (c.in_ok-outcome.ensures.told _ (v.views s.number) refl (lawful _ _ _ _ _ _ _ v) (v.seated _ s at))
+          (c.in_ok-outcome.ensures.told _ (v.states s.number) refl (lawful _ _ _ _ _ _ _ v) (v.seated _ s at))
           (c.in_ok-outcome.ensures.exact c.new.result refl));
     }
 

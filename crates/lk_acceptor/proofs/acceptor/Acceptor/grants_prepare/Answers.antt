@@ -1,6 +1,6 @@
 use Rattle.std.proofs.Common.{subst, arith, IsTrue}
 use Rattle.lk_acceptor.specs.AcceptorValue.{AcceptorValue}
-use Rattle.lk_acceptor.specs.Answers.{GrantsPrepare}
+use Rattle.lk_acceptor.specs.Replies.{GrantsPrepare}
 use Rattle.lk_acceptor.proofs.Granting.{by_test, prepare_by_last}
 use Rattle.lk_acceptor.proofs.acceptor.Acceptor.grants_prepare.Goals as goal
 

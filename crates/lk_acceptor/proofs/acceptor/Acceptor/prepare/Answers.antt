@@ -19,5 +19,5 @@ unwrap-promise-requires c =
     (from_fits now.state.snapshot_position c.args.first now.alpha now.state.votes
     (omega (arith, grants.above)) alpha kept.rising grants.near))
 
-pub returns-then-not-grants_prepare-clause-answer : goal.returns-then-not-grants_prepare-clause-answer
-returns-then-not-grants_prepare-clause-answer c = search rules
+pub returns-then-not-grants_prepare-clause-reply : goal.returns-then-not-grants_prepare-clause-reply
+returns-then-not-grants_prepare-clause-reply c = search rules

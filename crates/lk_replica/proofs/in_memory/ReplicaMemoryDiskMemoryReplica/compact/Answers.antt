@@ -49,7 +49,7 @@ pub returns-clause-stands : goal.returns-clause-stands
 returns-clause-stands g c genesis n held shown =
     let m : Meaning = g.M.Machine.meaning in
     on_ok _ _ c.compact.result
-    (λ done. on_device (λ d. AllStandAt m genesis n d (executed c.compact.new.self.node.learner) held.view.done)
+    (λ done. on_device (λ d. AllStandAt m genesis n d (executed c.compact.new.self.node.learner) held.paxos.done)
     c.compact.new.self.store (done.stands genesis n held shown))
     (c.compact.ensures.done tt)
 

@@ -7,7 +7,7 @@ returns g c =
     let p = c.self.inside.parts in
     let w = c.self.invariant.0 in
     record {
-      promised = rw (← c.self.view_is) (record {
+      guaranteed = rw (← c.self.view_is) (record {
         explained = (w.list, w.chosen, explains _ _ _ p.genesis p.seats.items p.sent.items p.trace.items w);
         agree = agree _ _ _ p.genesis p.seats.items p.sent.items p.trace.items w;
         told = w.told;

@@ -12,8 +12,9 @@ use Rattle.lk_agreement_laws.specs.Chosen.{Command, Chosen, ChosenAt}
 use Rattle.lk_agreement_laws.specs.Soundness.{ReceivedPromise, WasPromised, IsReported, Justified, Sound}
 use Rattle.lk_agreement_laws.specs.Acceptors.{AcceptorState, CoversVote, Covers, CoversSent, AreProposed, TakesVote}
 use Rattle.lk_agreement_laws.specs.Acceptors.{TakesSnapshot}
-use Rattle.lk_agreement_laws.specs.Nodes.{Pair, Acceptance, Term, new_term, View, TermFits, Stems, ViewFits}
-use Rattle.lk_agreement_laws.specs.Changes.{MayPropose, with_promise, view_with, view_in, with_report, with_proposal}
+use Rattle.lk_agreement_laws.specs.Nodes.{Pair, Acceptance, Term, new_term, PaxosState, TermFits, Stems, PaxosFits}
+use Rattle.lk_agreement_laws.specs.Changes.{MayPropose, with_promise, holding_acceptor, in_term, with_report}
+use Rattle.lk_agreement_laws.specs.Changes.{with_proposal}
 use Rattle.lk_agreement_laws.specs.Changes.{with_acceptance, Changes, promises, accepts, packs, begins, hears, proposes}
 use Rattle.lk_agreement_laws.specs.Changes.{counts, leaves, learns, executes, installs, restarts, Becomes, stays}
 use Rattle.lk_agreement_laws.specs.Changes.{goes_on}
@@ -70,9 +71,9 @@ snapshot_ahead old new i t = record {
 }
 
 -- an image that covers what was sent and stems from it, and has no term
-pub restart_fits : (genesis : Genesis) (sent : List Datagram) (n : ℕ) (image : View)
+pub restart_fits : (genesis : Genesis) (sent : List Datagram) (n : ℕ) (image : PaxosState)
     → CoversSent genesis sent n image.acceptor → Stems genesis sent image → image.term ≡ None
-    → ViewFits genesis sent n image
+    → PaxosFits genesis sent n image
 restart_fits genesis sent n image covers stems ended =
     record { covers = covers; stems = stems; term = λ t at. absurd (cc (ended, at)) }
 
@@ -120,17 +121,18 @@ module _ (genesis : Genesis) (sent : List Datagram) (sound : Sound genesis sent)
       justified = f.justified;
     }
 
-    with_acceptor_fits : (old : View) (s : AcceptorState) → ViewFits genesis sent n old → Advances old.acceptor s
+    with_acceptor_fits : (old : PaxosState) (s : AcceptorState) → PaxosFits genesis sent n old → Advances old.acceptor s
         → AreProposed genesis sent s → s.snapshot_position ≤ length old.done
-        → ViewFits genesis sent n (view_with old s)
+        → PaxosFits genesis sent n (holding_acceptor old s)
     with_acceptor_fits old s f a proposed within = record {
       covers = λ m h. covers_ahead old.acceptor s a m (f.covers m h);
       stems = record { votes = proposed; done = f.stems.done; snapshot = within; pairs = f.stems.pairs };
       term = λ t at. term_ahead old.acceptor s t a.promised (f.term t at);
     }
 
-    promise_fits : (old : View) (b : BallotValue) → ViewFits genesis sent n old → IsAtMost old.acceptor.promised b
-        → ViewFits genesis sent n (view_with old (with_promise old.acceptor b))
+    promise_fits : (old : PaxosState) (b : BallotValue) → PaxosFits genesis sent n old
+        → IsAtMost old.acceptor.promised b
+        → PaxosFits genesis sent n (holding_acceptor old (with_promise old.acceptor b))
     promise_fits old b f le = with_acceptor_fits old (with_promise old.acceptor b) f (promise_ahead old.acceptor b le)
         (λ x h. let p = f.stems.votes x h in (p.0, at_most_trans x.ballot old.acceptor.promised b p.1 le))
         f.stems.snapshot
@@ -255,21 +257,21 @@ module _ (genesis : Genesis) (sent : List Datagram) (sound : Sound genesis sent)
       ];
     }
 
-    -- the term of a view that has just this one
+    -- the term of a state that has just this one
     only_term : (s : AcceptorState) (t : Term) → TermFits genesis sent n s t → (u : Term) → Some t ≡ Some u
         → TermFits genesis sent n s u
     only_term s t f u e = let same : t ≡ u = cc e in subst (λ x. TermFits genesis sent n s x) same f
 
-    with_term_stems : (w : View) (t : Option Term) → Stems genesis sent w → Stems genesis sent (view_in w t)
+    with_term_stems : (w : PaxosState) (t : Option Term) → Stems genesis sent w → Stems genesis sent (in_term w t)
     with_term_stems w t f = record { votes = f.votes; done = f.done; snapshot = f.snapshot; pairs = f.pairs }
 
-    with_term_fits : (w : View) (t : Term) → ViewFits genesis sent n w → TermFits genesis sent n w.acceptor t
-        → ViewFits genesis sent n (view_in w (Some t))
+    with_term_fits : (w : PaxosState) (t : Term) → PaxosFits genesis sent n w → TermFits genesis sent n w.acceptor t
+        → PaxosFits genesis sent n (in_term w (Some t))
     with_term_fits w t f g =
         record { covers = f.covers; stems = with_term_stems w (Some t) f.stems; term = only_term w.acceptor t g }
 
-    pub change_fits : (old new : View) → ViewFits genesis sent n old → Changes genesis sent n old new
-        → ViewFits genesis sent n new
+    pub change_fits : (old new : PaxosState) → PaxosFits genesis sent n old → Changes genesis sent n old new
+        → PaxosFits genesis sent n new
     change_fits old new f (promises b le) = promise_fits old b f le
     change_fits old new f (accepts x s le was t) =
         with_acceptor_fits old s f (vote_ahead old.acceptor s x le f.stems.votes was t)
@@ -280,7 +282,7 @@ module _ (genesis : Genesis) (sent : List Datagram) (sound : Sound genesis sent)
         (f.stems.votes x (t.only x h)))
         (omega (arith, t.snapshot))
     change_fits old new f (begins b own lt) =
-        with_term_fits (view_with old (with_promise old.acceptor b)) (new_term b) (promise_fits old b f (inl lt))
+        with_term_fits (holding_acceptor old (with_promise old.acceptor b)) (new_term b) (promise_fits old b f (inl lt))
         (new_term_fits old.acceptor (with_promise old.acceptor b) b refl f.covers own lt)
     change_fits old new f (hears t r at h) =
         with_term_fits old (with_report t r) f (report_fits old.acceptor t r h (f.term t at))
@@ -324,14 +326,15 @@ module _ (genesis : Genesis) (sent : List Datagram) (sound : Sound genesis sent)
     }
     change_fits old new f (restarts image covers stems ended) = restart_fits genesis sent n image covers stems ended
 
-    pub changes_fit : (old new : View) → ViewFits genesis sent n old → Becomes genesis sent n old new
-        → ViewFits genesis sent n new
+    pub changes_fit : (old new : PaxosState) → PaxosFits genesis sent n old → Becomes genesis sent n old new
+        → PaxosFits genesis sent n new
     changes_fit old new f stays = f
     changes_fit old new f (goes_on {mid = mid} first last) = change_fits mid new (changes_fit old mid f first) last
 
 -- a command that the term shows to be accepted by a majority of the members that the executed list names
-pub accepted_is_chosen : (genesis : Genesis) (sent : List Datagram) (n : ℕ) (w : View) (t : Term) (i : ℕ) (v : Command)
-    (nodes : List ℕ) → ViewFits genesis sent n w → w.term ≡ Some t
+pub accepted_is_chosen : (genesis : Genesis) (sent : List Datagram) (n : ℕ) (w : PaxosState) (t : Term) (i : ℕ)
+    (v : Command)
+    (nodes : List ℕ) → PaxosFits genesis sent n w → w.term ≡ Some t
     → i ≤ length w.done + genesis.alpha → IsMajority nodes (members genesis w.done i)
     → ((k : ℕ) → Contains nodes k → Contains t.accepted (record { node = k; position = i; command = v }))
     → ChosenAt genesis sent i v

@@ -1,6 +1,6 @@
 use Rattle.lk_replica.specs.Behaviours.{disks_by}
 use Rattle.lk_sim.proofs.Networks.{network_holds, promises_of}
-use Rattle.lk_sim.proofs.laws.networks_promise_what_worlds_do.Goals as goal
+use Rattle.lk_sim.proofs.laws.networks_guarantee_what_worlds_do.Goals as goal
 
 pub returns : goal.returns
 returns g c genesis scenes last all =

@@ -1,5 +1,5 @@
-use Rattle.lk_acceptor.proofs.Answering.{prepare_may, accept_may}
-use Rattle.lk_acceptor.proofs.laws.an_answer_may_be_sent.Goals as goal
+use Rattle.lk_acceptor.proofs.Replying.{prepare_may, accept_may}
+use Rattle.lk_acceptor.proofs.laws.a_reply_may_be_sent.Goals as goal
 
 pub returns-clause-prepare : goal.returns-clause-prepare
 returns-clause-prepare c = prepare_may

@@ -1,4 +1,4 @@
--- What an acceptor answers it may send and is covered, what it writes bears that out, and there is one answer.
+-- What an acceptor replies it may send and is covered, what it writes bears that out, and there is one reply.
 use Rattle.std.proofs.Common.{◌≡◌, ℕ, ◌<◌, ◌≤◌, ◌⊎◌, inl, inr, Bool, true, false, cond, List, Contains, Option, Some}
 use Rattle.std.proofs.Common.{None, refl, sym, ap, subst, ◌∙◌}
 use Rattle.std.proofs.lemmas.Bool.{lt-ltb}
@@ -11,10 +11,10 @@ use Rattle.lk_types.proofs.Values.{test_of_below}
 use Rattle.lk_agreement_laws.specs.Acceptors.{AcceptorState, Covers}
 use Rattle.lk_agreement_laws.specs.Changes.{with_promise}
 use Rattle.lk_agreement_laws.specs.Datagrams.{Genesis, Datagram}
-use Rattle.lk_agreement_laws.specs.Nodes.{View, MayPromise, MaySend}
+use Rattle.lk_agreement_laws.specs.Nodes.{PaxosState, MayPromise, MaySend}
 use Rattle.lk_agreement_laws.proofs.Histories.{below_self, filtered_may_promise}
 use Rattle.lk_acceptor.specs.AcceptorValue.{AcceptorValue}
-use Rattle.lk_acceptor.specs.Answers.{Refuses, AnswersPrepare, AnswersAccept}
+use Rattle.lk_acceptor.specs.Replies.{Refuses, RepliesToPrepare, RepliesToAccept}
 use Rattle.lk_acceptor.specs.States.{IsOrdered, greater, with_vote, acceptor_with, with_written}
 use Rattle.lk_store_format.specs.VoteLists.{votes_with}
 use Rattle.lk_acceptor.specs.VoteLists.{votes_from}
@@ -26,9 +26,9 @@ state_of e = ap (λ (v : AcceptorValue). v.state) e
 
 -- ---- it may be sent
 
-module _ (genesis : Genesis) (sent : List Datagram) (w : View) where
+module _ (genesis : Genesis) (sent : List Datagram) (w : PaxosState) where
   pub prepare_may : (a : AcceptorValue) (e : ℕ) (b : BallotValue) (first : ℕ) (r : Response) (new : AcceptorValue)
-      → AnswersPrepare a e b first r new → w.acceptor ≡ new.state → MaySend genesis sent w r.reply
+      → RepliesToPrepare a e b first r new → w.acceptor ≡ new.state → MaySend genesis sent w r.reply
   prepare_may a e b first r new (inl yes') held =
       subst (MaySend genesis sent w) (sym yes'.1.reply)
       (subst (λ (s : AcceptorState). MayPromise s
@@ -39,7 +39,7 @@ module _ (genesis : Genesis) (sent : List Datagram) (w : View) where
   prepare_may a e b first r new (inr no') held = subst (MaySend genesis sent w) (sym no'.1.reply) tt
 
   pub accept_may : (a : AcceptorValue) (e : ℕ) (x : Vote) (r : Response) (new : AcceptorValue) → IsOrdered a.state
-      → AnswersAccept a e x r new → w.acceptor ≡ new.state → MaySend genesis sent w r.reply
+      → RepliesToAccept a e x r new → w.acceptor ≡ new.state → MaySend genesis sent w r.reply
   accept_may a e x r new k (inl yes') held =
       subst (MaySend genesis sent w) (sym yes'.1.reply)
       (subst (λ (s : AcceptorState). (s.promised ≡ x.ballot) × Contains s.votes x) (sym (held ∙ state_of yes'.1.state))
@@ -49,13 +49,13 @@ module _ (genesis : Genesis) (sent : List Datagram) (w : View) where
 -- ---- it is covered
 
 pub prepare_covered : (a : AcceptorValue) (e : ℕ) (b : BallotValue) (first : ℕ) (r : Response) (new : AcceptorValue)
-    → AnswersPrepare a e b first r new → Covers new.state r.reply
+    → RepliesToPrepare a e b first r new → Covers new.state r.reply
 prepare_covered a e b first r new (inl yes') =
     subst (Covers new.state) (sym yes'.1.reply) (inr (sym (ap (λ (v : AcceptorValue). v.state.promised) yes'.1.state)))
 prepare_covered a e b first r new (inr no') = subst (Covers new.state) (sym no'.1.reply) tt
 
 pub accept_covered : (a : AcceptorValue) (e : ℕ) (x : Vote) (r : Response) (new : AcceptorValue) → IsOrdered a.state
-    → AnswersAccept a e x r new → Covers new.state r.reply
+    → RepliesToAccept a e x r new → Covers new.state r.reply
 accept_covered a e x r new k (inl yes') =
     subst (Covers new.state) (sym yes'.1.reply)
     (subst (λ (s : AcceptorState). IsAtMost x.ballot s.promised
@@ -93,7 +93,7 @@ written_is : (s : AcceptorState) (o p : Option Entry) → o ≡ p → with_writt
 written_is s o p e = ap (λ (q : Option Entry). with_written q s) (sym e)
 
 pub prepare_written : (a : AcceptorValue) (e : ℕ) (b : BallotValue) (first : ℕ) (r : Response) (new : AcceptorValue)
-    → AnswersPrepare a e b first r new → new.state ≡ with_written r.entry a.state
+    → RepliesToPrepare a e b first r new → new.state ≡ with_written r.entry a.state
 prepare_written a e b first r new (inl yes') = elim yes'.1.entry [
   | inl above ↦ state_of yes'.1.state ∙ own_written a.state b above.0
       ∙ written_is a.state r.entry (Some (entry.Promise b)) above.1
@@ -102,7 +102,7 @@ prepare_written a e b first r new (inl yes') = elim yes'.1.entry [
 prepare_written a e b first r new (inr no') = state_of no'.1.state ∙ written_is a.state r.entry None no'.1.entry
 
 pub accept_written : (a : AcceptorValue) (e : ℕ) (x : Vote) (r : Response) (new : AcceptorValue) → IsOrdered a.state
-    → AnswersAccept a e x r new → new.state ≡ with_written r.entry a.state
+    → RepliesToAccept a e x r new → new.state ≡ with_written r.entry a.state
 accept_written a e x r new k (inl yes') = elim yes'.1.entry [
   | inl listed ↦
       state_of yes'.1.state ∙ still_kept a.state x k yes'.0.ballot listed.0 ∙ written_is a.state r.entry None listed.1
@@ -111,7 +111,7 @@ accept_written a e x r new k (inl yes') = elim yes'.1.entry [
 ]
 accept_written a e x r new k (inr no') = state_of no'.1.state ∙ written_is a.state r.entry None no'.1.entry
 
--- ---- there is one answer
+-- ---- there is one reply
 
 same_response : (r q : Response) → r.reply ≡ q.reply → r.entry ≡ q.entry → r ≡ q
 same_response r q a b = λ i. record { reply = a i; entry = b i }
@@ -129,7 +129,7 @@ refused_once a e b r q new other f g =
     (same_response r q (f.reply ∙ sym g.reply) (f.entry ∙ sym g.entry), f.state ∙ sym g.state)
 
 pub prepare_once : (a : AcceptorValue) (e : ℕ) (b : BallotValue) (first : ℕ) (r q : Response)
-    (new other : AcceptorValue) → AnswersPrepare a e b first r new → AnswersPrepare a e b first q other
+    (new other : AcceptorValue) → RepliesToPrepare a e b first r new → RepliesToPrepare a e b first q other
     → (r ≡ q) × (new ≡ other)
 prepare_once a e b first r q new other (inl f) (inl g) = (
   same_response r q (f.1.reply ∙ sym g.1.reply)
@@ -143,7 +143,7 @@ prepare_once a e b first r q new other (inr f) (inl g) = absurd (f.0 g.0)
 prepare_once a e b first r q new other (inr f) (inr g) = refused_once a e b r q new other f.1 g.1
 
 pub accept_once : (a : AcceptorValue) (e : ℕ) (x : Vote) (r q : Response) (new other : AcceptorValue)
-    → AnswersAccept a e x r new → AnswersAccept a e x q other → (r ≡ q) × (new ≡ other)
+    → RepliesToAccept a e x r new → RepliesToAccept a e x q other → (r ≡ q) × (new ≡ other)
 accept_once a e x r q new other (inl f) (inl g) = (
   same_response r q (f.1.reply ∙ sym g.1.reply)
       (either_entry r q (Contains a.state.votes x)

@@ -1,4 +1,4 @@
--- What is promised of every world, whatever has happened in it.
+-- What is guaranteed of every world, whatever has happened in it.
 use Rattle.std.specs.Prelude.{◌≡◌, ℕ, ◌⊎◌, Some, List}
 use Rattle.lk_agreement_laws.specs.Ballots.{BallotValue}
 use Rattle.lk_agreement_laws.specs.Chosen.{command_at, Chosen, IsBeginning}
@@ -25,7 +25,8 @@ pub record UsesBallotsOnce (genesis : Genesis) (sent : List Datagram) : Type 0 w
       → WasSent genesis sent (Accept (record { position = i; ballot = b; command = v }))
       → WasSent genesis sent (Accept (record { position = i; ballot = b; command = w })) → v ≡ w
 
-pub record Promises {R : Type 0} (b : Behaviour R) (whole : R → WholeValue) (m : Meaning) (w : Scene R) : Type 0 where
+pub record WorldGuarantee {R : Type 0} (b : Behaviour R) (whole : R → WholeValue) (m : Meaning)
+    (w : Scene R) : Type 0 where
   -- some chosen list of no-ops and asked requests explains everything that was noted and sent
   pub explained : (L : List Command) × Chosen w.genesis w.sent L × Explains m w.genesis w.sent w.trace L
   -- of two chosen lists one is a prefix of the other

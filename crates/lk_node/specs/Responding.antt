@@ -24,11 +24,11 @@ reply_to node from r = with_letter (record { to = to_node node from; bytes = spe
     (with_optional r.entry nothing)
 
 -- the node's acceptor gives this response, and its reply fits into a datagram
-pub record Responds (old : NodeValue) (from : ℕ) (Answer : Response → AcceptorValue → Type 0) (new : NodeValue)
+pub record Responds (old : NodeValue) (from : ℕ) (Gives : Response → AcceptorValue → Type 0) (new : NodeValue)
     (out : OutboxValue) : Type 0 where
   pub response : Response
   pub acceptor : AcceptorValue
-  pub answers : Answer response acceptor
+  pub given : Gives response acceptor
   pub becomes : new ≡ replied response.reply (with_acceptor old acceptor)
   pub fits : IsMessage (saying old.header response.reply)
   pub comes_to : out ≡ reply_to old from response

@@ -58,10 +58,10 @@ pub record Refuses (a : AcceptorValue) (e : ℕ) (b : BallotValue) (r : Response
 
 -- ---- the response
 
-abbrev pub AnswersPrepare : AcceptorValue → ℕ → BallotValue → ℕ → Response → AcceptorValue → Type 0
-AnswersPrepare a e b first r new =
+abbrev pub RepliesToPrepare : AcceptorValue → ℕ → BallotValue → ℕ → Response → AcceptorValue → Type 0
+RepliesToPrepare a e b first r new =
     (GrantsPrepare a b first × Promises a b first r new) ⊎ ((GrantsPrepare a b first → ⊥) × Refuses a e b r new)
 
-abbrev pub AnswersAccept : AcceptorValue → ℕ → Vote → Response → AcceptorValue → Type 0
-AnswersAccept a e x r new =
+abbrev pub RepliesToAccept : AcceptorValue → ℕ → Vote → Response → AcceptorValue → Type 0
+RepliesToAccept a e x r new =
     (GrantsAccept a e x × Votes a x r new) ⊎ ((GrantsAccept a e x → ⊥) × Refuses a e x.ballot r new)

@@ -1,7 +1,7 @@
--- The promise: what holds of every world of replicas of the lock table, whatever has happened.
+-- The guarantee: what holds of every world of replicas of the lock table, whatever has happened.
 --
 -- `Plain.antt` has what a list of commands leaves and `Chosen.antt` which lists are chosen; this page has what a
--- chosen list explains, and the promise. What the disks keep of it is in `Disks.antt`, and what an event does is in
+-- chosen list explains, and the guarantee. What the disks keep of it is in `Disks.antt`, and what an event does is in
 -- `Events.antt`.
 --
 -- All of that is stated here a second time, in words of its own. Of the crates below, these files import the values,
@@ -162,11 +162,11 @@ HaveExecuted genesis seats sent =
     (s : Seat ReplicaValue) → Contains seats s → (replica : ReplicaValue) → s.life ≡ Up replica
     → HasExecuted genesis sent replica
 
--- ---- the promise
+-- ---- the guarantee
 
 -- what holds of every world, whatever has happened in it: the datagrams that were ever sent, the trace, and the disks
 -- of its nodes
-pub record KeepsPromise (world : Scene ReplicaValue) : Type 0 where
+pub record MeetsGuarantee (world : Scene ReplicaValue) : Type 0 where
   -- some chosen list of no-ops and asked requests explains everything that was noted and sent
   pub explained : IsExplained world.genesis world.sent world.trace
   -- of two chosen lists one is a prefix of the other

@@ -1,5 +1,5 @@
-use Rattle.lk_acceptor.proofs.Answering.{prepare_once, accept_once}
-use Rattle.lk_acceptor.proofs.laws.there_is_one_answer.Goals as goal
+use Rattle.lk_acceptor.proofs.Replying.{prepare_once, accept_once}
+use Rattle.lk_acceptor.proofs.laws.there_is_one_reply.Goals as goal
 
 pub returns-clause-prepare : goal.returns-clause-prepare
 returns-clause-prepare c = prepare_once

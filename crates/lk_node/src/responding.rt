@@ -2,11 +2,11 @@
 ghost use Rattle.std.specs.Prelude.{◌≡◌, IfOk, OnOk};
 ghost use Rattle.lk_messages.specs.Grammar.{IsMessage};
 ghost use Rattle.lk_messages.specs.declared.message.NodeMessage.TheVariants as kinds;
-ghost use Rattle.lk_acceptor.specs.Answers.{AnswersPrepare, AnswersAccept};
+ghost use Rattle.lk_acceptor.specs.Replies.{RepliesToPrepare, RepliesToAccept};
 ghost use Rattle.lk_agreement_laws.specs.Datagrams.{HasSent};
 ghost use Rattle.lk_node_interface.specs.Outboxes.{nothing};
 ghost use Rattle.lk_node_interface.specs.Saying.{saying};
-ghost use Rattle.lk_node.specs.Answering.{replied, reply_to, Responds};
+ghost use Rattle.lk_node.specs.Responding.{replied, reply_to, Responds};
 ghost use Rattle.lk_node.specs.Serving.{ActsSafely};
 ghost use Rattle.lk_node.specs.Yielding.{yielded, with_round};
 
@@ -40,9 +40,9 @@ impl<M: Machine> Node<M> {
     }
 
     // Passes an Accept to the acceptor, and sends its reply.
-    fn answer_accept(&mut self, from: NodeNo, vote: Vote) -> Result<Outbox, NoMemory>
+    fn respond_to_accept(&mut self, from: NodeNo, vote: Vote) -> Result<Outbox, NoMemory>
         ensures { IfOk result (λ o. Responds self.old from
-            (AnswersAccept self.old.acceptor self.old.learner.whole.roster.executed vote) self.new o) }
+            (RepliesToAccept self.old.acceptor self.old.learner.whole.roster.executed vote) self.new o) }
     {
         let response = self.acceptor.accept(vote, self.learner.whole().executed())?;
         let out = self.respond(from, response)?;
@@ -58,7 +58,7 @@ impl<M: Machine> Node<M> {
     ) -> Result<Outbox, NoMemory>
         ensures exact { IfOk result
             (λ o. Responds self.old from
-            (AnswersPrepare self.old.acceptor self.old.learner.whole.roster.executed ballot first) self.new o) }
+            (RepliesToPrepare self.old.acceptor self.old.learner.whole.roster.executed ballot first) self.new o) }
         ensures safe { IfOk result (λ o. ActsSafely M.meaning (λ h. Unit {0}) self.old self.new nothing o) }
     {
         let response = self
@@ -72,14 +72,14 @@ impl<M: Machine> Node<M> {
     pub(crate) fn handle_accept(&mut self, from: NodeNo, vote: Vote) -> Result<Outbox, NoMemory>
         ensures exact { IfOk result
             (λ o. Responds (with_round vote.ballot self.old) from
-            (AnswersAccept self.old.acceptor self.old.learner.whole.roster.executed vote) self.new o) }
+            (RepliesToAccept self.old.acceptor self.old.learner.whole.roster.executed vote) self.new o) }
         ensures safe { IfOk result
             (λ o. ActsSafely M.meaning (λ h. HasSent h.genesis h.sent from (kinds.Accept vote))
             self.old self.new nothing o) }
     {
         self.acceptor.facts();
         self.see_round(vote.ballot.get());
-        let out = self.answer_accept(from, vote)?;
+        let out = self.respond_to_accept(from, vote)?;
         Ok(out)
     }
 }

@@ -1,5 +1,5 @@
-use Rattle.lk_acceptor.proofs.Answering.{prepare_covered, accept_covered}
-use Rattle.lk_acceptor.proofs.laws.an_answer_is_covered.Goals as goal
+use Rattle.lk_acceptor.proofs.Replying.{prepare_covered, accept_covered}
+use Rattle.lk_acceptor.proofs.laws.a_reply_is_covered.Goals as goal
 
 pub returns-clause-prepare : goal.returns-clause-prepare
 returns-clause-prepare c = prepare_covered

@@ -1,6 +1,0 @@
-use Rattle.lk_cluster_theorems.proofs.laws.a_sealed_cluster_keeps_the_promise.Goals as goal
-
-pub returns : goal.returns
-returns g c genesis cluster all =
-    c.a_cluster_keeps_the_promise.ensures genesis cluster
-    (c.a_sealed_cluster_forges_nothing.ensures genesis cluster all)
