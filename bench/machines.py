@@ -393,9 +393,10 @@ class Work:
 
     def __init__(self, cluster):
         world, folder = cluster.world, cluster.folder
-        places = [(world.address(node), PORT) for node in NODES]
+        endpoints = [(world.address(node), PORT) for node in NODES]
         keys = {client: None if cluster.is_bare else f"{folder}/client{client}" for client in HOLDERS}
-        plan = {"cluster": CLUSTER, "places": places, "hosts": f"{folder}/hosts", "keys": keys, "names": ["one", "two"]}
+        names = ["one", "two"]
+        plan = {"cluster": CLUSTER, "endpoints": endpoints, "hosts": f"{folder}/hosts", "keys": keys, "names": names}
         paths = os.pathsep.join([TOP, os.path.join(TOP, "clients", "python")])
         environment = os.environ | {"PYTHONPATH": paths}
         how = {"stdin": subprocess.PIPE, "stdout": subprocess.PIPE, "text": True, "env": environment}

@@ -32,9 +32,9 @@ def tell(line):
 
 def work(number, plan, is_over):
     """Holds names until it is over, with pauses."""
-    places = [tuple(place) for place in plan["places"]]
+    endpoints = [tuple(endpoint) for endpoint in plan["endpoints"]]
     files = {"hosts": plan["hosts"], "key": plan["keys"][str(number)]}
-    with Client(plan["cluster"], number, places, first=milliseconds(), patience=2.0, **files) as client:
+    with Client(plan["cluster"], number, endpoints, first=milliseconds(), patience=2.0, **files) as client:
         while not is_over.is_set():
             name = random.choice(plan["names"])
             try:

@@ -18,10 +18,10 @@ class Relay:
 
     KEPT = 64  # frames of each pair
 
-    def __init__(self, nodes, port, place, seed=1):
+    def __init__(self, nodes, port, address_of, seed=1):
         self.cut, self.loss, self.repeats, self.delay = set(), 0.0, 0.0, 0.0
         self.kept = {pair: [] for pair in itertools.permutations(nodes, 2)}
-        self.places = {node: (place(node), port) for node in nodes}
+        self.addresses = {node: (address_of(node), port) for node in nodes}
         self.random, self.late, self.count = random.Random(seed), [], itertools.count()
         self.selector, self.is_over = selectors.DefaultSelector(), False
         for pair in self.kept:
@@ -42,8 +42,8 @@ class Relay:
             for key, _ in self.selector.select(0.005):
                 self.take(key.fileobj, key.data)
             while self.late and self.late[0][0] <= time.monotonic():
-                _, _, it, data, place = heapq.heappop(self.late)
-                it.sendto(data, place)
+                _, _, it, data, address = heapq.heappop(self.late)
+                it.sendto(data, address)
 
     def take(self, it, pair):
         """Takes a datagram of that pair."""
@@ -53,7 +53,7 @@ class Relay:
             return
         for _ in range(1 + (self.random.random() < self.repeats)):
             due = time.monotonic() + self.random.random() * self.delay
-            heapq.heappush(self.late, (due, next(self.count), it, data, self.places[pair[1]]))
+            heapq.heappush(self.late, (due, next(self.count), it, data, self.addresses[pair[1]]))
 
     def end(self):
         self.is_over = True

@@ -9,7 +9,7 @@ from typing import Any, Self, TypeVar
 from .base import Base
 from .core import Datagram, Effect, Listen, Plan, Send, Sleep
 from .errors import Unanswered
-from .places import address_of, placed
+from .endpoints import address_of, endpoint_at
 from .results import Free, Held, HeldShared, result
 from .wire import Answer, Op, join_op, leave_op, raise_op, table_op
 
@@ -23,10 +23,10 @@ class Inbox(asyncio.DatagramProtocol):
     def __init__(self) -> None:
         self.queue: asyncio.Queue[Datagram] = asyncio.Queue(MOST_WAITING)
 
-    def datagram_received(self, data: bytes, place: tuple[str | Any, int]) -> None:
+    def datagram_received(self, data: bytes, endpoint: tuple[str | Any, int]) -> None:
         """A datagram came."""
         with contextlib.suppress(asyncio.QueueFull):
-            self.queue.put_nowait(Datagram(data, placed(place[0], place[1])))
+            self.queue.put_nowait(Datagram(data, endpoint_at(endpoint[0], endpoint[1])))
 
 
 class AsyncClient(Base):

@@ -8,7 +8,7 @@ from collections.abc import Iterable
 from .core import Core
 from .errors import Busy, Forked, LocksError
 from .numbers import Numbers
-from .places import Place, own_address, read_hosts
+from .endpoints import Endpoint, own_address, read_hosts
 from .seals import read_keys
 
 LONGEST = 100  # bytes that are read of a datagram: more than any reply has
@@ -29,7 +29,7 @@ class Base:
         self,
         cluster: int,
         client: int,
-        ports: Iterable[Place],
+        ports: Iterable[Endpoint],
         first: int | None = None,
         state: str | os.PathLike[str] | None = None,
         patience: float = 10.0,
@@ -55,8 +55,8 @@ class Base:
         return self.core.client
 
     @property
-    def leader(self) -> Place | None:
-        """The place from which the last answer came, None if none has come since a node was silent."""
+    def leader(self) -> Endpoint | None:
+        """The endpoint from which the last answer came, None if none has come since a node was silent."""
         return self.core.leader
 
     @property

@@ -9,7 +9,7 @@ from typing import Any, Self, TypeVar
 from .base import LONGEST, Base
 from .core import Datagram, Effect, Listen, Plan, Send, Sleep
 from .errors import Unanswered
-from .places import Place, address_of, placed
+from .endpoints import Endpoint, address_of, endpoint_at
 from .results import Free, Held, HeldShared, result
 from .wire import Answer, Op, join_op, leave_op, raise_op, table_op
 
@@ -163,10 +163,10 @@ class Client(Base):
             time.sleep(effect.seconds)
         return None
 
-    def send(self, data: bytes, place: Place) -> None:
+    def send(self, data: bytes, endpoint: Endpoint) -> None:
         """Sends the bytes. A datagram that cannot be sent counts as lost."""
         with contextlib.suppress(OSError):
-            self.socket.sendto(data, address_of(place))
+            self.socket.sendto(data, address_of(endpoint))
 
     def receive(self, until: float) -> Datagram | None:
         """The next datagram that comes by then."""
@@ -174,7 +174,7 @@ class Client(Base):
             self.socket.settimeout(left)
             try:
                 data, (address, port, *_) = self.socket.recvfrom(LONGEST)
-                return Datagram(data, placed(address, port))
+                return Datagram(data, endpoint_at(address, port))
             except TimeoutError:
                 return None
             except OSError:

@@ -11,7 +11,7 @@ from typing import Any, NamedTuple, TypeVar
 
 from .errors import Busy, LocksError, NoAnswer, NotHeld, Passed, Refused, Unanswered
 from .numbers import SPARE, Numbers
-from .places import Place, address_of, place_of, placed
+from .endpoints import Endpoint, address_of, endpoint_at, endpoint_of
 from .results import Free, Held, HeldShared, result
 from .seals import Seals
 from .waits import Polls, waits
@@ -25,17 +25,17 @@ log = logging.getLogger("locks_client")
 
 
 class Datagram(NamedTuple):
-    """Bytes that came, and the place they came from."""
+    """Bytes that came, and the endpoint they came from."""
 
     data: bytes
-    port: Place
+    port: Endpoint
 
 
 class Send(NamedTuple):
-    """These bytes go to that place."""
+    """These bytes go to that endpoint."""
 
     data: bytes
-    port: Place
+    port: Endpoint
 
 
 class Listen(NamedTuple):
@@ -82,7 +82,7 @@ class Core:
         self,
         cluster: int,
         client: int,
-        ports: Iterable[Place],
+        ports: Iterable[Endpoint],
         patience: float = 10.0,
         clock: Callable[[], float] = time.monotonic,
         hosts: Mapping[int, str] | None = None,
@@ -90,13 +90,13 @@ class Core:
     ) -> None:
         self.cluster = ranged(cluster, 0, (1 << 64) - 1, "cluster")
         self.client = ranged(client, 1, MAX_CLIENT, "client")
-        self.ports = [place_of(port) for port in ports]
+        self.ports = [endpoint_of(port) for port in ports]
         if not self.ports:
             raise ValueError("no port of a node is given")
         self.patience, self.clock, self.hosts = patience, clock, hosts or {}
         self.seals = Seals(self.cluster, self.client, keys)
         self.turn = itertools.cycle(self.ports)
-        self.leader: Place | None = None  # the place from which the last answer came
+        self.leader: Endpoint | None = None  # the endpoint from which the last answer came
         self.open: Request | None = None
         self.last: Request | None = None
         self.grants: dict[str, Grant] = {}
@@ -222,14 +222,14 @@ class Core:
                 raise Passed(reply.last)
             if isinstance(reply, Elsewhere) and followed < MAX_ELSEWHERE:
                 followed += 1
-                yield Send(request.data, self.place_in(reply, heard.port))
+                yield Send(request.data, self.endpoint_in(reply, heard.port))
         return None
 
-    def place_in(self, reply: Elsewhere, teller: Place) -> Place:
+    def endpoint_in(self, reply: Elsewhere, teller: Endpoint) -> Endpoint:
         """Where the node lives that an Elsewhere names: where the hosts say, else at the address of who told it."""
-        return placed(self.hosts.get(reply.node, address_of(teller)[0]), reply.port)
+        return endpoint_at(self.hosts.get(reply.node, address_of(teller)[0]), reply.port)
 
-    def port_after(self, silent: Place) -> Place:
+    def port_after(self, silent: Endpoint) -> Endpoint:
         """The next port in turn, another one than the silent one if there is one."""
         self.leader = None
         port = next(self.turn)

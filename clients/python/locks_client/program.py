@@ -7,7 +7,7 @@ import sys
 from .client import Client
 from .errors import LocksError, NoAnswer, Passed
 from .hold import hold, tell
-from .places import LOOPBACK, Place
+from .endpoints import LOOPBACK, Endpoint
 from .results import FAILING, fitting
 from .statuses import INTERRUPTED, REFUSED, TABLE, status_of
 from .wire import Op, op_of, table_op
@@ -53,7 +53,7 @@ def arguments() -> argparse.ArgumentParser:
     return parser
 
 
-def places_of(ports: list[int], addresses: list[str]) -> list[Place]:
+def endpoints_of(ports: list[int], addresses: list[str]) -> list[Endpoint]:
     """Each port at its address, or all at the one that is given."""
     if len(addresses) not in (1, len(ports)):
         raise ValueError("give one --address, or one for each --port")
@@ -89,9 +89,9 @@ def main() -> int:
     args = parser.parse_args()
     try:
         op = op_in(args.op)
-        places = places_of(args.port, args.address or [LOOPBACK])
+        endpoints = endpoints_of(args.port, args.address or [LOOPBACK])
         more = {"hosts": args.hosts, "key": args.client_key}
-        client = Client(args.cluster, args.client, places, args.first, args.state, args.patience, **more)
+        client = Client(args.cluster, args.client, endpoints, args.first, args.state, args.patience, **more)
     except (OSError, ValueError) as error:
         parser.error(str(error))
     except LocksError as error:

@@ -23,10 +23,10 @@ class Polls:
     """Seconds to wait for a lock. They stay below one while the holder changes, and grow while one holder keeps it."""
 
     def __init__(self) -> None:
-        self.place, self.fence = 0, 0
+        self.index, self.fence = 0, 0
 
     def after(self, fence: int) -> float:
         """The next wait, where the lock is now held at that fence."""
-        self.place = min(self.place + 1, len(POLLS) - 1) if fence == self.fence else 0
+        self.index = min(self.index + 1, len(POLLS) - 1) if fence == self.fence else 0
         self.fence = fence
-        return scattered(POLLS[self.place])
+        return scattered(POLLS[self.index])

@@ -4,7 +4,7 @@ import tempfile
 import unittest
 
 from locks_client import Client
-from locks_client.places import own_address, place_of, read_hosts
+from locks_client.endpoints import endpoint_of, own_address, read_hosts
 from locks_client.seals import Seals, client_key, read_keys
 
 GOLDEN = os.path.join(os.path.dirname(os.path.abspath(__file__)), "..", "..", "golden.txt")
@@ -69,8 +69,8 @@ class FilesTest(unittest.TestCase):
                 read_hosts(self.file(text))
 
     def test_places_are_ports_of_loopback_or_addresses_with_ports(self):
-        self.assertEqual([place_of(it) for it in (7001, ("127.0.0.1", 7001))], [7001, 7001])
-        own = [own_address([place_of(it)]) for it in (7001, ("127.0.0.2", 1), ("fd00::1", 1))]
+        self.assertEqual([endpoint_of(it) for it in (7001, ("127.0.0.1", 7001))], [7001, 7001])
+        own = [own_address([endpoint_of(it)]) for it in (7001, ("127.0.0.2", 1), ("fd00::1", 1))]
         self.assertEqual(own, ["127.0.0.1", "0.0.0.0", "::"])
         for wrong in (0, ("here", 1), ("10.0.0.1", 0)):
             with self.subTest(wrong=wrong), self.assertRaises(ValueError):

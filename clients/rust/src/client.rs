@@ -78,14 +78,14 @@ pub enum LockState {
 #[derive(Debug)]
 pub struct Client {
     pub(crate) seals: Seals,
-    pub(crate) places: Vec<SocketAddr>,
+    pub(crate) addresses: Vec<SocketAddr>,
     // where nodes live that other nodes name
     pub(crate) hosts: HashMap<u32, IpAddr>,
     pub(crate) numbers: Numbers,
     pub(crate) patience: Duration,
     pub(crate) drop_patience: Duration,
     pub(crate) socket: UdpSocket,
-    // which of `places` is asked next
+    // which of `addresses` is asked next
     pub(crate) turn: usize,
     // where the last answer came from
     pub(crate) leader: Option<SocketAddr>,
@@ -95,11 +95,11 @@ pub struct Client {
 
 /// Where a client that asks there listens: on loopback where all are 127.0.0.1, else anywhere in
 /// their family.
-fn own_address(places: &[SocketAddr]) -> IpAddr {
-    if places.iter().all(|place| place.ip() == Ipv4Addr::LOCALHOST) {
+fn own_address(addresses: &[SocketAddr]) -> IpAddr {
+    if addresses.iter().all(|address| address.ip() == Ipv4Addr::LOCALHOST) {
         return Ipv4Addr::LOCALHOST.into();
     }
-    match places[0] {
+    match addresses[0] {
         SocketAddr::V4(_) => Ipv4Addr::UNSPECIFIED.into(),
         SocketAddr::V6(_) => Ipv6Addr::UNSPECIFIED.into(),
     }
@@ -118,8 +118,8 @@ impl Client {
         numbers: Numbers,
     ) -> Result<Client, Error> {
         let at = |port: &u16| SocketAddr::from((Ipv4Addr::LOCALHOST, *port));
-        let places: Vec<SocketAddr> = ports.iter().map(at).collect();
-        Client::at(cluster, client, &places, numbers)
+        let addresses: Vec<SocketAddr> = ports.iter().map(at).collect();
+        Client::at(cluster, client, &addresses, numbers)
     }
 
     /// The same of a client that asks nodes at these addresses and ports, all of one family.
@@ -131,9 +131,9 @@ impl Client {
     /// # use locks_client::*;
     /// # fn main() -> Result<(), Box<dyn std::error::Error>> {
     /// # let key = "11".repeat(32);
-    /// let places = ["10.0.0.1:7101".parse()?, "10.0.0.2:7101".parse()?];
+    /// let addresses = ["10.0.0.1:7101".parse()?, "10.0.0.2:7101".parse()?];
     /// let numbers = Numbers::from_first(milliseconds())?;
-    /// let mut client = Client::at(ClusterId::new(5), ClientId::new(7)?, &places, numbers)?;
+    /// let mut client = Client::at(ClusterId::new(5), ClientId::new(7)?, &addresses, numbers)?;
     /// client.set_key(Keys::read(&key)?);
     /// client.set_hosts([(1, "10.0.0.1".parse()?), (2, "10.0.0.2".parse()?)]);
     /// # Ok(())
@@ -142,11 +142,11 @@ impl Client {
     pub fn at(
         cluster: ClusterId,
         client: ClientId,
-        places: &[SocketAddr],
+        addresses: &[SocketAddr],
         numbers: Numbers,
     ) -> Result<Client, Error> {
-        if places.is_empty() || places.iter().any(|place| place.port() == 0) {
-            let ports: Vec<u16> = places.iter().map(SocketAddr::port).collect();
+        if addresses.is_empty() || addresses.iter().any(|address| address.port() == 0) {
+            let ports: Vec<u16> = addresses.iter().map(SocketAddr::port).collect();
             return Err(Error::malformed(
                 "ports",
                 format_args!("{ports:?}"),
@@ -161,12 +161,12 @@ impl Client {
                 client,
                 keys,
             },
-            places: places.to_vec(),
+            addresses: addresses.to_vec(),
             hosts: HashMap::new(),
             numbers,
             patience: PATIENCE,
             drop_patience: DROP_PATIENCE,
-            socket: UdpSocket::bind((own_address(places), 0)).map_err(Error::Socket)?,
+            socket: UdpSocket::bind((own_address(addresses), 0)).map_err(Error::Socket)?,
             turn: 0,
             leader: None,
             open: None,

@@ -84,9 +84,9 @@ impl Client {
     /// Sends a request to one node after the other until its answer comes.
     fn exchange(&mut self, open: &Open, patience: Duration) -> Result<Answer, Error> {
         let start = Instant::now();
-        let mut place = self.leader.unwrap_or(self.places[self.turn]);
+        let mut address = self.leader.unwrap_or(self.addresses[self.turn]);
         for wait in Waits::default() {
-            self.send(open, place);
+            self.send(open, address);
             let left = patience.saturating_sub(start.elapsed());
             if let Some(answer) = self.answer_by(open, Instant::now() + wait.min(left))? {
                 return Ok(answer);
@@ -94,7 +94,7 @@ impl Client {
             if start.elapsed() >= patience {
                 break;
             }
-            place = self.place_after(place);
+            address = self.address_after(address);
         }
         let number = open.label.number;
         self.log.tell(&Event::Unanswered { number });
@@ -117,7 +117,7 @@ impl Client {
                 }
                 Reply::Elsewhere { node, port } if followed < FOLLOWED => {
                     followed += 1;
-                    self.send(open, self.place_of(node, port, from));
+                    self.send(open, self.address_of(node, port, from));
                 }
                 Reply::Elsewhere { .. } => {}
             }
@@ -144,31 +144,31 @@ impl Client {
 
     /// Where a node lives that an Elsewhere names: where the hosts say, else at the address of who
     /// told it.
-    fn place_of(&self, node: u32, port: u16, teller: SocketAddr) -> SocketAddr {
-        let address = self.hosts.get(&node).copied().unwrap_or(teller.ip());
-        SocketAddr::new(address, port)
+    fn address_of(&self, node: u32, port: u16, teller: SocketAddr) -> SocketAddr {
+        let host = self.hosts.get(&node).copied().unwrap_or(teller.ip());
+        SocketAddr::new(host, port)
     }
 
-    /// The next place in turn, another one than the silent one where there is one.
-    fn place_after(&mut self, silent: SocketAddr) -> SocketAddr {
+    /// The next address in turn, another one than the silent one where there is one.
+    fn address_after(&mut self, silent: SocketAddr) -> SocketAddr {
         self.leader = None;
-        for _ in 0..self.places.len() {
-            self.turn = (self.turn + 1) % self.places.len();
-            if self.places[self.turn] != silent {
+        for _ in 0..self.addresses.len() {
+            self.turn = (self.turn + 1) % self.addresses.len();
+            if self.addresses[self.turn] != silent {
                 break;
             }
         }
-        self.places[self.turn]
+        self.addresses[self.turn]
     }
 
     /// Sends the request. One that cannot be sent counts as lost.
-    fn send(&mut self, open: &Open, place: SocketAddr) {
-        let (number, port) = (open.label.number, place.port());
+    fn send(&mut self, open: &Open, address: SocketAddr) {
+        let (number, port) = (open.label.number, address.port());
         self.log.tell(&Event::Sent { number, port });
-        let _ = self.socket.send_to(&open.bytes, place);
+        let _ = self.socket.send_to(&open.bytes, address);
     }
 
-    /// The first reply to the request that comes by then, with the place it came from. All else is
+    /// The first reply to the request that comes by then, with the address it came from. All else is
     /// dropped.
     fn receive(&self, label: &Label, until: Instant) -> Result<Option<(Reply, SocketAddr)>, Error> {
         let mut buffer = [0; LONGEST];

@@ -18,7 +18,8 @@ use Rattle.lk_agreement_laws.specs.Acceptors.{AcceptorState, TakesVote}
 use Rattle.lk_agreement_laws.specs.Nodes.{Pair, Term, new_term, PaxosState, MayPromise, MaySend, MayPost, MayPostAll}
 use Rattle.lk_agreement_laws.specs.Changes.{MayPropose, AreAmong, promises, accepts, begins, hears, proposes, learns}
 use Rattle.lk_agreement_laws.specs.Changes.{executes}
-use Rattle.lk_agreement_laws.specs.Worlds.{World, start, with_sent, with_paxos, sends, changes, Reaches, begin, next}
+use Rattle.lk_agreement_laws.specs.Worlds.{PaxosWorld, start, with_sent, with_paxos, sends, changes}
+use Rattle.lk_agreement_laws.specs.Worlds.{Reaches, begin, next}
 use Rattle.lk_agreement_laws.specs.Worlds.{MembersChange}
 use Rattle.lk_agreement_laws.proofs.Lists.{cons_cases, only}
 
@@ -277,20 +278,20 @@ one_state votes done pairs t = record { acceptor = standing_of votes; done = don
 abbrev two_state : List Vote → PaxosState
 two_state votes = record { acceptor = standing_of votes; done = []; pairs = []; term = None }
 
-abbrev w1 : World
+abbrev w1 : PaxosWorld
 w1 = with_paxos start 1 (one_state [] [] [] (new_term ballot))
 
 reach1 : Reaches alone w1
 reach1 = next begin (changes 1 (one_state [] [] [] (new_term ballot)) (begins ballot refl (inl 0-of-1)))
 
-abbrev w2 : World
+abbrev w2 : PaxosWorld
 w2 = with_sent w1 (say 1 (Promise (promise_from 1)) ∷ [])
 
 reach2 : Reaches alone w2
 reach2 = next reach1 (sends 1 (say 1 (Promise (promise_from 1)) ∷ [])
     (post w1.sent 1 (w1.states 1) (Promise (promise_from 1)) one_promises promise_1))
 
-abbrev w3 : World
+abbrev w3 : PaxosWorld
 w3 = with_paxos w2 1 (one_state [] [] [] one_heard)
 
 reach3 : Reaches alone w3
@@ -298,13 +299,13 @@ reach3 = next reach2 (changes 1 (one_state [] [] [] one_heard)
     (hears (new_term ballot) (report 1 1) refl
     (has_said w2.sent 1 (Promise (promise_from 1)) one_promises (0, 0-of-1, refl))))
 
-abbrev w4 : World
+abbrev w4 : PaxosWorld
 w4 = with_paxos w3 1 (one_state [] [] [] first_proposed)
 
 reach4 : Reaches alone w4
 reach4 = next reach3 (changes 1 (one_state [] [] [] first_proposed) (proposes one_heard 1 join refl first_choice))
 
-abbrev w5 : World
+abbrev w5 : PaxosWorld
 w5 = with_sent w4 (say 1 (Accept first_vote) ∷ [])
 
 reach5 : Reaches alone w5
@@ -312,7 +313,7 @@ reach5 = next reach4 (sends 1 (say 1 (Accept first_vote) ∷ [])
     (post w4.sent 1 (w4.states 1) (Accept first_vote) one_proposes_first
     (first_proposed, refl, refl, (0, 0-of-1, refl))))
 
-abbrev w6 : World
+abbrev w6 : PaxosWorld
 w6 = with_paxos w5 1 (one_state (first_vote ∷ []) [] [] first_proposed)
 
 reach6 : Reaches alone w6
@@ -320,14 +321,14 @@ reach6 = next reach5 (changes 1 (one_state (first_vote ∷ []) [] [] first_propo
     (accepts first_vote (standing_of (first_vote ∷ [])) (inr refl)
     (was_said w5.sent 1 (Accept first_vote) one_proposes_first (1, 1-of-2, refl)) (takes (standing_of []) first_vote)))
 
-abbrev w7 : World
+abbrev w7 : PaxosWorld
 w7 = with_sent w6 (say 1 (Accepted first_vote) ∷ [])
 
 reach7 : Reaches alone w7
 reach7 = next reach6 (sends 1 (say 1 (Accepted first_vote) ∷ [])
     (post w6.sent 1 (w6.states 1) (Accepted first_vote) one_votes_first (refl, (0, 0-of-1, refl))))
 
-abbrev w8 : World
+abbrev w8 : PaxosWorld
 w8 = with_paxos w7 1 (one_state (first_vote ∷ []) [] ((1, join) ∷ []) first_proposed)
 
 reach8 : Reaches alone w8
@@ -335,27 +336,27 @@ reach8 =
     next reach7 (changes 1 (one_state (first_vote ∷ []) [] ((1, join) ∷ []) first_proposed)
     (learns 1 join first_chosen))
 
-abbrev w9 : World
+abbrev w9 : PaxosWorld
 w9 = with_paxos w8 1 (one_state (first_vote ∷ []) (join ∷ []) [] first_proposed)
 
 reach9 : Reaches alone w9
 reach9 = next reach8 (changes 1 (one_state (first_vote ∷ []) (join ∷ []) [] first_proposed)
     (executes join [] (0, 0-of-1, refl) (no_pairs ((1, join) ∷ []))))
 
-abbrev w10 : World
+abbrev w10 : PaxosWorld
 w10 = with_paxos w9 2 (two_state [])
 
 reach10 : Reaches alone w10
 reach10 = next reach9 (changes 2 (two_state []) (promises ballot (inl (inl 0-of-1))))
 
-abbrev w11 : World
+abbrev w11 : PaxosWorld
 w11 = with_sent w10 (say 2 (Promise (promise_from 2)) ∷ [])
 
 reach11 : Reaches alone w11
 reach11 = next reach10 (sends 2 (say 2 (Promise (promise_from 2)) ∷ [])
     (post w10.sent 2 (w10.states 2) (Promise (promise_from 2)) two_promises promise_2))
 
-abbrev w12 : World
+abbrev w12 : PaxosWorld
 w12 = with_paxos w11 1 (one_state (first_vote ∷ []) (join ∷ []) [] both_heard)
 
 reach12 : Reaches alone w12
@@ -363,14 +364,14 @@ reach12 = next reach11 (changes 1 (one_state (first_vote ∷ []) (join ∷ []) [
     (hears first_proposed (report 2 2) refl
     (has_said w11.sent 2 (Promise (promise_from 2)) two_promises (3, 3-of-4, refl))))
 
-abbrev w13 : World
+abbrev w13 : PaxosWorld
 w13 = with_paxos w12 1 (one_state (first_vote ∷ []) (join ∷ []) [] second_proposed)
 
 reach13 : Reaches alone w13
 reach13 = next reach12 (changes 1 (one_state (first_vote ∷ []) (join ∷ []) [] second_proposed)
     (proposes both_heard 2 Noop refl second_choice))
 
-abbrev w14 : World
+abbrev w14 : PaxosWorld
 w14 = with_sent w13 (say 1 (Accept second_vote) ∷ [])
 
 reach14 : Reaches alone w14
@@ -378,7 +379,7 @@ reach14 = next reach13 (sends 1 (say 1 (Accept second_vote) ∷ [])
     (post w13.sent 1 (w13.states 1) (Accept second_vote) one_proposes_second
     (second_proposed, refl, refl, (1, 1-of-2, refl))))
 
-abbrev w15 : World
+abbrev w15 : PaxosWorld
 w15 = with_paxos w14 1 (one_state (first_vote ∷ second_vote ∷ []) (join ∷ []) [] second_proposed)
 
 reach15 : Reaches alone w15
@@ -387,14 +388,14 @@ reach15 = next reach14 (changes 1 (one_state (first_vote ∷ second_vote ∷ [])
     (was_said w14.sent 1 (Accept second_vote) one_proposes_second (4, 4-of-5, refl))
     (takes (standing_of (first_vote ∷ [])) second_vote)))
 
-abbrev w16 : World
+abbrev w16 : PaxosWorld
 w16 = with_sent w15 (say 1 (Accepted second_vote) ∷ [])
 
 reach16 : Reaches alone w16
 reach16 = next reach15 (sends 1 (say 1 (Accepted second_vote) ∷ [])
     (post w15.sent 1 (w15.states 1) (Accepted second_vote) one_votes_second (refl, (1, 1-of-2, refl))))
 
-abbrev w17 : World
+abbrev w17 : PaxosWorld
 w17 = with_paxos w16 2 (two_state (second_vote ∷ []))
 
 reach17 : Reaches alone w17
@@ -403,14 +404,14 @@ reach17 = next reach16 (changes 2 (two_state (second_vote ∷ []))
     (was_said w16.sent 1 (Accept second_vote) one_proposes_second (4, 4-of-6, refl))
     (takes (standing_of []) second_vote)))
 
-abbrev w18 : World
+abbrev w18 : PaxosWorld
 w18 = with_sent w17 (say 2 (Accepted second_vote) ∷ [])
 
 reach18 : Reaches alone w18
 reach18 = next reach17 (sends 2 (say 2 (Accepted second_vote) ∷ [])
     (post w17.sent 2 (w17.states 2) (Accepted second_vote) two_votes_second (refl, (0, 0-of-1, refl))))
 
-abbrev pub last : World
+abbrev pub last : PaxosWorld
 last = w18
 
 second_accepted : IsAcceptedIn alone all_sent (members alone two_commands 2) ballot 2 Noop

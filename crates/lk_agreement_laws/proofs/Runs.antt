@@ -12,7 +12,8 @@ use Rattle.lk_agreement_laws.specs.Soundness.{Sound}
 use Rattle.lk_agreement_laws.specs.Acceptors.{AcceptorState, Covers, CoversSent}
 use Rattle.lk_agreement_laws.specs.Nodes.{PaxosState, fresh, Stems, PaxosFits, MaySend, MayPostAll}
 use Rattle.lk_agreement_laws.specs.Changes.{Becomes}
-use Rattle.lk_agreement_laws.specs.Worlds.{World, start, with_sent, with_paxos, IsClientRequest, Happens, sends, asks}
+use Rattle.lk_agreement_laws.specs.Worlds.{PaxosWorld, start, with_sent, with_paxos}
+use Rattle.lk_agreement_laws.specs.Worlds.{IsClientRequest, Happens, sends, asks}
 use Rattle.lk_agreement_laws.specs.Worlds.{changes, Reaches, begin, next, WorldFits, HoldsCommand, IsKept}
 use Rattle.lk_agreement_laws.proofs.Lists.{entry_at, only}
 use Rattle.lk_agreement_laws.proofs.Agree.{vote, command_within, entry_chosen, one_chosen, later_value_in}
@@ -66,7 +67,7 @@ covers_both genesis sent batch n s before now m h =
     elim (sent_cases genesis sent batch n m h) [ inl old ↦ before m old | inr new ↦ now m new ]
 
 -- a batch that a node may send
-module _ (genesis : Genesis) (w : World) (n : ℕ) (batch : List Datagram)
+module _ (genesis : Genesis) (w : PaxosWorld) (n : ℕ) (batch : List Datagram)
     (may : MayPostAll genesis w.sent n (w.states n) batch) where
   batch_says : (k : ℕ) (m : NodeMessage) (d : Datagram) → Contains batch d → Spells (said_by genesis k m) d.bytes
       → (n ≡ k) × MaySend genesis w.sent (w.states k) m
@@ -101,7 +102,7 @@ module _ (genesis : Genesis) (w : World) (n : ℕ) (batch : List Datagram)
       (λ m now. absurd (other (batch_says k m now.datagram now.listed now.spelled).0))
 
 -- a client's request
-pub asked_fits : (genesis : Genesis) (w : World) (d : Datagram) → WorldFits genesis w → IsClientRequest d
+pub asked_fits : (genesis : Genesis) (w : PaxosWorld) (d : Datagram) → WorldFits genesis w → IsClientRequest d
     → WorldFits genesis (with_sent w (d ∷ []))
 asked_fits genesis w d f a = record {
   sound = sound_after genesis w.sent (d ∷ []) w.states f.sound f.states signed 0 cases;
@@ -122,7 +123,7 @@ asked_fits genesis w d f a = record {
         [ inl old ↦ inl old | inr now ↦ absurd (silent now.datagram now.listed k m now.spelled) ]
 
 -- another state of one node, which fits
-pub with_paxos_fits : (genesis : Genesis) (w : World) (n : ℕ) (new : PaxosState) → WorldFits genesis w
+pub with_paxos_fits : (genesis : Genesis) (w : PaxosWorld) (n : ℕ) (new : PaxosState) → WorldFits genesis w
     → PaxosFits genesis w.sent n new → WorldFits genesis (with_paxos w n new)
 with_paxos_fits genesis w n new f g = record { sound = f.sound; states = λ k. at k (k == n) refl }
   where
@@ -130,18 +131,19 @@ with_paxos_fits genesis w n new f g = record { sound = f.sound; states = λ k. a
     at k true e = subst (λ j. PaxosFits genesis w.sent j new) (sym (eqb-true k n e)) g
     at k false e = f.states k
 
-pub becomes_fits : (genesis : Genesis) (w : World) (n : ℕ) (new : PaxosState) → WorldFits genesis w
+pub becomes_fits : (genesis : Genesis) (w : PaxosWorld) (n : ℕ) (new : PaxosState) → WorldFits genesis w
     → Becomes genesis w.sent n (w.states n) new → WorldFits genesis (with_paxos w n new)
 becomes_fits genesis w n new f b =
     with_paxos_fits genesis w n new f (changes_fit genesis w.sent f.sound n (w.states n) new (f.states n) b)
 
-happens_fits : (genesis : Genesis) (w w' : World) → WorldFits genesis w → Happens genesis w w' → WorldFits genesis w'
+happens_fits : (genesis : Genesis) (w w' : PaxosWorld) → WorldFits genesis w → Happens genesis w w'
+    → WorldFits genesis w'
 happens_fits genesis w w' f (sends n batch may) = batch_fits genesis w n batch may f
 happens_fits genesis w w' f (asks d a) = asked_fits genesis w d f a
 happens_fits genesis w w' f (changes n new c) =
     with_paxos_fits genesis w n new f (change_fits genesis w.sent f.sound n (w.states n) new (f.states n) c)
 
-pub reaches_fits : (genesis : Genesis) (w : World) → Reaches genesis w → WorldFits genesis w
+pub reaches_fits : (genesis : Genesis) (w : PaxosWorld) → Reaches genesis w → WorldFits genesis w
 reaches_fits genesis w begin = start_fits genesis
 reaches_fits genesis w' (next {w = w} r h) = happens_fits genesis w w' (reaches_fits genesis w r) h
 
@@ -194,7 +196,7 @@ module _ (genesis : Genesis) (sent : List Datagram) (sound : Sound genesis sent)
       }
 
 -- so do the nodes of a world, as they are
-pub kept_in_world : (genesis : Genesis) (w : World) → WorldFits genesis w → (L : List Command)
+pub kept_in_world : (genesis : Genesis) (w : PaxosWorld) → WorldFits genesis w → (L : List Command)
     → Chosen genesis w.sent L → (i : ℕ) (v : Command) → command_at L i ≡ Some v
     → IsKept genesis w.sent L i v (λ n state. state ≡ w.states n)
 kept_in_world genesis w f L chosen i v at =

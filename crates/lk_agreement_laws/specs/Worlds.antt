@@ -13,20 +13,20 @@ use Rattle.lk_agreement_laws.specs.Soundness.{Sound}
 use Rattle.lk_agreement_laws.specs.Nodes.{PaxosState, fresh, PaxosFits, MayPostAll}
 use Rattle.lk_agreement_laws.specs.Changes.{Changes}
 
-pub record World : Type 0 where
+pub record PaxosWorld : Type 0 where
   pub sent : List Datagram
   pub states : ℕ → PaxosState
 
 -- nothing was sent, and each node is fresh
-abbrev pub start : World
+abbrev pub start : PaxosWorld
 start = record { sent = []; states = λ n. fresh }
 
 -- the world where these datagrams were sent too
-abbrev pub with_sent : World → List Datagram → World
+abbrev pub with_sent : PaxosWorld → List Datagram → PaxosWorld
 with_sent w batch = record { sent = w.sent ++ batch; states = w.states }
 
 -- the world where one node is in another state
-abbrev pub with_paxos : World → ℕ → PaxosState → World
+abbrev pub with_paxos : PaxosWorld → ℕ → PaxosState → PaxosWorld
 with_paxos w n new = record { sent = w.sent; states = λ k. if k == n then new else w.states k }
 
 -- the datagram is a client's request
@@ -39,21 +39,21 @@ pub record IsClientRequest (d : Datagram) : Type 0 where
 
 -- a node sends some datagrams, each of which it may send; a client asks; or a node changes. Who hears what was sent,
 -- how often and when, is part of the changes
-pub data Happens (genesis : Genesis) : World → World → Type 0 where
-  sends : {w : World} (n : ℕ) (batch : List Datagram) → MayPostAll genesis w.sent n (w.states n) batch
+pub data Happens (genesis : Genesis) : PaxosWorld → PaxosWorld → Type 0 where
+  sends : {w : PaxosWorld} (n : ℕ) (batch : List Datagram) → MayPostAll genesis w.sent n (w.states n) batch
       → Happens genesis w (with_sent w batch)
-  asks : {w : World} (d : Datagram) → IsClientRequest d
+  asks : {w : PaxosWorld} (d : Datagram) → IsClientRequest d
       → Happens genesis w (with_sent w (d ∷ []))
-  changes : {w : World} (n : ℕ) (new : PaxosState) → Changes genesis w.sent n (w.states n) new
+  changes : {w : PaxosWorld} (n : ℕ) (new : PaxosState) → Changes genesis w.sent n (w.states n) new
       → Happens genesis w (with_paxos w n new)
 
 -- the reachable worlds
-pub data Reaches (genesis : Genesis) : World → Type 0 where
+pub data Reaches (genesis : Genesis) : PaxosWorld → Type 0 where
   begin : Reaches genesis start
-  next : {w w' : World} → Reaches genesis w → Happens genesis w w' → Reaches genesis w'
+  next : {w w' : PaxosWorld} → Reaches genesis w → Happens genesis w w' → Reaches genesis w'
 
 -- what holds of each of them: the history is sound, and each node fits it
-pub record WorldFits (genesis : Genesis) (w : World) : Type 0 where
+pub record WorldFits (genesis : Genesis) (w : PaxosWorld) : Type 0 where
   pub sound : Sound genesis w.sent
   pub states : (n : ℕ) → PaxosFits genesis w.sent n (w.states n)
 
@@ -76,7 +76,7 @@ pub record IsKept (genesis : Genesis) (sent : List Datagram) (L : List Command) 
 
 -- there are such worlds, and members change in them: a reachable world, and a list of two commands that is chosen in
 -- it. Node 1 alone decides the first, which makes node 2 a member; both decide the second
-pub record MembersChange (genesis : Genesis) (w : World) (L : List Command) : Type 0 where
+pub record MembersChange (genesis : Genesis) (w : PaxosWorld) (L : List Command) : Type 0 where
   pub reached : Reaches genesis w
   pub chosen : Chosen genesis w.sent L
   pub two : length L ≡ 2

@@ -16,7 +16,7 @@ ghost use Rattle.lk_agreement_laws.specs.Acceptors.{AcceptorState, CoversSent, T
 ghost use Rattle.lk_agreement_laws.specs.Nodes.{Term, PaxosState, Stems, PaxosFits, MayPromise, MayPostAll};
 ghost use Rattle.lk_agreement_laws.specs.Changes.{in_term, Changes, Becomes};
 ghost use Rattle.lk_agreement_laws.specs.Snapshots.{IsSlice};
-ghost use Rattle.lk_agreement_laws.specs.Worlds.{World, start, with_sent, with_paxos, IsClientRequest, Reaches};
+ghost use Rattle.lk_agreement_laws.specs.Worlds.{PaxosWorld, start, with_sent, with_paxos, IsClientRequest, Reaches};
 ghost use Rattle.lk_agreement_laws.specs.Worlds.{WorldFits};
 ghost use Rattle.lk_agreement_laws.specs.Worlds.{IsKept, MembersChange};
 
@@ -100,23 +100,23 @@ pub fn changes_keep_the_node()
 
 /// A change within a node leaves the history sound and every node fitting.
 pub fn changes_keep_the_world()
-    ensures { (genesis : Genesis) (w : World) (n : ℕ) (new : PaxosState) → WorldFits genesis w
+    ensures { (genesis : Genesis) (w : PaxosWorld) (n : ℕ) (new : PaxosState) → WorldFits genesis w
         → Becomes genesis w.sent n (w.states n) new → WorldFits genesis (with_paxos w n new) }
 {}
 
 /// Whatever a node is permitted to send in its present state, and a client's request, leave the history sound and every
 /// node fitting.
 pub fn sends_keep_the_world()
-    ensures node { (genesis : Genesis) (w : World) (n : ℕ) (batch : List Datagram) → WorldFits genesis w
+    ensures node { (genesis : Genesis) (w : PaxosWorld) (n : ℕ) (batch : List Datagram) → WorldFits genesis w
         → MayPostAll genesis w.sent n (w.states n) batch → WorldFits genesis (with_sent w batch) }
-    ensures client { (genesis : Genesis) (w : World) (d : Datagram) → WorldFits genesis w
+    ensures client { (genesis : Genesis) (w : PaxosWorld) (d : Datagram) → WorldFits genesis w
         → IsClientRequest d → WorldFits genesis (with_sent w (d ∷ [])) }
 {}
 
 /// A restart from any image that covers what its node has sent and stems from what was sent leaves the history sound
 /// and every node fitting.
 pub fn restarts_keep_the_world()
-    ensures { (genesis : Genesis) (w : World) (n : ℕ) (image : PaxosState) → WorldFits genesis w
+    ensures { (genesis : Genesis) (w : PaxosWorld) (n : ℕ) (image : PaxosState) → WorldFits genesis w
         → CoversSent genesis w.sent n image.acceptor → Stems genesis w.sent image → image.term ≡ None
         → WorldFits genesis (with_paxos w n image) }
 {}
@@ -128,7 +128,7 @@ pub fn images_go_on_covering()
     ensures own { (genesis : Genesis) (sent batch : List Datagram) (n : ℕ) (image : PaxosState)
         → CoversSent genesis sent n image.acceptor → CoversSent genesis batch n image.acceptor
         → CoversSent genesis (sent ++ batch) n image.acceptor }
-    ensures others { (genesis : Genesis) (w : World) (n k : ℕ) (batch : List Datagram) (image : PaxosState)
+    ensures others { (genesis : Genesis) (w : PaxosWorld) (n k : ℕ) (batch : List Datagram) (image : PaxosState)
         → MayPostAll genesis w.sent n (w.states n) batch → (n ≡ k → ⊥)
         → CoversSent genesis w.sent k image.acceptor → CoversSent genesis (w.sent ++ batch) k image.acceptor }
     ensures stems { (genesis : Genesis) (sent new : List Datagram) (image : PaxosState)
@@ -175,25 +175,25 @@ pub fn slices_join()
 /// time and restart from any image that covers what it has sent and stems from what was sent, and its term may end.
 pub fn worlds_come_about()
     ensures begins { (genesis : Genesis) → Reaches genesis start }
-    ensures sends { (genesis : Genesis) (w : World) (n : ℕ) (batch : List Datagram) → Reaches genesis w
+    ensures sends { (genesis : Genesis) (w : PaxosWorld) (n : ℕ) (batch : List Datagram) → Reaches genesis w
         → MayPostAll genesis w.sent n (w.states n) batch → Reaches genesis (with_sent w batch) }
-    ensures asks { (genesis : Genesis) (w : World) (d : Datagram) → Reaches genesis w
+    ensures asks { (genesis : Genesis) (w : PaxosWorld) (d : Datagram) → Reaches genesis w
         → IsClientRequest d → Reaches genesis (with_sent w (d ∷ [])) }
-    ensures changes { (genesis : Genesis) (w : World) (n : ℕ) (new : PaxosState) → Reaches genesis w
+    ensures changes { (genesis : Genesis) (w : PaxosWorld) (n : ℕ) (new : PaxosState) → Reaches genesis w
         → Changes genesis w.sent n (w.states n) new → Reaches genesis (with_paxos w n new) }
-    ensures restarts { (genesis : Genesis) (w : World) (n : ℕ) (image : PaxosState) → Reaches genesis w
+    ensures restarts { (genesis : Genesis) (w : PaxosWorld) (n : ℕ) (image : PaxosState) → Reaches genesis w
         → CoversSent genesis w.sent n image.acceptor → Stems genesis w.sent image → image.term ≡ None
         → Reaches genesis (with_paxos w n image) }
-    ensures leaves { (genesis : Genesis) (w : World) (n : ℕ) → Reaches genesis w
+    ensures leaves { (genesis : Genesis) (w : PaxosWorld) (n : ℕ) → Reaches genesis w
         → Reaches genesis (with_paxos w n (in_term (w.states n) None)) }
 {}
 
 /// In every reachable world chosen lists agree, and a majority keeps each command of a chosen list.
 pub fn every_world_agrees()
-    ensures fits { (genesis : Genesis) (w : World) → Reaches genesis w → WorldFits genesis w }
-    ensures agree { (genesis : Genesis) (w : World) (L K : List Command) → Reaches genesis w
+    ensures fits { (genesis : Genesis) (w : PaxosWorld) → Reaches genesis w → WorldFits genesis w }
+    ensures agree { (genesis : Genesis) (w : PaxosWorld) (L K : List Command) → Reaches genesis w
         → Chosen genesis w.sent L → Chosen genesis w.sent K → IsBeginning L K ⊎ IsBeginning K L }
-    ensures kept { (genesis : Genesis) (w : World) (L : List Command) (i : ℕ) (v : Command) → Reaches genesis w
+    ensures kept { (genesis : Genesis) (w : PaxosWorld) (L : List Command) (i : ℕ) (v : Command) → Reaches genesis w
         → Chosen genesis w.sent L → command_at L i ≡ Some v
         → IsKept genesis w.sent L i v (λ n state. state ≡ w.states n) }
 {}
@@ -201,8 +201,8 @@ pub fn every_world_agrees()
 /// The laws are not vacuous: some world is reachable in which members change. Node 1 alone decides the first command of
 /// a chosen list, which makes node 2 a member, and both decide the second.
 pub fn members_change_in_some_world()
-    ensures some { (genesis : Genesis) × (w : World) × (L : List Command) × MembersChange genesis w L }
-    ensures plain { (genesis : Genesis) × (w : World) × (L : List Command) × Reaches genesis w
+    ensures some { (genesis : Genesis) × (w : PaxosWorld) × (L : List Command) × MembersChange genesis w L }
+    ensures plain { (genesis : Genesis) × (w : PaxosWorld) × (L : List Command) × Reaches genesis w
         × Chosen genesis w.sent L × (length L ≡ 2)
         × (members genesis L 1 ≡ record { node = 1; port = 7001 } ∷ [])
         × (members genesis L 2 ≡ record { node = 1; port = 7001 } ∷ record { node = 2; port = 7002 } ∷ []) }

@@ -12,12 +12,12 @@ xor_same x y zero = sym (xor_zero_r x) ∙ ap (bit_xor x) (sym (xor_self y)) ∙
     ∙ ap (λ z. bit_xor z y) zero ∙ xor_zero_l y
 
 -- d is 0 just where the first i of both lists are the same
-pub record Tells (d i : ℕ) (xs ys : List ℕ) : Type 0 where
+pub record IsZeroIfSame (d i : ℕ) (xs ys : List ℕ) : Type 0 where
   pub same : d ≡ 0 → take i xs ≡ take i ys
   pub zero : take i xs ≡ take i ys → d ≡ 0
 
-pub tells_more : (d i : ℕ) (xs ys : List ℕ) → i < length xs → i < length ys → Tells d i xs ys
-    → Tells (bit_or d (bit_xor (get_or xs i 0) (get_or ys i 0))) (i + 1) xs ys
+pub tells_more : (d i : ℕ) (xs ys : List ℕ) → i < length xs → i < length ys → IsZeroIfSame d i xs ys
+    → IsZeroIfSame (bit_or d (bit_xor (get_or xs i 0) (get_or ys i 0))) (i + 1) xs ys
 tells_more d i xs ys inx iny told =
     let x = get_or xs i 0 in
     let y = get_or ys i 0 in

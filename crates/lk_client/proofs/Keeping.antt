@@ -5,9 +5,9 @@ use Rattle.std.specs.Prelude.{Result, Ok, Err, IfOk, OnErr, IfSome}
 use Rattle.std.specs.List.{AllByRecursion}
 use Rattle.std.specs.declared.net.socket_addr.SocketAddr.{SocketAddr}
 use Rattle.lk_transport.specs.Chains.{Chain}
-use Rattle.lk_client.specs.Questions.{Place, Asker, IsAsked, IsReply, Hears, followed_to, ended_by, SendsOnce}
+use Rattle.lk_client.specs.Questions.{Endpoint, Asker, IsAsked, IsReply, HearsNext, followed_to, ended_by, SendsOnce}
 use Rattle.lk_client.specs.Questions.{SendsEach, Receives, WaitsFor, Tries, TriesInVain, TriesUntil, Exchanges}
-use Rattle.lk_client.specs.Rules.{SendsOnly, IsReplied, KeepsRule, Asks}
+use Rattle.lk_client.specs.Rules.{SendsOnly, IsReplied, KeepsRule, AsksInTurn}
 use Rattle.lk_client.specs.declared.question.Heard.{Heard}
 use Rattle.lk_client.specs.declared.question.Heard.TheVariants.{Nothing, Other, Reply}
 use Rattle.lk_client.specs.declared.question.Question.{Question}
@@ -34,19 +34,20 @@ only_both {q = q} {old = old} one two = record {
   same = all_both (λ (d : SocketAddr × List ℕ). IsAsked q d.1) one.more two.more one.same two.same;
 }
 
-only_once : (q : Question) (place : Place) (bytes : List ℕ) (old : Datagrams) (f : ℕ) (new : Datagrams) (g : ℕ)
-    → IsAsked q bytes → SendsOnce place bytes old f new g
+only_once : (q : Question) (endpoint : Endpoint) (bytes : List ℕ) (old : Datagrams) (f : ℕ) (new : Datagrams) (g : ℕ)
+    → IsAsked q bytes → SendsOnce endpoint bytes old f new g
     → SendsOnly q old new
-only_once q place bytes old f new g asked (inl s) =
+only_once q endpoint bytes old f new g asked (inl s) =
     record { more = (s.0, bytes) ∷ []; behind = s.2; same = (asked, tt) }
-only_once q place bytes old f new g asked (inr none) = only_nothing q old new none.0
+only_once q endpoint bytes old f new g asked (inr none) = only_nothing q old new none.0
 
-only_each : (q : Question) (places : List Place) (bytes : List ℕ) (old : Datagrams) (f : ℕ) (new : Datagrams) (g : ℕ)
-    → IsAsked q bytes → SendsEach places bytes old f new g
+only_each : (q : Question) (endpoints : List Endpoint) (bytes : List ℕ) (old : Datagrams) (f : ℕ) (new : Datagrams)
+    (g : ℕ)
+    → IsAsked q bytes → SendsEach endpoints bytes old f new g
     → SendsOnly q old new
 only_each q [] bytes old f new g asked s = only_nothing q old new s.0
-only_each q (place ∷ places) bytes old f new g asked s =
-    only_both (only_once q place bytes old f s.0 s.1 asked s.2) (only_each q places bytes s.0 s.1 new g asked s.3)
+only_each q (endpoint ∷ endpoints) bytes old f new g asked s =
+    only_both (only_once q endpoint bytes old f s.0 s.1 asked s.2) (only_each q endpoints bytes s.0 s.1 new g asked s.3)
 
 module _ {S : Type 0} (sent : S → List (SocketAddr × List ℕ)) (failures : S → ℕ)
     (next : S → Option (SocketAddr × List ℕ)) (q : Question) where
@@ -103,7 +104,7 @@ some_same x y e = cc e
 module _ {S : Type 0} (sent : S → List (SocketAddr × List ℕ)) (failures : S → ℕ)
     (next : S → Option (SocketAddr × List ℕ)) (q : Question) where
   replied_by : (reply : ReplyValue) (heard : Heard) (bytes : List ℕ) (old new : Asker S) → Some reply ≡ ended_by heard
-      → Hears q (next old.socket) heard
+      → HearsNext q (next old.socket) heard
       → SendsEach (followed_to q.destination heard old.followed) bytes (sent old.socket) (failures old.socket)
       (sent new.socket) (failures new.socket)
       → IsReplied sent next q reply new.socket
@@ -168,13 +169,13 @@ module _ {S : Type 0} (sent : S → List (SocketAddr × List ℕ)) (failures : S
   pub asks_alone : {E : Type 0} (turns : List ℕ) (old new : S) (result : Result (Option ReplyValue) E)
       → length turns < 1
       → IfOk result (λ (told : Option ReplyValue). Exchanges sent failures next q 50 (q.port ∷ []) told old new)
-      → IfOk result (λ (told : Option ReplyValue). Asks sent failures next q turns told old new)
+      → IfOk result (λ (told : Option ReplyValue). AsksInTurn sent failures next q turns told old new)
   asks_alone [] old new result none e = all_keep 50 (q.port ∷ []) old new result e
   asks_alone (port ∷ ports) old new result none e = absurd (omega (arith, none))
 
   pub asks_several : {E : Type 0} (turns : List ℕ) (old new : S) (result : Result (Option ReplyValue) E)
       → 1 ≤ length turns
       → IfOk result (λ (told : Option ReplyValue). Exchanges sent failures next q 5 turns told old new)
-      → IfOk result (λ (told : Option ReplyValue). Asks sent failures next q turns told old new)
+      → IfOk result (λ (told : Option ReplyValue). AsksInTurn sent failures next q turns told old new)
   asks_several [] old new result some e = absurd (omega (arith, some))
   asks_several (port ∷ ports) old new result some e = all_keep 5 (port ∷ ports) old new result e

@@ -22,10 +22,10 @@ use Rattle.lk_client.specs.declared.reply.Reply.{Reply as ReplyValue}
 use Rattle.lk_client.specs.declared.reply.Reply.TheVariants.{Answer, Passed, Elsewhere}
 
 -- an address, and a port of it
-abbrev pub Place : Type 0
-Place = IpAddr × ℕ
+abbrev pub Endpoint : Type 0
+Endpoint = IpAddr × ℕ
 
-abbrev pub IsAt : Place → SocketAddr → Type 0
+abbrev pub IsAt : Endpoint → SocketAddr → Type 0
 IsAt p a = (socket_ip a ≡ p.0) × (socket_port a ≡ p.1)
 
 -- the address that is known, or else the other one
@@ -54,14 +54,14 @@ IsReply q bytes r = (node : ℕ)
     (replied (key_list q.destination.seals.keys) q.destination.seals.cluster q.request.client bytes)
 
 -- what the client receives if this arrives next: a reply if it is one to the request, nothing if nothing arrives
-abbrev pub Hears : Question → Option (SocketAddr × List ℕ) → Heard → Type 0
-Hears q next Nothing = next ≡ None
-Hears q next Other = (d : SocketAddr × List ℕ) × (next ≡ Some d) × ((r : ReplyValue) → IsReply q d.1 r → ⊥)
-Hears q next (Reply r) = (d : SocketAddr × List ℕ) × (next ≡ Some d) × IsReply q d.1 r
+abbrev pub HearsNext : Question → Option (SocketAddr × List ℕ) → Heard → Type 0
+HearsNext q next Nothing = next ≡ None
+HearsNext q next Other = (d : SocketAddr × List ℕ) × (next ≡ Some d) × ((r : ReplyValue) → IsReply q d.1 r → ⊥)
+HearsNext q next (Reply r) = (d : SocketAddr × List ℕ) × (next ≡ Some d) × IsReply q d.1 r
 
 -- where the client resends the request: if it has followed fewer than 20 Elsewhere replies, to the member that this
 -- one names
-abbrev pub followed_to : Destination → Heard → ℕ → List Place
+abbrev pub followed_to : Destination → Heard → ℕ → List Endpoint
 followed_to f (Reply (Elsewhere m)) count = if nat_lt count 20 then (destination_address f m, m.port) ∷ [] else []
 followed_to f (Reply (Answer a)) count = []
 followed_to f (Reply (Passed last)) count = []
@@ -77,17 +77,17 @@ ended_by Nothing = None
 ended_by Other = None
 
 -- the bytes were sent once, to that place, or a send failed, which is counted, and nothing was sent
-abbrev pub SendsOnce : Place → List ℕ → List (SocketAddr × List ℕ) → ℕ → List (SocketAddr × List ℕ) → ℕ → Type 0
-SendsOnce place bytes old failures new failures_new =
-    ((to : SocketAddr) × IsAt place to × (new ≡ old ++ (to, bytes) ∷ []) × (failures_new ≡ failures))
+abbrev pub SendsOnce : Endpoint → List ℕ → List (SocketAddr × List ℕ) → ℕ → List (SocketAddr × List ℕ) → ℕ → Type 0
+SendsOnce endpoint bytes old failures new failures_new =
+    ((to : SocketAddr) × IsAt endpoint to × (new ≡ old ++ (to, bytes) ∷ []) × (failures_new ≡ failures))
     ⊎ ((new ≡ old) × (failures_new ≡ one_more failures))
 
 -- the bytes were sent to each of these places in turn, as above, and nothing else was sent
-abbrev pub SendsEach : List Place → List ℕ → List (SocketAddr × List ℕ) → ℕ → List (SocketAddr × List ℕ) → ℕ → Type 0
+abbrev pub SendsEach : List Endpoint → List ℕ → List (SocketAddr × List ℕ) → ℕ → List (SocketAddr × List ℕ) → ℕ → Type 0
 SendsEach [] bytes old failures new failures_new = (new ≡ old) × (failures_new ≡ failures)
-SendsEach (place ∷ places) bytes old failures new failures_new =
-    (mid : List (SocketAddr × List ℕ)) × (failures_mid : ℕ) × SendsOnce place bytes old failures mid failures_mid
-    × SendsEach places bytes mid failures_mid new failures_new
+SendsEach (endpoint ∷ endpoints) bytes old failures new failures_new =
+    (mid : List (SocketAddr × List ℕ)) × (failures_mid : ℕ) × SendsOnce endpoint bytes old failures mid failures_mid
+    × SendsEach endpoints bytes mid failures_mid new failures_new
 
 -- the reply is an Answer or a Passed, which tells the fate of the request
 abbrev pub IsTold : ReplyValue → Type 0
@@ -108,7 +108,7 @@ module _ {S : Type 0} (sent : S → List (SocketAddr × List ℕ)) (failures : S
   -- the bytes go to the member named there, and nothing else is sent
   pub record Receives (bytes : List ℕ) (told : Option ReplyValue) (old new : Asker S) : Type 0 where
     pub heard : Heard
-    pub hears : Hears q (next old.socket) heard
+    pub hears : HearsNext q (next old.socket) heard
     pub tells : told ≡ ended_by heard
     pub follows : new.followed ≡ old.followed + length (followed_to q.destination heard old.followed)
     pub sends : SendsEach (followed_to q.destination heard old.followed) bytes (sent old.socket) (failures old.socket)

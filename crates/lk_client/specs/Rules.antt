@@ -36,11 +36,11 @@ module _ {S : Type 0} (sent : S → List (SocketAddr × List ℕ)) (failures : S
     pub ends : IfSome told (λ (reply : ReplyValue). IsReplied sent next q reply new)
 
   -- it asks these ports, with 5 receives each, or, if there are none, the question's own with 50
-  abbrev pub Asks : List ℕ → Option ReplyValue → S → S → Type 0
-  Asks [] told old new = KeepsRule 50 (q.port ∷ []) told old new
-  Asks (port ∷ ports) told old new = KeepsRule 5 (port ∷ ports) told old new
+  abbrev pub AsksInTurn : List ℕ → Option ReplyValue → S → S → Type 0
+  AsksInTurn [] told old new = KeepsRule 50 (q.port ∷ []) told old new
+  AsksInTurn (port ∷ ports) told old new = KeepsRule 5 (port ∷ ports) told old new
 
   -- the client has a reply, or asked in vain
   abbrev pub Comes : List ℕ → Bool → S → S → Type 0
-  Comes turns true old new = (reply : ReplyValue) × Asks turns (Some reply) old new
-  Comes turns false old new = Asks turns None old new
+  Comes turns true old new = (reply : ReplyValue) × AsksInTurn turns (Some reply) old new
+  Comes turns false old new = AsksInTurn turns None old new

@@ -3,8 +3,8 @@
 ghost use Rattle.std.specs.Prelude.{◌≡◌, ◌≤◌, ◌⊎◌, ◌↔◌, true, Some, IfOk, IfErr, OnErr, IfSome, IsSomeAnd};
 ghost use Rattle.lk_messages.specs.Grammar.{Spells};
 ghost use Rattle.lk_transport.specs.ReceiveBuffers.{next_of};
-ghost use Rattle.lk_client.specs.Questions.{asking, IsAsked, Hears, SendsOnce, Receives, Tries, Exchanges, IsTold};
-ghost use Rattle.lk_client.specs.Rules.{SendsOnly, Asks, Comes};
+ghost use Rattle.lk_client.specs.Questions.{asking, IsAsked, HearsNext, SendsOnce, Receives, Tries, Exchanges, IsTold};
+ghost use Rattle.lk_client.specs.Rules.{SendsOnly, AsksInTurn, Comes};
 ghost use Rattle.lk_client.specs.declared.reply.Reply.{Reply as ReplyValue};
 
 use crate::destination::Destination;
@@ -75,7 +75,7 @@ pub fn next_reply<S: DatagramSocket>(
     socket: &mut S,
     question: &Question,
 ) -> Heard
-    ensures heard { S.is_observable → Hears question.now (next_of S.incoming socket.old) result }
+    ensures heard { S.is_observable → HearsNext question.now (next_of S.incoming socket.old) result }
     ensures unchanged { S.sent socket.new ≡ S.sent socket.old }
     ensures spares { S.failures socket.new ≡ S.failures socket.old }
 {
@@ -113,12 +113,12 @@ fn bytes_to_send(alloc: Global, question: &Question) -> Result<Vec<u8>, ServiceF
 }
 
 // Sends bytes to a port of an address. A failed send is ignored, as if the datagram were lost.
-fn send<S: DatagramSocket>(socket: &mut S, address: IpAddr, port: Port, bytes: &[u8])
-    ensures { S.is_observable → SendsOnce (address, port) bytes.now (S.sent socket.old) (S.failures socket.old)
+fn send<S: DatagramSocket>(socket: &mut S, host: IpAddr, port: Port, bytes: &[u8])
+    ensures { S.is_observable → SendsOnce (host, port) bytes.now (S.sent socket.old) (S.failures socket.old)
         (S.sent socket.new) (S.failures socket.new) }
 {
-    let place = SocketAddr::from((address, port.get()));
-    let _ = socket.send_to(place, bytes);
+    let address = SocketAddr::from((host, port.get()));
+    let _ = socket.send_to(address, bytes);
 }
 
 // Receives once, and returns an Answer or a Passed. For an Elsewhere it resends the bytes to the member named there, if
@@ -231,7 +231,7 @@ pub fn exchange<S: DatagramSocket>(
     ensures same { S.is_observable → SendsOnly question.now (S.sent socket.old) (S.sent socket.new) }
     // It keeps the rule of a client that asks one request.
     ensures rule { S.is_observable
-        → IfOk result (λ told. Asks S.sent S.failures
+        → IfOk result (λ told. AsksInTurn S.sent S.failures
         (next_of S.incoming) question.now ports.now told socket.old socket.new) }
     ensures told { IfOk result (λ reply. IfSome reply IsTold) }
     ensures unchanged { OnErr result (socket.new ≡ socket.old) }
@@ -309,7 +309,7 @@ pub fn ask<S: DatagramSocket, W: Write, E: Write>(
     ensures same { S.is_observable → SendsOnly question.now (S.sent socket.old) (S.sent socket.new) }
     // Status 0 only if it has sent the request and learned its fate.
     ensures asked { S.is_observable → result ≡ 0
-        → (reply : ReplyValue) × Asks S.sent S.failures (next_of S.incoming) question.now ports.now
+        → (reply : ReplyValue) × AsksInTurn S.sent S.failures (next_of S.incoming) question.now ports.now
         (Some reply) socket.old socket.new }
 {
     match ask_and_write(alloc, socket, question, ports, out) {

@@ -19,7 +19,7 @@ use Rattle.lk_node_interface.specs.declared.note.Note.TheVariants as note
 use Rattle.lk_client.specs.declared.question.Question.{Question}
 use Rattle.lk_guarantees.specs.Guarantee.{is_reply, AreReplies, nothing_more, an_answer, a_pass, no_reply, is_told}
 use Rattle.lk_guarantees.specs.Guarantee.{AreTold}
-use Rattle.lk_cluster_theorems.specs.Asking.{Tells, MayReach, HasAnswer}
+use Rattle.lk_cluster_theorems.specs.Asking.{BringsAnswer, MayReach, HasAnswer}
 
 abbrev noted_as : ℕ → Answered → Note
 noted_as node a = note.Answered node a.client a.number a.answer
@@ -78,7 +78,8 @@ noted all notes (no_reply {datagrams = ds} {notes = rest} d m spelled none later
 
 pub was_given : (genesis : Genesis) (sent : List Datagram) (trace : List Note) → AreTold sent trace
     → (q : Question) (d : SocketAddr × List ℕ) (answer : Answer)
-    → q.cluster ≡ genesis.cluster → Tells q d answer → MayReach genesis sent q d → HasAnswer trace q.request answer
+    → q.cluster ≡ genesis.cluster → BringsAnswer q d answer → MayReach genesis sent q d
+    → HasAnswer trace q.request answer
 was_given genesis sent trace told q d answer cluster tells may =
     let a : Answered = record { client = q.request.client; number = q.request.number; answer = answer } in
     let bytes : List ℕ = replied (key_list q.destination.seals.keys) q.destination.seals.cluster q.request.client d.1 in

@@ -18,7 +18,7 @@ use Rattle.lk_node_interface.specs.declared.note.Note.{Note}
 use Rattle.lk_node_interface.specs.declared.note.Note.TheVariants as note
 use Rattle.lk_client.specs.Questions.{IsAsked}
 use Rattle.lk_client.specs.declared.question.Question.{Question}
-use Rattle.lk_guarantees.specs.ExactlyOnce.{Asks, WasAnswered, AsksAfter, FollowsRule}
+use Rattle.lk_guarantees.specs.ExactlyOnce.{IsAskedBy, WasAnswered, AsksAfter, FollowsRule}
 use Rattle.lk_cluster_theorems.specs.Asking.{Carries, MayAsk, OnlyRunAsks, Run, AreRuns, notes_of}
 
 -- ---- the request that a datagram carries
@@ -80,27 +80,28 @@ module _ (q : Question) (before later : List Note) (datagrams : List (SocketAddr
     (rule : FollowsRule before q.request.client) (may : MayAsk before q.request)
     (only : OnlyRunAsks q before later datagrams) where
   -- what is asked later was asked earlier, or is the request of the run
-  of_run : (x : Request) → Asks later q.request.client x → Asks before q.request.client x ⊎ (x ≡ q.request)
+  of_run : (x : Request) → IsAskedBy later q.request.client x → IsAskedBy before q.request.client x ⊎ (x ≡ q.request)
   of_run x asks = elim (only x asks) [
     | inl earlier ↦ inl earlier
     | inr c ↦ inr (carried q x c.0 (all_at (λ (d : SocketAddr × List ℕ). IsAsked q d.1) datagrams c.0 run c.1) c.2)
   ]
 
-  of_both : (x : Request) → Asks (before ++ later) q.request.client x → Asks before q.request.client x ⊎ (x ≡ q.request)
+  of_both : (x : Request) → IsAskedBy (before ++ later) q.request.client x → IsAskedBy before q.request.client x
+      ⊎ (x ≡ q.request)
   of_both x asks = elim (Contains-append_cases before later (note.Asked x) asks.0) [
     | inl earlier ↦ inl (earlier, asks.1)
     | inr c ↦ of_run x (c, asks.1)
   ]
 
   -- an earlier one of the same number is the same
-  same_number : (x y : Request) → Asks before q.request.client x → y ≡ q.request → x.number ≡ y.number → x ≡ y
+  same_number : (x y : Request) → IsAskedBy before q.request.client x → y ≡ q.request → x.number ≡ y.number → x ≡ y
   same_number x y asks is same = elim (may x asks) [
     | inl e ↦ e ∙ sym is
     | inr below ↦ absurd (omega (arith, below.0, same, ap (λ (r : Request). r.number) is))
   ]
 
-  one_operation : (x y : Request) → Asks (before ++ later) q.request.client x
-      → Asks (before ++ later) q.request.client y → x.number ≡ y.number → x ≡ y
+  one_operation : (x y : Request) → IsAskedBy (before ++ later) q.request.client x
+      → IsAskedBy (before ++ later) q.request.client y → x.number ≡ y.number → x ≡ y
   one_operation x y asks_x asks_y same = elim (of_both x asks_x) [
     | inl x_earlier ↦ elim (of_both y asks_y) [
       | inl y_earlier ↦ rule.one_operation x y x_earlier y_earlier same
@@ -127,7 +128,8 @@ module _ (q : Question) (before later : List Note) (datagrams : List (SocketAddr
         (rule.rises front x y earlier, rule.waits front x y earlier)
 
     -- the second one is that of the run, and the first one was asked earlier
-    one_earlier : (mid : List Note) → front ≡ before ++ mid → y ≡ q.request → Asks before q.request.client x → Precedes
+    one_earlier : (mid : List Note) → front ≡ before ++ mid → y ≡ q.request → IsAskedBy before q.request.client x
+        → Precedes
     one_earlier mid there is asks = elim (may x asks) [
       | inl same ↦ absurd (differs (same ∙ sym is))
       | inr below ↦ (

@@ -28,15 +28,15 @@ excused disks left n genesis number by why = elim by [
 
 pub comes_back : (May : Network) (Metered tells : Type 0) → Unforged May → (Honest : Type 0) → Honest
     → (genesis : Genesis) (cluster : Cluster) → IsReachable May Metered tells genesis cluster
-    → (place n : ℕ) (device : Memory) → HasNode cluster place n (Down device)
+    → (index n : ℕ) (device : Memory) → HasNode cluster index n (Down device)
     → (disks : Side → Disk) → ((s : Side) → disk_of device s ≡ disks s) → (number : ℕ) (left : Side → Disk)
     → IsRestartRefused table_meaning IsTableText Honest disks (header_of cluster.genesis n) number left
     → IsExcused disks number
-comes_back May Metered tells unforged Honest honest genesis cluster all place n device at disks
+comes_back May Metered tells unforged Honest honest genesis cluster all index n device at disks
     same number left refused =
     let h = happened cluster.genesis cluster.sent cluster.trace in
     let down = holds_down ServerStands server_disks table_meaning cluster
-    (reachable_sound May Metered tells unforged genesis cluster all).holds place
+    (reachable_sound May Metered tells unforged genesis cluster all).holds index
     (node_of n (Down device)) at device refl in
     let fit : DisksFit table_meaning h n disks =
     subst (λ (d : Side → Disk). DisksFit table_meaning h n d) (λ i s. same s i) down.1 in

@@ -35,10 +35,10 @@ use Rattle.lk_cluster_theorems.proofs.Tracing.{Traced, trace_group}
 
 -- the cluster in which that node is so, and has given these letters to be sent, and this has joined the trace
 abbrev pub continued : Cluster → ℕ → ℕ → Life (ServerValue ReplicaValue) → List LetterValue → List Note → Cluster
-continued old place n life letters trace =
+continued old index n life letters trace =
     record {
       genesis = old.genesis;
-      seats = set old.seats place (node_of n life);
+      seats = set old.seats index (node_of n life);
       sent = old.sent ++ batch_of n letters;
       trace = old.trace ++ trace;
       ended = old.ended;
@@ -55,13 +55,13 @@ module _ (May : Network) (Metered tells : Type 0) where
       → Happens May Metered tells old new → IsReachable May Metered tells genesis new
   goes_on genesis old new all more = (all.0 ++ new ∷ [], happen_more (nothing genesis) old new all.0 all.1 more)
 
-  continues_with : (genesis : Genesis) (old : Cluster) (place n : ℕ) (life : Life (ServerValue ReplicaValue))
+  continues_with : (genesis : Genesis) (old : Cluster) (index n : ℕ) (life : Life (ServerValue ReplicaValue))
       (letters : List LetterValue) (trace : List Note)
-      → IsReachable May Metered tells genesis (continued old place n life letters trace)
-      → Continues May Metered tells genesis old place n life letters
-  continues_with genesis old place n life letters trace all =
+      → IsReachable May Metered tells genesis (continued old index n life letters trace)
+      → Continues May Metered tells genesis old index n life letters
+  continues_with genesis old index n life letters trace all =
       record {
-        cluster = continued old place n life letters trace;
+        cluster = continued old index n life letters trace;
         reachable = all;
         began = refl;
         seats = refl;
@@ -70,20 +70,20 @@ module _ (May : Network) (Metered tells : Type 0) where
 
   -- a start
   pub start_comes : (genesis : Genesis) (old : Cluster) → IsReachable May Metered tells genesis old
-      → (place n : ℕ) (device : Memory) → HasNode old place n (Down device) → (disks : Side → Disk)
+      → (index n : ℕ) (device : Memory) → HasNode old index n (Down device) → (disks : Side → Disk)
       → ((s : Side) → disk_of device s ≡ disks s)
       → (server : ServerValue ReplicaValue) → IsBegun old.genesis n disks server
-      → (trace : List Note) × IsReachable May Metered tells genesis (continued old place n (Up server) [] trace)
-  start_comes genesis old all place n device at disks same server is =
+      → (trace : List Note) × IsReachable May Metered tells genesis (continued old index n (Up server) [] trace)
+  start_comes genesis old all index n device at disks same server is =
       let path : disks ≡ disk_of device = λ i s. sym (same s) i in
       let begun : IsBegun old.genesis n (disk_of device) server =
       subst (λ (d : Side → Disk). IsBegun old.genesis n d server) path is in
-      let new = continued old place n (Up server) [] begun.notes in
+      let new = continued old index n (Up server) [] begun.notes in
       let starts : Starts old new = record {
         restarts = record {
           seat = node_of n (Down device);
           next = node_of n (Up server);
-          turns = record { place = place; at = at; number = refl; seats = refl };
+          turns = record { index = index; at = at; number = refl; seats = refl };
           device = device;
           down = refl;
           replica = server;
@@ -97,24 +97,24 @@ module _ (May : Network) (Metered tells : Type 0) where
       } in (begun.notes, goes_on genesis old new all (inr (inl starts)))
 
   pub start_continues : (genesis : Genesis) (old : Cluster) → IsReachable May Metered tells genesis old
-      → (place n : ℕ) (device : Memory) → HasNode old place n (Down device)
+      → (index n : ℕ) (device : Memory) → HasNode old index n (Down device)
       → (disks : Side → Disk) → ((s : Side) → disk_of device s ≡ disks s) → (server : ServerValue ReplicaValue)
-      → IsBegun old.genesis n disks server → Continues May Metered tells genesis old place n (Up server) []
-  start_continues genesis old all place n device at disks same server is =
-      let t = start_comes genesis old all place n device at disks same server is in
-      continues_with genesis old place n (Up server) [] t.0 t.1
+      → IsBegun old.genesis n disks server → Continues May Metered tells genesis old index n (Up server) []
+  start_continues genesis old all index n device at disks same server is =
+      let t = start_comes genesis old all index n device at disks same server is in
+      continues_with genesis old index n (Up server) [] t.0 t.1
 
   -- a start that is refused
   pub refused_start_continues : (genesis : Genesis) (old : Cluster) → IsReachable May Metered tells genesis old
-      → (place n : ℕ) (device : Memory) → HasNode old place n (Down device)
+      → (index n : ℕ) (device : Memory) → HasNode old index n (Down device)
       → (left : Memory) → RestsBy table_meaning old.genesis n (disk_of device) (disk_of left)
-      → Continues May Metered tells genesis old place n (Down left) []
-  refused_start_continues genesis old all place n device at left rests =
-      let new = continued old place n (Down left) [] [] in
+      → Continues May Metered tells genesis old index n (Down left) []
+  refused_start_continues genesis old all index n device at left rests =
+      let new = continued old index n (Down left) [] [] in
       let stays : Rests table_meaning old new = record {
         seat = node_of n (Down device);
         next = node_of n (Down left);
-        turns = record { place = place; at = at; number = refl; seats = refl };
+        turns = record { index = index; at = at; number = refl; seats = refl };
         device = device;
         down = refl;
         left = left;
@@ -122,19 +122,19 @@ module _ (May : Network) (Metered tells : Type 0) where
         rests = rests;
         adds = record { genesis = refl; sent = refl; trace = refl };
       } in
-      continues_with genesis old place n (Down left) [] [] (goes_on genesis old new all (inr (inr (inl stays))))
+      continues_with genesis old index n (Down left) [] [] (goes_on genesis old new all (inr (inr (inl stays))))
 
   -- a stop of a node that is up
   pub stop_continues : (genesis : Genesis) (old : Cluster) → IsReachable May Metered tells genesis old
-      → (place n : ℕ) (server : ServerValue ReplicaValue) → HasNode old place n (Up server)
+      → (index n : ℕ) (server : ServerValue ReplicaValue) → HasNode old index n (Up server)
       → (left : Memory) → ((s : Side) → (k : ℕ) × (disk_of left s ≡ after_stop k (server_disks server s)))
-      → Continues May Metered tells genesis old place n (Down left) []
-  stop_continues genesis old all place n server at left kept =
-      let new = continued old place n (Down left) [] [] in
+      → Continues May Metered tells genesis old index n (Down left) []
+  stop_continues genesis old all index n server at left kept =
+      let new = continued old index n (Down left) [] [] in
       let stops : Stops server_disks old new = record {
         seat = node_of n (Up server);
         next = node_of n (Down left);
-        turns = record { place = place; at = at; number = refl; seats = refl };
+        turns = record { index = index; at = at; number = refl; seats = refl };
         left = left;
         down = refl;
         was_up = λ q up s. subst
@@ -143,22 +143,22 @@ module _ (May : Network) (Metered tells : Type 0) where
         was_down = λ d is. absurd (cc is);
         adds = record { genesis = refl; sent = refl; trace = refl };
       } in
-      continues_with genesis old place n (Down left) [] []
+      continues_with genesis old index n (Down left) [] []
       (goes_on genesis old new all (inr (inr (inr (inr (inr (inr stops)))))))
 
   -- an idle turn, or what is done beside the protocol
   rest_comes : (genesis : Genesis) (old : Cluster) → IsReachable May Metered tells genesis old
-      → (place n : ℕ) (server after : ServerValue ReplicaValue) → HasNode old place n (Up server)
+      → (index n : ℕ) (server after : ServerValue ReplicaValue) → HasNode old index n (Up server)
       → ((frames : List (SocketAddr × List ℕ)) × IsIdle tells frames server after)
       ⊎ ((asked : Option ReceivedProbe) × (reported : Option Reported)
       × HandlesProbes IsShown tells asked reported server after)
-      → IsReachable May Metered tells genesis (continued old place n (Up after) [] [])
-  rest_comes genesis old all place n server after at idle =
-      let new = continued old place n (Up after) [] [] in
+      → IsReachable May Metered tells genesis (continued old index n (Up after) [] [])
+  rest_comes genesis old all index n server after at idle =
+      let new = continued old index n (Up after) [] [] in
       let idles : Idles tells old new = record {
         node = node_of n (Up server);
         next = node_of n (Up after);
-        turns = record { place = place; at = at; number = refl; seats = refl };
+        turns = record { index = index; at = at; number = refl; seats = refl };
         server = server;
         was = refl;
         after = after;
@@ -169,60 +169,60 @@ module _ (May : Network) (Metered tells : Type 0) where
       goes_on genesis old new all (inr (inr (inr (inr (inl idles)))))
 
   pub idle_comes : (genesis : Genesis) (old : Cluster) → IsReachable May Metered tells genesis old
-      → (place n : ℕ) (server after : ServerValue ReplicaValue) → HasNode old place n (Up server)
+      → (index n : ℕ) (server after : ServerValue ReplicaValue) → HasNode old index n (Up server)
       → (frames : List (SocketAddr × List ℕ)) → IsIdle tells frames server after
-      → IsReachable May Metered tells genesis (continued old place n (Up after) [] [])
-  idle_comes genesis old all place n server after at frames idle =
-      rest_comes genesis old all place n server after at (inl (frames, idle))
+      → IsReachable May Metered tells genesis (continued old index n (Up after) [] [])
+  idle_comes genesis old all index n server after at frames idle =
+      rest_comes genesis old all index n server after at (inl (frames, idle))
 
   pub idle_continues : (genesis : Genesis) (old : Cluster) → IsReachable May Metered tells genesis old
-      → (place n : ℕ) (server after : ServerValue ReplicaValue) → HasNode old place n (Up server)
+      → (index n : ℕ) (server after : ServerValue ReplicaValue) → HasNode old index n (Up server)
       → (frames : List (SocketAddr × List ℕ)) → IsIdle tells frames server after
-      → Continues May Metered tells genesis old place n (Up after) []
-  idle_continues genesis old all place n server after at frames idle =
-      continues_with genesis old place n (Up after) [] []
-      (idle_comes genesis old all place n server after at frames idle)
+      → Continues May Metered tells genesis old index n (Up after) []
+  idle_continues genesis old all index n server after at frames idle =
+      continues_with genesis old index n (Up after) [] []
+      (idle_comes genesis old all index n server after at frames idle)
 
   module _ (unforged : Unforged May) where
     -- a turn has a trace
-    turn_trace : (old : Cluster) (w : IsSound old) (place n : ℕ) (server after : ServerValue ReplicaValue)
-        → HasNode old place n (Up server) → (came : List (SocketAddr × List ℕ)) → May old.genesis old.sent server came
+    turn_trace : (old : Cluster) (w : IsSound old) (index n : ℕ) (server after : ServerValue ReplicaValue)
+        → HasNode old index n (Up server) → (came : List (SocketAddr × List ℕ)) → May old.genesis old.sent server came
         → (turn : Turn (Says Metered) tells came server after)
         → Traced old.genesis n turn.given (steps_of Metered turn.hands_on.says.comes)
-    turn_trace old w place n server after at came may turn =
+    turn_trace old w index n server after at came may turn =
         let node = node_of n (Up server) in
         let may_all = turn_takes May Metered tells unforged old old w n 64 server came turn.given turn.may
-        (w.own place node at server refl) may in
-        trace_group old.genesis n old.seats place node at after Metered turn.given server.replica turn.hands_on.letters
+        (w.own index node at server refl) may in
+        trace_group old.genesis n old.seats index node at after Metered turn.given server.replica turn.hands_on.letters
         after.replica old.sent old.trace may_all
-        (with_replica old w place node at server after refl) turn.hands_on.says
+        (with_replica old w index node at server after refl) turn.hands_on.says
 
-    last_trace : (old : Cluster) (w : IsSound old) (place n : ℕ) (server after : ServerValue ReplicaValue)
-        → HasNode old place n (Up server) → (came : List (SocketAddr × List ℕ)) → May old.genesis old.sent server came
+    last_trace : (old : Cluster) (w : IsSound old) (index n : ℕ) (server after : ServerValue ReplicaValue)
+        → HasNode old index n (Up server) → (came : List (SocketAddr × List ℕ)) → May old.genesis old.sent server came
         → (turn : LastTurn (Says Metered) tells came server after)
         → Traced old.genesis n turn.given (steps_of Metered turn.hands_on.says.comes)
-    last_trace old w place n server after at came may turn =
+    last_trace old w index n server after at came may turn =
         let node = node_of n (Up server) in
         let may_all = ended_may old.genesis old.sent turn.given turn.first.whole turn.first.front
         (turn_takes May Metered tells unforged old old w n turn.count server came turn.first.whole turn.first.may
-        (w.own place node at server refl) may) in
-        trace_group old.genesis n old.seats place node at after Metered turn.given server.replica turn.hands_on.letters
+        (w.own index node at server refl) may) in
+        trace_group old.genesis n old.seats index node at after Metered turn.given server.replica turn.hands_on.letters
         after.replica old.sent old.trace may_all
-        (with_replica old w place node at server after refl) turn.hands_on.says
+        (with_replica old w index node at server after refl) turn.hands_on.says
 
     -- a turn
-    turn_happens : (old : Cluster) → IsSound old → (place n : ℕ) (server after : ServerValue ReplicaValue)
-        → HasNode old place n (Up server) → (came : List (SocketAddr × List ℕ)) → May old.genesis old.sent server came
+    turn_happens : (old : Cluster) → IsSound old → (index n : ℕ) (server after : ServerValue ReplicaValue)
+        → HasNode old index n (Up server) → (came : List (SocketAddr × List ℕ)) → May old.genesis old.sent server came
         → (turn : Turn (Says Metered) tells came server after) → after.replica.failed ≡ false
         → (trace : List Note) × TakesTurn May Metered tells old
-        (continued old place n (Up after) turn.hands_on.letters trace)
-    turn_happens old w place n server after at came may turn alive =
-        let traced = turn_trace old w place n server after at came may turn in (
+        (continued old index n (Up after) turn.hands_on.letters trace)
+    turn_happens old w index n server after at came may turn alive =
+        let traced = turn_trace old w index n server after at came may turn in (
           traced.0,
           record {
             node = node_of n (Up server);
             next = node_of n (Up after);
-            turns = record { place = place; at = at; number = refl; seats = refl };
+            turns = record { index = index; at = at; number = refl; seats = refl };
             server = server;
             was = refl;
             after = after;
@@ -239,45 +239,45 @@ module _ (May : Network) (Metered tells : Type 0) where
 
     -- the cluster after it
     turn_comes : (genesis : Genesis) (old : Cluster) → IsReachable May Metered tells genesis old
-        → (place n : ℕ) (server after : ServerValue ReplicaValue) → HasNode old place n (Up server)
+        → (index n : ℕ) (server after : ServerValue ReplicaValue) → HasNode old index n (Up server)
         → (came : List (SocketAddr × List ℕ))
         → May old.genesis old.sent server came → (turn : Turn (Says Metered) tells came server after)
         → after.replica.failed ≡ false
         → (trace : List Note) × IsReachable May Metered tells genesis
-        (continued old place n (Up after) turn.hands_on.letters trace)
-    turn_comes genesis old all place n server after at came may turn alive =
+        (continued old index n (Up after) turn.hands_on.letters trace)
+    turn_comes genesis old all index n server after at came may turn alive =
         let t = turn_happens old
-        (reachable_sound May Metered tells unforged genesis old all) place n server after at came may turn alive in (
+        (reachable_sound May Metered tells unforged genesis old all) index n server after at came may turn alive in (
           t.0,
           goes_on genesis old
-              (continued old place n (Up after) turn.hands_on.letters t.0) all (inr (inr (inr (inl t.1)))),
+              (continued old index n (Up after) turn.hands_on.letters t.0) all (inr (inr (inr (inl t.1)))),
         )
 
     pub turn_continues : (genesis : Genesis) (old : Cluster) → IsReachable May Metered tells genesis old
-        → (place n : ℕ) (server after : ServerValue ReplicaValue) → HasNode old place n (Up server)
+        → (index n : ℕ) (server after : ServerValue ReplicaValue) → HasNode old index n (Up server)
         → (came : List (SocketAddr × List ℕ))
         → May old.genesis old.sent server came → (turn : Turn (Says Metered) tells came server after)
         → after.replica.failed ≡ false
-        → Continues May Metered tells genesis old place n (Up after) turn.hands_on.letters
-    turn_continues genesis old all place n server after at came may turn alive =
-        let t = turn_comes genesis old all place n server after at came may turn alive in
-        continues_with genesis old place n (Up after) turn.hands_on.letters t.0 t.1
+        → Continues May Metered tells genesis old index n (Up after) turn.hands_on.letters
+    turn_continues genesis old all index n server after at came may turn alive =
+        let t = turn_comes genesis old all index n server after at came may turn alive in
+        continues_with genesis old index n (Up after) turn.hands_on.letters t.0 t.1
 
     -- a turn that ends it
     pub last_turn_continues : (genesis : Genesis) (old : Cluster) → IsReachable May Metered tells genesis old
-        → (place n : ℕ) (server after : ServerValue ReplicaValue) → HasNode old place n (Up server)
+        → (index n : ℕ) (server after : ServerValue ReplicaValue) → HasNode old index n (Up server)
         → (came : List (SocketAddr × List ℕ))
         → May old.genesis old.sent server came → (turn : LastTurn (Says Metered) tells came server after)
         → after.replica.failed ≡ true → (left : Memory) → ((s : Side) → disk_of left s ≡ server_disks after s)
-        → Continues May Metered tells genesis old place n (Down left) turn.hands_on.letters
-    last_turn_continues genesis old all place n server after at came may turn ended left same =
+        → Continues May Metered tells genesis old index n (Down left) turn.hands_on.letters
+    last_turn_continues genesis old all index n server after at came may turn ended left same =
         let traced = last_trace old
-        (reachable_sound May Metered tells unforged genesis old all) place n server after at came may turn in
-        let new = continued old place n (Down left) turn.hands_on.letters traced.0 in
+        (reachable_sound May Metered tells unforged genesis old all) index n server after at came may turn in
+        let new = continued old index n (Down left) turn.hands_on.letters traced.0 in
         let ends : EndsByTurn May Metered tells old new = record {
           node = node_of n (Up server);
           next = node_of n (Down left);
-          turns = record { place = place; at = at; number = refl; seats = refl };
+          turns = record { index = index; at = at; number = refl; seats = refl };
           server = server;
           was = refl;
           after = after;
@@ -292,54 +292,54 @@ module _ (May : Network) (Metered tells : Type 0) where
           joins = traced.1;
           adds = record { genesis = refl; sent = refl; trace = refl };
         } in
-        continues_with genesis old place n (Down left) turn.hands_on.letters traced.0
+        continues_with genesis old index n (Down left) turn.hands_on.letters traced.0
         (goes_on genesis old new all (inr (inr (inr (inr (inr (inl ends)))))))
 
     -- what was continued and then continued again
-    pub twice : (genesis : Genesis) (old : Cluster) (place n : ℕ) (life last : Life (ServerValue ReplicaValue))
+    pub twice : (genesis : Genesis) (old : Cluster) (index n : ℕ) (life last : Life (ServerValue ReplicaValue))
         (first rest : List LetterValue) (trace : List Note)
-        → Continues May Metered tells genesis (continued old place n life first trace) place n last rest
-        → Continues May Metered tells genesis old place n last (first ++ rest)
-    twice genesis old place n life last first rest trace c = record {
+        → Continues May Metered tells genesis (continued old index n life first trace) index n last rest
+        → Continues May Metered tells genesis old index n last (first ++ rest)
+    twice genesis old index n life last first rest trace c = record {
       cluster = c.cluster;
       reachable = c.reachable;
       began = c.began;
-      seats = c.seats ∙ set_twice old.seats place (node_of n life) (node_of n last);
+      seats = c.seats ∙ set_twice old.seats index (node_of n life) (node_of n last);
       sent = c.sent ∙ append_assoc old.sent (batch_of n first) (batch_of n rest)
           ∙ ap (λ (l : List Datagram). old.sent ++ l) (sym (map-append (datagram_of n) first rest));
     }
 
     -- a cluster that was continued is continued again
-    pub joined_continues : (genesis : Genesis) (old : Cluster) (place n : ℕ)
+    pub joined_continues : (genesis : Genesis) (old : Cluster) (index n : ℕ)
         (life last : Life (ServerValue ReplicaValue)) (first rest : List LetterValue)
-        (c : Continues May Metered tells genesis old place n life first)
-        → Continues May Metered tells genesis c.cluster place n last rest
-        → Continues May Metered tells genesis old place n last (first ++ rest)
-    joined_continues genesis old place n life last first rest c d = record {
+        (c : Continues May Metered tells genesis old index n life first)
+        → Continues May Metered tells genesis c.cluster index n last rest
+        → Continues May Metered tells genesis old index n last (first ++ rest)
+    joined_continues genesis old index n life last first rest c d = record {
       cluster = d.cluster;
       reachable = d.reachable;
       began = d.began ∙ c.began;
-      seats = d.seats ∙ ap (λ (seats : List Node). set seats place (node_of n last)) c.seats
-          ∙ set_twice old.seats place (node_of n life) (node_of n last);
+      seats = d.seats ∙ ap (λ (seats : List Node). set seats index (node_of n last)) c.seats
+          ∙ set_twice old.seats index (node_of n life) (node_of n last);
       sent = d.sent ∙ ap (λ (l : List Datagram). l ++ batch_of n rest) c.sent
           ∙ append_assoc old.sent (batch_of n first) (batch_of n rest)
           ∙ ap (λ (l : List Datagram). old.sent ++ l) (sym (map-append (datagram_of n) first rest));
     }
 
     -- the node is so there
-    pub has_node : (genesis : Genesis) (old : Cluster) (place n : ℕ) (before life : Life (ServerValue ReplicaValue))
-        (letters : List LetterValue) → HasNode old place n before
-        → (c : Continues May Metered tells genesis old place n life letters)
-        → HasNode c.cluster place n life
-    has_node genesis old place n before life letters at c =
-        subst (λ (seats : List Node). At seats place (node_of n life)) (sym c.seats)
-        (at_set_here old.seats place (node_of n life) at.0)
+    pub has_node : (genesis : Genesis) (old : Cluster) (index n : ℕ) (before life : Life (ServerValue ReplicaValue))
+        (letters : List LetterValue) → HasNode old index n before
+        → (c : Continues May Metered tells genesis old index n life letters)
+        → HasNode c.cluster index n life
+    has_node genesis old index n before life letters at c =
+        subst (λ (seats : List Node). At seats index (node_of n life)) (sym c.seats)
+        (at_set_here old.seats index (node_of n life) at.0)
 
     -- no turn continues the cluster as it is
-    same_again : {X : Type 0} (xs : List X) (place : ℕ) (x : X) → At xs place x → xs ≡ set xs place x
-    same_again [] place x at = absurd (omega (arith, at.0))
+    same_again : {X : Type 0} (xs : List X) (index : ℕ) (x : X) → At xs index x → xs ≡ set xs index x
+    same_again [] index x at = absurd (omega (arith, at.0))
     same_again (y ∷ xs) zero x at = λ i. at.1 i ∷ xs
-    same_again (y ∷ xs) (suc place) x at = ap (λ l. y ∷ l) (same_again xs place x (omega (arith, at.0), at.1))
+    same_again (y ∷ xs) (suc index) x at = ap (λ l. y ∷ l) (same_again xs index x (omega (arith, at.0), at.1))
 
     -- turns, one after another, of a replica that says so
     module _ (S : ReplicaValue → List (Option (List ℕ)) → List LetterValue → ReplicaValue → Type 0)
@@ -360,73 +360,73 @@ module _ (May : Network) (Metered tells : Type 0) where
 
       -- one of them, or an idle one
       taken_comes : (genesis : Genesis) (old : Cluster) → IsReachable May Metered tells genesis old
-          → (place n : ℕ) (first next : ServerValue ReplicaValue) → HasNode old place n (Up first)
+          → (index n : ℕ) (first next : ServerValue ReplicaValue) → HasNode old index n (Up first)
           → (came frames : List (SocketAddr × List ℕ))
           → May old.genesis old.sent first came
           → (turn : Turn S tells came first next ⊎ IsIdle tells frames first next) → TellsFailure next
           → (trace : List Note) × IsReachable May Metered tells genesis
-          (continued old place n (Up next) (letters_in S tells turn) trace)
-      taken_comes genesis old all place n first next at came frames may (inl turn) failure =
-          turn_comes genesis old all place n first next at came may
+          (continued old index n (Up next) (letters_in S tells turn) trace)
+      taken_comes genesis old all index n first next at came frames may (inl turn) failure =
+          turn_comes genesis old all index n first next at came may
           (turn_so S (Says Metered) so tells came first next turn) (sym failure ∙ turn.alive)
-      taken_comes genesis old all place n first next at came frames may (inr idle) failure =
-          ([], idle_comes genesis old all place n first next at frames idle)
+      taken_comes genesis old all index n first next at came frames may (inr idle) failure =
+          ([], idle_comes genesis old all index n first next at frames idle)
 
       -- one of them with what is done beside the protocol after it
       module _ (kept : Option ReceivedProbe) (told : Option Reported) (After : ServerValue ReplicaValue → Type 0)
-          (genesis : Genesis) (old : Cluster) (all : IsReachable May Metered tells genesis old) (place n : ℕ)
-          (first next : ServerValue ReplicaValue) (at : HasNode old place n (Up first))
+          (genesis : Genesis) (old : Cluster) (all : IsReachable May Metered tells genesis old) (index n : ℕ)
+          (first next : ServerValue ReplicaValue) (at : HasNode old index n (Up first))
           (turn : TakesTurnWith S tells kept told After first next)
           (may : May old.genesis old.sent first turn.came) where
         turn_and_acts : (trace : List Note)
             × IsReachable May Metered tells genesis
-            (continued (continued old place n (Up turn.mid) (letters_in S tells turn.turn) trace) place n
+            (continued (continued old index n (Up turn.mid) (letters_in S tells turn.turn) trace) index n
             (Up next) [] [])
         turn_and_acts =
             let mid = turn.mid in
-            let t = taken_comes genesis old all place n first mid at turn.came turn.frames may turn.turn
+            let t = taken_comes genesis old all index n first mid at turn.came turn.frames may turn.turn
             (mid_failure mid next turn.asked turn.reported turn.acts turn.failure) in
-            let turned = continued old place n (Up mid) (letters_in S tells turn.turn) t.0 in
-            let there : HasNode turned place n (Up mid) = at_set_here old.seats place (node_of n (Up mid)) at.0 in
-            (t.0, rest_comes genesis turned t.1 place n mid next there (inr (turn.asked, turn.reported, turn.acts)))
+            let turned = continued old index n (Up mid) (letters_in S tells turn.turn) t.0 in
+            let there : HasNode turned index n (Up mid) = at_set_here old.seats index (node_of n (Up mid)) at.0 in
+            (t.0, rest_comes genesis turned t.1 index n mid next there (inr (turn.asked, turn.reported, turn.acts)))
 
-        pub one_turn_continues : Continues May Metered tells genesis old place n (Up next)
+        pub one_turn_continues : Continues May Metered tells genesis old index n (Up next)
             (letters_in S tells turn.turn)
         one_turn_continues =
             let said = letters_in S tells turn.turn in
             let t = turn_and_acts in
-            let turned = continued old place n (Up turn.mid) said t.0 in
-            subst (λ (l : List LetterValue). Continues May Metered tells genesis old place n (Up next) l)
+            let turned = continued old index n (Up turn.mid) said t.0 in
+            subst (λ (l : List LetterValue). Continues May Metered tells genesis old index n (Up next) l)
             (append-nil said)
-            (twice genesis old place n (Up turn.mid) (Up next) said [] t.0
-            (continues_with genesis turned place n (Up next) [] [] t.1))
+            (twice genesis old index n (Up turn.mid) (Up next) said [] t.0
+            (continues_with genesis turned index n (Up next) [] [] t.1))
 
       pub turns_continue : (genesis : Genesis) (old : Cluster) → IsReachable May Metered tells genesis old
-          → (place n : ℕ) (first : ServerValue ReplicaValue) (states : List (ServerValue ReplicaValue))
+          → (index n : ℕ) (first : ServerValue ReplicaValue) (states : List (ServerValue ReplicaValue))
           (last : ServerValue ReplicaValue)
-          → HasNode old place n (Up first) → (turns : Chain (ServerTurn S tells) first states last)
+          → HasNode old index n (Up first) → (turns : Chain (ServerTurn S tells) first states last)
           → MayAllCome S tells May old.genesis n old.sent first states last turns
-          → Continues May Metered tells genesis old place n (Up last) (letters_of S tells first states last turns)
-      turns_continue genesis old all place n first [] last at turns may =
-          let here : HasNode old place n (Up last) =
-          subst (λ (s : ServerValue ReplicaValue). HasNode old place n (Up s)) (sym turns) at in
+          → Continues May Metered tells genesis old index n (Up last) (letters_of S tells first states last turns)
+      turns_continue genesis old all index n first [] last at turns may =
+          let here : HasNode old index n (Up last) =
+          subst (λ (s : ServerValue ReplicaValue). HasNode old index n (Up s)) (sym turns) at in
           record {
             cluster = old;
             reachable = all;
             began = refl;
-            seats = same_again old.seats place (node_of n (Up last)) here;
+            seats = same_again old.seats index (node_of n (Up last)) here;
             sent = sym (append-nil old.sent);
           }
-      turns_continue genesis old all place n first (next ∷ states) last at turns may =
+      turns_continue genesis old all index n first (next ∷ states) last at turns may =
           let said = letters_in S tells turns.0.turn in
           let mid = turns.0.mid in
           let rest = letters_of S tells next states last turns.1 in
-          let t = turn_and_acts None None HasFollowedNoStranger genesis old all place n first next at turns.0 may.0 in
-          let turned = continued old place n (Up mid) said t.0 in
-          let there : HasNode turned place n (Up mid) = at_set_here old.seats place (node_of n (Up mid)) at.0 in
-          twice genesis old place n (Up mid) (Up last) said rest t.0
-          (twice genesis turned place n (Up next) (Up last) [] rest []
-          (turns_continue genesis (continued turned place n (Up next) [] []) t.1 place n next states last
-          (at_set_here turned.seats place (node_of n (Up next)) there.0) turns.1
+          let t = turn_and_acts None None HasFollowedNoStranger genesis old all index n first next at turns.0 may.0 in
+          let turned = continued old index n (Up mid) said t.0 in
+          let there : HasNode turned index n (Up mid) = at_set_here old.seats index (node_of n (Up mid)) at.0 in
+          twice genesis old index n (Up mid) (Up last) said rest t.0
+          (twice genesis turned index n (Up next) (Up last) [] rest []
+          (turns_continue genesis (continued turned index n (Up next) [] []) t.1 index n next states last
+          (at_set_here turned.seats index (node_of n (Up next)) there.0) turns.1
           (subst (λ (l : List Datagram). MayAllCome S tells May old.genesis n l next states last turns.1)
           (sym (append-nil (old.sent ++ batch_of n said))) may.1)))

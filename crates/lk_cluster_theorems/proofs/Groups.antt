@@ -141,7 +141,7 @@ same_down d e p = cc p
 
 -- ---- a server in its place, with one replica after another
 
-module _ (genesis : Genesis) (n : ℕ) (seats : List Node) (place : ℕ) (node : Node) (at : At seats place node)
+module _ (genesis : Genesis) (n : ℕ) (seats : List Node) (index : ℕ) (node : Node) (at : At seats index node)
     (s : ServerValue ReplicaValue) where
   abbrev HoldsAt : List Node → List Datagram → List Note → Type 0
   HoldsAt nodes sent trace = WorldInvariant ServerStands server_disks table_meaning genesis nodes sent trace
@@ -150,7 +150,7 @@ module _ (genesis : Genesis) (n : ℕ) (seats : List Node) (place : ℕ) (node :
   seat life = record { number = n; life = life }
 
   abbrev seats_of : Life (ServerValue ReplicaValue) → List Node
-  seats_of life = set seats place (seat life)
+  seats_of life = set seats index (seat life)
 
   abbrev serving : ReplicaValue → ServerValue ReplicaValue
   serving r = record s { replica = r }
@@ -160,10 +160,10 @@ module _ (genesis : Genesis) (n : ℕ) (seats : List Node) (place : ℕ) (node :
 
   turns : (old new : Life (ServerValue ReplicaValue)) → ReplacesSeat (seats_of old) (seats_of new) (seat old) (seat new)
   turns old new = record {
-    place = place;
-    at = at_set_here seats place (seat old) at.0;
+    index = index;
+    at = at_set_here seats index (seat old) at.0;
     number = refl;
-    seats = sym (set_twice seats place (seat old) (seat new));
+    seats = sym (set_twice seats index (seat old) (seat new));
   }
 
   up_as : (q : ReplicaValue) (sent now : List Datagram) (trace since : List Note) → sent ≡ now → trace ≡ since
@@ -175,7 +175,7 @@ module _ (genesis : Genesis) (n : ℕ) (seats : List Node) (place : ℕ) (node :
       → NodeFits table_meaning (happened genesis sent trace) n
       (ReplicaHolds table_meaning r.node r.store genesis n) (disks r.store)
   fits r sent trace w =
-      let f = (w.seated place (seat (Up (serving r))) (at_set_here seats place (seat (Up (serving r))) at.0)).up
+      let f = (w.seated index (seat (Up (serving r))) (at_set_here seats index (seat (Up (serving r))) at.0)).up
       (serving r) refl in
       record {
         lawful = lawful genesis _ sent trace w;
@@ -187,8 +187,8 @@ module _ (genesis : Genesis) (n : ℕ) (seats : List Node) (place : ℕ) (node :
 
   short : (r : ReplicaValue) (sent : List Datagram) (trace : List Note) → IsUpWith r sent trace
       → AreShort (disks r.store)
-  short r sent trace w = ((w.seated place (seat (Up (serving r)))
-      (at_set_here seats place (seat (Up (serving r))) at.0)).up (serving r) refl).room
+  short r sent trace w = ((w.seated index (seat (Up (serving r)))
+      (at_set_here seats index (seat (Up (serving r))) at.0)).up (serving r) refl).room
 
   pub remembers : (r : ReplicaValue) (sent : List Datagram) (trace : List Note) → IsUpWith r sent trace
       → ReplicaRemembers r.node r.store genesis n
@@ -319,9 +319,9 @@ module _ (genesis : Genesis) (n : ℕ) (seats : List Node) (place : ℕ) (node :
       → AreShort (disk_of left) → IsUpWith r sent trace
       → HoldsAt (seats_of (Down left)) sent trace
   goes_down r left sent trace fit short w =
-      subst (λ (l : List Node). HoldsAt l sent trace) (set_twice seats place (seat (Up (serving r))) (seat (Down left)))
-      (went_down ServerStands server_disks table_meaning genesis (seats_of (Up (serving r))) sent trace w place
-      (seat (Up (serving r))) (seat (Down left)) (at_set_here seats place (seat (Up (serving r))) at.0) refl (record {
+      subst (λ (l : List Node). HoldsAt l sent trace) (set_twice seats index (seat (Up (serving r))) (seat (Down left)))
+      (went_down ServerStands server_disks table_meaning genesis (seats_of (Up (serving r))) sent trace w index
+      (seat (Up (serving r))) (seat (Down left)) (at_set_here seats index (seat (Up (serving r))) at.0) refl (record {
         up = λ p is. absurd (cc is);
         down = λ d is. subst (λ (z : Memory). DisksFit table_meaning (happened genesis sent trace) n (disk_of z))
             (same_down left d is) fit;

@@ -100,10 +100,10 @@ own_later sent now n q among k = record { alive = k.alive; own = λ l c. among (
 pub same_up : (p q : ServerValue ReplicaValue) → Up p ≡ Up q → p ≡ q
 same_up p q e = cc e
 
-own_set : (seats : List Node) (place : ℕ) (next : Node) (sent now : List Datagram) → OwnOf seats sent
+own_set : (seats : List Node) (index : ℕ) (next : Node) (sent now : List Datagram) → OwnOf seats sent
     → ((d : Datagram) → Contains sent d → Contains now d)
-    → ((q : ServerValue ReplicaValue) → next.life ≡ Up q → IsKept now next.number q) → OwnOf (set seats place next) now
-own_set seats place next sent now old among mine k s at q up = elim (at_set seats place next k s at) [
+    → ((q : ServerValue ReplicaValue) → next.life ≡ Up q → IsKept now next.number q) → OwnOf (set seats index next) now
+own_set seats index next sent now old among mine k s at q up = elim (at_set seats index next k s at) [
   | inl here ↦
       subst (λ (z : Node). (p : ServerValue ReplicaValue) → z.life ≡ Up p → IsKept now z.number p) here.1 mine q up
   | inr other ↦ own_later sent now s.number q among (old k s other.1 q up)
@@ -223,19 +223,19 @@ module _ (old : Cluster) (w : IsSound old) where
       λ j x said. heard_was_sent old.genesis old.sent w.holds.world.sound (datagram_of n l) (k.own l c) j x said
 
   -- a server with another one's replica, in its place
-  pub with_replica : (place : ℕ) (node : Node) → At old.seats place node
+  pub with_replica : (index : ℕ) (node : Node) → At old.seats index node
       → (server other : ServerValue ReplicaValue) → node.life ≡ Up server
       → WorldInvariant ServerStands server_disks table_meaning old.genesis
-      (set old.seats place (record { number = node.number; life = Up (record other { replica = server.replica }) }))
+      (set old.seats index (record { number = node.number; life = Up (record other { replica = server.replica }) }))
       old.sent old.trace
-  with_replica place node at server other was =
+  with_replica index node at server other was =
       let h = happened old.genesis old.sent old.trace in
       let v = w.holds.states node.number in
       let q : ServerValue ReplicaValue = record other { replica = server.replica } in
-      let f = (w.holds.seated place node at).up server was in
+      let f = (w.holds.seated index node at).up server was in
       let fits : UpFits ServerStands server_disks table_meaning h v node.number q =
       record { holding = f.holding; paxos = f.paxos; shown = f.shown; fits = f.fits; left = f.left; room = f.room } in
-      went_down ServerStands server_disks table_meaning old.genesis old.seats old.sent old.trace w.holds place node
+      went_down ServerStands server_disks table_meaning old.genesis old.seats old.sent old.trace w.holds index node
       (record { number = node.number; life = Up q }) at refl (record {
         up = λ p up. subst (λ (z : ServerValue ReplicaValue). UpFits ServerStands server_disks table_meaning h v
             node.number z) (same_up q p up) fits;
@@ -280,7 +280,7 @@ module _ (May : Network) (Metered tells : Type 0) (unforged : Unforged May) wher
         → OwnOf new.seats new.sent
     own_moved s t turns more e mine =
         subst (λ (l : List Node). OwnOf l new.sent) (sym turns.seats)
-        (own_set old.seats turns.place t old.sent new.sent w.own (among_more more e) mine)
+        (own_set old.seats turns.index t old.sent new.sent w.own (among_more more e) mine)
 
     no_up : (t : Node) (d : Memory) → t.life ≡ Down d → (q : ServerValue ReplicaValue) → t.life ≡ Up q
         → IsKept new.sent t.number q
@@ -347,16 +347,16 @@ module _ (May : Network) (Metered tells : Type 0) (unforged : Unforged May) wher
     takes_turn : TakesTurn May Metered tells old new → IsSound new
     takes_turn a =
         let n : ℕ = a.node.number in
-        let kept = w.own a.turns.place a.node a.turns.at a.server a.was in
+        let kept = w.own a.turns.index a.node a.turns.at a.server a.was in
         let letters : List LetterValue = a.turn.hands_on.letters in
-        let left = group_leaves old.genesis n old.seats a.turns.place a.node a.turns.at a.after Metered a.turn.given
+        let left = group_leaves old.genesis n old.seats a.turns.index a.node a.turns.at a.after Metered a.turn.given
         a.server.replica letters a.after.replica a.turn.hands_on.says a.trace old.sent old.trace
         (turn_takes n 64 a.server a.came a.turn.given a.turn.may kept a.may)
-        (with_replica old w a.turns.place a.node a.turns.at a.server a.after a.was) a.joins in
+        (with_replica old w a.turns.index a.node a.turns.at a.server a.after a.was) a.joins in
         record {
-          holds = moved (set old.seats a.turns.place a.next) a.trace (batch_of n letters) a.turns.seats a.adds
+          holds = moved (set old.seats a.turns.index a.next) a.trace (batch_of n letters) a.turns.seats a.adds
               (subst (λ (z : Node). WorldInvariant ServerStands server_disks table_meaning old.genesis
-              (set old.seats a.turns.place z) (old.sent ++ batch_of n letters) (old.trace ++ a.trace))
+              (set old.seats a.turns.index z) (old.sent ++ batch_of n letters) (old.trace ++ a.trace))
               (λ i. record { number = sym a.turns.number i; life = sym a.up i }) (left.up a.alive));
           own = own_moved a.node a.next a.turns (batch_of n letters) a.adds.sent (λ q up.
               subst (λ (z : ServerValue ReplicaValue). IsKept new.sent a.next.number z)
@@ -375,21 +375,21 @@ module _ (May : Network) (Metered tells : Type 0) (unforged : Unforged May) wher
         ap (λ (s : ServerValue ReplicaValue). s.own) (at_rest_by a.server a.after a.idle) in
         let mine : record a.after { replica = a.server.replica } ≡ a.after =
         λ i. record a.after { replica = sym replica i } in
-        let kept = w.own a.turns.place a.node a.turns.at a.server a.was in
+        let kept = w.own a.turns.index a.node a.turns.at a.server a.was in
         let still : IsKept (old.sent ++ []) a.node.number a.after = record {
           alive = ap (λ (r : ReplicaValue). r.failed) replica ∙ kept.alive;
           own = λ l c. Contains-append_left old.sent [] (datagram_of a.node.number l)
               (kept.own l (subst (λ (ls : List LetterValue). Contains ls l) waits c));
         } in
         record {
-          holds = moved (set old.seats a.turns.place a.next) [] [] a.turns.seats a.adds
+          holds = moved (set old.seats a.turns.index a.next) [] [] a.turns.seats a.adds
               (subst₂ (λ (x : List Datagram) (y : List Note). WorldInvariant ServerStands server_disks table_meaning
               old.genesis
-              (set old.seats a.turns.place a.next) x y) (sym (append-nil old.sent)) (sym (append-nil old.trace))
+              (set old.seats a.turns.index a.next) x y) (sym (append-nil old.sent)) (sym (append-nil old.trace))
               (subst (λ (z : Node). WorldInvariant ServerStands server_disks table_meaning old.genesis
-              (set old.seats a.turns.place z) old.sent old.trace)
+              (set old.seats a.turns.index z) old.sent old.trace)
               (λ i. record { number = sym a.turns.number i; life = (ap Up mine ∙ sym a.up) i })
-              (with_replica old w a.turns.place a.node a.turns.at a.server a.after a.was)));
+              (with_replica old w a.turns.index a.node a.turns.at a.server a.after a.was)));
           own = own_moved a.node a.next a.turns [] a.adds.sent (λ q up.
               subst (λ (z : ServerValue ReplicaValue). IsKept new.sent a.next.number z)
               (same_up a.after q (sym a.up ∙ up))
@@ -405,26 +405,26 @@ module _ (May : Network) (Metered tells : Type 0) (unforged : Unforged May) wher
     ends_by_turn : EndsByTurn May Metered tells old new → IsSound new
     ends_by_turn a =
         let n : ℕ = a.node.number in
-        let kept = w.own a.turns.place a.node a.turns.at a.server a.was in
+        let kept = w.own a.turns.index a.node a.turns.at a.server a.was in
         let batch : List Datagram = batch_of n a.turn.hands_on.letters in
         let may = ended_may old.genesis old.sent a.turn.given a.turn.first.whole a.turn.first.front
         (turn_takes n a.turn.count a.server a.came a.turn.first.whole a.turn.first.may kept a.may) in
         let device : Memory = device_of a.after.replica.store in
         let seat : Node = record { number = n; life = Down device } in
         let next : Node = record { number = n; life = Down a.left } in
-        let left = group_leaves old.genesis n old.seats a.turns.place a.node a.turns.at a.after Metered a.turn.given
+        let left = group_leaves old.genesis n old.seats a.turns.index a.node a.turns.at a.after Metered a.turn.given
         a.server.replica a.turn.hands_on.letters a.after.replica a.turn.hands_on.says a.trace old.sent old.trace may
-        (with_replica old w a.turns.place a.node a.turns.at a.server a.after a.was) a.joins in
+        (with_replica old w a.turns.index a.node a.turns.at a.server a.after a.was) a.joins in
         let first : Cluster = record {
           genesis = old.genesis;
-          seats = set old.seats a.turns.place seat;
+          seats = set old.seats a.turns.index seat;
           sent = old.sent ++ batch;
           trace = old.trace ++ a.trace;
           ended = None;
         } in
         let last : Cluster = record {
           genesis = old.genesis;
-          seats = set old.seats a.turns.place next;
+          seats = set old.seats a.turns.index next;
           sent = old.sent ++ batch;
           trace = old.trace ++ a.trace;
           ended = None;
@@ -434,10 +434,10 @@ module _ (May : Network) (Metered tells : Type 0) (unforged : Unforged May) wher
           seat = seat;
           next = next;
           turns = record {
-            place = a.turns.place;
-            at = at_set_here old.seats a.turns.place seat a.turns.at.0;
+            index = a.turns.index;
+            at = at_set_here old.seats a.turns.index seat a.turns.at.0;
             number = refl;
-            seats = sym (set_twice old.seats a.turns.place seat next);
+            seats = sym (set_twice old.seats a.turns.index seat next);
           };
           device = device;
           down = refl;
@@ -456,9 +456,9 @@ module _ (May : Network) (Metered tells : Type 0) (unforged : Unforged May) wher
         let then_holds = step_holds ServerStands server_disks table_meaning first last (left.down a.ended)
         (inr (inr (inl rests))) in
         record {
-          holds = moved (set old.seats a.turns.place a.next) a.trace batch a.turns.seats a.adds
+          holds = moved (set old.seats a.turns.index a.next) a.trace batch a.turns.seats a.adds
               (subst (λ (z : Node). WorldInvariant ServerStands server_disks table_meaning old.genesis
-              (set old.seats a.turns.place z) (old.sent ++ batch) (old.trace ++ a.trace))
+              (set old.seats a.turns.index z) (old.sent ++ batch) (old.trace ++ a.trace))
               (λ i. record { number = sym a.turns.number i; life = sym a.down i }) then_holds);
           own = own_moved a.node a.next a.turns batch a.adds.sent (no_up a.next a.left a.down);
         }

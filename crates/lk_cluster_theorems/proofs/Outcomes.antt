@@ -23,11 +23,11 @@ module _ (Metered tells Honest : Type 0) (honest : Honest)
     (S : ReplicaValue → List (Option (List ℕ)) → List LetterValue → ReplicaValue → Type 0)
     (so : (old : ReplicaValue) (given : List (Option (List ℕ))) (letters : List LetterValue) (new : ReplicaValue)
     → S old given letters new → Says Metered old given letters new)
-    (genesis : Genesis) (old : Cluster) (all : IsReachable ForgesNothing Metered tells genesis old) (place n : ℕ)
-    (disks : Side → Disk) (seals : Seals) (at : IsDownOn old place n disks) (header : HeaderValue)
+    (genesis : Genesis) (old : Cluster) (all : IsReachable ForgesNothing Metered tells genesis old) (index n : ℕ)
+    (disks : Side → Disk) (seals : Seals) (at : IsDownOn old index n disks) (header : HeaderValue)
     (whose : header ≡ header_of old.genesis n) where
   pub serves_in : (count : ℕ) → Serves (IsServerStarted table_meaning Honest disks header) header seals S tells count
-      → ServesIn Metered tells Honest S genesis old place n disks seals count
+      → ServesIn Metered tells Honest S genesis old index n disks seals count
   serves_in count here =
       let served = subst (λ (h : HeaderValue). Serves
       (IsServerStarted table_meaning Honest disks h) h seals S tells count)
@@ -35,11 +35,11 @@ module _ (Metered tells Honest : Type 0) (honest : Honest)
       record {
         served = served;
         continues = service_continues ForgesNothing Metered tells forges_nothing Honest S so honest genesis old
-            all place n count at.device at.down disks at.same seals served;
+            all index n count at.device at.down disks at.same seals served;
       }
 
   ends_in : (most : ℕ) → EndsEarly (IsServerStarted table_meaning Honest disks header) header seals S tells most
-      → EndsIn Metered tells Honest S genesis old place n disks seals most
+      → EndsIn Metered tells Honest S genesis old index n disks seals most
   ends_in most here =
       let served = subst (λ (h : HeaderValue). EndsEarly
       (IsServerStarted table_meaning Honest disks h) h seals S tells most)
@@ -47,30 +47,30 @@ module _ (Metered tells Honest : Type 0) (honest : Honest)
       record {
         served = served;
         continues = broken_service_continues ForgesNothing Metered tells forges_nothing Honest S so honest genesis old
-            all place n most at.device at.down disks at.same seals served;
+            all index n most at.device at.down disks at.same seals served;
       }
 
   leaves_in : (most : ℕ) → EndsEarlyByStranger
       (IsServerStarted table_meaning Honest disks header) header seals S tells most
-      → EndsInByStranger Metered tells Honest S genesis old place n disks seals most
+      → EndsInByStranger Metered tells Honest S genesis old index n disks seals most
   leaves_in most here =
       let served = subst (λ (h : HeaderValue). EndsEarlyByStranger
       (IsServerStarted table_meaning Honest disks h) h seals S tells most) whose here in
       record {
         served = served;
         continues = left_service_continues ForgesNothing Metered tells forges_nothing Honest S so honest genesis old
-            all place n most at.device at.down disks at.same seals served;
+            all index n most at.device at.down disks at.same seals served;
       }
 
   rests_in : (told : ServiceFault) → IsRefusedWith table_meaning IsTableText Honest disks header told
-      → RestsIn Metered tells Honest S genesis old place n disks seals
+      → RestsIn Metered tells Honest S genesis old index n disks seals
   rests_in told here =
       let refused = subst (λ (h : HeaderValue). IsRefusedWith table_meaning IsTableText Honest disks h told) whose
       here in
       record {
         told = told;
         refused = refused;
-        continues = refused_continues ForgesNothing Metered tells Honest honest genesis old all place n at.device
+        continues = refused_continues ForgesNothing Metered tells Honest honest genesis old all index n at.device
             at.down disks at.same told refused;
       }
 
@@ -78,9 +78,9 @@ module _ (Metered tells Honest : Type 0) (honest : Honest)
       → ((told : ServiceFault) × IsRefusedWith table_meaning IsTableText Honest disks header told)
       ⊎ EndsEarly (IsServerStarted table_meaning Honest disks header) header seals S tells most
       ⊎ EndsEarlyByStranger (IsServerStarted table_meaning Honest disks header) header seals S tells most
-      → RestsIn Metered tells Honest S genesis old place n disks seals
-      ⊎ EndsIn Metered tells Honest S genesis old place n disks seals most
-      ⊎ EndsInByStranger Metered tells Honest S genesis old place n disks seals most
+      → RestsIn Metered tells Honest S genesis old index n disks seals
+      ⊎ EndsIn Metered tells Honest S genesis old index n disks seals most
+      ⊎ EndsInByStranger Metered tells Honest S genesis old index n disks seals most
   breaks_in most (inl refused) = inl (rests_in refused.0 refused.1)
   breaks_in most (inr (inl ended)) = inr (inl (ends_in most ended))
   breaks_in most (inr (inr left)) = inr (inr (leaves_in most left))

@@ -57,16 +57,16 @@ rests_in genesis n old left down = record {
 -- a start is refused
 pub refused_continues : (May : Network) (Metered tells Honest : Type 0) → Honest
     → (genesis : Genesis) (cluster : Cluster) → IsReachable May Metered tells genesis cluster
-    → (place n : ℕ) (device : Memory) → HasNode cluster place n (Down device)
+    → (index n : ℕ) (device : Memory) → HasNode cluster index n (Down device)
     → (old : Side → Disk) → ((s : Side) → disk_of device s ≡ old s)
     → (told : ServiceFault) (refused : IsRefusedWith table_meaning IsTableText Honest old
     (header_of cluster.genesis n) told)
     → (left : Memory) → ((s : Side) → disk_of left s ≡ refused.left s)
-    → Continues May Metered tells genesis cluster place n (Down left) []
-refused_continues May Metered tells Honest honest genesis cluster all place n device at old same
+    → Continues May Metered tells genesis cluster index n (Down left) []
+refused_continues May Metered tells Honest honest genesis cluster all index n device at old same
     told refused left same_left =
     let rests = rests_in cluster.genesis n old refused.left (refused.refused.stays_down honest) in
-    refused_start_continues May Metered tells genesis cluster all place n device at left
+    refused_start_continues May Metered tells genesis cluster all index n device at left
     (subst₂ (λ (d e : Side → Disk). RestsBy table_meaning cluster.genesis n d e) (λ i s. sym (same s) i)
     (λ i s. sym (same_left s) i) rests)
 
@@ -79,41 +79,41 @@ module _ (May : Network) (Metered tells : Type 0) (unforged : Unforged May) (Hon
 
   -- it is taken up, and takes turns
   turns_after_start : Honest → (genesis : Genesis) (cluster : Cluster) → IsReachable May Metered tells genesis cluster
-      → (place n : ℕ) (device : Memory) → HasNode cluster place n (Down device) → (old : Side → Disk)
+      → (index n : ℕ) (device : Memory) → HasNode cluster index n (Down device) → (old : Side → Disk)
       → ((s : Side) → disk_of device s ≡ old s)
       → (first : ServerValue ReplicaValue) → IsOf cluster n old first
       → (states : List (ServerValue ReplicaValue)) (last : ServerValue ReplicaValue)
       (turns : Chain (TakesTurn S tells) first states last)
       → MayAllCome S tells May cluster.genesis n cluster.sent first states last turns
-      → Continues May Metered tells genesis cluster place n (Up last) (letters_of S tells first states last turns)
-  turns_after_start honest genesis cluster all place n device at old same first begins states last turns may =
-      let t = start_comes May Metered tells genesis cluster all place n device at old same first
+      → Continues May Metered tells genesis cluster index n (Up last) (letters_of S tells first states last turns)
+  turns_after_start honest genesis cluster all index n device at old same first begins states last turns may =
+      let t = start_comes May Metered tells genesis cluster all index n device at old same first
       (begun_in Honest cluster.genesis n old first honest begins) in
-      let now : Cluster = continued cluster place n (Up first) [] t.0 in
+      let now : Cluster = continued cluster index n (Up first) [] t.0 in
       let mays = subst (λ (l : List Datagram). MayAllCome S tells May cluster.genesis n l first states last turns)
       (sym (append-nil cluster.sent)) may in
-      twice May Metered tells unforged genesis cluster place n (Up first) (Up last) []
+      twice May Metered tells unforged genesis cluster index n (Up first) (Up last) []
       (letters_of S tells first states last turns) t.0
-      (turns_continue May Metered tells unforged S so genesis now t.1 place n first states last
-      (at_set_here cluster.seats place (node_of n (Up first)) at.0) turns mays)
+      (turns_continue May Metered tells unforged S so genesis now t.1 index n first states last
+      (at_set_here cluster.seats index (node_of n (Up first)) at.0) turns mays)
 
   pub service_continues : Honest → (genesis : Genesis) (cluster : Cluster)
-      → IsReachable May Metered tells genesis cluster → (place n count : ℕ) (device : Memory)
-      → HasNode cluster place n (Down device)
+      → IsReachable May Metered tells genesis cluster → (index n count : ℕ) (device : Memory)
+      → HasNode cluster index n (Down device)
       → (old : Side → Disk) → ((s : Side) → disk_of device s ≡ old s)
       → (seals : Seals) (served : Serves (IsOf cluster n old) (header_of cluster.genesis n) seals S tells count)
       → MayAllCome S tells May cluster.genesis n cluster.sent served.begun served.turns.states
       served.ended served.turns.chain
-      → Continues May Metered tells genesis cluster place n (Up served.ended)
+      → Continues May Metered tells genesis cluster index n (Up served.ended)
       (letters_of S tells served.begun served.turns.states served.ended served.turns.chain)
-  service_continues honest genesis cluster all place n count device at old same seals served may =
-      turns_after_start honest genesis cluster all place n device at old same served.begun served.begins
+  service_continues honest genesis cluster all index n count device at old same seals served may =
+      turns_after_start honest genesis cluster all index n device at old same served.begun served.begins
       served.turns.states served.ended served.turns.chain may
 
   -- it is taken up, takes turns, and a last one that ends it
   pub broken_service_continues : Honest → (genesis : Genesis) (cluster : Cluster)
-      → IsReachable May Metered tells genesis cluster → (place n most : ℕ) (device : Memory)
-      → HasNode cluster place n (Down device)
+      → IsReachable May Metered tells genesis cluster → (index n most : ℕ) (device : Memory)
+      → HasNode cluster index n (Down device)
       → (old : Side → Disk) → ((s : Side) → disk_of device s ≡ old s)
       → (seals : Seals) (served : EndsEarly (IsOf cluster n old) (header_of cluster.genesis n) seals S tells most)
       → (let turns = letters_of S tells served.begun served.breaks.turns.states served.breaks.last
@@ -122,29 +122,29 @@ module _ (May : Network) (Metered tells : Type 0) (unforged : Unforged May) (Hon
       served.breaks.turns.chain
       → May cluster.genesis (cluster.sent ++ batch_of n turns) served.breaks.last served.breaks.ends.came
       → (left : Memory) → ((s : Side) → disk_of left s ≡ server_disks served.ended s)
-      → Continues May Metered tells genesis cluster place n (Down left)
+      → Continues May Metered tells genesis cluster index n (Down left)
       (turns ++ served.breaks.ends.turn.hands_on.letters))
-  broken_service_continues honest genesis cluster all place n most device at old same seals served may
+  broken_service_continues honest genesis cluster all index n most device at old same seals served may
       last_may left same_left =
       let b = served.breaks in
       let said = letters_of S tells served.begun b.turns.states b.last b.turns.chain in
-      let c = turns_after_start honest genesis cluster all place n device at old same served.begun served.begins
+      let c = turns_after_start honest genesis cluster all index n device at old same served.begun served.begins
       b.turns.states b.last b.turns.chain may in
       let turn : LastTurn (Says Metered) tells b.ends.came b.last served.ended =
       last_so S (Says Metered) so tells b.ends.came b.last served.ended b.ends.turn in
       let ended : served.ended.replica.failed ≡ true = sym b.ends.failure ∙ turn.ended in
       let may_last : May c.cluster.genesis c.cluster.sent b.last b.ends.came =
       subst₂ (λ (g : Genesis) (l : List Datagram). May g l b.last b.ends.came) (sym c.began) (sym c.sent) last_may in
-      joined_continues May Metered tells unforged genesis cluster place n (Up b.last)
+      joined_continues May Metered tells unforged genesis cluster index n (Up b.last)
       (Down left) said b.ends.turn.hands_on.letters c
-      (last_turn_continues May Metered tells unforged genesis c.cluster c.reachable place n b.last served.ended
-      (has_node May Metered tells unforged genesis cluster place n (Down device) (Up b.last) said at c) b.ends.came
+      (last_turn_continues May Metered tells unforged genesis c.cluster c.reachable index n b.last served.ended
+      (has_node May Metered tells unforged genesis cluster index n (Down device) (Up b.last) said at c) b.ends.came
       may_last turn ended left same_left)
 
   -- it is taken up, takes turns, and one more after which it ends, since it has followed a node of another genesis
   pub left_service_continues : Honest → (genesis : Genesis) (cluster : Cluster)
-      → IsReachable May Metered tells genesis cluster → (place n most : ℕ) (device : Memory)
-      → HasNode cluster place n (Down device)
+      → IsReachable May Metered tells genesis cluster → (index n most : ℕ) (device : Memory)
+      → HasNode cluster index n (Down device)
       → (old : Side → Disk) → ((s : Side) → disk_of device s ≡ old s)
       → (seals : Seals) (served : EndsEarlyByStranger (IsOf cluster n old)
       (header_of cluster.genesis n) seals S tells most)
@@ -154,27 +154,27 @@ module _ (May : Network) (Metered tells : Type 0) (unforged : Unforged May) (Hon
       served.leaves.turns.chain
       → May cluster.genesis (cluster.sent ++ batch_of n turns) served.leaves.last served.leaves.leave.came
       → (left : Memory) → ((s : Side) → (k : ℕ) × (disk_of left s ≡ after_stop k (server_disks served.ended s)))
-      → Continues May Metered tells genesis cluster place n (Down left)
+      → Continues May Metered tells genesis cluster index n (Down left)
       (turns ++ letters_in S tells served.leaves.leave.turn))
-  left_service_continues honest genesis cluster all place n most device at old same seals
+  left_service_continues honest genesis cluster all index n most device at old same seals
       served may last_may left kept =
       let b = served.leaves in
       let said = letters_of S tells served.begun b.turns.states b.last b.turns.chain in
       let last_said = letters_in S tells b.leave.turn in
-      let c = turns_after_start honest genesis cluster all place n device at old same served.begun served.begins
+      let c = turns_after_start honest genesis cluster all index n device at old same served.begun served.begins
       b.turns.states b.last b.turns.chain may in
       let may_last : May c.cluster.genesis c.cluster.sent b.last b.leave.came =
       subst₂ (λ (g : Genesis) (l : List Datagram). May g l b.last b.leave.came) (sym c.began) (sym c.sent) last_may in
-      let here = has_node May Metered tells unforged genesis cluster place n (Down device) (Up b.last) said at c in
+      let here = has_node May Metered tells unforged genesis cluster index n (Down device) (Up b.last) said at c in
       let d = one_turn_continues May Metered tells unforged S so None None HasFollowedStranger genesis c.cluster
       c.reachable
-      place n b.last served.ended here b.leave may_last in
-      let e = joined_continues May Metered tells unforged genesis cluster place n (Up b.last)
+      index n b.last served.ended here b.leave may_last in
+      let e = joined_continues May Metered tells unforged genesis cluster index n (Up b.last)
       (Up served.ended) said last_said c d in
-      let there = has_node May Metered tells unforged genesis cluster place n (Down device) (Up served.ended)
+      let there = has_node May Metered tells unforged genesis cluster index n (Down device) (Up served.ended)
       (said ++ last_said) at e in
-      subst (λ (l : List LetterValue). Continues May Metered tells genesis cluster place n (Down left) l)
+      subst (λ (l : List LetterValue). Continues May Metered tells genesis cluster index n (Down left) l)
       (append-nil (said ++ last_said))
-      (joined_continues May Metered tells unforged genesis cluster place n (Up served.ended) (Down left)
+      (joined_continues May Metered tells unforged genesis cluster index n (Up served.ended) (Down left)
       (said ++ last_said) [] e
-      (stop_continues May Metered tells genesis e.cluster e.reachable place n served.ended there left kept))
+      (stop_continues May Metered tells genesis e.cluster e.reachable index n served.ended there left kept))

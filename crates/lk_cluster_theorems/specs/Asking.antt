@@ -13,7 +13,7 @@ use Rattle.lk_client.specs.Questions.{IsAsked, IsReply}
 use Rattle.lk_client.specs.Rules.{SendsOnly}
 use Rattle.lk_client.specs.declared.question.Question.{Question}
 use Rattle.lk_client.specs.declared.reply.Reply.TheVariants as reply
-use Rattle.lk_guarantees.specs.ExactlyOnce.{Asks, WasAnswered}
+use Rattle.lk_guarantees.specs.ExactlyOnce.{IsAskedBy, WasAnswered}
 
 -- ---- what a run sends
 
@@ -25,14 +25,15 @@ Carries q d r = IsAsked (record { cluster = q.cluster; port = q.port; request = 
 -- and was answered
 abbrev pub MayAsk : List Note → Request → Type 0
 MayAsk before r =
-    (x : Request) → Asks before r.client x → (x ≡ r) ⊎ ((x.number < r.number) × WasAnswered before r.client x.number)
+    (x : Request) → IsAskedBy before r.client x → (x ≡ r) ⊎ ((x.number < r.number)
+    × WasAnswered before r.client x.number)
 
 -- nobody else asks on behalf of the client: each of its requests in the later notes is in the earlier ones, or in one
 -- of these datagrams
 abbrev pub OnlyRunAsks : Question → List Note → List Note → List (SocketAddr × List ℕ) → Type 0
 OnlyRunAsks q before later datagrams =
-    (x : Request) → Asks later q.request.client x
-    → Asks before q.request.client x ⊎ ((d : SocketAddr × List ℕ) × Contains datagrams d × Carries q d x)
+    (x : Request) → IsAskedBy later q.request.client x
+    → IsAskedBy before q.request.client x ⊎ ((d : SocketAddr × List ℕ) × Contains datagrams d × Carries q d x)
 
 -- a run: its question, what its socket had sent before it and after it, and what is noted until the next run begins
 pub record Run : Type 0 where
@@ -58,8 +59,8 @@ notes_of before (run ∷ runs) = notes_of (before ++ run.later) runs
 -- ---- what it receives
 
 -- the datagram tells the client this answer to its request
-abbrev pub Tells : Question → SocketAddr × List ℕ → Answer → Type 0
-Tells q d answer = IsReply q d.1 (reply.Answer answer)
+abbrev pub BringsAnswer : Question → SocketAddr × List ℕ → Answer → Type 0
+BringsAnswer q d answer = IsReply q d.1 (reply.Answer answer)
 
 -- the datagram is not forged: what it says on behalf of a node, out of its frame if there is a key, that node has said
 abbrev pub MayReach : Genesis → List Datagram → Question → SocketAddr × List ℕ → Type 0

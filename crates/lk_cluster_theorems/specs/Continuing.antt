@@ -17,19 +17,19 @@ node_of n life = record { number = n; life = life }
 
 -- the cluster has this node at that place
 abbrev pub HasNode : Cluster → ℕ → ℕ → Life (ServerValue ReplicaValue) → Type 0
-HasNode c place n life = At c.seats place (node_of n life)
+HasNode c index n life = At c.seats index (node_of n life)
 
 -- `May` says what the network may bring, `Metered` that the devices count their calls, and `tells` that the sockets
 -- reveal what they send
 module _ (May : Network) (Metered tells : Type 0) where
   -- the cluster continues to a reachable one: the node at that place is in this state, the others are unchanged, and
   -- these letters of the node have joined what has been sent
-  pub record Continues (genesis : Genesis) (old : Cluster) (place n : ℕ) (life : Life (ServerValue ReplicaValue))
+  pub record Continues (genesis : Genesis) (old : Cluster) (index n : ℕ) (life : Life (ServerValue ReplicaValue))
       (letters : List LetterValue) : Type 0 where
     pub cluster : Cluster
     pub reachable : IsReachable May Metered tells genesis cluster
     pub began : cluster.genesis ≡ old.genesis
-    pub seats : cluster.seats ≡ set old.seats place (node_of n life)
+    pub seats : cluster.seats ≡ set old.seats index (node_of n life)
     pub sent : cluster.sent ≡ old.sent ++ batch_of n letters
 
 -- `Says` relates a replica's input to its letters, and `tells` says that the sockets reveal what they send

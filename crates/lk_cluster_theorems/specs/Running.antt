@@ -20,22 +20,22 @@ use Rattle.lk_cluster_theorems.specs.Services.{Service, BrokenService, letters_i
 use Rattle.lk_cluster_theorems.specs.Services.{sent_before_end, MayComeInService, MayComeBeforeEnd}
 
 -- the cluster has this node at that place, down, with these disks
-pub record IsDownOn (c : Cluster) (place n : ℕ) (disks : Side → Disk) : Type 0 where
+pub record IsDownOn (c : Cluster) (index n : ℕ) (disks : Side → Disk) : Type 0 where
   pub device : Memory
-  pub down : HasNode c place n (Down device)
+  pub down : HasNode c index n (Down device)
   pub same : (s : Side) → disk_of device s ≡ disks s
 
 -- the node of a reachable cluster that was down there with these disks, and was run on them with these seals.
 -- `Metered` and `Honest` say that its device counts its calls, and that it is honest
 module _ (Metered tells Honest : Type 0)
     (Says : ReplicaValue → List (Option (List ℕ)) → List LetterValue → ReplicaValue → Type 0) (genesis : Genesis)
-    (old : Cluster) (place n : ℕ) (disks : Side → Disk) (seals : Seals) where
+    (old : Cluster) (index n : ℕ) (disks : Side → Disk) (seals : Seals) where
   -- it has taken this many turns, and they continue the cluster to one in which it is up, if nothing that arrived in
   -- them is forged
   pub record ServesIn (count : ℕ) : Type 0 where
     pub served : Service Says tells Honest old n disks seals count
     pub continues : MayComeInService ForgesNothing old n served
-        → Continues ForgesNothing Metered tells genesis old place n (Up served.ended) (letters_in_service served)
+        → Continues ForgesNothing Metered tells genesis old index n (Up served.ended) (letters_in_service served)
 
   -- it has taken fewer turns, and then one that ended it, and they continue the cluster to one in which it is down with
   -- what that turn has left
@@ -44,7 +44,7 @@ module _ (Metered tells Honest : Type 0)
     pub continues : MayComeBeforeEnd ForgesNothing old n served
         → ForgesNothing old.genesis (sent_before_end n old.sent served) served.breaks.last served.breaks.ends.came
         → (left : Memory) → ((s : Side) → disk_of left s ≡ server_disks served.ended s)
-        → Continues ForgesNothing Metered tells genesis old place n (Down left) (letters_to_end served)
+        → Continues ForgesNothing Metered tells genesis old index n (Down left) (letters_to_end served)
 
   -- it has taken fewer turns, and then one after which it ended, since it had followed a node of another genesis; they
   -- continue the cluster to one in which it is down with what its device has, as after a stop
@@ -57,7 +57,7 @@ module _ (Metered tells Honest : Type 0)
         served.leaves.last served.leaves.turns.chain
         → ForgesNothing old.genesis (old.sent ++ batch_of n said) served.leaves.last served.leaves.leave.came
         → (left : Memory) → ((s : Side) → (k : ℕ) × (disk_of left s ≡ after_stop k (server_disks served.ended s)))
-        → Continues ForgesNothing Metered tells genesis old place n (Down left)
+        → Continues ForgesNothing Metered tells genesis old index n (Down left)
         (said ++ letters_in Says tells served.leaves.leave.turn))
 
   -- it did not start, and the cluster continues to one in which it is down with what the rejection has left
@@ -65,4 +65,4 @@ module _ (Metered tells Honest : Type 0)
     pub told : ServiceFault
     pub refused : IsRefusedWith table_meaning IsTableText Honest disks (header_of old.genesis n) told
     pub continues : (left : Memory) → ((s : Side) → disk_of left s ≡ refused.left s)
-        → Continues ForgesNothing Metered tells genesis old place n (Down left) []
+        → Continues ForgesNothing Metered tells genesis old index n (Down left) []

@@ -27,16 +27,16 @@ module _ (May : Network) (Metered tells : Type 0) where
   abbrev pub ForEachDown : (Genesis → Cluster → ℕ → ℕ → (Side → Disk) → Type 0) → Type 0
   ForEachDown Holds =
       (genesis : Genesis) (cluster : Cluster) → IsReachable May Metered tells genesis cluster
-      → (place n : ℕ) (device : Memory) → HasNode cluster place n (Down device)
+      → (index n : ℕ) (device : Memory) → HasNode cluster index n (Down device)
       → (disks : Side → Disk) → ((s : Side) → disk_of device s ≡ disks s)
-      → Holds genesis cluster place n disks
+      → Holds genesis cluster index n disks
 
   -- it holds of each node that is up in a reachable cluster, as that server
   abbrev pub ForEachUp : (Genesis → Cluster → ℕ → ℕ → ServerValue ReplicaValue → Type 0) → Type 0
   ForEachUp Holds =
       (genesis : Genesis) (cluster : Cluster) → IsReachable May Metered tells genesis cluster
-      → (place n : ℕ) (server : ServerValue ReplicaValue) → HasNode cluster place n (Up server)
-      → Holds genesis cluster place n server
+      → (index n : ℕ) (server : ServerValue ReplicaValue) → HasNode cluster index n (Up server)
+      → Holds genesis cluster index n server
 
 -- ---- a service, and one that its last turn broke off
 

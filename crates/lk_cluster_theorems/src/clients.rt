@@ -9,7 +9,8 @@ ghost use Rattle.lk_client.specs.Rules.{SendsOnly};
 ghost use Rattle.lk_client.specs.declared.question.Question.{Question};
 ghost use Rattle.lk_guarantees.specs.ExactlyOnce.{FollowsRule};
 ghost use Rattle.lk_guarantees.specs.Guarantee.{MeetsGuarantee};
-ghost use Rattle.lk_cluster_theorems.specs.Asking.{AreRuns, HasAnswer, MayAsk, MayReach, OnlyRunAsks, Run, Tells};
+ghost use Rattle.lk_cluster_theorems.specs.Asking.{AreRuns, HasAnswer, MayAsk, MayReach};
+ghost use Rattle.lk_cluster_theorems.specs.Asking.{OnlyRunAsks, Run, BringsAnswer};
 ghost use Rattle.lk_cluster_theorems.specs.Asking.{notes_of};
 
 /// A client that follows the rule and runs `locks ask` once more still follows it, whatever the run sends and however
@@ -31,6 +32,6 @@ pub fn runs_follow_the_rule()
 /// next run may ask.
 pub fn a_run_returns_a_given_answer()
     ensures { (world : Scene ReplicaValue) → MeetsGuarantee world → (q : Question) → q.cluster ≡ world.genesis.cluster
-        → (d : SocketAddr × List ℕ) (answer : Answer) → Tells q d answer → MayReach world.genesis world.sent q d
+        → (d : SocketAddr × List ℕ) (answer : Answer) → BringsAnswer q d answer → MayReach world.genesis world.sent q d
         → HasAnswer world.trace q.request answer }
 {}

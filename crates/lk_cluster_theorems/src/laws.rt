@@ -123,28 +123,28 @@ pub fn a_sealed_cluster_meets_the_guarantee<D: LogDisk, S: DatagramSocket>()
 /// reachable too.
 pub fn a_start_continues_a_cluster<D: LogDisk, S: DatagramSocket>()
     ensures { ForEachDown ForgesNothing D.is_metered S.is_observable
-        (λ genesis cluster place n disks. (server : ServerValue ReplicaValue) → IsBegun cluster.genesis n disks server
-        → Continues ForgesNothing D.is_metered S.is_observable genesis cluster place n (Up server) []) }
+        (λ genesis cluster index n disks. (server : ServerValue ReplicaValue) → IsBegun cluster.genesis n disks server
+        → Continues ForgesNothing D.is_metered S.is_observable genesis cluster index n (Up server) []) }
 {}
 
 /// A rejected start continues its cluster: the node stays down, with the disks that the rejection has left. The
 /// contract of the program ensures such a rejection.
 pub fn a_refused_start_continues_a_cluster<D: LogDisk, S: DatagramSocket>()
     ensures { D.is_honest → ForEachDown ForgesNothing D.is_metered S.is_observable
-        (λ genesis cluster place n disks. (told : ServiceFault)
+        (λ genesis cluster index n disks. (told : ServiceFault)
         (refused : IsRefusedWith table_meaning IsTableText D.is_honest disks (header_of cluster.genesis n) told)
         → (left : Memory) → ((s : Side) → disk_of left s ≡ refused.left s)
-        → Continues ForgesNothing D.is_metered S.is_observable genesis cluster place n (Down left) []) }
+        → Continues ForgesNothing D.is_metered S.is_observable genesis cluster index n (Down left) []) }
 {}
 
 /// A turn of a server continues its cluster if what arrived in it is not forged. What the turn adds to the trace
 /// follows from what its replica says.
 pub fn a_turn_continues_a_cluster<D: LogDisk, S: DatagramSocket>()
     ensures { ForEachUp ForgesNothing D.is_metered S.is_observable
-        (λ genesis cluster place n server. (after : ServerValue ReplicaValue) (came : List (SocketAddr × List ℕ))
+        (λ genesis cluster index n server. (after : ServerValue ReplicaValue) (came : List (SocketAddr × List ℕ))
         → ForgesNothing cluster.genesis cluster.sent server came
         → (turn : Turn (Says D.is_metered) S.is_observable came server after) → after.replica.failed ≡ false
-        → Continues ForgesNothing D.is_metered S.is_observable genesis cluster place n
+        → Continues ForgesNothing D.is_metered S.is_observable genesis cluster index n
         (Up after) turn.hands_on.letters) }
 {}
 
@@ -152,13 +152,13 @@ pub fn a_turn_continues_a_cluster<D: LogDisk, S: DatagramSocket>()
 /// `turning::serve_turn` ensures such a turn, or an idle one.
 pub fn a_sealed_turn_continues_a_cluster<D: LogDisk, S: DatagramSocket>()
     ensures { ForEachUp IsSealed D.is_metered S.is_observable
-        (λ genesis cluster place n server. (after : ServerValue ReplicaValue)
+        (λ genesis cluster index n server. (after : ServerValue ReplicaValue)
         → key_list server.addresses.seals.nodes ≢ [] → (frames : List (SocketAddr × List ℕ))
         → OnlyNodesSealWhatComes cluster.sent server.addresses.seals frames
         → (turn : Turn (Says D.is_metered) S.is_observable
         (all_filtered (filter_of server.addresses) frames) server after)
         → after.replica.failed ≡ false
-        → Continues IsSealed D.is_metered S.is_observable genesis cluster place n (Up after) turn.hands_on.letters) }
+        → Continues IsSealed D.is_metered S.is_observable genesis cluster index n (Up after) turn.hands_on.letters) }
 {
     is_told_by_a_node();
 }
@@ -166,19 +166,19 @@ pub fn a_sealed_turn_continues_a_cluster<D: LogDisk, S: DatagramSocket>()
 /// An idle turn of a server continues its cluster, and gives nothing to be sent.
 pub fn an_idle_turn_continues_a_cluster<D: LogDisk, S: DatagramSocket>()
     ensures { ForEachUp ForgesNothing D.is_metered S.is_observable
-        (λ genesis cluster place n server. (after : ServerValue ReplicaValue) (frames : List (SocketAddr × List ℕ))
+        (λ genesis cluster index n server. (after : ServerValue ReplicaValue) (frames : List (SocketAddr × List ℕ))
         → IsIdle S.is_observable frames server after
-        → Continues ForgesNothing D.is_metered S.is_observable genesis cluster place n (Up after) []) }
+        → Continues ForgesNothing D.is_metered S.is_observable genesis cluster index n (Up after) []) }
 {}
 
 /// A turn that ends a server continues its cluster: the node is then down, with the disks that its replica has left.
 pub fn a_last_turn_continues_a_cluster<D: LogDisk, S: DatagramSocket>()
     ensures { ForEachUp ForgesNothing D.is_metered S.is_observable
-        (λ genesis cluster place n server. (after : ServerValue ReplicaValue) (came : List (SocketAddr × List ℕ))
+        (λ genesis cluster index n server. (after : ServerValue ReplicaValue) (came : List (SocketAddr × List ℕ))
         → ForgesNothing cluster.genesis cluster.sent server came
         → (turn : LastTurn (Says D.is_metered) S.is_observable came server after) → after.replica.failed ≡ true
         → (left : Memory) → ((s : Side) → disk_of left s ≡ server_disks after s)
-        → Continues ForgesNothing D.is_metered S.is_observable genesis cluster place n
+        → Continues ForgesNothing D.is_metered S.is_observable genesis cluster index n
         (Down left) turn.hands_on.letters) }
 {}
 
@@ -186,11 +186,11 @@ pub fn a_last_turn_continues_a_cluster<D: LogDisk, S: DatagramSocket>()
 /// of them is forged.
 pub fn turns_continue_a_cluster<D: LogDisk + Drop, S: DatagramSocket>()
     ensures { D.is_honest → ForEachUp ForgesNothing D.is_metered S.is_observable
-        (λ genesis cluster place n server. (count : ℕ) (last : ServerValue ReplicaValue)
+        (λ genesis cluster index n server. (count : ℕ) (last : ServerValue ReplicaValue)
         (turns : Repeats (TakesTurn ⟦<Replica<LockTable, D> as ServedReplica>⟧.Says S.is_observable) count server last)
         → MayAllCome ⟦<Replica<LockTable, D> as ServedReplica>⟧.Says S.is_observable ForgesNothing cluster.genesis n
         cluster.sent server turns.states last turns.chain
-        → Continues ForgesNothing D.is_metered S.is_observable genesis cluster place n (Up last)
+        → Continues ForgesNothing D.is_metered S.is_observable genesis cluster index n (Up last)
         (letters_of ⟦<Replica<LockTable, D> as ServedReplica>⟧.Says S.is_observable server turns.states last
         turns.chain)) }
 {}
@@ -199,11 +199,11 @@ pub fn turns_continue_a_cluster<D: LogDisk + Drop, S: DatagramSocket>()
 /// a service.
 pub fn a_service_continues_a_cluster<D: LogDisk + Drop, S: DatagramSocket>()
     ensures { D.is_honest → ForEachDown ForgesNothing D.is_metered S.is_observable
-        (λ genesis cluster place n disks. (count : ℕ) (seals : Seals)
+        (λ genesis cluster index n disks. (count : ℕ) (seals : Seals)
         (served : Service ⟦<Replica<LockTable, D> as ServedReplica>⟧.Says S.is_observable D.is_honest cluster n disks
         seals count)
         → MayComeInService ForgesNothing cluster n served
-        → Continues ForgesNothing D.is_metered S.is_observable genesis cluster place n (Up served.ended)
+        → Continues ForgesNothing D.is_metered S.is_observable genesis cluster index n (Up served.ended)
         (letters_in_service served)) }
 {}
 
@@ -211,14 +211,14 @@ pub fn a_service_continues_a_cluster<D: LogDisk + Drop, S: DatagramSocket>()
 /// its replica has left.
 pub fn a_service_that_breaks_off_continues_a_cluster<D: LogDisk + Drop, S: DatagramSocket>()
     ensures { D.is_honest → ForEachDown ForgesNothing D.is_metered S.is_observable
-        (λ genesis cluster place n disks. (most : ℕ) (seals : Seals)
+        (λ genesis cluster index n disks. (most : ℕ) (seals : Seals)
         (served : BrokenService ⟦<Replica<LockTable, D> as ServedReplica>⟧.Says S.is_observable D.is_honest cluster n
         disks seals most)
         → MayComeBeforeEnd ForgesNothing cluster n served
         → ForgesNothing cluster.genesis (sent_before_end n cluster.sent served) served.breaks.last
         served.breaks.ends.came
         → (left : Memory) → ((s : Side) → disk_of left s ≡ server_disks served.ended s)
-        → Continues ForgesNothing D.is_metered S.is_observable genesis cluster place n (Down left)
+        → Continues ForgesNothing D.is_metered S.is_observable genesis cluster index n (Down left)
         (letters_to_end served)) }
 {}
 
@@ -226,11 +226,11 @@ pub fn a_service_that_breaks_off_continues_a_cluster<D: LogDisk + Drop, S: Datag
 /// ensures such a service.
 pub fn a_sealed_service_continues_a_cluster<D: LogDisk + Drop, S: DatagramSocket>()
     ensures { D.is_honest → ForEachDown IsSealed D.is_metered S.is_observable
-        (λ genesis cluster place n disks. (count : ℕ) (seals : Seals)
+        (λ genesis cluster index n disks. (count : ℕ) (seals : Seals)
         (served : Service ⟦<Replica<LockTable, D> as ServedReplica>⟧.Says S.is_observable D.is_honest cluster n disks
         seals count)
         → key_list seals.nodes ≢ [] → OnlyNodesSealInService cluster n served
-        → Continues IsSealed D.is_metered S.is_observable genesis cluster place n (Up served.ended)
+        → Continues IsSealed D.is_metered S.is_observable genesis cluster index n (Up served.ended)
         (letters_in_service served)) }
 {
     is_told_by_a_node();
@@ -240,13 +240,13 @@ pub fn a_sealed_service_continues_a_cluster<D: LogDisk + Drop, S: DatagramSocket
 /// it is down then, with the disks that its replica has left.
 pub fn a_sealed_service_that_breaks_off_continues_a_cluster<D: LogDisk + Drop, S: DatagramSocket>()
     ensures { D.is_honest → ForEachDown IsSealed D.is_metered S.is_observable
-        (λ genesis cluster place n disks. (most : ℕ) (seals : Seals)
+        (λ genesis cluster index n disks. (most : ℕ) (seals : Seals)
         (served : BrokenService ⟦<Replica<LockTable, D> as ServedReplica>⟧.Says S.is_observable D.is_honest cluster n
         disks seals most)
         → key_list seals.nodes ≢ [] → OnlyNodesSealBeforeEnd cluster n served
         → OnlyNodesSealWhatComes (sent_before_end n cluster.sent served) seals served.breaks.ends.frames
         → (left : Memory) → ((s : Side) → disk_of left s ≡ server_disks served.ended s)
-        → Continues IsSealed D.is_metered S.is_observable genesis cluster place n (Down left)
+        → Continues IsSealed D.is_metered S.is_observable genesis cluster index n (Down left)
         (letters_to_end served)) }
 {
     is_told_by_a_node();
@@ -257,7 +257,7 @@ pub fn a_sealed_service_that_breaks_off_continues_a_cluster<D: LogDisk + Drop, S
 /// format 1 has no generation left. What a crash may leave is what recovery takes (Chen et al., FSCQ, 2015).
 pub fn a_restart_comes_back<D: LogDisk, S: DatagramSocket>()
     ensures { D.is_honest → ForEachDown ForgesNothing D.is_metered S.is_observable
-        (λ genesis cluster place n disks. (number : ℕ) (left : Side → Disk)
+        (λ genesis cluster index n disks. (number : ℕ) (left : Side → Disk)
         → IsRestartRefused table_meaning IsTableText D.is_honest disks (header_of cluster.genesis n) number left
         → IsExcused disks number) }
 {}

@@ -41,23 +41,23 @@ pub fn run<
     requires { AreSealsOf plan.now.header resources.network.seals }
     ensures served { D.is_honest → result ≡ 0 → (genesis : GenesisValue) (cluster : Cluster)
         → IsReachable ForgesNothing D.is_metered S.is_observable genesis cluster
-        → (place n : ℕ) → plan.now.header ≡ header_of cluster.genesis n
-        → IsDownOn cluster place n (D.disk resources.device)
+        → (index n : ℕ) → plan.now.header ≡ header_of cluster.genesis n
+        → IsDownOn cluster index n (D.disk resources.device)
         → ServesIn D.is_metered S.is_observable D.is_honest ⟦<Replica<LockTable, D> as ServedReplica>⟧.Says genesis
-        cluster place n (D.disk resources.device) resources.network.seals (2 ^ 48) }
+        cluster index n (D.disk resources.device) resources.network.seals (2 ^ 48) }
     ensures broken { D.is_honest → result ≡ 1 → (genesis : GenesisValue) (cluster : Cluster)
         → IsReachable ForgesNothing D.is_metered S.is_observable genesis cluster
-        → (place n : ℕ) → plan.now.header ≡ header_of cluster.genesis n
-        → IsDownOn cluster place n (D.disk resources.device)
+        → (index n : ℕ) → plan.now.header ≡ header_of cluster.genesis n
+        → IsDownOn cluster index n (D.disk resources.device)
         → RestsIn D.is_metered S.is_observable D.is_honest ⟦<Replica<LockTable, D> as ServedReplica>⟧.Says genesis
         cluster
-        place n (D.disk resources.device) resources.network.seals
+        index n (D.disk resources.device) resources.network.seals
         ⊎ EndsIn D.is_metered S.is_observable D.is_honest ⟦<Replica<LockTable, D> as ServedReplica>⟧.Says genesis
         cluster
-        place n (D.disk resources.device) resources.network.seals (2 ^ 48)
+        index n (D.disk resources.device) resources.network.seals (2 ^ 48)
         ⊎ EndsInByStranger D.is_metered S.is_observable D.is_honest ⟦<Replica<LockTable, D> as ServedReplica>⟧.Says
         genesis
-        cluster place n (D.disk resources.device) resources.network.seals (2 ^ 48) }
+        cluster index n (D.disk resources.device) resources.network.seals (2 ^ 48) }
     ensures status { result ≤ 1 }
 {
     run_node::<LockTable, D, S, C, L, O, E>(clock, alloc, plan, resources, log, observer, err)

@@ -55,7 +55,7 @@ const SUBCOMMANDS: &[Usage] = &[
         (Kind::Given, "key", "the file of the key that the nodes share"),
         (Kind::Given, "client-key", "the file of the master from which the clients' keys are derived"),
         (Kind::Given, "ticks", "what ticks go by: datagrams, or clock (each 100 ms; always with a key)"),
-        (Kind::Flag, "events", "writes what an operator wants to know to standard error, with the time"),
+        (Kind::Flag, "events", "writes leaders, members, snapshots and faults to standard error, with the time"),
         (Kind::Flag, "log", "writes each position that is counted or executed to standard error"),
         (Kind::Flag, "verbose", "writes what --log does, and what else happens to the node"),
     ]),

@@ -5,7 +5,8 @@ use Rattle.std.proofs.Common.{inl, inr, arith}
 use Rattle.std.proofs.Math.Seq.{take-length}
 use Rattle.std.proofs.lemmas.List.{append-nil, length-take-le}
 use Rattle.lk_disk.specs.Disk.{Disk, MayLeave, contents, cut_to}
-use Rattle.lk_disk.specs.Meters.{Passes, start, call, read, Breaks, is_failing, called, starving, is_unread, asked}
+use Rattle.lk_disk.specs.Meters.{CallsSucceed, start, call, read, Breaks, is_failing, called}
+use Rattle.lk_disk.specs.Meters.{starving, is_unread, asked}
 use Rattle.lk_disk.specs.declared.meter.Meter.{Meter}
 
 pub contents_may_be_left : (d : Disk) → MayLeave d (contents d)
@@ -19,21 +20,22 @@ pub cut_length : (n : ℕ) (d : Disk) → n ≤ length (contents d) → n ≡ le
 cut_length n d le = sym (length-front n (contents d) le)
 
 -- calls that passed, after calls that passed
-pub passes_on : {l m : Meter} (j : ℕ) → Passes l m j → {n : Meter} (k : ℕ) → Passes m n k → Passes l n (j + k)
-passes_on {l} {m} j before _ start = let e : j ≡ j + 0 = omega arith in subst (λ (x : ℕ). Passes l m x) e before
+pub passes_on : {l m : Meter} (j : ℕ) → CallsSucceed l m j → {n : Meter} (k : ℕ) → CallsSucceed m n k
+    → CallsSucceed l n (j + k)
+passes_on {l} {m} j before _ start = let e : j ≡ j + 0 = omega arith in subst (λ (x : ℕ). CallsSucceed l m x) e before
 passes_on {l} j before _ (call {n} {k} after passed) =
     let e : j + k + 1 ≡ j + (k + 1) = omega arith in
-    subst (λ (x : ℕ). Passes l (called n) x) e (call (passes_on j before k after) passed)
+    subst (λ (x : ℕ). CallsSucceed l (called n) x) e (call (passes_on j before k after) passed)
 passes_on j before _ (read {n} {k} after passed) = read (passes_on j before k after) passed
 
 -- a call that failed, after calls that passed
-pub breaks_on : {l m n : Meter} (j : ℕ) → Passes l m j → Breaks m n → Breaks l n
+pub breaks_on : {l m n : Meter} (j : ℕ) → CallsSucceed l m j → Breaks m n → Breaks l n
 breaks_on j before b =
     record { passed = j + b.passed; last = b.last; passes = passes_on j before b.passed b.passes; broke = b.broke }
 
 -- a changing call that passed
-pub call_passes : (m n : Meter) → (is_failing m ≡ false) × (n ≡ called m) → Passes m n 1
-call_passes m n (passed, e) = subst (λ (x : Meter). Passes m x 1) (sym e) (call start passed)
+pub call_passes : (m n : Meter) → (is_failing m ≡ false) × (n ≡ called m) → CallsSucceed m n 1
+call_passes m n (passed, e) = subst (λ (x : Meter). CallsSucceed m x 1) (sym e) (call start passed)
 
 -- and one that failed
 pub call_breaks : (m n : Meter) → ((is_failing m ≡ true) × (n ≡ called m)) ⊎ (n ≡ starving m) → Breaks m n
@@ -41,8 +43,8 @@ call_breaks m n (inl failed) = record { passed = 0; last = m; passes = start; br
 call_breaks m n (inr starved) = record { passed = 0; last = m; passes = start; broke = inr (inl starved) }
 
 -- a reading call that passed
-pub read_passes : (m n : Meter) → (is_unread m ≡ false) × (n ≡ asked m) → Passes m n 0
-read_passes m n (passed, e) = subst (λ (x : Meter). Passes m x 0) (sym e) (read start passed)
+pub read_passes : (m n : Meter) → (is_unread m ≡ false) × (n ≡ asked m) → CallsSucceed m n 0
+read_passes m n (passed, e) = subst (λ (x : Meter). CallsSucceed m x 0) (sym e) (read start passed)
 
 -- and one that failed
 pub read_breaks : (m n : Meter) → (is_unread m ≡ true) × (n ≡ asked m) → Breaks m n

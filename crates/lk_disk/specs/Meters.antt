@@ -72,17 +72,17 @@ Reads m n (Err _) = (is_unread m ≡ true) × (n ≡ asked m)
 -- ---- calls in a row
 
 -- this many changing calls were made, besides reading ones, and all of them passed
-pub data Passes (m : Meter) : Meter → ℕ → Type 0 where
-  start : Passes m m 0
-  call : {n : Meter} {k : ℕ} → Passes m n k → is_failing n ≡ false → Passes m (called n) (k + 1)
-  read : {n : Meter} {k : ℕ} → Passes m n k → is_unread n ≡ false → Passes m (asked n) k
+pub data CallsSucceed (m : Meter) : Meter → ℕ → Type 0 where
+  start : CallsSucceed m m 0
+  call : {n : Meter} {k : ℕ} → CallsSucceed m n k → is_failing n ≡ false → CallsSucceed m (called n) (k + 1)
+  read : {n : Meter} {k : ℕ} → CallsSucceed m n k → is_unread n ≡ false → CallsSucceed m (asked n) k
 
 -- such calls passed, and the next one failed: a changing one as it had to, or for want of memory, or a reading one as
 -- it had to
 pub record Breaks (m n : Meter) : Type 0 where
   pub passed : ℕ
   pub last : Meter
-  pub passes : Passes m last passed
+  pub passes : CallsSucceed m last passed
   pub broke : ((is_failing last ≡ true) × (n ≡ called last)) ⊎ (n ≡ starving last)
       ⊎ ((is_unread last ≡ true) × (n ≡ asked last))
 

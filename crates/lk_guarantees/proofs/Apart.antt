@@ -52,15 +52,15 @@ one_place seats apart i j s t here there same = apart i j s t (at_place seats i 
 pub one_seat : (seats : List (Seat ReplicaValue)) → Apart seats → (i j : ℕ) (s t : Seat ReplicaValue)
     → slice_get seats i ≡ Some s → slice_get seats j ≡ Some t → s.number ≡ t.number → s ≡ t
 one_seat seats apart i j s t here there same =
-    let place : i ≡ j = one_place seats apart i j s t here there same in
-    same_some s t (sym here ∙ ap (λ (k : ℕ). slice_get seats k) place ∙ there)
+    let index : i ≡ j = one_place seats apart i j s t here there same in
+    same_some s t (sym here ∙ ap (λ (k : ℕ). slice_get seats k) index ∙ there)
 
 -- a node that is down is not up
-pub not_up : (seats : List (Seat ReplicaValue)) → Apart seats → (n place : ℕ) (device : Memory)
-    → slice_get seats place ≡ Some (record { number = n; life = Down device }) → IsUp seats n → ⊥
-not_up seats apart n place device here up =
+pub not_up : (seats : List (Seat ReplicaValue)) → Apart seats → (n index : ℕ) (device : Memory)
+    → slice_get seats index ≡ Some (record { number = n; life = Down device }) → IsUp seats n → ⊥
+not_up seats apart n index device here up =
     let down : Seat ReplicaValue = record { number = n; life = Down device } in
-    let same : up.0 ≡ down = one_seat seats apart up.2.0 place up.0 down (read_there seats up.0 up.2) here up.3 in
+    let same : up.0 ≡ down = one_seat seats apart up.2.0 index up.0 down (read_there seats up.0 up.2) here up.3 in
     lives up.1 device (sym up.4 ∙ ap (λ (s : Seat ReplicaValue). s.life) same)
   where
     lives : (replica : ReplicaValue) (device : Memory) → Up replica ≡ Down device → ⊥
@@ -69,21 +69,21 @@ not_up seats apart n place device here up =
 -- ---- a node changes, or is added
 
 module _ (old : List (Seat ReplicaValue)) (apart : Apart old) where
-  module _ (place : ℕ) (s t : Seat ReplicaValue) (here : slice_get old place ≡ Some s)
+  module _ (index : ℕ) (s t : Seat ReplicaValue) (here : slice_get old index ≡ Some s)
       (number : t.number ≡ s.number) where
     -- who was at a place
-    was : (k : ℕ) (x : Seat ReplicaValue) → At (set old place t) k x
+    was : (k : ℕ) (x : Seat ReplicaValue) → At (set old index t) k x
         → (y : Seat ReplicaValue) × At old k y × (x.number ≡ y.number)
-    was k x at = elim (at_set old place t k x at) [
+    was k x at = elim (at_set old index t k x at) [
       | inl e ↦ (
         s,
-        subst (λ (i : ℕ). At old i s) (sym e.0) (at_place old place s here),
+        subst (λ (i : ℕ). At old i s) (sym e.0) (at_place old index s here),
         ap (λ (u : Seat ReplicaValue). u.number) (sym e.1) ∙ number,
       )
       | inr ne ↦ (x, ne.1, refl)
     ]
 
-    set_apart : Apart (set old place t)
+    set_apart : Apart (set old index t)
     set_apart i j u v at_i at_j same =
         let p = was i u at_i in
         let q = was j v at_j in

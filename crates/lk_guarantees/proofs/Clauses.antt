@@ -87,7 +87,7 @@ module _ (genesis : Genesis) (sent : List Datagram) (trace : List Note) where
   ordered o front back parts n client number a answered_there r new L i chosen takes =
       let b = o front back parts n client number a answered_there r new L i (chosen_is genesis sent L chosen)
       (effective L i r takes) in
-      (b.place, b.request, b.before, b.of_client, b.of_number, effective_back L b.place b.request b.effective)
+      (b.index, b.request, b.before, b.of_client, b.of_number, effective_back L b.index b.request b.effective)
 
 -- ---- of the replica of the lock table
 

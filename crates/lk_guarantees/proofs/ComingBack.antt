@@ -4,7 +4,8 @@ use Rattle.std.proofs.Common.{Contains, refl, ap, sym, ◌∙◌, subst, inl, in
 use Rattle.std.specs.Prelude.{MatchBool, is_some}
 use Rattle.lk_types.specs.declared.genesis.Genesis.{Genesis}
 use Rattle.lk_memory_disk.specs.Memory.{Memory, disk_of}
-use Rattle.lk_disk.specs.Meters.{Passes, start, call, read, Breaks, called, asked, is_failing, is_unread, is_blown}
+use Rattle.lk_disk.specs.Meters.{CallsSucceed, start, call, read, Breaks, called, asked, is_failing}
+use Rattle.lk_disk.specs.Meters.{is_unread, is_blown}
 use Rattle.lk_disk.specs.Meters.{fuse_after, fuse_at, stopping}
 use Rattle.lk_disk.specs.Traps.{fails_next, stops_next, trap_after, armed_for}
 use Rattle.lk_disk.specs.declared.meter.Meter.{Meter}
@@ -39,7 +40,7 @@ quiet_called m q = (
 quiet_asked : (m : Meter) → IsQuiet m → IsQuiet (asked m)
 quiet_asked m q = (q.0, q.1, ap (λ (n : ℕ). n - 1) q.2)
 
-quiet_after : (m : Meter) → IsQuiet m → {n : Meter} (k : ℕ) → Passes m n k → IsQuiet n
+quiet_after : (m : Meter) → IsQuiet m → {n : Meter} (k : ℕ) → CallsSucceed m n k → IsQuiet n
 quiet_after m q _ start = q
 quiet_after m q _ (call {n} {k} before passed) = quiet_called n (quiet_after m q k before)
 quiet_after m q _ (read {n} {k} before passed) = quiet_asked n (quiet_after m q k before)
@@ -68,7 +69,7 @@ unbroken m n q fed b =
     ]
 
 by_kind : (is_device : Bool) (m n : Meter) → IsQuiet m → n.starved ≡ false
-    → MatchBool is_device (Breaks m n) ((k : ℕ) × Passes m n k) → (is_device ≡ true → ⊥) × IsQuiet n
+    → MatchBool is_device (Breaks m n) ((k : ℕ) × CallsSucceed m n k) → (is_device ≡ true → ⊥) × IsQuiet n
 by_kind true m n q fed by = absurd (unbroken m n q fed by)
 by_kind false m n q fed by = (λ e. cc e, quiet_after m q by.0 by.1)
 
@@ -104,11 +105,11 @@ module _ (world : Scene ReplicaValue) (apart : Apart world.seats) (n : ℕ) (dev
   only_memory WorldMemory cause = refl
 
   -- it is this device from which the node restarts
-  same_device : (place : ℕ) (other : Memory)
-      → slice_get world.seats place ≡ Some (record { number = n; life = Down other }) → other ≡ device
-  same_device place other here =
+  same_device : (index : ℕ) (other : Memory)
+      → slice_get world.seats index ≡ Some (record { number = n; life = Down other }) → other ≡ device
+  same_device index other here =
       lives other device (ap (λ (s : Seat ReplicaValue). s.life)
-      (one_seat world.seats apart place down.0 (record { number = n; life = Down other }) seat here
+      (one_seat world.seats apart index down.0 (record { number = n; life = Down other }) seat here
       (read_there world.seats seat down) refl))
     where
       lives : (other device : Memory) → ◌≡◌ {A = Life ReplicaValue} (Down other) (Down device) → other ≡ device
@@ -121,7 +122,7 @@ module _ (world : Scene ReplicaValue) (apart : Apart world.seats) (n : ℕ) (dev
     module _ (f : IsNotRestarted world n new) where
       quiet_left : IsQuiet device.meter → (f.number ≡ 7 → ⊥) × IsQuiet f.left.meter
       quiet_left q = still_quiet f.number f.device.meter f.left.meter
-          (subst (λ (d : Memory). IsQuiet d.meter) (sym (same_device f.place f.device f.was_down)) q)
+          (subst (λ (d : Memory). IsQuiet d.meter) (sym (same_device f.index f.device f.was_down)) q)
           f.not_starved f.fails.calls
 
       by_number : new.ended ≡ Some (Fault n f.number) → IsBack n device new
@@ -129,7 +130,7 @@ module _ (world : Scene ReplicaValue) (apart : Apart world.seats) (n : ℕ) (dev
         | inl seven ↦ inr (inl (λ q. (quiet_left q).0 seven, inl (ended ∙ ap (λ (x : ℕ). Some (Fault n x)) seven)))
         | inr eleven ↦ inr (inr (
           subst (λ (d : Memory). IsLastOld (seen (disk_of d)))
-              (same_device f.place f.device f.was_down) (f.fails.cause.last eleven),
+              (same_device f.index f.device f.was_down) (f.fails.cause.last eleven),
           ended ∙ ap (λ (x : ℕ). Some (Fault n x)) eleven,
         ))
       ]

@@ -27,16 +27,16 @@ use Rattle.lk_sim.specs.Events.{IsRefused}
 use Rattle.lk_replica.specs.Together.{Said, sent_of, ComesToAll}
 use Rattle.lk_sim_nodes.specs.Sends.{cut_short, left_over}
 use Rattle.lk_sim.specs.Groups.{AreNotesOf, given_by}
-use Rattle.lk_sim.specs.Heard.{Asks}
+use Rattle.lk_sim.specs.Heard.{IsRequestIn}
 use Rattle.lk_sim.specs.Refusals.{datagram_at, IsPermitted}
 use Rattle.lk_sim.specs.Scenes.{Scene}
-use Rattle.lk_sim_nodes.specs.Told.{told_by, Tells}
+use Rattle.lk_sim_nodes.specs.Told.{told_by, NotesReplies}
 use Rattle.lk_sim.specs.Traces.{asked_note}
 use Rattle.lk_sim.specs.declared.event.Event.{Event}
 use Rattle.lk_sim.specs.declared.event.Event.TheVariants as event
 use Rattle.lk_sim_nodes.specs.declared.refused.Refused.{Refused}
 use Rattle.lk_sim.specs.Events.{GoesDown}
-use Rattle.lk_sim.specs.Runs.{Passes, StopsAt, Runs}
+use Rattle.lk_sim.specs.Runs.{AreExecuted, StopsAt, Runs}
 use Rattle.lk_sim_nodes.specs.Seats.{stopped_on}
 use Rattle.lk_sim.specs.declared.end.RunEnd.{RunEnd}
 use Rattle.lk_sim_nodes.specs.declared.seat.Seat.{Seat}
@@ -81,7 +81,7 @@ told_ask (content.Node n (message.Elsewhere e)) rest = refl
 told_ask (content.Node n (message.Passed p)) rest = refl
 told_ask (content.Node n (message.Lead b executed)) rest = refl
 
-tells_ask : (batch : List Datagram) (told : List Note) → Tells batch told → requests told ≡ []
+tells_ask : (batch : List Datagram) (told : List Note) → NotesReplies batch told → requests told ≡ []
 tells_ask [] told e = rw e refl
 tells_ask (d ∷ ds) told t = ap requests t.3 ∙ told_ask t.0.content t.1 ∙ tells_ask ds t.1 t.4
 
@@ -92,7 +92,7 @@ abbrev AsksThese : Scene ReplicaValue → Scene ReplicaValue → List Note → T
 AsksThese old new asked = requests new.trace ≡ requests old.trace ++ requests asked
 
 adds_ask : (old new : Scene ReplicaValue) (asked notes told : List Note) (batch more : List Datagram) → AreOwn notes
-    → Tells batch told → Adds old new ((asked ++ notes) ++ told) more → AsksThese old new asked
+    → NotesReplies batch told → Adds old new ((asked ++ notes) ++ told) more → AsksThese old new asked
 adds_ask old new asked notes told batch more own tells adds =
     let parts : requests ((asked ++ notes) ++ told) ≡ requests asked =
     requests-append (asked ++ notes) told
@@ -160,7 +160,7 @@ module _ (b : Behaviour ReplicaValue) where
 no_request : (r : RequestValue) → None ≡ Some r → ⊥
 no_request r e = absurd cc
 
-asked_in : (bytes : List ℕ) (o : Option RequestValue) → Asks bytes o → AreAskedIn bytes (requests (asked_note o))
+asked_in : (bytes : List ℕ) (o : Option RequestValue) → IsRequestIn bytes o → AreAskedIn bytes (requests (asked_note o))
 asked_in bytes (Some r) a = inl (r, a.spelled r refl, refl)
 asked_in bytes None a = inr (
   λ r cluster spelled. let x = a.only (record { cluster = cluster; content = content.Request r }) spelled in
@@ -172,7 +172,7 @@ asked_in bytes None a = inr (
 
 turned : (old new : List (Seat ReplicaValue)) (n : ℕ) (s t : Seat ReplicaValue) → ReplacesSeat old new s t
     → s.number ≡ n → ChangesOnly n old new
-turned old new n s t k number = inr (inl (k.place, s, t, stands_at old new s t k, number, k.number ∙ number, k.seats))
+turned old new n s t k number = inr (inl (k.index, s, t, stands_at old new s t k, number, k.number ∙ number, k.seats))
 
 bound : (sent : List Datagram) (i : ℕ) (d : Datagram) (n : ℕ) → datagram_at sent i ≡ Some d → d.to ≡ party.Node n
     → IsFor sent (event.Deliver i) n
@@ -327,12 +327,12 @@ module _ (b : Behaviour ReplicaValue) where
       → IsHalted Left old new n → FallsDown n old.seats new.seats
   halted_falls Left old new n h =
       let device = stopped_on 0 0 h.device in (
-        h.turns.place,
+        h.turns.index,
         h.seat,
         device,
         stands_at old.seats new.seats h.seat h.next h.turns,
         h.number,
-        h.turns.seats ∙ ap (set old.seats h.turns.place)
+        h.turns.seats ∙ ap (set old.seats h.turns.index)
             (same_seat h.next n (Down device) (h.turns.number ∙ h.number) h.down),
       )
 
@@ -393,12 +393,12 @@ module _ (b : Behaviour ReplicaValue) (memory_is : (r : ReplicaValue) → b.memo
       let down : k.next.life ≡ Down device = k.down
       ∙ ap (λ (m : Memory). Down (stopped_on x y m)) (memory_is k.replica) in
       record {
-        place = k.turns.place;
+        index = k.turns.index;
         replica = k.replica;
         was_up = stands_at old.seats new.seats k.seat k.next k.turns
             ∙ ap Some (same_seat k.seat n (Up k.replica) k.number k.up);
         device = device;
-        is_down = k.turns.seats ∙ ap (set old.seats k.turns.place)
+        is_down = k.turns.seats ∙ ap (set old.seats k.turns.index)
             (same_seat k.next n (Down device) (k.turns.number ∙ k.number) down);
         disk_a = refl;
         disk_b = refl;
@@ -456,7 +456,7 @@ module _ (b : Behaviour ReplicaValue) (memory_is : (r : ReplicaValue) → b.memo
 
   -- ---- a run
 
-  all_done : (es : List Event) (old new : Scene ReplicaValue) → Passes b es old new → guarantee.AreDone es old new
+  all_done : (es : List Event) (old new : Scene ReplicaValue) → AreExecuted b es old new → guarantee.AreDone es old new
   all_done [] old new p = p
   all_done (e ∷ es) old new p = (p.0, is_done old p.0 e p.1, all_done es p.0 new p.2)
 

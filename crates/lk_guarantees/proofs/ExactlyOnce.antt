@@ -12,7 +12,7 @@ use Rattle.lk_agreement_laws.specs.Datagrams.{Datagram}
 use Rattle.lk_agreement_laws.proofs.Histories.{cons_cases}
 use Rattle.lk_node_interface.specs.declared.note.Note.{Note}
 use Rattle.lk_node_interface.specs.declared.note.Note.TheVariants as note
-use Rattle.lk_guarantees.specs.ExactlyOnce.{Asks, WasAnswered, AsksAfter, FollowsRule, IsServedOnce, AreServedOnce}
+use Rattle.lk_guarantees.specs.ExactlyOnce.{IsAskedBy, WasAnswered, AsksAfter, FollowsRule, IsServedOnce, AreServedOnce}
 use Rattle.lk_guarantees.specs.Plain.{after, serve, TakesEffectAt}
 use Rattle.lk_guarantees.specs.Guarantee.{Explains, IsExplained, AreToldInTime}
 use Rattle.lk_guarantees.proofs.Once.{once, smaller_first}
@@ -90,10 +90,10 @@ module _ (genesis : Genesis) (L : List Command) (sent : List Datagram) (trace : 
     (rule : FollowsRule trace client) where
   -- ---- what takes effect
 
-  asked : (r : Asking) (i : ℕ) → TakesEffectAt genesis L i r → r.client ≡ client → Asks trace client r
+  asked : (r : Asking) (i : ℕ) → TakesEffectAt genesis L i r → r.client ≡ client → IsAskedBy trace client r
   asked r i takes of_client = (x.asked i r takes.0, of_client)
 
-  takes_effect : (r : Asking) (node : ℕ) (answer : Answer) → Asks trace client r
+  takes_effect : (r : Asking) (node : ℕ) (answer : Answer) → IsAskedBy trace client r
       → Contains trace (note.Answered node client r.number answer)
       → (i : ℕ) × TakesEffectAt genesis L i r × ((serve client r.op (after genesis (take (i - 1) L))).0 ≡ answer)
   takes_effect r node answer asks told =
@@ -111,7 +111,7 @@ module _ (genesis : Genesis) (L : List Command) (sent : List Datagram) (trace : 
   -- ---- a pass
 
   module _ (before later : List Note) (r : Asking) (node last : ℕ)
-      (parts : trace ≡ before ++ note.Told node client r.number last ∷ later) (asks : Asks before client r) where
+      (parts : trace ≡ before ++ note.Told node client r.number last ∷ later) (asks : IsAskedBy before client r) where
     abbrev told : Note
     told = note.Told node client r.number last
 
@@ -142,7 +142,7 @@ module _ (genesis : Genesis) (L : List Command) (sent : List Datagram) (trace : 
 
     -- where it is first asked, this one was answered
     answered_at : (front back : List Note) (q : Asking) → before ≡ front ++ note.Asked q ∷ back → q.client ≡ client
-        → (Contains front (note.Asked q) → ⊥) → Asks front client r → WasAnswered before client r.number
+        → (Contains front (note.Asked q) → ⊥) → IsAskedBy front client r → WasAnswered before client r.number
     answered_at front back q e of_client first earlier =
         let whole : trace ≡ front ++ note.Asked q ∷ (back ++ told ∷ later) = parts
         ∙ ap (λ (l : List Note). l ++ told ∷ later) e ∙ append_assoc front (note.Asked q ∷ back) (told ∷ later) in

@@ -106,8 +106,8 @@ pub answered : (genesis : Genesis) (L : List Command) (client number : ℕ) (a :
     → reply table_meaning genesis L client number ≡ Some a → IsAnswered genesis L client number a
 answered genesis L client number a all e =
     let p = replies_stand table_meaning genesis L client number a e in
-    let place = placed_entries_stand L p.0 p.1 in
-    let fits = all_front IsCommand p.0.before (p.0.entry ∷ place.0) (subst (AllByRecursion IsCommand) place.1 all) in
-    subst (λ (K : List Command). IsAnswered genesis K client number a) (sym place.1)
-    (effective_answer genesis p.0.before place.0 p.0.entry client number a
+    let index = placed_entries_stand L p.0 p.1 in
+    let fits = all_front IsCommand p.0.before (p.0.entry ∷ index.0) (subst (AllByRecursion IsCommand) index.1 all) in
+    subst (λ (K : List Command). IsAnswered genesis K client number a) (sym index.1)
+    (effective_answer genesis p.0.before index.0 p.0.entry client number a
     (in_effect p.0.before p.0.entry) fits refl p.2)

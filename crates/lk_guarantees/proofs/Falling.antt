@@ -48,10 +48,10 @@ module _ (old new : Scene ReplicaValue) where
   sits : (s t : Seat ReplicaValue) (n : ℕ) (device : Memory) → ReplacesSeat old.seats new.seats s t → s.number ≡ n
       → t.life ≡ Down device → IsDown new.seats n
   sits s t n device k number life =
-      let here = at_set_here old.seats k.place t k.at.0 in (
+      let here = at_set_here old.seats k.index t k.at.0 in (
         t,
         device,
-        subst (λ (l : List (Seat ReplicaValue)). Contains l t) (sym k.seats) (k.place, here.0, here.1),
+        subst (λ (l : List (Seat ReplicaValue)). Contains l t) (sym k.seats) (k.index, here.0, here.1),
         k.number ∙ number,
         life,
       )

@@ -134,7 +134,7 @@ pub compacted : (w : Scene ReplicaValue) (n : ℕ) → StandsPacked (λ r. r.nod
 compacted w n k = (
   k.seat,
   k.replica,
-  (k.place, k.at.0, k.at.1),
+  (k.index, k.at.0, k.at.1),
   k.number,
   k.up,
   each_image w.genesis k.seat

@@ -33,15 +33,15 @@ pub record IsPlaced (genesis : Genesis) (L : List Command) (client number : ℕ)
 pub placed : (genesis : Genesis) (L : List Command) (client number : ℕ) (answer : Answer)
     → IsAnswered genesis L client number answer → IsPlaced genesis L client number answer
 placed genesis L client number answer a =
-    let place : ℕ = length a.before in
-    let next : place + 1 ≡ suc place = omega arith in
-    let less : (place + 1) - 1 ≡ place = omega arith in
-    let front : take ((place + 1) - 1) L ≡ a.before = ap (λ (n : ℕ). take n L) less
-    ∙ ap (λ (l : List Command). take place l) a.stands ∙ take_front a.before (Request a.request ∷ a.later) in
-    let stands : at L (place + 1) ≡ Some (Request a.request) = ap (λ (n : ℕ). at L n) next ∙ at_is L (suc place)
-    ∙ ap (λ (l : List Command). slice_get l place) a.stands ∙ get_middle a.before (Request a.request) a.later in
+    let index : ℕ = length a.before in
+    let next : index + 1 ≡ suc index = omega arith in
+    let less : (index + 1) - 1 ≡ index = omega arith in
+    let front : take ((index + 1) - 1) L ≡ a.before = ap (λ (n : ℕ). take n L) less
+    ∙ ap (λ (l : List Command). take index l) a.stands ∙ take_front a.before (Request a.request ∷ a.later) in
+    let stands : at L (index + 1) ≡ Some (Request a.request) = ap (λ (n : ℕ). at L n) next ∙ at_is L (suc index)
+    ∙ ap (λ (l : List Command). slice_get l index) a.stands ∙ get_middle a.before (Request a.request) a.later in
     record {
-      position = place + 1;
+      position = index + 1;
       request = a.request;
       of_client = a.of_client;
       of_number = a.of_number;

@@ -65,7 +65,7 @@ down nodes n s = (s.1.1, s.0, (s.1.0, s.1.2.0, s.1.2.1), s.1.3, s.1.4)
 
 stands_there : (sent : List Datagram) (k j : ℕ) (d : Datagram) → k ≡ j + 1 → slice_get sent j ≡ Some d
     → datagram_at sent k ≡ Some d
-stands_there sent k j d place at = let next : j + 1 ≡ suc j = omega arith in ap (datagram_at sent) (place ∙ next) ∙ at
+stands_there sent k j d index at = let next : j + 1 ≡ suc j = omega arith in ap (datagram_at sent) (index ∙ next) ∙ at
 
 pub is_for : (sent : List Datagram) (k : ℕ) (d : Datagram) (n : ℕ) → datagram_at sent k ≡ Some d → d.to ≡ party.Node n
     → IsFor sent (event.Deliver k) n
@@ -263,10 +263,10 @@ module _ (old : Scene ReplicaValue) where
         → s.number ≡ n
         → t.life ≡ Up replica → IsUp new.seats n
     sits s t n replica k number life =
-        let here = at_set_here old.seats k.place t k.at.0 in (
+        let here = at_set_here old.seats k.index t k.at.0 in (
           t,
           replica,
-          subst (λ (l : List (Seat ReplicaValue)). Contains l t) (sym k.seats) (k.place, here.0, here.1),
+          subst (λ (l : List (Seat ReplicaValue)). Contains l t) (sym k.seats) (k.index, here.0, here.1),
           k.number ∙ number,
           life,
         )
@@ -364,16 +364,16 @@ module _ (b : Behaviour ReplicaValue) (node_stays : (t : Trap) (r : ReplicaValue
       → IsGiven b old new n o asked → new.ended ≡ None → IsTaken old n o new
   taken old new n o asked k none = elim k.comes_to [
     | inl r ↦ (
-        let here = at_set_here old.seats k.turns.place k.next k.turns.at.0 in
+        let here = at_set_here old.seats k.turns.index k.next k.turns.at.0 in
         record {
           before = k.replica;
           after = r.replica;
-          was_up = (k.seat, k.replica, (k.turns.place, k.turns.at.0, k.turns.at.1), k.number, k.up, refl);
+          was_up = (k.seat, k.replica, (k.turns.index, k.turns.at.0, k.turns.at.1), k.number, k.up, refl);
           is_up = (
             k.next,
             sending.after_sends b (length r.batch) r.replica,
             subst (λ (l : List (Seat ReplicaValue)). Contains l k.next) (sym k.turns.seats)
-                (k.turns.place, here.0, here.1),
+                (k.turns.index, here.0, here.1),
             k.turns.number ∙ k.number,
             r.up,
             counted (b.memory r.replica).meter.trap (length r.batch) r.replica,
@@ -391,16 +391,16 @@ module _ (b : Behaviour ReplicaValue) (node_stays : (t : Trap) (r : ReplicaValue
       → IsGivenTogether b old new n (map (given_by old.sent) turns) → new.ended ≡ None → AreTaken old n turns new
   taken_together old new n turns are k none = elim k.comes_to [
     | inl r ↦ (
-        let here = at_set_here old.seats k.turns.place k.next k.turns.at.0 in
+        let here = at_set_here old.seats k.turns.index k.next k.turns.at.0 in
         record {
           before = k.replica;
           after = r.replica;
-          was_up = (k.seat, k.replica, (k.turns.place, k.turns.at.0, k.turns.at.1), k.number, k.up, refl);
+          was_up = (k.seat, k.replica, (k.turns.index, k.turns.at.0, k.turns.at.1), k.number, k.up, refl);
           is_up = (
             k.next,
             sending.after_sends b (length (sent_of r.said)) r.replica,
             subst (λ (l : List (Seat ReplicaValue)). Contains l k.next) (sym k.turns.seats)
-                (k.turns.place, here.0, here.1),
+                (k.turns.index, here.0, here.1),
             k.turns.number ∙ k.number,
             r.up,
             counted (b.memory r.replica).meter.trap (length (sent_of r.said)) r.replica,

@@ -52,18 +52,18 @@ module _ (genesis : Genesis) (n : ℕ) where
       lives e = cc e
 
   -- the node has restarted, and is up at this place
-  record IsAt (world : Scene ReplicaValue) (place : ℕ) (replica : ReplicaValue) (notes : List Note) : Type 0 where
+  record IsAt (world : Scene ReplicaValue) (index : ℕ) (replica : ReplicaValue) (notes : List Note) : Type 0 where
     apart : Apart world.seats
     begun : world.genesis ≡ genesis
-    here : slice_get world.seats place ≡ Some (up replica)
+    here : slice_get world.seats index ≡ Some (up replica)
     stands : Stands header replica notes
 
   -- it is the same after what the notes say
-  record Comes (world : Scene ReplicaValue) (place : ℕ) (replica : ReplicaValue) (notes : List Note) (all : List Note)
+  record Comes (world : Scene ReplicaValue) (index : ℕ) (replica : ReplicaValue) (notes : List Note) (all : List Note)
       (last : Scene ReplicaValue) : Type 0 where
     again : ReplicaValue
-    is_at : IsAt last place again notes
-    seats : last.seats ≡ set world.seats place (up again)
+    is_at : IsAt last index again notes
+    seats : last.seats ≡ set world.seats index (up again)
     node : again.node ≡ replica.node
     file : again.store.live_disk ≡ replica.store.live_disk
     trace : last.trace ≡ world.trace ++ all
@@ -71,19 +71,19 @@ module _ (genesis : Genesis) (n : ℕ) where
 
   -- ---- a stop and a restart
 
-  module _ (world mid next : Scene ReplicaValue) (place : ℕ) (replica : ReplicaValue) (notes : List Note)
-      (w : IsAt world place replica notes) (x y : ℕ)
+  module _ (world mid next : Scene ReplicaValue) (index : ℕ) (replica : ReplicaValue) (notes : List Note)
+      (w : IsAt world index replica notes) (x y : ℕ)
       (stop : IsDone world (event.Stop n x y) mid) (restart : IsDone mid (event.Restart n) next) where
     abbrev stopped : IsStopped world mid n x y
     stopped = stop.stops
 
-    at_place : stopped.place ≡ place
+    at_place : stopped.index ≡ index
     at_place =
-        one_place world.seats w.apart stopped.place place (up stopped.replica) (up replica) stopped.was_up w.here refl
+        one_place world.seats w.apart stopped.index index (up stopped.replica) (up replica) stopped.was_up w.here refl
 
     of_replica : stopped.replica ≡ replica
     of_replica = same_up stopped.replica replica
-        (one_seat world.seats w.apart stopped.place place (up stopped.replica) (up replica) stopped.was_up w.here refl)
+        (one_seat world.seats w.apart stopped.index index (up stopped.replica) (up replica) stopped.was_up w.here refl)
 
     left : IsLeftBy replica stopped.device
     left = (
@@ -93,15 +93,15 @@ module _ (genesis : Genesis) (n : ℕ) where
       stopped.disk_b ∙ ap (λ (r : ReplicaValue). remaining y (device_of r.store).b) of_replica,
     )
 
-    mid_seats : mid.seats ≡ set world.seats place (down stopped.device)
+    mid_seats : mid.seats ≡ set world.seats index (down stopped.device)
     mid_seats = stopped.is_down ∙ ap (λ (k : ℕ). set world.seats k (down stopped.device)) at_place
 
     mid_apart : Apart mid.seats
     mid_apart = done_apart world mid (event.Stop n x y) stop w.apart
 
-    mid_here : slice_get mid.seats place ≡ Some (down stopped.device)
-    mid_here = ap (λ (l : List (Seat ReplicaValue)). slice_get l place) mid_seats
-        ∙ get_set_here world.seats place (up replica) (down stopped.device) w.here
+    mid_here : slice_get mid.seats index ≡ Some (down stopped.device)
+    mid_here = ap (λ (l : List (Seat ReplicaValue)). slice_get l index) mid_seats
+        ∙ get_set_here world.seats index (up replica) (down stopped.device) w.here
 
     mid_begun : mid.genesis ≡ genesis
     mid_begun = stop.grows.2 ∙ w.begun
@@ -110,12 +110,12 @@ module _ (genesis : Genesis) (n : ℕ) where
     next_apart = done_apart mid next (event.Restart n) restart mid_apart
 
     module _ (r : IsRestarted mid n next) where
-      there : r.place ≡ place
-      there = one_place mid.seats mid_apart r.place place (down r.device) (down stopped.device) r.was_down mid_here refl
+      there : r.index ≡ index
+      there = one_place mid.seats mid_apart r.index index (down r.device) (down stopped.device) r.was_down mid_here refl
 
       of_device : r.device ≡ stopped.device
       of_device = same_down r.device stopped.device
-          (one_seat mid.seats mid_apart r.place place (down r.device) (down stopped.device) r.was_down mid_here refl)
+          (one_seat mid.seats mid_apart r.index index (down r.device) (down stopped.device) r.was_down mid_here refl)
 
       comes_up : ComesUp header stopped.device r.replica r.notes
       comes_up =
@@ -126,20 +126,20 @@ module _ (genesis : Genesis) (n : ℕ) where
       noted_same : r.notes ≡ notes
       noted_same = same_notes header replica notes w.stands stopped.device left r.replica r.notes comes_up
 
-      next_seats : next.seats ≡ set world.seats place (up r.replica)
+      next_seats : next.seats ≡ set world.seats index (up r.replica)
       next_seats =
           r.is_up ∙ ap (λ (k : ℕ). set mid.seats k (up r.replica)) there
-          ∙ ap (λ (l : List (Seat ReplicaValue)). set l place (up r.replica)) mid_seats
-          ∙ set_twice world.seats place (down stopped.device) (up r.replica)
+          ∙ ap (λ (l : List (Seat ReplicaValue)). set l index (up r.replica)) mid_seats
+          ∙ set_twice world.seats index (down stopped.device) (up r.replica)
 
-      round : Comes world place replica notes notes next
+      round : Comes world index replica notes notes next
       round = record {
         again = r.replica;
         is_at = record {
           apart = next_apart;
           begun = restart.grows.2 ∙ mid_begun;
-          here = ap (λ (l : List (Seat ReplicaValue)). slice_get l place) next_seats
-              ∙ get_set_here world.seats place (up replica) (up r.replica) w.here;
+          here = ap (λ (l : List (Seat ReplicaValue)). slice_get l index) next_seats
+              ∙ get_set_here world.seats index (up replica) (up r.replica) w.here;
           stands = subst (λ (l : List Note). Stands header r.replica l) noted_same
               (now header replica notes w.stands stopped.device left r.replica r.notes comes_up);
         };
@@ -155,63 +155,63 @@ module _ (genesis : Genesis) (n : ℕ) where
 
   -- a node that is down is not stopped, so it is not up in the end
   never_up : (more : List (ℕ × ℕ)) (world last : Scene ReplicaValue) → Apart world.seats
-      → (place : ℕ) (device : Memory) → slice_get world.seats place ≡ Some (down device)
+      → (index : ℕ) (device : Memory) → slice_get world.seats index ≡ Some (down device)
       → AreDone (stops_and_restarts n more) world last → IsUp last.seats n → ⊥
-  never_up [] world last apart place device here same is_up =
-      not_up world.seats apart n place device here (subst (λ (w : Scene ReplicaValue). IsUp w.seats n) same is_up)
-  never_up (most ∷ more) world last apart place device here all is_up =
+  never_up [] world last apart index device here same is_up =
+      not_up world.seats apart n index device here (subst (λ (w : Scene ReplicaValue). IsUp w.seats n) same is_up)
+  never_up (most ∷ more) world last apart index device here all is_up =
       let k : IsStopped world all.0 n most.0 most.1 = all.1.stops in
       up_not_down k.replica device
-      (one_seat world.seats apart k.place place (up k.replica) (down device) k.was_up here refl)
+      (one_seat world.seats apart k.index index (up k.replica) (down device) k.was_up here refl)
 
   -- nothing has happened yet
-  still : (world last : Scene ReplicaValue) (place : ℕ) (replica : ReplicaValue) (notes : List Note)
-      → IsAt world place replica notes → last ≡ world → Comes world place replica notes [] last
-  still world last place replica notes w same = record {
+  still : (world last : Scene ReplicaValue) (index : ℕ) (replica : ReplicaValue) (notes : List Note)
+      → IsAt world index replica notes → last ≡ world → Comes world index replica notes [] last
+  still world last index replica notes w same = record {
     again = replica;
-    is_at = subst (λ (s : Scene ReplicaValue). IsAt s place replica notes) (sym same) w;
-    seats = ap (λ (s : Scene ReplicaValue). s.seats) same ∙ sym (set_same world.seats place (up replica) w.here);
+    is_at = subst (λ (s : Scene ReplicaValue). IsAt s index replica notes) (sym same) w;
+    seats = ap (λ (s : Scene ReplicaValue). s.seats) same ∙ sym (set_same world.seats index (up replica) w.here);
     node = refl;
     file = refl;
     trace = ap (λ (s : Scene ReplicaValue). s.trace) same ∙ sym (append-nil world.trace);
     sent = ap (λ (s : Scene ReplicaValue). s.sent) same;
   }
 
-  after : (world mid last : Scene ReplicaValue) (place : ℕ) (replica : ReplicaValue) (notes front back : List Note)
-      (c : Comes world place replica notes front mid)
-      → Comes mid place c.again notes back last → Comes world place replica notes (front ++ back) last
-  after world mid last place replica notes front back c d = record {
+  after : (world mid last : Scene ReplicaValue) (index : ℕ) (replica : ReplicaValue) (notes front back : List Note)
+      (c : Comes world index replica notes front mid)
+      → Comes mid index c.again notes back last → Comes world index replica notes (front ++ back) last
+  after world mid last index replica notes front back c d = record {
     again = d.again;
     is_at = d.is_at;
-    seats = d.seats ∙ ap (λ (l : List (Seat ReplicaValue)). set l place (up d.again)) c.seats
-        ∙ set_twice world.seats place (up c.again) (up d.again);
+    seats = d.seats ∙ ap (λ (l : List (Seat ReplicaValue)). set l index (up d.again)) c.seats
+        ∙ set_twice world.seats index (up c.again) (up d.again);
     node = d.node ∙ c.node;
     file = d.file ∙ c.file;
     trace = d.trace ∙ ap (λ (l : List Note). l ++ back) c.trace ∙ append_assoc world.trace front back;
     sent = d.sent ∙ c.sent;
   }
 
-  comes : (more : List (ℕ × ℕ)) (world last : Scene ReplicaValue) (place : ℕ) (replica : ReplicaValue)
-      (notes : List Note) → IsAt world place replica notes
+  comes : (more : List (ℕ × ℕ)) (world last : Scene ReplicaValue) (index : ℕ) (replica : ReplicaValue)
+      (notes : List Note) → IsAt world index replica notes
       → AreDone (stops_and_restarts n more) world last → IsUp last.seats n
-      → Comes world place replica notes (as_often more notes) last
-  comes [] world last place replica notes w same is_up = still world last place replica notes w same
-  comes (most ∷ more) world last place replica notes w all is_up =
+      → Comes world index replica notes (as_often more notes) last
+  comes [] world last index replica notes w same is_up = still world last index replica notes w same
+  comes (most ∷ more) world last index replica notes w all is_up =
       let mid : Scene ReplicaValue = all.0 in
       let next : Scene ReplicaValue = all.2.0 in
       let stop : IsDone world (event.Stop n most.0 most.1) mid = all.1 in
       let restart : IsDone mid (event.Restart n) next = all.2.1 in
       elim restart.restarts [
         | inl r ↦
-            let c : Comes world place replica notes notes next =
-            round world mid next place replica notes w most.0 most.1 stop restart r in
-            after world next last place replica notes notes (as_often more notes) c
-            (comes more next last place c.again notes c.is_at all.2.2 is_up)
+            let c : Comes world index replica notes notes next =
+            round world mid next index replica notes w most.0 most.1 stop restart r in
+            after world next last index replica notes notes (as_often more notes) c
+            (comes more next last index c.again notes c.is_at all.2.2 is_up)
         | inr f ↦ absurd
             (never_up more next last
-            (next_apart world mid next place replica notes w most.0 most.1 stop restart) f.place f.rest
-            (ap (λ (l : List (Seat ReplicaValue)). slice_get l f.place) f.is_down
-            ∙ get_set_here mid.seats f.place (down f.device) (down f.rest) f.was_down) all.2.2 is_up)
+            (next_apart world mid next index replica notes w most.0 most.1 stop restart) f.index f.rest
+            (ap (λ (l : List (Seat ReplicaValue)). slice_get l f.index) f.is_down
+            ∙ get_set_here mid.seats f.index (down f.device) (down f.rest) f.was_down) all.2.2 is_up)
       ]
 
 -- ---- in a world
@@ -227,25 +227,25 @@ module _ (world first last : Scene ReplicaValue) (n : ℕ) (more : List (ℕ × 
     abbrev seat : Seat ReplicaValue
     seat = record { number = n; life = Down r.device }
 
-    here : slice_get first.seats r.place ≡ Some (record { number = n; life = Up r.replica })
-    here = ap (λ (l : List (Seat ReplicaValue)). slice_get l r.place) r.is_up
-        ∙ get_set_here world.seats r.place seat (record { number = n; life = Up r.replica }) r.was_down
+    here : slice_get first.seats r.index ≡ Some (record { number = n; life = Up r.replica })
+    here = ap (λ (l : List (Seat ReplicaValue)). slice_get l r.index) r.is_up
+        ∙ get_set_here world.seats r.index seat (record { number = n; life = Up r.replica }) r.was_down
 
-    starts : IsAt world.genesis n first r.place r.replica r.notes
+    starts : IsAt world.genesis n first r.index r.replica r.notes
     starts = record {
       apart = first_apart;
       begun = restart.grows.2;
       here = here;
       stands = first_stands (header_of world.genesis n) r.device r.replica r.notes
-          (today r.device (is_there world.seats r.place seat r.was_down)) r.revives;
+          (today r.device (is_there world.seats r.index seat r.was_down)) r.revives;
     }
 
     is_the_same : IsTheSame n world first more last
     is_the_same =
-        let c : Comes world.genesis n first r.place r.replica r.notes (as_often more r.notes) last =
-        comes world.genesis n more first last r.place r.replica r.notes starts all is_up in
+        let c : Comes world.genesis n first r.index r.replica r.notes (as_often more r.notes) last =
+        comes world.genesis n more first last r.index r.replica r.notes starts all is_up in
         record {
-          place = r.place;
+          index = r.index;
           once = r.replica;
           again = c.again;
           was_up = here;
@@ -262,9 +262,9 @@ module _ (world first last : Scene ReplicaValue) (n : ℕ) (more : List (ℕ × 
 
   not_down : IsNotRestarted world n first → ⊥
   not_down f =
-      never_up world.genesis n more first last first_apart f.place f.rest
-      (ap (λ (l : List (Seat ReplicaValue)). slice_get l f.place) f.is_down
-      ∙ get_set_here world.seats f.place (record { number = n; life = Down f.device })
+      never_up world.genesis n more first last first_apart f.index f.rest
+      (ap (λ (l : List (Seat ReplicaValue)). slice_get l f.index) f.is_down
+      ∙ get_set_here world.seats f.index (record { number = n; life = Down f.device })
       (record { number = n; life = Down f.rest }) f.was_down) all is_up
 
   comes_the_same : IsTheSame n world first more last

@@ -31,8 +31,8 @@ same_seat s n life number is =
     ap (λ (k : ℕ). made k s.life) number ∙ ap (made n) is
 
 pub stands_at : (old new : List (Seat ReplicaValue)) (s t : Seat ReplicaValue) (k : ReplacesSeat old new s t)
-    → slice_get old k.place ≡ Some s
-stands_at old new s t k = slice_get-get_or old k.place s k.at.0 ∙ ap Some k.at.1
+    → slice_get old k.index ≡ Some s
+stands_at old new s t k = slice_get-get_or old k.index s k.at.0 ∙ ap Some k.at.1
 
 -- how a node ended that a fault ended
 ends_on : (o : Option ℕ) (n number : ℕ) (left : Memory) (ended : Option End) → ended ≡ Some (end_by o n number)
@@ -47,7 +47,7 @@ module _ (b : Behaviour ReplicaValue)
   number : k.next.number ≡ n
   number = k.turns.number ∙ k.number
 
-  was_down : slice_get old.seats k.turns.place ≡ Some (record { number = n; life = Down k.device })
+  was_down : slice_get old.seats k.turns.index ≡ Some (record { number = n; life = Down k.device })
   was_down =
       stands_at old.seats new.seats k.seat k.next k.turns ∙ ap Some (same_seat k.seat n (Down k.device) k.number k.down)
 
@@ -60,13 +60,13 @@ module _ (b : Behaviour ReplicaValue)
 
   restarted : IsRevived b old new k.next k.device → IsRestarted old n new
   restarted r = record {
-    place = k.turns.place;
+    index = k.turns.index;
     device = k.device;
     was_down = was_down;
     replica = r.replica;
     notes = r.notes;
     revives = told (Ok (r.replica, r.notes)) r.revives;
-    is_up = k.turns.seats ∙ ap (set old.seats k.turns.place) (same_seat k.next n (Up r.replica) number r.up);
+    is_up = k.turns.seats ∙ ap (set old.seats k.turns.index) (same_seat k.next n (Up r.replica) number r.up);
     noted = r.adds.trace;
     nothing_sent = r.adds.sent ∙ append-nil old.sent;
     none_ended = r.ended;
@@ -75,7 +75,7 @@ module _ (b : Behaviour ReplicaValue)
   not_restarted : EndsByFault (StaysDown b k.device (header_of old.genesis k.next.number)) old new k.next []
       → IsNotRestarted old n new
   not_restarted f = record {
-    place = k.turns.place;
+    index = k.turns.index;
     device = k.device;
     was_down = was_down;
     number = f.number;
@@ -83,7 +83,7 @@ module _ (b : Behaviour ReplicaValue)
     fails = told (Err (f.number, f.left)) f.ends.0;
     not_starved = f.no_want.starved;
     rest = rested_on (stopping f.left.meter) f.left;
-    is_down = k.turns.seats ∙ ap (set old.seats k.turns.place)
+    is_down = k.turns.seats ∙ ap (set old.seats k.turns.index)
         (same_seat k.next n (Down (rested_on (stopping f.left.meter) f.left)) number f.down);
     ends = ends_on (stopping f.left.meter) n f.number f.left new.ended
         (f.ended ∙ ap (λ (m : ℕ). Some (end_by (stopping f.left.meter) m f.number)) number);

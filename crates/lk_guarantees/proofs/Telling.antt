@@ -8,7 +8,7 @@ use Rattle.lk_messages.specs.declared.message.NodeMessage.TheVariants as message
 use Rattle.lk_agreement_laws.specs.Datagrams.{Datagram}
 use Rattle.lk_node_interface.specs.declared.note.Note.{Note}
 use Rattle.lk_node_interface.specs.declared.note.Note.TheVariants as note
-use Rattle.lk_sim_nodes.specs.Told.{told_by_node, told_by, Tells}
+use Rattle.lk_sim_nodes.specs.Told.{told_by_node, told_by, NotesReplies}
 use Rattle.lk_sim.specs.Traces.{told_in}
 use Rattle.lk_guarantees.specs.Guarantee.{AreReplies, nothing_more, an_answer, a_pass, no_reply, is_told, AreTold}
 
@@ -45,7 +45,7 @@ by_content d ds rest cluster (content.Request r) spelled later =
     no_reply d (record { cluster = cluster; content = content.Request r }) spelled refl later
 by_content d ds rest cluster (content.Node node x) spelled later = by_node d ds rest cluster node x spelled later
 
-replies : (sent : List Datagram) (notes : List Note) → Tells sent notes → AreReplies sent notes
+replies : (sent : List Datagram) (notes : List Note) → NotesReplies sent notes → AreReplies sent notes
 replies [] notes e = subst (AreReplies []) (sym e) nothing_more
 replies (d ∷ ds) notes t =
     subst (AreReplies (d ∷ ds)) (sym t.3) (by_content d ds t.1 t.0.cluster t.0.content t.2 (replies ds t.1 t.4))
@@ -60,5 +60,5 @@ told_is (note.Answered node client number a ∷ xs) =
 told_is (note.Told node client number last ∷ xs) =
     ap (λ (ys : List Note). note.Told node client number last ∷ ys) (told_is xs)
 
-pub told : (sent : List Datagram) (trace : List Note) → Tells sent (told_in trace) → AreTold sent trace
+pub told : (sent : List Datagram) (trace : List Note) → NotesReplies sent (told_in trace) → AreTold sent trace
 told sent trace t = subst (AreReplies sent) (told_is trace) (replies sent (told_in trace) t)

@@ -96,15 +96,15 @@ IsStarted seats number = (s : Seat ReplicaValue) × Contains seats s × (s.numbe
 abbrev pub ChangesOnly : ℕ → List (Seat ReplicaValue) → List (Seat ReplicaValue) → Type 0
 ChangesOnly number old new =
     (new ≡ old)
-    ⊎ ((place : ℕ) × (s t : Seat ReplicaValue) × (slice_get old place ≡ Some s) × (s.number ≡ number)
-    × (t.number ≡ number) × (new ≡ set old place t))
+    ⊎ ((index : ℕ) × (s t : Seat ReplicaValue) × (slice_get old index ≡ Some s) × (s.number ≡ number)
+    × (t.number ≡ number) × (new ≡ set old index t))
     ⊎ ((IsStarted old number → ⊥) × ((s : Seat ReplicaValue) × (s.number ≡ number) × (new ≡ old ++ s ∷ [])))
 
 -- it alone is down now
 abbrev pub FallsDown : ℕ → List (Seat ReplicaValue) → List (Seat ReplicaValue) → Type 0
 FallsDown number old new =
-    (place : ℕ) × (s : Seat ReplicaValue) × (device : Memory) × (slice_get old place ≡ Some s) × (s.number ≡ number)
-    × (new ≡ set old place (record { number = number; life = Down device }))
+    (index : ℕ) × (s : Seat ReplicaValue) × (device : Memory) × (slice_get old index ≡ Some s) × (s.number ≡ number)
+    × (new ≡ set old index (record { number = number; life = Down device }))
 
 -- what a client asks joins the datagrams, alone, addressed to the node, and changes no node
 abbrev pub SendsAsAsked : Scene ReplicaValue → Event → Scene ReplicaValue → Type 0
@@ -126,11 +126,11 @@ remaining most disk = record { synced = disk.synced ++ take most disk.unsynced; 
 -- a node was up and is down, with this many bytes of its disk A and of its disk B, and no trap is set; all other nodes
 -- are unchanged
 pub record IsStopped (old new : Scene ReplicaValue) (number x y : ℕ) : Type 0 where
-  pub place : ℕ
+  pub index : ℕ
   pub replica : ReplicaValue
-  pub was_up : slice_get old.seats place ≡ Some (record { number = number; life = Up replica })
+  pub was_up : slice_get old.seats index ≡ Some (record { number = number; life = Up replica })
   pub device : Memory
-  pub is_down : new.seats ≡ set old.seats place (record { number = number; life = Down device })
+  pub is_down : new.seats ≡ set old.seats index (record { number = number; life = Down device })
   pub disk_a : device.a ≡ remaining x (device_of replica.store).a
   pub disk_b : device.b ≡ remaining y (device_of replica.store).b
   pub untrapped : (device.meter.trap ≡ Off) × (device.meter.fuse ≡ None)
@@ -295,13 +295,13 @@ TakesAsTold old _ new = Unit {0}
 -- a node that was down restarted from its disks: it is up as the contract of a replica says, and what it executed again
 -- is noted. (The contract, `RevivesTo`, is named here and not restated)
 pub record IsRestarted (old : Scene ReplicaValue) (n : ℕ) (new : Scene ReplicaValue) : Type 0 where
-  pub place : ℕ
+  pub index : ℕ
   pub device : Memory
-  pub was_down : slice_get old.seats place ≡ Some (record { number = n; life = Down device })
+  pub was_down : slice_get old.seats index ≡ Some (record { number = n; life = Down device })
   pub replica : ReplicaValue
   pub notes : List Note
   pub revives : RevivesTo table_meaning IsTableText device (header_of old.genesis n) (Ok (replica, notes))
-  pub is_up : new.seats ≡ set old.seats place (record { number = n; life = Up replica })
+  pub is_up : new.seats ≡ set old.seats index (record { number = n; life = Up replica })
   pub noted : new.trace ≡ old.trace ++ notes
   pub nothing_sent : new.sent ≡ old.sent
   pub none_ended : new.ended ≡ None
@@ -315,15 +315,15 @@ EndsOn (Some bytes) n number left rest ended =
 
 -- its restart failed as the contract of a replica says, not for want of memory, and it is down
 pub record IsNotRestarted (old : Scene ReplicaValue) (n : ℕ) (new : Scene ReplicaValue) : Type 0 where
-  pub place : ℕ
+  pub index : ℕ
   pub device : Memory
-  pub was_down : slice_get old.seats place ≡ Some (record { number = n; life = Down device })
+  pub was_down : slice_get old.seats index ≡ Some (record { number = n; life = Down device })
   pub number : ℕ
   pub left : Memory
   pub fails : RevivesTo table_meaning IsTableText device (header_of old.genesis n) (Err (number, left))
   pub not_starved : left.meter.starved ≡ false
   pub rest : Memory
-  pub is_down : new.seats ≡ set old.seats place (record { number = n; life = Down rest })
+  pub is_down : new.seats ≡ set old.seats index (record { number = n; life = Down rest })
   pub ends : EndsOn (stopping left.meter) n number left rest new.ended
   pub nothing_noted : new.trace ≡ old.trace
   pub nothing_sent : new.sent ≡ old.sent

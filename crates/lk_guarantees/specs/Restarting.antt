@@ -78,12 +78,12 @@ as_often (most ∷ more) notes = notes ++ as_often more notes
 -- may differ is its other file and what its device counts.
 pub record IsTheSame (n : ℕ) (world first : Scene ReplicaValue) (more : List (ℕ × ℕ))
     (last : Scene ReplicaValue) : Type 0 where
-  pub place : ℕ
+  pub index : ℕ
   pub once : ReplicaValue
   pub again : ReplicaValue
-  pub was_up : slice_get first.seats place ≡ Some (record { number = n; life = Up once })
+  pub was_up : slice_get first.seats index ≡ Some (record { number = n; life = Up once })
   -- no other node has changed
-  pub is_up : last.seats ≡ set first.seats place (record { number = n; life = Up again })
+  pub is_up : last.seats ≡ set first.seats index (record { number = n; life = Up again })
   -- the node is the same: its ballot and votes, and what it has learned and executed
   pub same_node : again.node ≡ once.node
   -- its live file has the same bytes

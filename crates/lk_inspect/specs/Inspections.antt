@@ -20,7 +20,7 @@ use Rattle.lk_inspect.specs.declared.inspection.Inspection.{Inspection}
 
 -- the length of the list, the members of the next positions, the names of its plain table and the held ones, and how
 -- many clients have had a request executed
-pub record Tells (genesis : Genesis) (L : List Command) (i : Inspection) : Type 0 where
+pub record DescribesList (genesis : Genesis) (L : List Command) (i : Inspection) : Type 0 where
   pub executed : i.executed ≡ length L
   pub members : i.window ≡ sets_from genesis L (length L + 1) genesis.alpha
   pub names : i.names ≡ map.len (table_of L).names
@@ -37,7 +37,8 @@ CannotStand s = (w : WholeValue) → Packs IsTableText w s.snapshot → w.roster
 abbrev pub ComesTo : StandingValue → Inspection → Type 0
 ComesTo s i =
     (genesis : Genesis) (L : List Command) → Packs IsTableText (whole_after table_meaning genesis L) s.snapshot
-    → AllByRecursion IsCommand (L ++ run_from (length L) s.pairs) → Tells genesis (L ++ run_from (length L) s.pairs) i
+    → AllByRecursion IsCommand (L ++ run_from (length L) s.pairs)
+    → DescribesList genesis (L ++ run_from (length L) s.pairs) i
 
 -- the summary is of the standing of the live file
 pub record Inspects (image : Image) (i : Inspection) : Type 0 where

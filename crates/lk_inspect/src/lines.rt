@@ -29,15 +29,15 @@ fn write_set<W: Write>(set: &Members, out: &mut W) -> io::Result<()>
 fn write_window<W: Write>(executed: Executed, window: &Window, out: &mut W) -> io::Result<()> {
     let mut position = executed.get();
     let mut stands: Option<&Members> = None;
-    for place in window.as_slice() {
+    for each in window.as_slice() {
         position = position.saturating_add(1);
         match stands {
             None => out.write_all(b"members")?,
-            Some(set) if set == place.set() => continue,
+            Some(set) if set == each.set() => continue,
             Some(_) => write!(out, "members from {position}")?,
         }
-        stands = Some(place.set());
-        write_set(place.set(), out)?;
+        stands = Some(each.set());
+        write_set(each.set(), out)?;
     }
     Ok(())
 }

@@ -204,7 +204,7 @@ impl Term {
     }
 
     // Returns the index of the proposal at the position, if there is one.
-    fn place_of(&self, position: Position) -> Option<usize>
+    fn index_of(&self, position: Position) -> Option<usize>
         ensures { result ≡ position_of (λ p. p.position == position) self.now.proposals }
     {
         self.proposals
@@ -230,7 +230,7 @@ impl Term {
             → p.command ≡ command.now → ⊥)
             → (self.new ≡ self.old) × (result ≡ false) }
     {
-        let Some(index) = self.place_of(position) else {
+        let Some(index) = self.index_of(position) else {
             return false;
         };
         let proposal = &mut self.proposals[index];

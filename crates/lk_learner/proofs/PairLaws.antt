@@ -150,10 +150,10 @@ pairs_rise low (s ∷ l) h (suc i) (suc j) d le lt =
     pairs_rise s.0 l (rising_parts low s l h).1 i j d (omega arith) (omega arith)
 
 -- where the positions in front are below and the others are not
-pub place_is_before : (i n : ℕ) (l : List Pair)
+pub index_is_before : (i n : ℕ) (l : List Pair)
     → IsPartitionPoint (λ (p : Pair). nat_lt p.0 i ≡ true) (λ (p : Pair). nat_lt p.0 i ≡ false) l n
     → n ≤ length l → n ≡ before i l
-place_is_before i n l point le =
+index_is_before i n l point le =
     sym (prefix_len_is (λ (p : Pair). nat_lt p.0 i) l n (0, Noop) le (λ k lt. point.0 k _ (omega arith) lt)
     (λ lt. point.1 n _ (omega arith) lt))
 

@@ -2,7 +2,7 @@ ghost use Rattle.std.specs.Prelude.{◌≡◌, IfOk};
 ghost use Rattle.lk_types.specs.Limits.{max_base, max_count};
 
 use crate::gathered::Gathered;
-use crate::pair::{Pair, is_kept, place_of};
+use crate::pair::{Pair, index_of, is_kept};
 use arrayvec::ArrayVec;
 use bytes::BytesMut;
 use lk_messages::{Decided, Want};
@@ -133,9 +133,9 @@ impl<M: Machine> Learner<M> {
             return false;
         }
         let executed = self.whole.executed().get();
-        let place = place_of(self.pairs.as_slice(), position, executed);
+        let index = index_of(self.pairs.as_slice(), position, executed);
         self.pairs
-            .insert(place, Pair::new(position, command.copy()));
+            .insert(index, Pair::new(position, command.copy()));
         true
     }
 
@@ -227,7 +227,7 @@ impl<M: Machine> Learner<M> {
 
     // Returns the index that the position has in `served`; at or past its end if the position is not executed. `None`
     // if the snapshot has replaced it.
-    fn place(&self, position: Position) -> Option<usize>
+    fn served_index(&self, position: Position) -> Option<usize>
         ensures { MatchOption result (position ≤ self.now.snapshot_position)
             (λ k. (self.now.snapshot_position < position) × (k ≡ position - (self.now.snapshot_position + 1))) }
     {
@@ -244,7 +244,7 @@ impl<M: Machine> Learner<M> {
             (λ v. IsServed self.now position
             × (slice_get self.now.served (position - (self.now.snapshot_position + 1)) ≡ Some v.now)) }
     {
-        self.served.get(self.place(position)?)
+        self.served.get(self.served_index(position)?)
     }
 
     // Returns the executed commands from the position on, up to 16. `None` if the position is not executed, or the
@@ -253,7 +253,7 @@ impl<M: Machine> Learner<M> {
         ensures { MatchOption result (IsServed self.now first → ⊥)
             (λ vs. IsServed self.now first × (vs.now ≡ (decided_from first self.now).commands)) }
     {
-        let start = self.place(first)?;
+        let start = self.served_index(first)?;
         let count = self.served.len();
         if start >= count {
             return None;

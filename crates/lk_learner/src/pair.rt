@@ -64,9 +64,9 @@ pub fn is_kept(pairs: &[Pair], position: Position) -> bool
 
 /// Returns the index at which a pair of this position belongs: how many pairs have smaller ones. The pairs rise by
 /// position, above `low`, which only the contract needs.
-pub fn place_of(pairs: &[Pair], position: Position, low: u64) -> usize
+pub fn index_of(pairs: &[Pair], position: Position, low: u64) -> usize
     requires { IsTrue (are_pairs_above low pairs.now) }
-    ensures place { result ≡ prefix_len (λ p. nat_lt p.0 position) pairs.now }
+    ensures index { result ≡ prefix_len (λ p. nat_lt p.0 position) pairs.now }
     ensures within { result ≤ length pairs.now }
 {
     pairs.partition_point(|pair| pair.position < position)

@@ -87,7 +87,7 @@ impl<M: Machine> Learner<M> {
 
     // Adopts a state, with its packed text as the snapshot. Drops what it replaces: the executed commands, the pairs up
     // to its position, and what was gathered.
-    fn stand_on(&mut self, whole: Whole<M>, snapshot: Vec<u8>)
+    fn adopt_snapshot(&mut self, whole: Whole<M>, snapshot: Vec<u8>)
         requires text { snapshot.items ≡ packed whole }
         requires above { executed self.old ≤ whole.roster.executed }
         requires sets { length whole.roster.sets ≡ alpha self.old }
@@ -121,7 +121,7 @@ impl<M: Machine> Learner<M> {
         let Some(whole) = state else {
             return Ok(false);
         };
-        self.stand_on(whole, gathered.into_bytes());
+        self.adopt_snapshot(whole, gathered.into_bytes());
         Ok(true)
     }
 }

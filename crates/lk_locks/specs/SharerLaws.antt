@@ -188,9 +188,9 @@ clients_rise low (c ∷ cs) h (suc i) (suc j) d le lt =
     clients_rise c cs (and_parts (nat_lt low c) (are_clients_above c cs) h).1 i j d (omega arith) (omega arith)
 
 -- where the clients before it are below and the others are not
-pub place_is_before : (client n : ℕ) (cs : List ℕ)
+pub index_is_before : (client n : ℕ) (cs : List ℕ)
     → IsPartitionPoint (λ (c : ℕ). nat_lt c client ≡ true) (λ (c : ℕ). nat_lt c client ≡ false) cs n
     → n ≤ length cs → n ≡ before client cs
-place_is_before client n cs point le =
+index_is_before client n cs point le =
     sym (prefix_len_is (λ (c : ℕ). nat_lt c client) cs n 0 le (λ k lt. point.0 k _ (omega arith) lt)
     (λ lt. point.1 n _ (omega arith) lt))

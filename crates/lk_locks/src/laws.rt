@@ -27,8 +27,8 @@ pub fn fences_count_up()
     ensures { (name : List ℕ) (L : List Command) → grants_in name L ≡ numbers_from 1 (length (grants_in name L)) }
 {}
 
-/// After any list of commands, a name that nobody holds is given at the fence one above its last, alone or to share: no
-/// fence of a name is given twice.
+/// After any list of commands, a name that nobody holds is given at the fence one above its last, alone or to share: a
+/// fence that was given up is never given again.
 pub fn a_free_name_is_given_at_the_next_fence()
     ensures { (client : ℕ) (bytes : List ℕ) (body : Body) (fence : ℕ) (L : List Command) → body_of bytes ≡ Some body
         → IsFree (map.get (table_of L).names (name_of body)) → fences (answer client bytes (table_of L)) ≡ fence ∷ []

@@ -39,7 +39,8 @@ fn read_entries(
     Ok((table, rest))
 }
 
-// Reads how many names there are, and then each with its slot, up to the last byte.
+// Reads a table, `raised` to its second version or not: the number of its names, then each name with its slot, up to
+// the last byte.
 #[tactic(auto, using(crate::proofs::TableLaws::read_is), unfolding(crate::specs::Packed::read_entries, crate::specs::Packed::read_size))]
 fn read_names(alloc: Global, raised: bool, bytes: &[u8]) -> Result<LockTable, UnpackFault>
     ensures ok { IfOk result (λ t. whole (read_entries raised) bytes.now ≡ Some (map.entries t.names)) }

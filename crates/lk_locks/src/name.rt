@@ -27,17 +27,17 @@ impl Model for Name {
 }
 
 // Whether a name may contain this byte.
-fn may_stand(byte: u8) -> bool
+fn is_name_byte(byte: u8) -> bool
     ensures { result ≡ is_name_byte byte }
 {
     matches!(byte, b'a'..=b'z' | b'0'..=b'9' | b'-' | b'.' | b'/')
 }
 
 // Whether a name may contain each of these bytes.
-fn all_may_stand(bytes: &[u8]) -> bool
+fn are_name_bytes(bytes: &[u8]) -> bool
     ensures { result ≡ list_all is_name_byte bytes.now }
 {
-    bytes.iter().all(|byte| may_stand(*byte))
+    bytes.iter().all(|byte| is_name_byte(*byte))
 }
 
 impl Name {
@@ -46,7 +46,7 @@ impl Name {
         ensures some { IsSome result ↔ IsName bytes.now }
         ensures value { IfSome result (λ n. n ≡ bytes.now) }
     {
-        if bytes.is_empty() || bytes.len() > MAX_NAME || !all_may_stand(bytes) {
+        if bytes.is_empty() || bytes.len() > MAX_NAME || !are_name_bytes(bytes) {
             return None;
         }
         let bytes = ArrayVec::try_from(bytes).ok()?;

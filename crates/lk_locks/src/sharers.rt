@@ -54,9 +54,9 @@ fn are_rising(clients: &[ClientNo]) -> bool
 }
 
 // Returns the index at which the client is, or would be inserted: how many clients are smaller.
-fn place_of(clients: &[ClientNo], client: ClientNo) -> usize
+fn index_of(clients: &[ClientNo], client: ClientNo) -> usize
     requires { IsTrue (are_clients_above 0 clients.now) }
-    ensures place { result ≡ prefix_len (λ c. nat_lt c client) clients.now }
+    ensures index { result ≡ prefix_len (λ c. nat_lt c client) clients.now }
     ensures within { result ≤ length clients.now }
 {
     clients.partition_point(|other| *other < client)
@@ -139,7 +139,7 @@ impl Sharers {
     {
         let _ = client.get();
         let mut clients: ArrayVec<ClientNo, 8> = ArrayVec::try_from(self.as_slice()).unwrap();
-        let at = place_of(self.as_slice(), client);
+        let at = index_of(self.as_slice(), client);
         clients.insert(at, client);
         Sharers { clients }
     }

@@ -3,7 +3,7 @@ use Rattle.std.proofs.Common.{◌≡◌, ℕ, ◌+◌, ◌<◌, ◌≤◌, Bool,
 use Rattle.std.proofs.Common.{length, refl, sym, ap, ◌∙◌, subst, inr, arith}
 use Rattle.std.proofs.lemmas.Bool.Decides.{nat_tests}
 use Rattle.lk_disk.specs.Disk.{Disk}
-use Rattle.lk_disk.specs.Meters.{Passes, start, Breaks, Calls, is_failing, called}
+use Rattle.lk_disk.specs.Meters.{CallsSucceed, start, Breaks, Calls, is_failing, called}
 use Rattle.lk_disk.specs.declared.device.Side.{Side}
 use Rattle.lk_disk.specs.declared.meter.Meter.{Meter}
 use Rattle.lk_disk.proofs.Devices.{passes_on, call_passes, call_breaks}
@@ -19,12 +19,12 @@ use Rattle.lk_types.specs.declared.entry.Entry.{Entry}
 use Rattle.lk_log.specs.declared.fault.StoreFault.{StoreFault}
 
 -- no call was made
-pub none_made : (m : Meter) (k : ℕ) → k ≡ 0 → Passes m m k
-none_made m k e = subst (λ (j : ℕ). Passes m m j) (sym e) start
+pub none_made : (m : Meter) (k : ℕ) → k ≡ 0 → CallsSucceed m m k
+none_made m k e = subst (λ (j : ℕ). CallsSucceed m m j) (sym e) start
 
 -- one was made
-pub one_made : (m n : Meter) (k : ℕ) → k ≡ 1 → (is_failing m ≡ false) × (n ≡ called m) → Passes m n k
-one_made m n k e passed = subst (λ (j : ℕ). Passes m n j) (sym e) (call_passes m n passed)
+pub one_made : (m n : Meter) (k : ℕ) → k ≡ 1 → (is_failing m ≡ false) × (n ≡ called m) → CallsSucceed m n k
+one_made m n k e passed = subst (λ (j : ℕ). CallsSucceed m n j) (sym e) (call_passes m n passed)
 
 -- whatever came of it
 pub one_comes : {T E : Type 0} (m n : Meter) (k : ℕ) (r : Result T E) → k ≡ 1 → Calls m n r → ComesBy m n k r
@@ -72,19 +72,19 @@ one_cut end size lt = grind (arith, nat_tests)
 
 -- entries were put, without a sync
 pub put_unsynced : (m n : Meter) (es : List Entry) (bytes : List ℕ) (sync : Bool) → bytes ≡ spelling_of_all (plain es)
-    → sync ≡ false → Passes m n (calls_for bytes) → Passes m n (put_calls es sync)
+    → sync ≡ false → CallsSucceed m n (calls_for bytes) → CallsSucceed m n (put_calls es sync)
 put_unsynced m n es bytes sync spelled unasked p =
     let k : calls_for bytes ≡ put_calls es sync = ap (λ (l : List ℕ). calls_for l) spelled ∙ calls_for_entries es
     ∙ rw unasked (omega arith) in
-    subst (λ (j : ℕ). Passes m n j) k p
+    subst (λ (j : ℕ). CallsSucceed m n j) k p
 
 -- and with one
 pub put_synced : (l m n : Meter) (es : List Entry) (bytes : List ℕ) (sync : Bool) → bytes ≡ spelling_of_all (plain es)
-    → sync ≡ true → Passes l m (calls_for bytes) → Passes m n 1 → Passes l n (put_calls es sync)
+    → sync ≡ true → CallsSucceed l m (calls_for bytes) → CallsSucceed m n 1 → CallsSucceed l n (put_calls es sync)
 put_synced l m n es bytes sync spelled asked p q =
     let k : calls_for bytes + 1 ≡ put_calls es sync = ap (λ (l : List ℕ). calls_for l + 1) spelled
     ∙ ap (λ (j : ℕ). j + 1) (calls_for_entries es) ∙ rw asked refl in
-    subst (λ (j : ℕ). Passes l n j) k (passes_on (calls_for bytes) p 1 q)
+    subst (λ (j : ℕ). CallsSucceed l n j) k (passes_on (calls_for bytes) p 1 q)
 
 pub found_opens : (disks : Side → Disk) (live : Side) (es : List Stored) (end size : ℕ)
     → FoundLive disks live es end size → OpensBy (seen disks) (cut_calls end size + 1)

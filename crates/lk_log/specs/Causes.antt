@@ -3,7 +3,7 @@ use Rattle.std.specs.Prelude.{◌≡◌, ℕ, ◌+◌, ◌<◌, ◌≤◌, ◌�
 use Rattle.std.specs.Prelude.{IsErrOf, if◌then◌else◌}
 use Rattle.lk_types.specs.Limits.{max_count}
 use Rattle.lk_disk.specs.Disk.{one_more}
-use Rattle.lk_disk.specs.Meters.{Passes, Breaks}
+use Rattle.lk_disk.specs.Meters.{CallsSucceed, Breaks}
 use Rattle.lk_disk.specs.declared.meter.Meter.{Meter}
 use Rattle.lk_log.specs.StoreValue.{StoreValue}
 use Rattle.lk_log.specs.declared.fault.StoreFault.{StoreFault}
@@ -73,18 +73,18 @@ FailsUnlessLast old new (Err e) = old.generation < max_count → new.failed ≡ 
 
 -- this many changing calls passed, or one failed after some
 abbrev pub ComesBy : {T E : Type 0} → Meter → Meter → ℕ → Result T E → Type 0
-ComesBy m n k (Ok _) = Passes m n k
+ComesBy m n k (Ok _) = CallsSucceed m n k
 ComesBy m n k (Err _) = Breaks m n
 
 -- a call of the device failed after some, or some passed and something else failed
 abbrev pub IsRefusedBy : Meter → Meter → StoreFault → Type 0
 IsRefusedBy m n Device = Breaks m n
-IsRefusedBy m n NoMemory = (k : ℕ) × Passes m n k
-IsRefusedBy m n Failed = (k : ℕ) × Passes m n k
+IsRefusedBy m n NoMemory = (k : ℕ) × CallsSucceed m n k
+IsRefusedBy m n Failed = (k : ℕ) × CallsSucceed m n k
 
 -- this many changing calls passed, or it failed with this
 abbrev pub IsMetered : {T : Type 0} → Meter → Meter → ℕ → Result T StoreFault → Type 0
-IsMetered m n k (Ok _) = Passes m n k
+IsMetered m n k (Ok _) = CallsSucceed m n k
 IsMetered m n k (Err e) = IsRefusedBy m n e
 
 -- one call if there is anything to write

@@ -1,7 +1,7 @@
 -- Why no store was opened or read, and which calls of the device were made.
 use Rattle.std.specs.Prelude.{◌≡◌, ℕ, ◌⊎◌, Result, Ok, Err, IfErr}
 use Rattle.lk_disk.specs.Disk.{one_more}
-use Rattle.lk_disk.specs.Meters.{Passes, Breaks}
+use Rattle.lk_disk.specs.Meters.{CallsSucceed, Breaks}
 use Rattle.lk_disk.specs.declared.meter.Meter.{Meter}
 use Rattle.lk_log.specs.declared.fault.OpenFault.{OpenFault}
 use Rattle.lk_log.specs.declared.fault.OpenFault.TheVariants.{Device, NoMemory, Damaged, WrongStore}
@@ -33,11 +33,11 @@ pub record IsCaused {T : Type 0} (before now : ℕ) (result : Result T OpenFault
 -- a call of the device failed after some, or some passed and something else failed
 abbrev pub IsRefusedBy : Meter → Meter → OpenFault → Type 0
 IsRefusedBy m n Device = Breaks m n
-IsRefusedBy m n NoMemory = (k : ℕ) × Passes m n k
-IsRefusedBy m n Damaged = (k : ℕ) × Passes m n k
-IsRefusedBy m n WrongStore = (k : ℕ) × Passes m n k
+IsRefusedBy m n NoMemory = (k : ℕ) × CallsSucceed m n k
+IsRefusedBy m n Damaged = (k : ℕ) × CallsSucceed m n k
+IsRefusedBy m n WrongStore = (k : ℕ) × CallsSucceed m n k
 
 -- this many changing calls passed, or it failed with this
 abbrev pub IsMetered : {T : Type 0} → Meter → Meter → ℕ → Result T OpenFault → Type 0
-IsMetered m n k (Ok _) = Passes m n k
+IsMetered m n k (Ok _) = CallsSucceed m n k
 IsMetered m n k (Err e) = IsRefusedBy m n e

@@ -45,7 +45,7 @@ pub fn add<D: LogDisk>(
         → HoldsOn (D.disk device.old live) (D.disk device.old (other live)) ks ls
         → OnOk result (HoldsOn (D.disk device.new live) (D.disk device.new (other live))
         (ks ++ (ls ++ plain entries.now)) []) }
-    ensures any { D.is_honest → (ks ls : List Stored) → format ks ≡ 2
+    ensures every_image { D.is_honest → (ks ls : List Stored) → format ks ≡ 2
         → HoldsOn (D.disk device.old live) (D.disk device.old (other live)) ks ls
         → KeepsAtLeastOn live (D.disk device.new live) (D.disk device.new (other live)) ks (ls ++ plain entries.now) }
     ensures beside { D.is_honest → D.disk device.new (other live) ≡ D.disk device.old (other live) }

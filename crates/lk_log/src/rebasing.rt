@@ -32,7 +32,7 @@ pub fn switch_files<D: LogDisk>(device: &mut D, live: Side, bytes: &[u8]) -> Res
         → OnOk result (HoldsOn (D.disk device.new (other live)) (D.disk device.new live) (base_entry b ∷ []) []) }
     ensures left { D.is_honest → OnOk result (D.disk device.new live ≡ record { synced = []; unsynced = [] }) }
     // At every exit whatever a stop leaves has what was there, or the Base alone.
-    ensures any { D.is_honest → (b : BaseValue) (ks ls : List Stored)
+    ensures every_image { D.is_honest → (b : BaseValue) (ks ls : List Stored)
         → HoldsOn (D.disk device.old live) (D.disk device.old (other live)) ks ls
         → generation ks < b.generation → b.format ≡ 2 → IsStored (base_entry b) → bytes.now ≡ spelling (base_entry b)
         → KeepsOrIs (D.disk device.new) ks ls b }

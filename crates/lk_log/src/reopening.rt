@@ -2,7 +2,7 @@
 ghost use Rattle.std.specs.Prelude.{◌≡◌, ◌≤◌, ◌<◌, ◌+◌, ◌-◌, ◌^◌, ◌↔◌, List, ℕ, [], true, false, length, IsTrue, IfOk};
 ghost use Rattle.std.specs.Prelude.{IfErr, IfSome, OnOk, IsErrOf, MatchResult, Ok};
 ghost use Rattle.lk_disk.specs.Disk.{other, HasCause};
-ghost use Rattle.lk_disk.specs.Meters.{Passes};
+ghost use Rattle.lk_disk.specs.Meters.{CallsSucceed};
 ghost use Rattle.lk_disk.specs.declared.device.Side.{Side};
 ghost use Rattle.lk_disk.specs.declared.device.Side.TheVariants.{A, B};
 ghost use Rattle.lk_types.specs.Limits.{max_base};
@@ -56,7 +56,7 @@ pub(crate) fn write_over<D: LogDisk>(
     bytes: &[u8],
 ) -> Result<(), DeviceFault>
     ensures ok { D.is_honest → OnOk result (D.disk device.new side ≡ record { synced = bytes.now; unsynced = [] }) }
-    ensures any { D.is_honest → IsWrittenOver (D.disk device.old side) bytes.now (D.disk device.new side) }
+    ensures every_image { D.is_honest → IsWrittenOver (D.disk device.old side) bytes.now (D.disk device.new side) }
     ensures beside { D.is_honest → D.disk device.new (other side) ≡ D.disk device.old (other side) }
     ensures cause { HasCause (D.failures device.old) (D.failures device.new) result }
     ensures metered { D.is_metered → D.is_honest → ComesBy (D.meter device.old) (D.meter device.new) 3 result }
@@ -204,7 +204,7 @@ fn recover<D: LogDisk>(
         → StaysWrong (D.disk device.old) (D.disk device.new) header.now }
     ensures cause { FailuresRise (D.failures device.old) (D.failures device.new) result }
     ensures metered { D.is_metered → D.is_honest → MatchResult result
-        (λ _. (k : ℕ) × OpensBy (seen (D.disk device.old)) k × Passes (D.meter device.old) (D.meter device.new) k)
+        (λ _. (k : ℕ) × OpensBy (seen (D.disk device.old)) k × CallsSucceed (D.meter device.old) (D.meter device.new) k)
         (λ e. IsRefusedBy (D.meter device.old) (D.meter device.new) e) }
 {
     match find(alloc, device)? {
@@ -255,7 +255,7 @@ pub fn reopen<D: LogDisk + Drop>(
         (λ e. D.failures e.device ≡ failures_after e.fault (D.failures device)) }
     // For a metered device it says which of its calls were made.
     ensures metered { D.is_metered → D.is_honest → MatchResult result
-        (λ r. (k : ℕ) × OpensBy (seen (D.disk device)) k × Passes (D.meter device) r.store.meter k)
+        (λ r. (k : ℕ) × OpensBy (seen (D.disk device)) k × CallsSucceed (D.meter device) r.store.meter k)
         (λ e. IsRefusedBy (D.meter device) (D.meter e.device) e.fault) }
 {
     let mut device = device;

@@ -70,7 +70,7 @@ impl<D: LogDisk + Drop> Store<D> {
         ensures synced { D.is_honest → sync ≡ true → (ks ls : List Stored) → HoldsEntries self.old ks ls
             → OnOk result (HoldsEntries self.new (ks ++ (ls ++ plain entries.now)) []) }
         // However it ends, each image that a stop may leave has all synced entries, and a prefix of the rest.
-        ensures any { D.is_honest → (ks ls : List Stored) → HoldsEntries self.old ks ls
+        ensures every_image { D.is_honest → (ks ls : List Stored) → HoldsEntries self.old ks ls
             → KeepsAtLeast self.new ks (ls ++ plain entries.now) }
         // The other file is unchanged, and out of memory the live one is too.
         ensures beside { D.is_honest → KeepsOtherDisk self.old self.new result }
@@ -125,7 +125,7 @@ impl<D: LogDisk + Drop> Store<D> {
         ensures synced { D.is_honest → (ks ls : List Stored) → HoldsEntries self.old ks ls
             → OnOk result (HoldsEntries self.new (ks ++ ls) []) }
         // However it ends, each image that a stop may leave has all synced entries, and a prefix of the rest.
-        ensures any { D.is_honest → (ks ls : List Stored) → HoldsEntries self.old ks ls
+        ensures every_image { D.is_honest → (ks ls : List Stored) → HoldsEntries self.old ks ls
             → KeepsAtLeast self.new ks ls }
         // Neither file is longer, however it ends.
         ensures room { D.is_honest → StaysWithin 0 (disks self.old) (disks self.new) }
@@ -158,7 +158,7 @@ impl<D: LogDisk + Drop> Store<D> {
             → OnOk result (HoldsEntries self.new (Base (next_base self.old standing.now) ∷ []) []) }
         ensures left { D.is_honest → OnOk result (LeavesEmpty self.new) }
         // However it ends, each image that a stop may leave has what it had before, or that Base alone.
-        ensures any { D.is_honest → (ks ls : List Stored) → HoldsEntries self.old ks ls
+        ensures every_image { D.is_honest → (ks ls : List Stored) → HoldsEntries self.old ks ls
             → KeepsOrIs (disks self.new) ks ls (next_base self.old standing.now) }
         ensures no_memory { D.is_honest → IsErrOf result StoreFault.NoMemory → (s : Side)
             → disks self.new s ≡ disks self.old s }

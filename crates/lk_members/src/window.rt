@@ -64,7 +64,7 @@ impl WindowSet {
 /// The sets of members of the next positions, the nearest first: at most 16. No call takes memory.
 #[derive(Drop)]
 pub struct Window {
-    places: ArrayVec<WindowSet, 16>,
+    sets: ArrayVec<WindowSet, 16>,
 }
 
 impl Model for Window {
@@ -74,9 +74,9 @@ impl Model for Window {
 
     ghost Value = { List (List Member) };
 
-    ghost view = { λ w. w.places.items };
+    ghost view = { λ w. w.sets.items };
 
-    ghost invariant = { λ w. IsWindow w.places.items };
+    ghost invariant = { λ w. IsWindow w.sets.items };
 }
 
 impl Window {
@@ -85,7 +85,7 @@ impl Window {
         ensures { result ≡ [] }
     {
         Window {
-            places: ArrayVec::new(),
+            sets: ArrayVec::new(),
         }
     }
 
@@ -94,7 +94,7 @@ impl Window {
         ensures value { result.now ≡ self.now }
         ensures fits { IsWindow self.now }
     {
-        self.places.as_slice()
+        self.sets.as_slice()
     }
 
     /// How many sets there are.
@@ -102,41 +102,41 @@ impl Window {
         ensures value { result ≡ length self.now }
         ensures fits { IsWindow self.now }
     {
-        self.places.len()
+        self.sets.len()
     }
 
     /// Whether there is no set.
     pub fn is_empty(&self) -> bool
         ensures { IsTrue result ↔ (length self.now ≡ 0) }
     {
-        self.places.is_empty()
+        self.sets.is_empty()
     }
 
     /// Whether every node of the sets is at most this number.
     pub fn is_at_most(&self, greatest: NodeNo) -> bool
         ensures { result ≡ are_at_most greatest self.now }
     {
-        self.places
+        self.sets
             .as_slice()
             .iter()
-            .all(|place| place.is_at_most(greatest))
+            .all(|each| each.is_at_most(greatest))
     }
 
     /// Whether some set names the node.
     pub fn is_named(&self, node: NodeNo) -> bool
         ensures { result ≡ is_named node self.now }
     {
-        self.places.as_slice().iter().any(|place| place.names(node))
+        self.sets.as_slice().iter().any(|each| each.names(node))
     }
 
     /// Returns the port of the node in the nearest set that names it, or `None` if none does.
     pub fn port_of(&self, node: NodeNo) -> Option<Port>
         ensures { result ≡ port_of node self.now }
     {
-        let places = self.as_slice();
-        for place in places {
-            if place.names(node) {
-                return port_in(&place.set, node);
+        let sets = self.as_slice();
+        for each in sets {
+            if each.names(node) {
+                return port_in(&each.set, node);
             }
         }
         None
@@ -147,8 +147,8 @@ impl Window {
         ensures { IsNextAbove (λ k. is_named k self.now) low result }
     {
         let mut next = None;
-        for place in self.as_slice() {
-            next = lesser(next, next_above(&place.set, low));
+        for each in self.as_slice() {
+            next = lesser(next, next_above(&each.set, low));
         }
         next
     }
@@ -157,10 +157,10 @@ impl Window {
     pub fn copy(&self) -> Window
         ensures { result ≡ self.now }
     {
-        let places = self.as_slice();
+        let sets = self.as_slice();
         let mut window = Window::new();
-        for place in places {
-            window.push(place.set.copy());
+        for each in sets {
+            window.push(each.set.copy());
         }
         window
     }
@@ -171,7 +171,7 @@ impl Window {
         ensures { self.new ≡ self.old ++ set ∷ [] }
     {
         facts_of(&set);
-        self.places.push(WindowSet { set });
+        self.sets.push(WindowSet { set });
     }
 
     /// Returns the set at this index, the nearest at 0, or `None` if the window is shorter.
@@ -179,8 +179,8 @@ impl Window {
         ensures some { IsSome result ↔ (index < length self.now) }
         ensures value { IfSome result (λ set. slice_get self.now index ≡ Some set.now) }
     {
-        let place = self.places.as_slice().get(index)?;
-        Some(&place.set)
+        let each = self.sets.as_slice().get(index)?;
+        Some(&each.set)
     }
 
     /// Returns the set of the last position, the one farthest ahead.
@@ -188,8 +188,8 @@ impl Window {
         requires { 0 < length self.now }
         ensures { result.now ≡ newest self.now }
     {
-        let places = self.places.as_slice();
-        let last = &places[places.len() - 1];
+        let sets = self.sets.as_slice();
+        let last = &sets[sets.len() - 1];
         &last.set
     }
 
@@ -198,7 +198,7 @@ impl Window {
         requires { 0 < length self.old }
         ensures { self.new ≡ drop 1 self.old ++ set ∷ [] }
     {
-        self.places.remove(0);
+        self.sets.remove(0);
         self.push(set);
     }
 }

@@ -21,7 +21,7 @@ pub fn new_meter() -> Meter
 
 // Counts the trap down by one changing call. Returns whether it goes off at that call. An armed trap stays afterwards,
 // with count 0, for `armed_stop`.
-fn pass(trap: &mut Trap) -> bool
+fn count_down(trap: &mut Trap) -> bool
     ensures due { result ≡ is_due trap.old }
     ensures behind { trap.new ≡ trap_after trap.old }
 {
@@ -62,7 +62,7 @@ pub fn count_call(meter: &mut Meter) -> Result<Option<usize>, DeviceFault>
 {
     meter.calls = meter.calls.saturating_add(1);
     let stop = next_stop(meter.trap);
-    let is_due = pass(&mut meter.trap);
+    let is_due = count_down(&mut meter.trap);
     let is_blown = meter.fuse == Some(0);
     meter.fuse = match stop {
         Some(_) => Some(0),

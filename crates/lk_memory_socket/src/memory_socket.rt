@@ -15,7 +15,7 @@ use std::{io, mem};
 /// A datagram of a socket in memory, with its source or destination.
 #[derive(Drop)]
 pub struct MemoryDatagram {
-    pub place: SocketAddr,
+    pub address: SocketAddr,
     pub bytes: Vec<u8>,
 }
 
@@ -61,7 +61,7 @@ impl MemorySocket {
     {
         let kept = bytes.to_vec(self.alloc)?;
         self.incoming.push_back(MemoryDatagram {
-            place: from,
+            address: from,
             bytes: kept,
         })?;
         Ok(())
@@ -85,7 +85,7 @@ impl MemorySocket {
     {
         let kept = bytes.to_vec(self.alloc)?;
         self.sent.push(MemoryDatagram {
-            place: to,
+            address: to,
             bytes: kept,
         })?;
         Ok(())
@@ -120,10 +120,10 @@ impl DatagramSocket for MemorySocket {
         let Some(told) = self.incoming.pop_front() else {
             return None;
         };
-        let MemoryDatagram { place, bytes } = told;
+        let MemoryDatagram { address, bytes } = told;
         let length = cut_length(bytes.len());
         buffer[..length].copy_from_slice(&bytes[..length]);
-        Some((length, place))
+        Some((length, address))
     }
 
     // The same as `receive`, which never waits.

@@ -13,7 +13,7 @@ use Rattle.lk_codec.specs.Fields.{one, four, eight, request}
 use Rattle.lk_messages.specs.Grammar.{kind, sender, fields, header, spelling, IsContent, IsMessage, Spells}
 use Rattle.lk_codec.specs.Parser.{◌>>=◌, read_byte, both, made}
 use Rattle.lk_codec.specs.FieldReading.{is_from_1_to, read_four, read_eight, read_request}
-use Rattle.lk_messages.specs.Reading.{node_of, read_asked, content_of, read_header, read_message, all_of}
+use Rattle.lk_messages.specs.Reading.{read_node_message, read_asked, content_of, read_header, read_message, all_of}
 use Rattle.lk_codec.proofs.Spellings.{IsBytes, bind_ok, chosen, some_is, Took, Reads, both_reads, made_as, byte_reads}
 use Rattle.lk_codec.proofs.Spellings.{one_front, whole_takes, whole_again, four_reads, eight_reads, is_in, passes}
 use Rattle.lk_codec.proofs.Spellings.{request_reads}
@@ -43,9 +43,9 @@ asked_takes k from bytes c rest k9 h e =
     ]
 
 told_takes : (k from : ℕ) (bytes : List ℕ) (c : Content) (rest : List ℕ) → IsNode from → IsBytes bytes
-    → made (content.Node from) (node_of k) bytes ≡ Some (c, rest) → Holds k from bytes c rest
+    → made (content.Node from) (read_node_message k) bytes ≡ Some (c, rest) → Holds k from bytes c rest
 told_takes k from bytes c rest node h e =
-    let a = bind_ok (node_of k bytes) (λ a. Some (content.Node from a.0, a.1)) (c, rest) e in
+    let a = bind_ok (read_node_message k bytes) (λ a. Some (content.Node from a.0, a.1)) (c, rest) e in
     let b = node_takes.takes k bytes a.0.0 a.0.1 h a.1 in
     let read : Content × List ℕ = (content.Node from a.0.0, a.0.1) in
     subst (λ (z : Content × List ℕ). Holds k from bytes z.0 z.1) (some_is read (c, rest) a.2)

@@ -30,7 +30,7 @@ use Rattle.lk_codec.specs.FieldReading.{read_two, read_four, read_client, read_c
 use Rattle.lk_codec.specs.FieldReading.{read_any_ballot, read_member, read_command, read_vote, read_answer}
 use Rattle.lk_messages.specs.Reading.{read_prepare, read_votes, read_promise, read_proposal, read_nack, read_commands}
 use Rattle.lk_messages.specs.Reading.{read_decided, read_want, is_within, read_part, read_answered, read_elsewhere}
-use Rattle.lk_messages.specs.Reading.{read_passed, read_lead, small_of, node_of}
+use Rattle.lk_messages.specs.Reading.{read_passed, read_lead, small_of, read_node_message}
 use Rattle.lk_codec.proofs.Spellings.{Reads, fitting, both_reads, made_reads, tested_reads, byte_reads, counted_reads}
 use Rattle.lk_codec.proofs.Spellings.{two_reads, four_reads, sized_reads, TakesKinds, no_kind_takes, kind_takes}
 use Rattle.lk_codec.proofs.Spellings.{at_most, is_at_most, client_reads, count_reads, total_reads, ballot_reads}
@@ -208,8 +208,8 @@ small_takes =
     (one_more 13 (λ (b : BallotValue × ℕ). kinds.Lead b.0 b.1) _ _ _ lead_reads (λ y. refl) (λ y. refl) (λ y f. f) _
     (no_kind_takes node_kind node_fields IsNodeMessage)))))))))
 
-pub node_takes : TakesKinds node_kind node_fields IsNodeMessage node_of
-unfolding node_of
+pub node_takes : TakesKinds node_kind node_fields IsNodeMessage read_node_message
+unfolding read_node_message
 node_takes =
     one_more 2 kinds.Promise read_promise promise IsPromise promise_reads (λ y. refl) (λ y. refl) (λ y f. f) _
     (one_more 6 kinds.Decided read_decided decided IsDecided decided_reads (λ y. refl) (λ y. refl) (λ y f. f) _
@@ -217,8 +217,8 @@ node_takes =
     small_takes))
 
 pub node_again : (m : NodeMessage) (rest : List ℕ) → IsNodeMessage m
-    → node_of (node_kind m) (node_fields m ++ rest) ≡ Some (m, rest)
-unfolding node_of small_of read_prepare read_lead
+    → read_node_message (node_kind m) (node_fields m ++ rest) ≡ Some (m, rest)
+unfolding read_node_message small_of read_prepare read_lead
 node_again (kinds.Prepare b first) rest fits = rw (prepare_reads.again (b, first) rest fits) refl
 node_again (kinds.Promise p) rest fits = rw (promise_reads.again p rest fits) refl
 node_again (kinds.Accept v) rest fits = rw (proposal_reads.again v rest fits) refl

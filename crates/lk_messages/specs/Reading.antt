@@ -92,8 +92,8 @@ small_of =
     (kind 13 read_lead
     no_kind))))))))
 
-unfoldable pub node_of : ℕ → List ℕ → Option (NodeMessage × List ℕ)
-node_of =
+unfoldable pub read_node_message : ℕ → List ℕ → Option (NodeMessage × List ℕ)
+read_node_message =
     kind 2 (made kinds.Promise read_promise)
     (kind 6 (made kinds.Decided read_decided)
     (kind 8 (made kinds.Part read_part)
@@ -107,7 +107,7 @@ read_asked from bytes = if from == 0 then made content.Request read_request byte
 unfoldable pub content_of : ℕ → ℕ → List ℕ → Option (Content × List ℕ)
 content_of k from bytes =
     if k == 9 then read_asked from bytes
-    else if is_from_1_to max_node from then made (content.Node from) (node_of k) bytes
+    else if is_from_1_to max_node from then made (content.Node from) (read_node_message k) bytes
     else None
 
 -- the two letters and the version, and then the kind, the cluster and the sender

@@ -17,12 +17,12 @@ use Rattle.lk_leader.specs.Terms.{TermValue}
 use Rattle.lk_leader.specs.Waits.{newer, asked}
 use Rattle.lk_node_interface.specs.Outboxes.{OutboxValue, nothing}
 use Rattle.lk_node_interface.specs.declared.to.To.TheVariants as to
-use Rattle.lk_node.specs.Asking.{with_waiting, leader_in, PointsTo, TakesNew, TakesAs, HearsRequest}
+use Rattle.lk_node.specs.Asking.{with_waiting, leader_in, PointsTo, TakesNew, TakesAs, HandlesRequest}
 use Rattle.lk_node.specs.Histories.{History, Genesis, Command}
 use Rattle.lk_node.specs.NodeValue.{NodeValue}
 use Rattle.lk_node.specs.Serving.{ActsSafely}
 use Rattle.lk_node.proofs.Changing.{change_goes_on}
-use Rattle.lk_node.proofs.LevelLaws.{idles, alone_goes_on}
+use Rattle.lk_node.proofs.GapLaws.{idles, alone_goes_on}
 use Rattle.lk_node.proofs.Lists.{cons_cases, contains_more, only}
 
 -- ---- what the client's last request was replied
@@ -108,7 +108,7 @@ new_goes_on m (Some t) old new r out k =
     (sym k.1) (waits_goes_on m r old nothing)
 
 pub request_goes_on : (m : Meaning) (old new : NodeValue) (r : RequestValue) (out : OutboxValue)
-    → HearsRequest old r new out → ActsSafely m (λ h. Contains h.asked r) old new nothing out
+    → HandlesRequest old r new out → ActsSafely m (λ h. Contains h.asked r) old new nothing out
 request_goes_on m old new r out k = by_seen (seen_as (session_of r.client old.learner.whole.sessions) r.number) refl k
   where
     by_seen : (x : Seen) → seen_as (session_of r.client old.learner.whole.sessions) r.number ≡ x

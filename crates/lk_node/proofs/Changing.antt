@@ -21,7 +21,7 @@ use Rattle.lk_node.specs.Keeping.{IsKnown, IsHeld, LeadsOn}
 use Rattle.lk_node.specs.Calls.{MayGo}
 use Rattle.lk_node.specs.Holdings.{Holding, HoldingFits}
 use Rattle.lk_node.specs.NodeValue.{NodeValue}
-use Rattle.lk_node.specs.Serving.{Tells, Binds, Serves, ActsSafely}
+use Rattle.lk_node.specs.Serving.{IsCoveredLetter, Binds, Serves, ActsSafely}
 use Rattle.lk_node.specs.Yielding.{without_term, is_term_below, yielded}
 
 -- all that safety rests on is as it was
@@ -37,8 +37,9 @@ binds_alike first old new out like b = record {
   written = ap (λ (a : AcceptorValue). a.state) like.acceptor ∙ b.written;
   unsynced = b.unsynced;
   still = λ e. ap (λ (a : AcceptorValue). a.state) like.acceptor ∙ b.still e;
-  tells = λ l c. subst (λ (w : HeaderValue). Tells w new.acceptor.state out.rebase l) (sym like.header)
-      (subst (λ (a : AcceptorValue). Tells old.header a.state out.rebase l) (sym like.acceptor) (b.tells l c));
+  tells = λ l c. subst (λ (w : HeaderValue). IsCoveredLetter w new.acceptor.state out.rebase l) (sym like.header)
+      (subst (λ (a : AcceptorValue). IsCoveredLetter old.header a.state out.rebase l) (sym like.acceptor)
+      (b.tells l c));
 }
 
 -- the leader stays too
@@ -176,8 +177,8 @@ change_goes_on m Heard old new out header state f = record {
     written = state ∙ b.written;
     unsynced = b.unsynced;
     still = λ e. state ∙ b.still e;
-    tells = λ l c. subst (λ (w : HeaderValue). Tells w new.acceptor.state out.rebase l) (sym header)
-        (subst (λ (a : AcceptorState). Tells old.header a out.rebase l) (sym state) (b.tells l c));
+    tells = λ l c. subst (λ (w : HeaderValue). IsCoveredLetter w new.acceptor.state out.rebase l) (sym header)
+        (subst (λ (a : AcceptorState). IsCoveredLetter old.header a out.rebase l) (sym state) (b.tells l c));
   };
   serves = λ h n loose s heard.
       let u = f h n loose s heard in

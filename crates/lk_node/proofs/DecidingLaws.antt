@@ -37,9 +37,10 @@ use Rattle.lk_node_interface.specs.Letters.{LetterValue}
 use Rattle.lk_node_interface.specs.Outboxes.{OutboxValue, nothing, with_note, with_letter, with_letters}
 use Rattle.lk_node_interface.specs.Saying.{saying}
 use Rattle.lk_node_interface.specs.declared.note.Note.TheVariants as note
-use Rattle.lk_node.specs.Deciding.{IsForProposal, with_vote, BringsMajority, IsOnlyHeard, HearsVote, AreDecidedLetters}
-use Rattle.lk_node.specs.Deciding.{HearsAccepted, Decides}
-use Rattle.lk_node.specs.Executing.{SettlesAny, is_outside, while_named, Executes, Runs, stays, goes_on}
+use Rattle.lk_node.specs.Deciding.{IsForProposal, with_vote, BringsMajority, IsOnlyHeard}
+use Rattle.lk_node.specs.Deciding.{HandlesVote, AreDecidedLetters}
+use Rattle.lk_node.specs.Deciding.{HandlesAccepted, Decides}
+use Rattle.lk_node.specs.Executing.{EndsWaitIfAny, is_outside, without_term_if_outside, Executes, Runs, stays, goes_on}
 use Rattle.lk_node.specs.Histories.{History}
 use Rattle.lk_node.specs.Keeping.{IsKnown}
 use Rattle.lk_node.specs.Learning.{with_learner, Learns}
@@ -99,7 +100,7 @@ module _ (from : ℕ) (x : Vote) (was : NodeValue) (l : LeaderValue) (o : Bool) 
         | inr isnt ↦ (let told = told_none isnt in inr (isnt, told.0))
       ]
 
-  pub heard_and_decided : o ≡ true → HearsVote from x was (with_leader was l) (Some set)
+  pub heard_and_decided : o ≡ true → HandlesVote from x was (with_leader was l) (Some set)
   heard_and_decided some =
       elim (for_proposal_or_not was x set its_members) [
         | inl k ↦ (let told = told_for k in
@@ -315,7 +316,7 @@ learns_header : (p : Pair) (old : NodeValue) (before : OutboxValue) (new : NodeV
 learns_header p old before new after (inl wanted) = ap (λ (node : NodeValue). node.header) wanted.1
 learns_header p old before new after (inr other) = ap (λ (node : NodeValue). node.header) other.1
 
-named_header : (node : NodeValue) → (while_named node).header ≡ node.header
+named_header : (node : NodeValue) → (without_term_if_outside node).header ≡ node.header
 named_header node = by_test (is_outside node)
   where
     by_test : (t : Bool) → (cond t (without_term node) node).header ≡ node.header
@@ -323,7 +324,7 @@ named_header node = by_test (is_outside node)
     by_test false = refl
 
 any_header : (o : Option Session) (old : NodeValue) (before : OutboxValue) (new : NodeValue) (after : OutboxValue)
-    → SettlesAny o old before new after → new.header ≡ old.header
+    → EndsWaitIfAny o old before new after → new.header ≡ old.header
 any_header None old before new after k = ap (λ (node : NodeValue). node.header) k.0
 any_header (Some s) old before new after k = ap (λ (node : NodeValue). node.header) k.becomes
 
@@ -333,7 +334,7 @@ executes_header m old before new after k =
     ap (λ (node : NodeValue). node.header) k.becomes ∙ named_header k.mid
     ∙ any_header (session_by k.command (run_answer m k.command old.learner.whole))
     (with_learner old (advanced m k.command old.learner))
-    (with_note (note.Ran old.header.node (executed old.learner + 1) k.command) before) k.mid after k.settles
+    (with_note (note.Ran old.header.node (executed old.learner + 1) k.command) before) k.mid after k.ends_wait
 
 runs_header : (m : Meaning) (old : NodeValue) (before : OutboxValue) (new : NodeValue) (after : OutboxValue)
     → Runs m old before new after → new.header ≡ old.header
@@ -371,18 +372,18 @@ only_heard_goes_on m from x old new out (inr k) =
     subst (λ (node : NodeValue). ActsSafely m (Accepts from x) old node out out) (sym k.1)
     (rests_here m (Accepts from x) old out)
 
-abbrev HearsMajority : ℕ → Vote → NodeValue → NodeValue → List Member → Type 0
-HearsMajority from x old mid set = HearsVote from x old mid (Some set)
+abbrev HandlesMajority : ℕ → Vote → NodeValue → NodeValue → List Member → Type 0
+HandlesMajority from x old mid set = HandlesVote from x old mid (Some set)
 
 -- the members that are given are those of the position
-pub are_members : (from : ℕ) (x : Vote) (old mid : NodeValue) (set : List Member) → HearsMajority from x old mid set
+pub are_members : (from : ℕ) (x : Vote) (old mid : NodeValue) (set : List Member) → HandlesMajority from x old mid set
     → AreMembersAt mid.learner.whole.roster x.position set
 are_members from x old mid set k =
     subst₂ (λ (node : NodeValue) (s : List Member). AreMembersAt node.learner.whole.roster x.position s)
     (sym k.3) k.2 k.0.vote.members
 
 pub accepted_goes_on : (m : Meaning) (from : ℕ) (x : Vote) (old mid new : NodeValue) (set : List Member)
-    (out after : OutboxValue) → HearsMajority from x old mid set
+    (out after : OutboxValue) → HandlesMajority from x old mid set
     → ActsSafely m (Chooses x.position x.command) mid new out after → ActsSafely m (Accepts from x) old new out after
 accepted_goes_on m from x old mid new set out after k f =
     let Both : History → Type 0 = λ (h : History). Accepts from x h × Chooses x.position x.command h in
@@ -396,8 +397,8 @@ accepted_goes_on m from x old mid new set out after k f =
     (heard_goes_on m Both (Chooses x.position x.command) mid new out after (λ h n loose s both. both.1) f))
 
 pub hears_accepted : (m : Meaning) (from : ℕ) (x : Vote) (old mid new : NodeValue) (set : List Member)
-    (out : OutboxValue) → HearsMajority from x old mid set
-    → Decides m set (x.position, x.command) mid nothing new out → HearsAccepted m from x old new out
+    (out : OutboxValue) → HandlesMajority from x old mid set
+    → Decides m set (x.position, x.command) mid nothing new out → HandlesAccepted m from x old new out
 hears_accepted m from x old mid new set out k c =
     inl (
       k.0,

@@ -35,8 +35,9 @@ use Rattle.lk_node_interface.specs.Outboxes.{OutboxValue, with_note, with_letter
 use Rattle.lk_node_interface.specs.Saying.{saying}
 use Rattle.lk_node_interface.specs.declared.note.Note.TheVariants as note
 use Rattle.lk_node_interface.specs.declared.to.To.TheVariants as to
-use Rattle.lk_node.specs.Executing.{waiting_number, with_told, settled, Settles, SettlesAny, RunsNext, is_outside}
-use Rattle.lk_node.specs.Executing.{while_named, Executes, ExecutesOne, Runs, goes_on, RunsAll}
+use Rattle.lk_node.specs.Executing.{waiting_number, with_told, no_longer_waiting, EndsWait}
+use Rattle.lk_node.specs.Executing.{EndsWaitIfAny, RunsNext, is_outside}
+use Rattle.lk_node.specs.Executing.{without_term_if_outside, Executes, ExecutesOne, Runs, goes_on, RunsAll}
 use Rattle.lk_node.specs.Histories.{History}
 use Rattle.lk_node.specs.Keeping.{IsKnown}
 use Rattle.lk_node.specs.Learning.{with_learner}
@@ -263,9 +264,9 @@ left_from client number (q ∷ qs) r c =
     ]
 
 settled_goes_on : (m : Meaning) (Heard : History → Type 0) (node : NodeValue) (out : OutboxValue) (s : Session)
-    → ActsSafely m Heard node (settled s node) out out
+    → ActsSafely m Heard node (no_longer_waiting s node) out out
 settled_goes_on m Heard node out x =
-    change_goes_on m Heard node (settled x node) out refl refl (λ h n loose s heard. record {
+    change_goes_on m Heard node (no_longer_waiting x node) out refl refl (λ h n loose s heard. record {
       holding = record {
         paxos = s.holding.paxos;
         waiting = left_by x.client x.number s.holding.waiting;
@@ -342,22 +343,23 @@ tells_client m Heard node out s number le at fits = by_test (nat_lt number s.num
 
 pub settles_goes_on : (m : Meaning) (Heard : History → Type 0) (s : Session) (old : NodeValue) (before : OutboxValue)
     (new : NodeValue) (after : OutboxValue)
-    → session_of s.client old.learner.whole.sessions ≡ Some s → Settles s old before new after
+    → session_of s.client old.learner.whole.sessions ≡ Some s → EndsWait s old before new after
     → ActsSafely m Heard old new before after
 settles_goes_on m Heard s old before new after at k =
     subst₂ (λ (node : NodeValue) (o : OutboxValue). ActsSafely m Heard old node before o) (sym k.becomes)
     (sym k.comes_to)
-    (then_goes_on m Heard old (settled s old) (settled s old) before before
+    (then_goes_on m Heard old (no_longer_waiting s old) (no_longer_waiting s old) before before
     (with_told old.header s (waiting_number s old) before)
     (settled_goes_on m Heard old before s)
     (by_number (waiting_number s old) (up_to s.number (waiting_of s.client old.leader.waiting)) k.fits))
   where
     by_number : (o : Option ℕ) → ((number : ℕ) → o ≡ Some number → number ≤ s.number)
         → ((number : ℕ) → o ≡ Some number → IsMessage (saying old.header (session_reply s number)))
-        → ActsSafely m Heard (settled s old) (settled s old) before (with_told old.header s o before)
-    by_number None le fits = rests_here m Heard (settled s old) before
+        → ActsSafely m Heard (no_longer_waiting s old) (no_longer_waiting s old) before
+        (with_told old.header s o before)
+    by_number None le fits = rests_here m Heard (no_longer_waiting s old) before
     by_number (Some number) le fits =
-        tells_client m Heard (settled s old) before s number (le number refl) at (fits number refl)
+        tells_client m Heard (no_longer_waiting s old) before s number (le number refl) at (fits number refl)
 
 -- ---- the session that a command leaves
 
@@ -392,7 +394,7 @@ session_left m w (Request r) s e =
 any_goes_on : (m : Meaning) (Heard : History → Type 0) (o : Option Session) (old : NodeValue) (before : OutboxValue)
     (new : NodeValue) (after : OutboxValue)
     → ((s : Session) → o ≡ Some s → session_of s.client old.learner.whole.sessions ≡ Some s)
-    → SettlesAny o old before new after → ActsSafely m Heard old new before after
+    → EndsWaitIfAny o old before new after → ActsSafely m Heard old new before after
 any_goes_on m Heard None old before new after last k =
     subst₂ (λ (node : NodeValue) (o : OutboxValue). ActsSafely m Heard old node before o) (sym k.0) (sym k.1)
     (rests_here m Heard old before)
@@ -402,7 +404,7 @@ any_goes_on m Heard (Some s) old before new after last k =
 -- ---- the window
 
 pub named_goes_on : (m : Meaning) (Heard : History → Type 0) (node : NodeValue) (out : OutboxValue)
-    → ActsSafely m Heard node (while_named node) out out
+    → ActsSafely m Heard node (without_term_if_outside node) out out
 named_goes_on m Heard node out = by_test (is_outside node)
   where
     by_test : (t : Bool) → ActsSafely m Heard node (cond t (without_term node) node) out out
@@ -422,13 +424,13 @@ executes_goes_on m Heard old before new after is k =
     let ran_node : NodeValue = with_learner old (advanced m v l) in
     let noted : OutboxValue = with_note (note.Ran old.header.node i v) before in
     subst (λ (node : NodeValue). ActsSafely m Heard old node before after) (sym k.becomes)
-    (then_goes_on m Heard old ran_node (while_named k.mid) before before after
+    (then_goes_on m Heard old ran_node (without_term_if_outside k.mid) before before after
     (advances_goes_on m Heard old before v is k.next)
-    (then_goes_on m Heard ran_node ran_node (while_named k.mid) before noted after
+    (then_goes_on m Heard ran_node ran_node (without_term_if_outside k.mid) before noted after
     (notes_ran m Heard ran_node before v old.header.node i (omega (arith, is.reaches)) (last_served_at m l v is))
-    (then_goes_on m Heard ran_node k.mid (while_named k.mid) noted after after
+    (then_goes_on m Heard ran_node k.mid (without_term_if_outside k.mid) noted after after
     (any_goes_on m Heard (session_by v (run_answer m v l.whole)) ran_node noted k.mid after
-    (session_left m l.whole v) k.settles)
+    (session_left m l.whole v) k.ends_wait)
     (named_goes_on m Heard k.mid after))))
 
 pub one_goes_on : (m : Meaning) (Heard : History → Type 0) (went : Bool) (old : NodeValue) (before : OutboxValue)
@@ -441,7 +443,7 @@ one_goes_on m Heard false old before new after is k =
 
 -- ---- one after another
 
-its_learner : (node : NodeValue) → (while_named node).learner ≡ node.learner
+its_learner : (node : NodeValue) → (without_term_if_outside node).learner ≡ node.learner
 its_learner node = by_test (is_outside node)
   where
     by_test : (t : Bool) → (cond t (without_term node) node).learner ≡ node.learner
@@ -449,7 +451,7 @@ its_learner node = by_test (is_outside node)
     by_test false = refl
 
 any_learner : (o : Option Session) (old : NodeValue) (before : OutboxValue) (new : NodeValue) (after : OutboxValue)
-    → SettlesAny o old before new after → new.learner ≡ old.learner
+    → EndsWaitIfAny o old before new after → new.learner ≡ old.learner
 any_learner None old before new after k = ap (λ (node : NodeValue). node.learner) k.0
 any_learner (Some s) old before new after k = ap (λ (node : NodeValue). node.learner) k.becomes
 
@@ -460,7 +462,7 @@ executes_learner m old before new after k =
     let v : Command = k.command in
     ap (λ (node : NodeValue). node.learner) k.becomes ∙ its_learner k.mid
     ∙ any_learner (session_by v (run_answer m v old.learner.whole)) (with_learner old (advanced m v old.learner))
-    (with_note (note.Ran old.header.node (executed old.learner + 1) v) before) k.mid after k.settles
+    (with_note (note.Ran old.header.node (executed old.learner + 1) v) before) k.mid after k.ends_wait
 
 pub went_on : (m : Meaning) (went : Bool) (first : NodeValue) (begun : OutboxValue) (old : NodeValue)
     (before : OutboxValue) (new : NodeValue) (after : OutboxValue) → went ≡ true

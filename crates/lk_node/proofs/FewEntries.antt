@@ -19,15 +19,16 @@ use Rattle.lk_node_interface.specs.Outboxes.{OutboxValue, nothing, with_rebase, 
 use Rattle.lk_node_interface.specs.declared.input.Input.{Input}
 use Rattle.lk_node_interface.specs.declared.input.Input.TheVariants as input
 use Rattle.lk_node.specs.CatchingUp.{Feeds}
-use Rattle.lk_node.specs.Executing.{with_told, SettlesAny, waiting_number, while_named, Runs, goes_on, stays}
-use Rattle.lk_node.specs.Installing.{SettlesFirst, none_settled, one_settled, HearsPart}
+use Rattle.lk_node.specs.Executing.{with_told, EndsWaitIfAny, waiting_number}
+use Rattle.lk_node.specs.Executing.{without_term_if_outside, Runs, goes_on, stays}
+use Rattle.lk_node.specs.Installing.{EndsFirstWaits, none_ended, one_ended, HandlesPart}
 use Rattle.lk_node.specs.Learning.{Learns}
 use Rattle.lk_node.specs.DecidedPairs.{TakesPairs, none_yet, one_more}
 use Rattle.lk_node.specs.Leading.{ProposesAll}
 use Rattle.lk_node.specs.Reminding.{OffersFirst, OffersAhead, OffersAgain, Ticks, none_offered, one_offered}
 use Rattle.lk_node.specs.NodeValue.{NodeValue}
-use Rattle.lk_node.specs.Steps.{Steps, HearsNode, Hears}
-use Rattle.lk_node.specs.Asking.{HearsRequest, PointsTo, TakesNew, TakesAs, leader_in}
+use Rattle.lk_node.specs.Steps.{Steps, HandlesNode, Handles}
+use Rattle.lk_node.specs.Asking.{HandlesRequest, PointsTo, TakesNew, TakesAs, leader_in}
 use Rattle.lk_node.specs.Histories.{RequestValue}
 use Rattle.lk_types.specs.declared.member.Member.{Member}
 use Rattle.lk_leader.specs.Terms.{TermValue}
@@ -55,7 +56,7 @@ told_same whose s None out = refl
 told_same whose s (Some n) out = refl
 
 settled_same : (o : Option Session) (old new : NodeValue) (before after : OutboxValue)
-    → SettlesAny o old before new after → after.entries ≡ before.entries
+    → EndsWaitIfAny o old before new after → after.entries ≡ before.entries
 settled_same None old new before after s = ap (λ (b : OutboxValue). b.entries) s.1
 settled_same (Some s) old new before after k =
     ap (λ (b : OutboxValue). b.entries) k.comes_to ∙ told_same old.header s (waiting_number s old) before
@@ -64,7 +65,7 @@ pub ran_same : (m : Meaning) (old : NodeValue) (before : OutboxValue) (new : Nod
     → Runs m old before new after → after.entries ≡ before.entries
 ran_same m old before new after stays = refl
 ran_same m old before new after (goes_on {mid = mid} {between = between} r e) =
-    settled_same _ _ _ _ after e.settles ∙ ran_same m old before mid between r
+    settled_same _ _ _ _ after e.ends_wait ∙ ran_same m old before mid between r
 
 -- ---- what is learned
 
@@ -119,18 +120,18 @@ none_written : (out : OutboxValue) → out.entries ≡ [] → length out.entries
 none_written out e = omega (arith, ap length e)
 
 all_settled_same : (ss : List Session) (old : NodeValue) (before : OutboxValue) (k : ℕ) (new : NodeValue)
-    (after : OutboxValue) → SettlesFirst ss old before k new after → after.entries ≡ before.entries
-all_settled_same ss old before k new after none_settled = refl
-all_settled_same ss old before k new after (one_settled {k = j} {mid = mid} {between = between} s so_far at one) =
+    (after : OutboxValue) → EndsFirstWaits ss old before k new after → after.entries ≡ before.entries
+all_settled_same ss old before k new after none_ended = refl
+all_settled_same ss old before k new after (one_ended {k = j} {mid = mid} {between = between} s so_far at one) =
     settled_same (Some s) mid new between after one ∙ all_settled_same ss old before j mid between so_far
 
 part_same : (m : Meaning) (IsText : List ℕ → Type 0) (old : NodeValue) (p : PartValue) (new : NodeValue)
-    (out : OutboxValue) → HearsPart m IsText old p new out → out.entries ≡ []
+    (out : OutboxValue) → HandlesPart m IsText old p new out → out.entries ≡ []
 part_same m IsText old p new out (inl k) =
     let t = k.2 in
-    ran_same m (while_named t.told) t.said new out t.runs.0
+    ran_same m (without_term_if_outside t.told) t.said new out t.runs.0
     ∙ all_settled_same k.0.learner.whole.sessions k.0 (with_rebase nothing)
-    (length k.0.learner.whole.sessions) t.told t.said t.settles
+    (length k.0.learner.whole.sessions) t.told t.said t.ends_wait
 part_same m IsText old p new out (inr k) = ap (λ (o : OutboxValue). o.entries) k.1
 
 pub fed_same : (node : NodeValue) (other first offset : ℕ) (out : OutboxValue)
@@ -141,7 +142,7 @@ fed_same node other first offset out (inr (inr none)) = ap (λ (o : OutboxValue)
 
 heard_few : (m : Meaning) (IsText : List ℕ → Type 0) (old : NodeValue) (from : ℕ) (x : NodeMessage) (new : NodeValue)
     (out : OutboxValue) → ((d : DecidedValue) → x ≡ kinds.Decided d → length d.commands ≤ 16)
-    → HearsNode m IsText old from x new out → length out.entries ≤ 16
+    → HandlesNode m IsText old from x new out → length out.entries ≤ 16
 heard_few m IsText old from (kinds.Prepare b first) new out short r =
     omega (arith, optional_few r.response.entry, ap (λ (o : OutboxValue). length o.entries) r.comes_to)
 heard_few m IsText old from (kinds.Accept x) new out short r =
@@ -185,7 +186,7 @@ heard_few m IsText old from (kinds.Passed p) new out short h =
     none_written out (ap (λ (o : OutboxValue). o.entries) h.1)
 
 pub asked_few : (old : NodeValue) (r : RequestValue) (new : NodeValue) (out : OutboxValue)
-    → HearsRequest old r new out → out.entries ≡ []
+    → HandlesRequest old r new out → out.entries ≡ []
 asked_few old r new out = at (seen_as (session_of r.client old.learner.whole.sessions) r.number)
   where
     pointed : (o : Option Member) → PointsTo o old r new out → out.entries ≡ []
@@ -239,7 +240,7 @@ few_entries m IsText old (input.Datagram bytes) new out t =
     ] in
     omega (arith, heard, ap length (proposed_same t.proposes.0 t.mid new t.first out t.proposes.1))
   where
-    by_content : (c : Content) → IsContent c → Hears m IsText old c t.mid t.first → length t.first.entries ≤ 16
+    by_content : (c : Content) → IsContent c → Handles m IsText old c t.mid t.first → length t.first.entries ≤ 16
     by_content (content.Request r) fits h = none_written t.first (asked_few old r t.mid t.first h)
     by_content (content.Node from x) fits h =
         heard_few m IsText old from x t.mid t.first

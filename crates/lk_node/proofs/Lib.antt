@@ -5,7 +5,7 @@ mod Changing
 mod TermLaws
 mod Proposals
 mod AcceptorLaws
-mod LevelLaws
+mod GapLaws
 mod AskingLaws
 mod ReplyLaws
 mod LearnerLaws
@@ -17,7 +17,7 @@ mod NearLaws
 mod InstallLaws
 mod TakingUp
 mod Reminders
-mod Settling
+mod NothingLeft
 mod NoneOpen
 mod Waking
 mod FewEntries

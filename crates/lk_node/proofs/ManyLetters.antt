@@ -13,7 +13,7 @@ use Rattle.lk_node.specs.Histories.{History}
 use Rattle.lk_node.specs.NodeValue.{NodeValue}
 use Rattle.lk_node.specs.Saying.{to_node}
 use Rattle.lk_node.specs.Served.{IsServed}
-use Rattle.lk_node.specs.Serving.{IsLight, Serves, ActsSafely}
+use Rattle.lk_node.specs.Serving.{IsNeitherPromiseNorVote, Serves, ActsSafely}
 use Rattle.lk_node.specs.Telling.{letter_to, telling}
 use Rattle.lk_node.proofs.Serving.{rests_here, then_goes_on, says}
 
@@ -32,17 +32,17 @@ lettered out ls =
 -- letters to several nodes of a message that the node may send, and that its acceptor covers
 pub says_all : (m : Meaning) (Heard : History → Type 0) (node : NodeValue) (out : OutboxValue) (nodes : List ℕ)
     (message : NodeMessage) → IsMessage (saying node.header message) → Covers node.acceptor.state message
-    → (out.rebase ≡ true → IsLight message)
+    → (out.rebase ≡ true → IsNeitherPromiseNorVote message)
     → ((o : OutboxValue) (h : History) (n : ℕ) (loose : List Entry) (s : Serves m h n loose node o) → Heard h
     → MaySend h.genesis h.sent s.holding.paxos message × IsServed m h message)
     → ActsSafely m Heard node node out (telling node nodes message out)
-says_all m Heard node out [] message fits covers light may =
+says_all m Heard node out [] message fits covers neither may =
     subst (λ (ls : List LetterValue). ActsSafely m Heard node node out (lettered out ls)) (sym (no_letters out.letters))
     (rests_here m Heard node out)
-says_all m Heard node out (k ∷ nodes) message fits covers light may =
+says_all m Heard node out (k ∷ nodes) message fits covers neither may =
     subst (λ (ls : List LetterValue). ActsSafely m Heard node node out (lettered out ls))
     (letters_behind out.letters (letter_to node message k ∷ []) (map (letter_to node message) nodes))
     (then_goes_on m Heard node node node out (with_letter (letter_to node message k) out)
     (telling node nodes message (with_letter (letter_to node message k) out))
-    (says m Heard node out (to_node node k) message fits covers light (may out))
-    (says_all m Heard node (with_letter (letter_to node message k) out) nodes message fits covers light may))
+    (says m Heard node out (to_node node k) message fits covers neither (may out))
+    (says_all m Heard node (with_letter (letter_to node message k) out) nodes message fits covers neither may))

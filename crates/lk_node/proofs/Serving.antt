@@ -22,7 +22,7 @@ use Rattle.lk_node.specs.Histories.{History, Genesis, IsHeard}
 use Rattle.lk_node.specs.Leavings.{header_of}
 use Rattle.lk_node.specs.NodeValue.{NodeValue}
 use Rattle.lk_node.specs.Served.{IsServed, IsOfNode, IsBorneOut}
-use Rattle.lk_node.specs.Serving.{IsLight, Tells, Serves, ActsSafely}
+use Rattle.lk_node.specs.Serving.{IsNeitherPromiseNorVote, IsCoveredLetter, Serves, ActsSafely}
 use Rattle.lk_node.specs.Steps.{WasHeard}
 use Rattle.lk_node.proofs.Lists.{only}
 
@@ -64,11 +64,11 @@ letter node to message = record { to = to; bytes = spelling (saying node.header 
 -- a letter of a message that the node may send, and that its acceptor covers
 pub says : (m : Meaning) (Heard : History → Type 0) (node : NodeValue) (out : OutboxValue) (to : To)
     (message : NodeMessage) → IsMessage (saying node.header message) → Covers node.acceptor.state message
-    → (out.rebase ≡ true → IsLight message)
+    → (out.rebase ≡ true → IsNeitherPromiseNorVote message)
     → ((h : History) (n : ℕ) (loose : List Entry) (s : Serves m h n loose node out) → Heard h
     → MaySend h.genesis h.sent s.holding.paxos message × IsServed m h message)
     → ActsSafely m Heard node node out (with_letter (letter node to message) out)
-says m Heard node out to message fits covers light may = record {
+says m Heard node out to message fits covers neither may = record {
   binds = λ first b. record {
     header = b.header;
     written = b.written;
@@ -76,8 +76,9 @@ says m Heard node out to message fits covers light may = record {
     still = b.still;
     tells = λ l c. elim (Contains-append_cases out.letters (letter node to message ∷ []) l c) [
       | inl before ↦ b.tells l before
-      | inr now ↦ subst (Tells node.header node.acceptor.state out.rebase) (only (letter node to message) l now)
-          (record { message = message; fits = fits; bytes = refl; covers = covers; light = light })
+      | inr now ↦ subst (IsCoveredLetter node.header node.acceptor.state out.rebase) (only
+          (letter node to message) l now)
+          (record { message = message; fits = fits; bytes = refl; covers = covers; rebased = neither })
     ];
   };
   serves = λ h n loose s heard. record {

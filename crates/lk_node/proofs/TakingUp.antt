@@ -7,9 +7,9 @@ use Rattle.lk_state.specs.declared.session.Session.{Session}
 use Rattle.lk_state.proofs.Wholes.{kept_is_its_clients}
 use Rattle.lk_learner.specs.Learners.{LearnerValue}
 use Rattle.lk_node_interface.specs.Outboxes.{OutboxValue, nothing, with_rebase}
-use Rattle.lk_node.specs.Executing.{while_named}
+use Rattle.lk_node.specs.Executing.{without_term_if_outside}
 use Rattle.lk_node.specs.Histories.{History}
-use Rattle.lk_node.specs.Installing.{SettlesFirst, none_settled, one_settled, SettlesAll}
+use Rattle.lk_node.specs.Installing.{EndsFirstWaits, none_ended, one_ended, EndsWaits}
 use Rattle.lk_node.specs.NodeValue.{NodeValue}
 use Rattle.lk_node.specs.Serving.{ActsSafely}
 use Rattle.lk_node.proofs.ExecutionLaws.{settles_goes_on, named_goes_on}
@@ -41,9 +41,9 @@ rebases_goes_on m Heard node = record {
 }
 
 settled_learner : (ss : List Session) (old : NodeValue) (before : OutboxValue) (k : ℕ) (new : NodeValue)
-    (after : OutboxValue) → SettlesFirst ss old before k new after → new.learner ≡ old.learner
-settled_learner ss old before k new after none_settled = refl
-settled_learner ss old before k new after (one_settled {k = j} {mid = mid} {between = between} s so_far at one) =
+    (after : OutboxValue) → EndsFirstWaits ss old before k new after → new.learner ≡ old.learner
+settled_learner ss old before k new after none_ended = refl
+settled_learner ss old before k new after (one_ended {k = j} {mid = mid} {between = between} s so_far at one) =
     ap (λ (node : NodeValue). node.learner) one.becomes ∙ settled_learner ss old before j mid between so_far
 
 -- each is its client's last
@@ -53,10 +53,10 @@ is_kept ss k s are at = kept_is_its_clients ss s are (k, slice_get_within ss k s
 
 sessions_go_on : (m : Meaning) (Heard : History → Type 0) (ss : List Session) (old : NodeValue) (before : OutboxValue)
     (k : ℕ) (new : NodeValue) (after : OutboxValue) → AreSessions ss → old.learner.whole.sessions ≡ ss
-    → SettlesFirst ss old before k new after → ActsSafely m Heard old new before after
-sessions_go_on m Heard ss old before k new after are same none_settled = rests_here m Heard old before
+    → EndsFirstWaits ss old before k new after → ActsSafely m Heard old new before after
+sessions_go_on m Heard ss old before k new after are same none_ended = rests_here m Heard old before
 sessions_go_on m Heard ss old before k new after are same
-    (one_settled {k = j} {mid = mid} {between = between} s so_far at one) =
+    (one_ended {k = j} {mid = mid} {between = between} s so_far at one) =
     let stays : mid.learner ≡ old.learner = settled_learner ss old before j mid between so_far in
     let here : mid.learner.whole.sessions ≡ ss = ap (λ (l : LearnerValue). l.whole.sessions) stays ∙ same in
     then_goes_on m Heard old mid new before between after
@@ -66,11 +66,12 @@ sessions_go_on m Heard ss old before k new after are same
 
 pub takes_up_goes_on : (m : Meaning) (Heard : History → Type 0) (old told new : NodeValue) (said after : OutboxValue)
     → AreSessions old.learner.whole.sessions
-    → SettlesAll old.learner.whole.sessions old (with_rebase nothing) told said
-    → ActsSafely m Heard (while_named told) new said after → ActsSafely m Heard old new nothing after
+    → EndsWaits old.learner.whole.sessions old (with_rebase nothing) told said
+    → ActsSafely m Heard (without_term_if_outside told) new said after → ActsSafely m Heard old new nothing after
 takes_up_goes_on m Heard old told new said after are settles runs =
     let ss : List Session = old.learner.whole.sessions in
     then_goes_on m Heard old old new nothing (with_rebase nothing) after (rebases_goes_on m Heard old)
     (then_goes_on m Heard old told new (with_rebase nothing) said after
     (sessions_go_on m Heard ss old (with_rebase nothing) (length ss) told said are refl settles)
-    (then_goes_on m Heard told (while_named told) new said said after (named_goes_on m Heard told said) runs))
+    (then_goes_on m Heard told (without_term_if_outside told) new said said after
+    (named_goes_on m Heard told said) runs))

@@ -28,7 +28,7 @@ use Rattle.lk_node_interface.specs.Outboxes.{OutboxValue, nothing}
 use Rattle.lk_node.specs.Histories.{History, IsLawful, WasAsked}
 use Rattle.lk_node.specs.Holdings.{Holding, HoldingFits}
 use Rattle.lk_node.specs.Keeping.{IsKnown, IsHeld}
-use Rattle.lk_node.specs.Leading.{with_leader, report_of, RecordsPromise, DropsPromise, HearsPromise}
+use Rattle.lk_node.specs.Leading.{with_leader, report_of, RecordsPromise, DropsPromise, HandlesPromise}
 use Rattle.lk_node.specs.NodeValue.{NodeValue}
 use Rattle.lk_node.specs.Promised.{HasPromised}
 use Rattle.lk_node.specs.Serving.{ActsSafely}
@@ -167,7 +167,7 @@ report_promised a l new roster from b r Same promised kept other k at = elim (fi
 ]
 
 pub promise_goes_on : (m : Meaning) (old new : NodeValue) (from : ℕ) (p : PromiseValue) (out : OutboxValue)
-    → HearsPromise old from p new out
+    → HandlesPromise old from p new out
     → ActsSafely m (λ h. HasSent h.genesis h.sent from (kinds.Promise p)) old new nothing out
 promise_goes_on m old new from p out (inr drops, none) =
     subst₂ (λ (node : NodeValue) (o : OutboxValue). ActsSafely m

@@ -40,18 +40,18 @@ use Rattle.lk_node_interface.specs.declared.input.Input.TheVariants as input
 use Rattle.lk_node.specs.Responding.{with_acceptor, replied, Responds}
 use Rattle.lk_node.specs.Asking.{leader_in, PointsTo, TakesNew, TakesAs}
 use Rattle.lk_node.specs.Beginning.{next_ballot}
-use Rattle.lk_node.specs.CatchingUp.{HearsLead, HearsNack}
-use Rattle.lk_node.specs.Deciding.{IsOnlyHeard, HearsAccepted}
+use Rattle.lk_node.specs.CatchingUp.{HandlesLead, HandlesNack}
+use Rattle.lk_node.specs.Deciding.{IsOnlyHeard, HandlesAccepted}
 use Rattle.lk_node.specs.DecidedPairs.{TakesPairs, none_yet, one_more}
-use Rattle.lk_node.specs.Executing.{with_told, waiting_number, SettlesAny, is_outside, while_named, Runs}
+use Rattle.lk_node.specs.Executing.{with_told, waiting_number, EndsWaitIfAny, is_outside, without_term_if_outside, Runs}
 use Rattle.lk_node.specs.Executing.{stays, goes_on}
-use Rattle.lk_node.specs.Installing.{SettlesFirst, none_settled, one_settled, HearsPart}
-use Rattle.lk_node.specs.Leading.{HearsPromise, having_proposed, ProposesAll}
+use Rattle.lk_node.specs.Installing.{EndsFirstWaits, none_ended, one_ended, HandlesPart}
+use Rattle.lk_node.specs.Leading.{HandlesPromise, having_proposed, ProposesAll}
 use Rattle.lk_node.specs.Learning.{Learns, with_learner}
 use Rattle.lk_node.specs.NodeValue.{NodeValue}
 use Rattle.lk_node.specs.Reaching.{IsDecidedAt, Reaches, EntryLiesNear, EntriesLieNear, TellsOf, TellsOn}
 use Rattle.lk_node.specs.Reminding.{Ticks}
-use Rattle.lk_node.specs.Steps.{HearsNode, Hears, TakesBytes, Steps}
+use Rattle.lk_node.specs.Steps.{HandlesNode, Handles, TakesBytes, Steps}
 use Rattle.lk_node.specs.Waiting.{ticked}
 use Rattle.lk_node.specs.Yielding.{without_term, is_term_below, yielded, with_round, seeing}
 use Rattle.lk_node.proofs.FewEntries.{ran_same, proposed_same, offered_same, fed_same, asked_few}
@@ -134,12 +134,12 @@ proposed_rests [] old new before out p = as_this old new p.1
 proposed_rests (x ∷ xs) old new before out p = proposed_rests xs (having_proposed old x p.0) new _ out p.1
 
 promise_rests : (old new : NodeValue) (from : ℕ) (p : PromiseValue) (out : OutboxValue)
-    → HearsPromise old from p new out → Rests old new
+    → HandlesPromise old from p new out → Rests old new
 promise_rests old new from p out k =
     elim k.0 [ inl kept ↦ as_this _ new kept.2 | inr dropped ↦ as_this old new dropped.1 ]
 
 lead_rests : (old new : NodeValue) (from : ℕ) (b : BallotValue) (theirs : ℕ) (out : OutboxValue)
-    → HearsLead old from b theirs new out → Rests old new
+    → HandlesLead old from b theirs new out → Rests old new
 lead_rests old new from b theirs out (inl refused) = as_this (seeing b old) new refused.1 ∙ seeing_rests b old
 lead_rests old new from b theirs out (inr followed) = as_this _ new followed.1 ∙ seeing_rests b old
 
@@ -160,11 +160,11 @@ taken_rests (seen.Same answer) old new r out k = as_this old new k.0
 taken_rests (seen.Passed last) old new r out k = as_this old new k.0
 
 settled_rests : (o : Option Session) (old new : NodeValue) (before after : OutboxValue)
-    → SettlesAny o old before new after → Rests old new
+    → EndsWaitIfAny o old before new after → Rests old new
 settled_rests None old new before after k = as_this old new k.0
 settled_rests (Some s) old new before after k = as_this _ new k.becomes
 
-while_rests : (node : NodeValue) → Rests node (while_named node)
+while_rests : (node : NodeValue) → Rests node (without_term_if_outside node)
 while_rests node = by_test (is_outside node)
   where
     by_test : (t : Bool) → parts (cond t (without_term node) node) ≡ parts node
@@ -212,8 +212,8 @@ ran_tells m ahead s old before new after stays t = t
 ran_tells m ahead s old before new after (goes_on {mid = mid} {between = between} so_far k) t =
     let ran : NodeValue = with_learner mid (advanced m k.command mid.learner) in
     tells_as ahead s ran new
-    (as_this (while_named k.mid) new k.becomes ∙ while_rests k.mid
-    ∙ settled_rests (session_by k.command (run_answer m k.command mid.learner.whole)) ran k.mid _ after k.settles)
+    (as_this (without_term_if_outside k.mid) new k.becomes ∙ while_rests k.mid
+    ∙ settled_rests (session_by k.command (run_answer m k.command mid.learner.whole)) ran k.mid _ after k.ends_wait)
     (runs_tells m ahead s mid k.command k.next (ran_tells m ahead s old before mid between so_far t))
 
 ran_told : (m : Meaning) (ahead : ℕ) (s : StandingValue) (old : NodeValue) (before : OutboxValue) (new : NodeValue)
@@ -330,7 +330,7 @@ told_rebase whose s None out = refl
 told_rebase whose s (Some n) out = refl
 
 settled_rebase : (o : Option Session) (old new : NodeValue) (before after : OutboxValue)
-    → SettlesAny o old before new after → after.rebase ≡ before.rebase
+    → EndsWaitIfAny o old before new after → after.rebase ≡ before.rebase
 settled_rebase None old new before after s = ap (λ (b : OutboxValue). b.rebase) s.1
 settled_rebase (Some s) old new before after k =
     ap (λ (b : OutboxValue). b.rebase) k.comes_to ∙ told_rebase old.header s (waiting_number s old) before
@@ -339,12 +339,12 @@ ran_rebase : (m : Meaning) (old : NodeValue) (before : OutboxValue) (new : NodeV
     → Runs m old before new after → after.rebase ≡ before.rebase
 ran_rebase m old before new after stays = refl
 ran_rebase m old before new after (goes_on {mid = mid} {between = between} r e) =
-    settled_rebase _ _ _ _ after e.settles ∙ ran_rebase m old before mid between r
+    settled_rebase _ _ _ _ after e.ends_wait ∙ ran_rebase m old before mid between r
 
 all_settled_rebase : (ss : List Session) (old : NodeValue) (before : OutboxValue) (k : ℕ) (new : NodeValue)
-    (after : OutboxValue) → SettlesFirst ss old before k new after → after.rebase ≡ before.rebase
-all_settled_rebase ss old before k new after none_settled = refl
-all_settled_rebase ss old before k new after (one_settled {k = j} {mid = mid} {between = between} s so_far at one) =
+    (after : OutboxValue) → EndsFirstWaits ss old before k new after → after.rebase ≡ before.rebase
+all_settled_rebase ss old before k new after none_ended = refl
+all_settled_rebase ss old before k new after (one_ended {k = j} {mid = mid} {between = between} s so_far at one) =
     settled_rebase (Some s) mid new between after one ∙ all_settled_rebase ss old before j mid between so_far
 
 proposed_rebase : (xs : List Vote) (old new : NodeValue) (before out : OutboxValue) → ProposesAll xs old new before out
@@ -355,7 +355,7 @@ proposed_rebase (x ∷ xs) old new before out p = proposed_rebase xs _ new _ out
 -- ---- what is heard
 
 accepted_told : (m : Meaning) (from : ℕ) (x : Vote) (old new : NodeValue) (out : OutboxValue)
-    → HearsAccepted m from x old new out → TellsOn old new out.entries
+    → HandlesAccepted m from x old new out → TellsOn old new out.entries
 accepted_told m from x old new out (inl counted) ahead s t =
     let k = counted.2 in
     told_as ahead s k.ran.entries out.entries new new (ap (λ (o : OutboxValue). o.entries) k.comes_to) refl
@@ -366,20 +366,20 @@ accepted_told m from x old new out (inr heard) ahead s t =
     (only_heard_rests from x old new heard.0) ahead s t
 
 part_told : (m : Meaning) (IsText : List ℕ → Type 0) (p : PartValue) (old new : NodeValue) (out : OutboxValue)
-    → HearsPart m IsText old p new out → out.rebase ≡ false → TellsOn old new out.entries
+    → HandlesPart m IsText old p new out → out.rebase ≡ false → TellsOn old new out.entries
 part_told m IsText p old new out (inl k) puts =
     let t = k.2 in
     let rebases : out.rebase ≡ true =
-    ran_rebase m (while_named t.told) t.said new out t.runs.0
+    ran_rebase m (without_term_if_outside t.told) t.said new out t.runs.0
     ∙ all_settled_rebase k.0.learner.whole.sessions k.0 (with_rebase nothing)
-    (length k.0.learner.whole.sessions) t.told t.said t.settles in
+    (length k.0.learner.whole.sessions) t.told t.said t.ends_wait in
     absurd (cc (rebases, puts))
 part_told m IsText p old new out (inr k) puts =
     none_told old new out.entries (ap (λ (o : OutboxValue). o.entries) k.1)
     (installs_rests IsText p old new k.0.0 k.0.1 k.0.2)
 
 nack_none : (old new : NodeValue) (from : ℕ) (theirs : Nack) (out : OutboxValue)
-    → HearsNack old from theirs new out → out.entries ≡ []
+    → HandlesNack old from theirs new out → out.entries ≡ []
 nack_none old new from theirs out h = elim h.1 [
   | inl a ↦
       elim a.1 [ inl s ↦ ap (λ (o : OutboxValue). o.entries) s.1.1 | inr s ↦ ap (λ (o : OutboxValue). o.entries) s.1 ]
@@ -388,7 +388,7 @@ nack_none old new from theirs out h = elim h.1 [
 ]
 
 lead_none : (old new : NodeValue) (from : ℕ) (b : BallotValue) (theirs : ℕ) (out : OutboxValue)
-    → HearsLead old from b theirs new out → out.entries ≡ []
+    → HandlesLead old from b theirs new out → out.entries ≡ []
 lead_none old new from b theirs out h = elim h [
   | inl a ↦ ap (λ (o : OutboxValue). o.entries) a.2.1
   | inr a ↦ elim a.2 [
@@ -399,7 +399,7 @@ lead_none old new from b theirs out h = elim h [
 ]
 
 node_told : (m : Meaning) (IsText : List ℕ → Type 0) (from : ℕ) (x : NodeMessage) (old new : NodeValue)
-    (out : OutboxValue) → HearsNode m IsText old from x new out → out.rebase ≡ false → TellsOn old new out.entries
+    (out : OutboxValue) → HandlesNode m IsText old from x new out → out.rebase ≡ false → TellsOn old new out.entries
 node_told m IsText from (kinds.Prepare b first) old new out k puts = λ ahead s t.
     responds_told ahead s old new from _ out k
     (prepared_near ahead s old.acceptor k.acceptor old.learner.whole.roster.executed b first k.response k.given) t
@@ -428,7 +428,7 @@ node_told m IsText from (kinds.Passed a) old new out k puts =
     none_told old new out.entries (ap (λ (o : OutboxValue). o.entries) k.1) (as_this old new k.0)
 
 content_told : (m : Meaning) (IsText : List ℕ → Type 0) (x : Content) (old new : NodeValue) (out : OutboxValue)
-    → Hears m IsText old x new out → out.rebase ≡ false → TellsOn old new out.entries
+    → Handles m IsText old x new out → out.rebase ≡ false → TellsOn old new out.entries
 content_told m IsText (content.Request r) old new out k puts =
     none_told old new out.entries (asked_few old r new out k)
     (taken_rests (seen_as (session_of r.client old.learner.whole.sessions) r.number) old new r out k)

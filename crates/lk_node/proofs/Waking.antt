@@ -27,16 +27,16 @@ use Rattle.lk_node_interface.specs.declared.input.Input.{Input}
 use Rattle.lk_node_interface.specs.declared.input.Input.TheVariants as input
 use Rattle.lk_node.specs.Responding.{with_acceptor, replied, Responds}
 use Rattle.lk_node.specs.Asking.{leader_in, PointsTo, TakesNew, TakesAs}
-use Rattle.lk_node.specs.CatchingUp.{HearsLead}
-use Rattle.lk_node.specs.Deciding.{IsOnlyHeard, HearsAccepted}
+use Rattle.lk_node.specs.CatchingUp.{HandlesLead}
+use Rattle.lk_node.specs.Deciding.{IsOnlyHeard, HandlesAccepted}
 use Rattle.lk_node.specs.DecidedPairs.{TakesPairs, none_yet, one_more}
-use Rattle.lk_node.specs.Executing.{SettlesAny, is_outside, while_named, Executes, Runs, stays, goes_on}
-use Rattle.lk_node.specs.Installing.{SettlesFirst, none_settled, one_settled, HearsPart}
-use Rattle.lk_node.specs.Leading.{HearsPromise, having_proposed, ProposesAll}
+use Rattle.lk_node.specs.Executing.{EndsWaitIfAny, is_outside, without_term_if_outside, Executes, Runs, stays, goes_on}
+use Rattle.lk_node.specs.Installing.{EndsFirstWaits, none_ended, one_ended, HandlesPart}
+use Rattle.lk_node.specs.Leading.{HandlesPromise, having_proposed, ProposesAll}
 use Rattle.lk_node.specs.Learning.{Learns}
 use Rattle.lk_node.specs.NodeValue.{NodeValue}
 use Rattle.lk_node.specs.Reminding.{Ticks}
-use Rattle.lk_node.specs.Steps.{HearsNode, Hears, TakesBytes, Steps}
+use Rattle.lk_node.specs.Steps.{HandlesNode, Handles, TakesBytes, Steps}
 use Rattle.lk_node.specs.Waiting.{ticked, BeginsWhereDue}
 use Rattle.lk_node.specs.Yielding.{without_term, is_term_below, yielded, with_round, seeing}
 
@@ -78,12 +78,12 @@ proposed_wakes [] old new before out p = as_this old new p.1
 proposed_wakes (x ∷ xs) old new before out p = proposed_wakes xs (having_proposed old x p.0) new _ out p.1
 
 promise_wakes : (old new : NodeValue) (from : ℕ) (p : PromiseValue) (out : OutboxValue)
-    → HearsPromise old from p new out → Wakes old new
+    → HandlesPromise old from p new out → Wakes old new
 promise_wakes old new from p out k =
     elim k.0 [ inl kept ↦ as_this _ new kept.2 | inr dropped ↦ as_this old new dropped.1 ]
 
 lead_wakes : (old new : NodeValue) (from : ℕ) (b : BallotValue) (theirs : ℕ) (out : OutboxValue)
-    → HearsLead old from b theirs new out → Wakes old new
+    → HandlesLead old from b theirs new out → Wakes old new
 lead_wakes old new from b theirs out (inl refused) = as_this (seeing b old) new refused.1 ∙ seeing_wakes b old
 lead_wakes old new from b theirs out (inr followed) = as_this _ new followed.1 ∙ seeing_wakes b old
 
@@ -108,11 +108,11 @@ taken_wakes (seen.Passed last) old new r out k = as_this old new k.0
 -- ---- what is learned, and executed
 
 settled_wakes : (o : Option Session) (old new : NodeValue) (before after : OutboxValue)
-    → SettlesAny o old before new after → Wakes old new
+    → EndsWaitIfAny o old before new after → Wakes old new
 settled_wakes None old new before after k = as_this old new k.0
 settled_wakes (Some s) old new before after k = as_this _ new k.becomes
 
-while_wakes : (node : NodeValue) → Wakes node (while_named node)
+while_wakes : (node : NodeValue) → Wakes node (without_term_if_outside node)
 while_wakes node = by_test (is_outside node)
   where
     by_test : (t : Bool) → (cond t (without_term node) node).halted ≡ node.halted
@@ -122,8 +122,8 @@ while_wakes node = by_test (is_outside node)
 executes_wakes : (m : Meaning) (old new : NodeValue) (before after : OutboxValue)
     → Executes m old before new after → Wakes old new
 executes_wakes m old new before after k =
-    as_this (while_named k.mid) new k.becomes ∙ while_wakes k.mid
-    ∙ settled_wakes (session_by k.command (run_answer m k.command old.learner.whole)) _ k.mid _ after k.settles
+    as_this (without_term_if_outside k.mid) new k.becomes ∙ while_wakes k.mid
+    ∙ settled_wakes (session_by k.command (run_answer m k.command old.learner.whole)) _ k.mid _ after k.ends_wait
 
 runs_wake : (m : Meaning) (old : NodeValue) (before : OutboxValue) (new : NodeValue) (after : OutboxValue)
     → Runs m old before new after → Wakes old new
@@ -141,7 +141,7 @@ only_heard_wakes from x old new (inl heard) = as_this _ new heard.2
 only_heard_wakes from x old new (inr other) = as_this old new other.1
 
 accepted_wakes : (m : Meaning) (from : ℕ) (x : Vote) (old new : NodeValue) (out : OutboxValue)
-    → HearsAccepted m from x old new out → Wakes old new
+    → HandlesAccepted m from x old new out → Wakes old new
 accepted_wakes m from x old new out (inl counted) =
     let k = counted.2 in
     runs_wake m k.learned k.written new k.ran k.runs.0
@@ -157,23 +157,23 @@ pairs_wake m first commands old before _ new after (one_more v so_far at takes) 
     ∙ learns_wakes _ _ takes.learned _ takes.written takes.learns ∙ pairs_wake m first commands old before _ _ _ so_far
 
 sessions_wake : (ss : List Session) (old : NodeValue) (before : OutboxValue) (k : ℕ) (new : NodeValue)
-    (after : OutboxValue) → SettlesFirst ss old before k new after → Wakes old new
-sessions_wake ss old before _ _ _ none_settled = refl
-sessions_wake ss old before _ new after (one_settled s so_far at settles) =
+    (after : OutboxValue) → EndsFirstWaits ss old before k new after → Wakes old new
+sessions_wake ss old before _ _ _ none_ended = refl
+sessions_wake ss old before _ new after (one_ended s so_far at settles) =
     as_this _ new settles.becomes ∙ sessions_wake ss old before _ _ _ so_far
 
 part_wakes : (m : Meaning) (IsText : List ℕ → Type 0) (p : PartValue) (old new : NodeValue) (out : OutboxValue)
-    → HearsPart m IsText old p new out → Wakes old new
+    → HandlesPart m IsText old p new out → Wakes old new
 part_wakes m IsText p old new out (inl k) =
     let t = k.2 in
-    runs_wake m (while_named t.told) t.said new out t.runs.0 ∙ while_wakes t.told
-    ∙ sessions_wake k.0.learner.whole.sessions k.0 _ _ t.told t.said t.settles ∙ as_this _ k.0 k.1.2
+    runs_wake m (without_term_if_outside t.told) t.said new out t.runs.0 ∙ while_wakes t.told
+    ∙ sessions_wake k.0.learner.whole.sessions k.0 _ _ t.told t.said t.ends_wait ∙ as_this _ k.0 k.1.2
 part_wakes m IsText p old new out (inr k) = as_this _ new k.0.2
 
 -- ---- a whole step
 
 node_wakes : (m : Meaning) (IsText : List ℕ → Type 0) (from : ℕ) (x : NodeMessage) (old new : NodeValue)
-    (out : OutboxValue) → HearsNode m IsText old from x new out → Wakes old new
+    (out : OutboxValue) → HandlesNode m IsText old from x new out → Wakes old new
 node_wakes m IsText from (kinds.Prepare b first) old new out k = responds_wakes old new from _ out k
 node_wakes m IsText from (kinds.Accept x) old new out k = responds_wakes (with_round x.ballot old) new from _ out k
 node_wakes m IsText from (kinds.Promise p) old new out k = promise_wakes old new from p out k
@@ -187,7 +187,7 @@ node_wakes m IsText from (kinds.Part p) old new out k = part_wakes m IsText p ol
 node_wakes m IsText from _ old new out k = as_this old new k.0
 
 content_wakes : (m : Meaning) (IsText : List ℕ → Type 0) (x : Content) (old new : NodeValue) (out : OutboxValue)
-    → Hears m IsText old x new out → Wakes old new
+    → Handles m IsText old x new out → Wakes old new
 content_wakes m IsText (content.Request r) old new out k =
     taken_wakes (seen_as (session_of r.client old.learner.whole.sessions) r.number) old new r out k
 content_wakes m IsText (content.Node from x) old new out k = node_wakes m IsText from x old new out k

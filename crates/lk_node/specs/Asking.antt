@@ -51,5 +51,5 @@ TakesAs (seen.Passed last) old r new out =
 TakesAs seen.New old r new out = TakesNew old.leader.term old r new out
 
 -- what the node does with a request, by its place relative to its client's last one that took effect
-abbrev pub HearsRequest : NodeValue → RequestValue → NodeValue → OutboxValue → Type 0
-HearsRequest old r new out = TakesAs (seen_as (session_of r.client old.learner.whole.sessions) r.number) old r new out
+abbrev pub HandlesRequest : NodeValue → RequestValue → NodeValue → OutboxValue → Type 0
+HandlesRequest old r new out = TakesAs (seen_as (session_of r.client old.learner.whole.sessions) r.number) old r new out

@@ -38,8 +38,8 @@ Feeds node other first offset out =
     ⊎ ((executed node.learner < first) × (out ≡ nothing))
 
 -- a node wants commands from a position on, or a snapshot from an offset on
-abbrev pub HearsWant : NodeValue → ℕ → WantValue → NodeValue → OutboxValue → Type 0
-HearsWant old from want new out = (new ≡ old) × Feeds old from want.first want.offset out
+abbrev pub HandlesWant : NodeValue → ℕ → WantValue → NodeValue → OutboxValue → Type 0
+HandlesWant old from want new out = (new ≡ old) × Feeds old from want.first want.offset out
 
 -- the other node is asked for what follows the executed positions, unless these are all 2^48
 abbrev pub AsksOn : NodeValue → ℕ → OutboxValue → Type 0
@@ -51,16 +51,16 @@ AsksOn node other out =
 
 -- if the other node has executed more positions than this node, it is asked for the rest; if fewer, it is sent what it
 -- lacks
-abbrev pub Levels : NodeValue → ℕ → ℕ → OutboxValue → Type 0
-Levels node other theirs out =
+abbrev pub ClosesGap : NodeValue → ℕ → ℕ → OutboxValue → Type 0
+ClosesGap node other theirs out =
     ((executed node.learner < theirs) × AsksOn node other out)
     ⊎ ((theirs < executed node.learner) × Feeds node other (theirs + 1) 0 out)
     ⊎ ((theirs ≡ executed node.learner) × (out ≡ nothing))
 
 -- both ballots are recorded
-abbrev pub HearsNack : NodeValue → ℕ → Nack → NodeValue → OutboxValue → Type 0
-HearsNack old from nack new out =
-    (new ≡ seeing nack.promised (seeing nack.ballot old)) × Levels old from nack.executed out
+abbrev pub HandlesNack : NodeValue → ℕ → Nack → NodeValue → OutboxValue → Type 0
+HandlesNack old from nack new out =
+    (new ≡ seeing nack.promised (seeing nack.ballot old)) × ClosesGap old from nack.executed out
 
 -- ---- a leader's notice
 
@@ -79,8 +79,8 @@ refusal b node = record { ballot = b; promised = node.acceptor.state.promised; e
 
 -- A notice of a ballot below the promised one is rejected. Any other is followed. Its ballot is recorded in either
 -- case.
-abbrev pub HearsLead : NodeValue → ℕ → BallotValue → ℕ → NodeValue → OutboxValue → Type 0
-HearsLead old from b theirs new out =
+abbrev pub HandlesLead : NodeValue → ℕ → BallotValue → ℕ → NodeValue → OutboxValue → Type 0
+HandlesLead old from b theirs new out =
     ((is_below b old.acceptor.state.promised ≡ true) × (new ≡ seeing b old)
     × SaysAlone old (to_node old from) (kinds.Nack (refusal b old)) out)
     ⊎ ((is_below b old.acceptor.state.promised ≡ false) × (new ≡ following b (seeing b old))

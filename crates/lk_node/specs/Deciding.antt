@@ -46,9 +46,9 @@ IsOnlyHeard from x old new =
     ⊎ ((IsForProposal old x → ⊥) × (new ≡ old))
 
 -- the vote is heard, and the members of its position are returned if with that a majority of them has accepted
-abbrev pub HearsVote : ℕ → Vote → NodeValue → NodeValue → Option (List Member) → Type 0
-HearsVote from x old new None = IsOnlyHeard from x old new
-HearsVote from x old new (Some set) =
+abbrev pub HandlesVote : ℕ → Vote → NodeValue → NodeValue → Option (List Member) → Type 0
+HandlesVote from x old new None = IsOnlyHeard from x old new
+HandlesVote from x old new (Some set) =
     (k : IsForProposal old x) × BringsMajority from x old k × (k.set ≡ set) × (new ≡ with_vote from x old k)
 
 -- ---- the pair is decided
@@ -74,8 +74,8 @@ pub record Decides (m : Meaning) (set : List Member) (p : Pair) (old : NodeValue
   pub comes_to : after ≡ with_letters letters ran
 
 -- a node was heard to accept: if with that a majority has, the pair is decided; otherwise nothing follows
-abbrev pub HearsAccepted : Meaning → ℕ → Vote → NodeValue → NodeValue → OutboxValue → Type 0
-HearsAccepted m from x old new out =
+abbrev pub HandlesAccepted : Meaning → ℕ → Vote → NodeValue → NodeValue → OutboxValue → Type 0
+HandlesAccepted m from x old new out =
     ((k : IsForProposal old x) × BringsMajority from x old k
     × Decides m k.set (x.position, x.command) (with_vote from x old k) nothing new out)
     ⊎ (IsOnlyHeard from x old new × (out ≡ nothing))

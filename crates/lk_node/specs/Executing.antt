@@ -33,22 +33,22 @@ with_told whose s (Some number) out =
     with_letter (record { to = to.Client s.client; bytes = spelling (saying whose (session_reply s number)) }) out
 
 -- the client's requests up to the session's wait no longer
-abbrev pub settled : Session → NodeValue → NodeValue
-settled s node =
+abbrev pub no_longer_waiting : Session → NodeValue → NodeValue
+no_longer_waiting s node =
     record node { leader = record { term = node.leader.term; waiting = left_by s.client s.number node.leader.waiting } }
 
 -- a session has become the client's last: its waiting request, if the session has reached it, is answered or passed,
 -- and waits no longer
-pub record Settles (s : Session) (old : NodeValue) (before : OutboxValue) (new : NodeValue)
+pub record EndsWait (s : Session) (old : NodeValue) (before : OutboxValue) (new : NodeValue)
     (after : OutboxValue) : Type 0 where
-  pub becomes : new ≡ settled s old
+  pub becomes : new ≡ no_longer_waiting s old
   pub comes_to : after ≡ with_told old.header s (waiting_number s old) before
   pub fits : (number : ℕ) → waiting_number s old ≡ Some number → IsMessage (saying old.header (session_reply s number))
 
 -- the session, if there is one, is settled, and otherwise nothing changes
-abbrev pub SettlesAny : Option Session → NodeValue → OutboxValue → NodeValue → OutboxValue → Type 0
-SettlesAny None old before new after = (new ≡ old) × (after ≡ before)
-SettlesAny (Some s) old before new after = Settles s old before new after
+abbrev pub EndsWaitIfAny : Option Session → NodeValue → OutboxValue → NodeValue → OutboxValue → Type 0
+EndsWaitIfAny None old before new after = (new ≡ old) × (after ≡ before)
+EndsWaitIfAny (Some s) old before new after = EndsWait s old before new after
 
 -- ---- one execution
 
@@ -68,8 +68,8 @@ abbrev pub is_outside : NodeValue → Bool
 is_outside node = has_term node.leader.term && not (is_named node.header.node node.learner.whole.roster.sets)
 
 -- the node, with its term ended if no set of the window names it
-abbrev pub while_named : NodeValue → NodeValue
-while_named node = if is_outside node then without_term node else node
+abbrev pub without_term_if_outside : NodeValue → NodeValue
+without_term_if_outside node = if is_outside node then without_term node else node
 
 -- The command of the next position is executed and noted, a waiting request of its client is answered, and if no set
 -- of the window names the node any more, its term ends.
@@ -78,10 +78,10 @@ pub record Executes (m : Meaning) (old : NodeValue) (before : OutboxValue) (new 
   pub command : Command
   pub next : IsNext old.learner command
   pub mid : NodeValue
-  pub settles : SettlesAny (session_by command (run_answer m command old.learner.whole))
+  pub ends_wait : EndsWaitIfAny (session_by command (run_answer m command old.learner.whole))
       (with_learner old (advanced m command old.learner))
       (with_note (note.Ran old.header.node (executed old.learner + 1) command) before) mid after
-  pub becomes : new ≡ while_named mid
+  pub becomes : new ≡ without_term_if_outside mid
 
 -- the command of the next position is executed, or there is none and nothing changes
 abbrev pub ExecutesOne : Meaning → Bool → NodeValue → OutboxValue → NodeValue → OutboxValue → Type 0

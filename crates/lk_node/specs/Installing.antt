@@ -6,7 +6,7 @@ use Rattle.lk_state.specs.declared.session.Session.{Session}
 use Rattle.lk_learner.specs.Installing.{hearing, Installs}
 use Rattle.lk_learner.specs.Learners.{LearnerValue}
 use Rattle.lk_node_interface.specs.Outboxes.{OutboxValue, nothing, with_rebase}
-use Rattle.lk_node.specs.Executing.{Settles, while_named, RunsAll}
+use Rattle.lk_node.specs.Executing.{EndsWait, without_term_if_outside, RunsAll}
 use Rattle.lk_node.specs.Learning.{with_learner}
 use Rattle.lk_node.specs.NodeValue.{NodeValue}
 
@@ -16,16 +16,16 @@ GathersPart IsText went p old new =
     (l : LearnerValue) × Installs IsText went (hearing p old.learner) l × (new ≡ with_learner old l)
 
 -- this many of the sessions are settled, one after another
-pub data SettlesFirst (ss : List Session) (old : NodeValue) (before : OutboxValue) : ℕ → NodeValue
+pub data EndsFirstWaits (ss : List Session) (old : NodeValue) (before : OutboxValue) : ℕ → NodeValue
     → OutboxValue → Type 0 where
-  none_settled : SettlesFirst ss old before 0 old before
-  one_settled : {k : ℕ} {mid new : NodeValue} {between after : OutboxValue} (s : Session)
-      → SettlesFirst ss old before k mid between → slice_get ss k ≡ Some s → Settles s mid between new after
-      → SettlesFirst ss old before (k + 1) new after
+  none_ended : EndsFirstWaits ss old before 0 old before
+  one_ended : {k : ℕ} {mid new : NodeValue} {between after : OutboxValue} (s : Session)
+      → EndsFirstWaits ss old before k mid between → slice_get ss k ≡ Some s → EndsWait s mid between new after
+      → EndsFirstWaits ss old before (k + 1) new after
 
 -- all of them, in their order
-abbrev pub SettlesAll : List Session → NodeValue → OutboxValue → NodeValue → OutboxValue → Type 0
-SettlesAll ss old before new after = SettlesFirst ss old before (length ss) new after
+abbrev pub EndsWaits : List Session → NodeValue → OutboxValue → NodeValue → OutboxValue → Type 0
+EndsWaits ss old before new after = EndsFirstWaits ss old before (length ss) new after
 
 -- The learner has installed a state: the store is to be rebased, waiting requests are answered from the state in
 -- rising order of clients, the term ends if no set of its window names the node, and everything that can be is
@@ -33,11 +33,11 @@ SettlesAll ss old before new after = SettlesFirst ss old before (length ss) new 
 pub record InstallsGathered (m : Meaning) (old new : NodeValue) (out : OutboxValue) : Type 0 where
   pub told : NodeValue
   pub said : OutboxValue
-  pub settles : SettlesAll old.learner.whole.sessions old (with_rebase nothing) told said
-  pub runs : RunsAll m (while_named told) said new out
+  pub ends_wait : EndsWaits old.learner.whole.sessions old (with_rebase nothing) told said
+  pub runs : RunsAll m (without_term_if_outside told) said new out
 
 -- a part is heard: if that installs a state, the node adopts it, and otherwise nothing follows
-abbrev pub HearsPart : Meaning → (List ℕ → Type 0) → NodeValue → PartValue → NodeValue → OutboxValue → Type 0
-HearsPart m IsText old p new out =
+abbrev pub HandlesPart : Meaning → (List ℕ → Type 0) → NodeValue → PartValue → NodeValue → OutboxValue → Type 0
+HandlesPart m IsText old p new out =
     ((mid : NodeValue) × GathersPart IsText true p old mid × InstallsGathered m mid new out)
     ⊎ (GathersPart IsText false p old new × (out ≡ nothing))

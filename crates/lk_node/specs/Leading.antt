@@ -31,8 +31,8 @@ DropsPromise old from p new =
     ((t : TermValue) → IsFirstOf old.leader old.learner.whole.roster from p.ballot t → ⊥) × (new ≡ old)
 
 -- and nothing follows from it immediately
-abbrev pub HearsPromise : NodeValue → ℕ → PromiseValue → NodeValue → OutboxValue → Type 0
-HearsPromise old from p new out = (RecordsPromise old from p new ⊎ DropsPromise old from p new) × (out ≡ nothing)
+abbrev pub HandlesPromise : NodeValue → ℕ → PromiseValue → NodeValue → OutboxValue → Type 0
+HandlesPromise old from p new out = (RecordsPromise old from p new ⊎ DropsPromise old from p new) × (out ≡ nothing)
 
 -- ---- proposals
 

@@ -23,19 +23,20 @@ use Rattle.lk_node.specs.NodeValue.{NodeValue}
 use Rattle.lk_node.specs.Served.{IsBorneOut, IsOfNode}
 
 -- the message is neither a promise nor a vote: a rebase leaves what permits it
-abbrev pub IsLight : NodeMessage → Type 0
-IsLight (kinds.Promise p) = ⊥
-IsLight (kinds.Accepted x) = ⊥
-IsLight _ = Unit {0}
+abbrev pub IsNeitherPromiseNorVote : NodeMessage → Type 0
+IsNeitherPromiseNorVote (kinds.Promise p) = ⊥
+IsNeitherPromiseNorVote (kinds.Accepted x) = ⊥
+IsNeitherPromiseNorVote _ = Unit {0}
 
--- the letter spells a message of a node of this header, which what its acceptor holds covers, and a light one if the
--- step rebases
-pub record Tells (whose : HeaderValue) (acceptor : AcceptorState) (rebase : Bool) (l : LetterValue) : Type 0 where
+-- the letter spells a message of a node of this header, which what its acceptor holds covers; if the step rebases, it
+-- is neither a promise nor a vote
+pub record IsCoveredLetter (whose : HeaderValue) (acceptor : AcceptorState) (rebase : Bool)
+    (l : LetterValue) : Type 0 where
   pub message : NodeMessage
   pub fits : IsMessage (saying whose message)
   pub bytes : l.bytes ≡ spelling (saying whose message)
   pub covers : Covers acceptor message
-  pub light : rebase ≡ true → IsLight message
+  pub rebased : rebase ≡ true → IsNeitherPromiseNorVote message
 
 -- what the acceptor holds after these entries are written
 abbrev pub with_entries : List Entry → AcceptorState → AcceptorState
@@ -50,7 +51,7 @@ pub record Binds (first now : NodeValue) (out : OutboxValue) : Type 0 where
   pub written : now.acceptor.state ≡ with_entries out.entries first.acceptor.state
   pub unsynced : out.sync ≡ false → AllByRecursion TellsDecided out.entries
   pub still : out.rebase ≡ true → now.acceptor.state ≡ first.acceptor.state
-  pub tells : (l : LetterValue) → Contains out.letters l → Tells now.header now.acceptor.state out.rebase l
+  pub tells : (l : LetterValue) → Contains out.letters l → IsCoveredLetter now.header now.acceptor.state out.rebase l
 
 -- In this history: what the node holds fits, and permits the letters; what it writes rests on what was sent, and a
 -- chosen list bears out each note. It knows what it writes unsynced, and what was unsynced before.

@@ -13,13 +13,13 @@ use Rattle.lk_node_interface.specs.Outboxes.{OutboxValue, nothing}
 use Rattle.lk_node_interface.specs.declared.input.Input.{Input}
 use Rattle.lk_node_interface.specs.declared.input.Input.TheVariants as input
 use Rattle.lk_node.specs.Responding.{Responds}
-use Rattle.lk_node.specs.Asking.{HearsRequest}
-use Rattle.lk_node.specs.CatchingUp.{HearsWant, HearsNack, HearsLead}
+use Rattle.lk_node.specs.Asking.{HandlesRequest}
+use Rattle.lk_node.specs.CatchingUp.{HandlesWant, HandlesNack, HandlesLead}
 use Rattle.lk_node.specs.Histories.{History}
-use Rattle.lk_node.specs.Leading.{HearsPromise, ProposesOpen}
-use Rattle.lk_node.specs.Deciding.{HearsAccepted}
+use Rattle.lk_node.specs.Leading.{HandlesPromise, ProposesOpen}
+use Rattle.lk_node.specs.Deciding.{HandlesAccepted}
 use Rattle.lk_node.specs.DecidedPairs.{TakesPairs}
-use Rattle.lk_node.specs.Installing.{HearsPart}
+use Rattle.lk_node.specs.Installing.{HandlesPart}
 use Rattle.lk_node.specs.NodeValue.{NodeValue}
 use Rattle.lk_node.specs.Yielding.{with_round}
 use Rattle.lk_node.specs.Reminding.{Ticks}
@@ -34,25 +34,25 @@ abbrev pub StandsStill : NodeValue → NodeValue → OutboxValue → Type 0
 StandsStill old new out = (new ≡ old) × (out ≡ nothing)
 
 -- what the node does with a message of another node, or of itself. `IsText` says which texts are those of a machine
-abbrev pub HearsNode : Meaning → (List ℕ → Type 0) → NodeValue → ℕ → NodeMessage → NodeValue → OutboxValue → Type 0
-HearsNode m IsText old from (kinds.Prepare b first) new out =
+abbrev pub HandlesNode : Meaning → (List ℕ → Type 0) → NodeValue → ℕ → NodeMessage → NodeValue → OutboxValue → Type 0
+HandlesNode m IsText old from (kinds.Prepare b first) new out =
     Responds old from (RepliesToPrepare old.acceptor old.learner.whole.roster.executed b first) new out
-HearsNode m IsText old from (kinds.Accept x) new out =
+HandlesNode m IsText old from (kinds.Accept x) new out =
     Responds (with_round x.ballot old) from (RepliesToAccept old.acceptor old.learner.whole.roster.executed x) new out
-HearsNode m IsText old from (kinds.Promise p) new out = HearsPromise old from p new out
-HearsNode m IsText old from (kinds.Accepted x) new out = HearsAccepted m from x old new out
-HearsNode m IsText old from (kinds.Decided d) new out =
+HandlesNode m IsText old from (kinds.Promise p) new out = HandlesPromise old from p new out
+HandlesNode m IsText old from (kinds.Accepted x) new out = HandlesAccepted m from x old new out
+HandlesNode m IsText old from (kinds.Decided d) new out =
     TakesPairs m d.first d.commands old nothing (length d.commands) new out
-HearsNode m IsText old from (kinds.Nack k) new out = HearsNack old from k new out
-HearsNode m IsText old from (kinds.Want w) new out = HearsWant old from w new out
-HearsNode m IsText old from (kinds.Part p) new out = HearsPart m IsText old p new out
-HearsNode m IsText old from (kinds.Lead b executed) new out = HearsLead old from b executed new out
-HearsNode m IsText old from _ new out = StandsStill old new out
+HandlesNode m IsText old from (kinds.Nack k) new out = HandlesNack old from k new out
+HandlesNode m IsText old from (kinds.Want w) new out = HandlesWant old from w new out
+HandlesNode m IsText old from (kinds.Part p) new out = HandlesPart m IsText old p new out
+HandlesNode m IsText old from (kinds.Lead b executed) new out = HandlesLead old from b executed new out
+HandlesNode m IsText old from _ new out = StandsStill old new out
 
 -- what it does with a message of its cluster
-abbrev pub Hears : Meaning → (List ℕ → Type 0) → NodeValue → Content → NodeValue → OutboxValue → Type 0
-Hears m IsText old (content.Request r) new out = HearsRequest old r new out
-Hears m IsText old (content.Node from x) new out = HearsNode m IsText old from x new out
+abbrev pub Handles : Meaning → (List ℕ → Type 0) → NodeValue → Content → NodeValue → OutboxValue → Type 0
+Handles m IsText old (content.Request r) new out = HandlesRequest old r new out
+Handles m IsText old (content.Node from x) new out = HandlesNode m IsText old from x new out
 
 -- no message of the cluster is spelled like this
 abbrev pub IsForeign : NodeValue → List ℕ → Type 0
@@ -61,7 +61,7 @@ IsForeign node bytes = (m : Message) → Spells m bytes → m.cluster ≡ node.h
 -- what it does with any bytes: it handles those of its cluster's messages, and ignores all others
 abbrev pub TakesBytes : Meaning → (List ℕ → Type 0) → NodeValue → List ℕ → NodeValue → OutboxValue → Type 0
 TakesBytes m IsText old bytes new out =
-    ((x : Message) × Spells x bytes × (x.cluster ≡ old.header.cluster) × Hears m IsText old x.content new out)
+    ((x : Message) × Spells x bytes × (x.cluster ≡ old.header.cluster) × Handles m IsText old x.content new out)
     ⊎ (IsForeign old bytes × StandsStill old new out)
 
 -- and after that it proposes everything that is open

@@ -1,7 +1,7 @@
 // How a node handles a client's request.
 ghost use Rattle.std.specs.Prelude.{◌≡◌, Contains, IfOk};
 ghost use Rattle.lk_node_interface.specs.Outboxes.{nothing};
-ghost use Rattle.lk_node.specs.Asking.{leader_in, PointsTo, TakesNew, HearsRequest};
+ghost use Rattle.lk_node.specs.Asking.{leader_in, PointsTo, TakesNew, HandlesRequest};
 ghost use Rattle.lk_node.specs.Serving.{ActsSafely};
 
 use crate::node::Node;
@@ -11,8 +11,7 @@ use lk_types::{ClientNo, Member, NoMemory, Request};
 use lk_wire::{Elsewhere, NodeMessage};
 
 impl<M: Machine> Node<M> {
-    // Returns the known leader with its port in the window; `None` if no leader is known, or the window does not name
-    // it.
+    // Returns the known leader with its port in the window; `None` if none is known, or the window does not name it.
     fn known_leader(&self) -> Option<Member>
         ensures { result ≡ leader_in self.now.known self.now.learner.whole.roster.sets }
     {
@@ -52,7 +51,7 @@ impl<M: Machine> Node<M> {
 
     // Handles a client's request: replies from the client's session if it is not new; queues or redirects a new one.
     pub(crate) fn handle_request(&mut self, request: &Request) -> Result<Outbox, NoMemory>
-        ensures exact { IfOk result (λ o. HearsRequest self.old request.now self.new o) }
+        ensures exact { IfOk result (λ o. HandlesRequest self.old request.now self.new o) }
         ensures safe { IfOk result
             (λ o. ActsSafely M.meaning (λ h. Contains h.asked request.now) self.old self.new nothing o) }
     {

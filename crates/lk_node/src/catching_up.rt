@@ -5,8 +5,8 @@ ghost use Rattle.lk_messages.specs.Values.{PartValue};
 ghost use Rattle.lk_messages.specs.declared.message.NodeMessage.TheVariants as kinds;
 ghost use Rattle.lk_node_interface.specs.Outboxes.{nothing};
 ghost use Rattle.lk_node_interface.specs.Saying.{saying};
-ghost use Rattle.lk_node.specs.CatchingUp.{sending_parts, FeedsParts, Feeds, HearsWant, AsksOn, Levels, HearsNack};
-ghost use Rattle.lk_node.specs.CatchingUp.{following, AsksWhereMore, refusal, HearsLead};
+ghost use Rattle.lk_node.specs.CatchingUp.{sending_parts, FeedsParts, Feeds, HandlesWant, AsksOn, ClosesGap};
+ghost use Rattle.lk_node.specs.CatchingUp.{HandlesNack, following, AsksWhereMore, refusal, HandlesLead};
 ghost use Rattle.lk_node.specs.Replying.{SaysAlone};
 ghost use Rattle.lk_node.specs.Saying.{to_node};
 ghost use Rattle.lk_node.specs.Serving.{ActsSafely};
@@ -65,7 +65,7 @@ impl<M: Machine> Node<M> {
     // Compares progress with the other node, which has executed `theirs` positions: asks it with a Want if these are
     // more, and sends it what it lacks if they are fewer.
     fn compare_progress(&self, other: NodeNo, theirs: Executed) -> Result<Outbox, NoMemory>
-        ensures { IfOk result (λ o. Levels self.now other theirs o) }
+        ensures { IfOk result (λ o. ClosesGap self.now other theirs o) }
     {
         let executed = self.learner.whole().executed().get();
         if theirs.get() > executed {
@@ -79,7 +79,7 @@ impl<M: Machine> Node<M> {
 
     // Handles a Want: sends its sender commands or parts of the snapshot.
     pub(crate) fn handle_want(&mut self, from: NodeNo, want: &Want) -> Result<Outbox, NoMemory>
-        ensures exact { IfOk result (λ o. HearsWant self.old from want.now self.new o) }
+        ensures exact { IfOk result (λ o. HandlesWant self.old from want.now self.new o) }
         ensures safe { IfOk result (λ o. ActsSafely M.meaning (λ h. Unit {0}) self.old self.new nothing o) }
     {
         self.send_missing(from, want.first(), want.offset())
@@ -88,7 +88,7 @@ impl<M: Machine> Node<M> {
     // Handles a Nack: catches up with its sender or helps it, and records the rejected and the promised ballot, which
     // ends a term of a ballot below either.
     pub(crate) fn handle_nack(&mut self, from: NodeNo, nack: &Nack) -> Result<Outbox, NoMemory>
-        ensures exact { IfOk result (λ o. HearsNack self.old from nack.now self.new o) }
+        ensures exact { IfOk result (λ o. HandlesNack self.old from nack.now self.new o) }
         ensures safe { IfOk result (λ o. ActsSafely M.meaning (λ h. Unit {0}) self.old self.new nothing o) }
     {
         let out = self.compare_progress(from, nack.executed)?;
@@ -136,7 +136,7 @@ impl<M: Machine> Node<M> {
         ballot: RealBallot,
         executed: Executed,
     ) -> Result<Outbox, NoMemory>
-        ensures exact { IfOk result (λ o. HearsLead self.old from ballot executed self.new o) }
+        ensures exact { IfOk result (λ o. HandlesLead self.old from ballot executed self.new o) }
         ensures safe { IfOk result (λ o. ActsSafely M.meaning (λ h. Unit {0}) self.old self.new nothing o) }
     {
         if ballot.get().is_below(self.acceptor.promised()) {

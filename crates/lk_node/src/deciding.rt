@@ -5,7 +5,7 @@ ghost use Rattle.lk_agreement_laws.specs.Chosen.{ChosenAt};
 ghost use Rattle.lk_agreement_laws.specs.Datagrams.{HasSent};
 ghost use Rattle.lk_leader.specs.Proposing.{AreMembersAt};
 ghost use Rattle.lk_node_interface.specs.Outboxes.{nothing};
-ghost use Rattle.lk_node.specs.Deciding.{HearsVote, AreDecidedLetters, Decides, HearsAccepted};
+ghost use Rattle.lk_node.specs.Deciding.{HandlesVote, AreDecidedLetters, Decides, HandlesAccepted};
 ghost use Rattle.lk_node.specs.Serving.{ActsSafely};
 
 use crate::node::Node;
@@ -17,7 +17,7 @@ impl<M: Machine> Node<M> {
     // Counts a node's vote for a proposal of the own term. Returns the members of the position if this vote completes a
     // majority of them, and `None` otherwise.
     fn count_vote(&mut self, from: NodeNo, vote: &Vote) -> Option<Members>
-        ensures { HearsVote from vote.now self.old self.new result }
+        ensures { HandlesVote from vote.now self.old self.new result }
     {
         let roster = self.learner.whole().roster();
         let Some(members) = roster.members_at(vote.position) else {
@@ -72,7 +72,7 @@ impl<M: Machine> Node<M> {
 
     // Handles an Accepted: counts it as a vote, and decides the position if that completes a majority.
     pub(crate) fn handle_accepted(&mut self, from: NodeNo, vote: &Vote) -> Result<Outbox, NoMemory>
-        ensures exact { IfOk result (λ o. HearsAccepted M.meaning from vote.now self.old self.new o) }
+        ensures exact { IfOk result (λ o. HandlesAccepted M.meaning from vote.now self.old self.new o) }
         ensures safe { IfOk result
             (λ o. ActsSafely M.meaning (λ h. HasSent h.genesis h.sent from (kinds.Accepted vote.now))
             self.old self.new nothing o) }

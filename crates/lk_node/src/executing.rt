@@ -1,6 +1,7 @@
 // What a node executes, and which clients it answers as a result.
 ghost use Rattle.std.specs.Prelude.{◌≡◌, IfOk, OnOk};
-ghost use Rattle.lk_node.specs.Executing.{Settles, SettlesAny, RunsNext, is_outside, while_named, ExecutesOne, RunsAll};
+ghost use Rattle.lk_node.specs.Executing.{EndsWait, EndsWaitIfAny, RunsNext, is_outside};
+ghost use Rattle.lk_node.specs.Executing.{without_term_if_outside, ExecutesOne, RunsAll};
 ghost use Rattle.lk_node.specs.Serving.{ActsSafely};
 
 use crate::node::Node;
@@ -16,7 +17,7 @@ impl<M: Machine> Node<M> {
         session: Session,
         out: &mut Outbox,
     ) -> Result<(), NoMemory>
-        ensures { OnOk result (Settles session self.old out.old self.new out.new) }
+        ensures { OnOk result (EndsWait session self.old out.old self.new out.new) }
     {
         let Some(number) = self.leader.ran(session.client, session.number) else {
             return Ok(());
@@ -35,7 +36,7 @@ impl<M: Machine> Node<M> {
         session: Option<Session>,
         out: &mut Outbox,
     ) -> Result<(), NoMemory>
-        ensures { OnOk result (SettlesAny session self.old out.old self.new out.new) }
+        ensures { OnOk result (EndsWaitIfAny session self.old out.old self.new out.new) }
     {
         let Some(session) = session else {
             return Ok(());
@@ -52,8 +53,8 @@ impl<M: Machine> Node<M> {
     }
 
     // Ends the term if no set of the window names the node: such a node does not lead.
-    pub(crate) fn leave_outside(&mut self)
-        ensures { self.new ≡ while_named self.old }
+    pub(crate) fn end_term_outside(&mut self)
+        ensures { self.new ≡ without_term_if_outside self.old }
     {
         if self.is_outside() {
             self.leave_term();
@@ -87,7 +88,7 @@ impl<M: Machine> Node<M> {
         let session = session_of(&command, ran.answer);
         out.note(Note::Ran(self.header.node(), ran.position, command))?;
         self.reply_if_answered(session, out)?;
-        self.leave_outside();
+        self.end_term_outside();
         Ok(true)
     }
 

@@ -3,7 +3,7 @@ ghost use Rattle.std.specs.Prelude.{◌≡◌, ℕ, IfOk, OnOk};
 ghost use Rattle.lk_messages.specs.declared.message.NodeMessage.TheVariants as kinds;
 ghost use Rattle.lk_agreement_laws.specs.Datagrams.{HasSent};
 ghost use Rattle.lk_node_interface.specs.Outboxes.{nothing};
-ghost use Rattle.lk_node.specs.Installing.{GathersPart, SettlesAll, InstallsGathered, HearsPart};
+ghost use Rattle.lk_node.specs.Installing.{GathersPart, EndsWaits, InstallsGathered, HandlesPart};
 ghost use Rattle.lk_node.specs.Serving.{ActsSafely};
 
 use crate::node::Node;
@@ -25,7 +25,7 @@ impl<M: Machine> Node<M> {
 
     // Replies to the waiting requests up to the sessions of the learner's state, in rising order of clients.
     fn reply_to_all_waiting(&mut self, out: &mut Outbox) -> Result<(), NoMemory>
-        ensures { OnOk result (SettlesAll self.old.learner.whole.sessions self.old out.old self.new out.new) }
+        ensures { OnOk result (EndsWaits self.old.learner.whole.sessions self.old out.old self.new out.new) }
     {
         let count = self.learner.whole().sessions().len();
         'sessions: for index in 0..count {
@@ -45,14 +45,14 @@ impl<M: Machine> Node<M> {
         let mut out = Outbox::new(self.alloc);
         out.rebase_store();
         self.reply_to_all_waiting(&mut out)?;
-        self.leave_outside();
+        self.end_term_outside();
         self.execute(&mut out)?;
         Ok(out)
     }
 
     // Handles a part of another node's snapshot: adopts the snapshot if it is now complete.
     pub(crate) fn handle_part(&mut self, part: &PartRef<'_>) -> Result<Outbox, NoMemory>
-        ensures exact { IfOk result (λ o. HearsPart M.meaning M.IsText self.old part.now self.new o) }
+        ensures exact { IfOk result (λ o. HandlesPart M.meaning M.IsText self.old part.now self.new o) }
         ensures safe { (from : ℕ)
             → IfOk result (λ o. ActsSafely M.meaning
             (λ h. HasSent h.genesis h.sent from (kinds.Part part.now)) self.old self.new nothing o) }

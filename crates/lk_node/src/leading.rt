@@ -8,7 +8,7 @@ ghost use Rattle.lk_leader.specs.Proposing.{AreMembersAt};
 ghost use Rattle.lk_members.specs.Nodes.{nodes_of};
 ghost use Rattle.lk_node_interface.specs.Outboxes.{nothing};
 ghost use Rattle.lk_node_interface.specs.Saying.{saying};
-ghost use Rattle.lk_node.specs.Leading.{RecordsPromise, DropsPromise, HearsPromise, ProposesVote, having_proposed};
+ghost use Rattle.lk_node.specs.Leading.{RecordsPromise, DropsPromise, HandlesPromise, ProposesVote, having_proposed};
 ghost use Rattle.lk_node.specs.Leading.{NothingToPropose, ProposesNext, ProposesOpen};
 ghost use Rattle.lk_node.specs.Promised.{HasPromised};
 ghost use Rattle.lk_node.specs.Serving.{ActsSafely};
@@ -30,7 +30,7 @@ impl<M: Machine> Node<M> {
         from: NodeNo,
         promise: &PromiseRef<'_>,
     ) -> Result<Outbox, NoMemory>
-        ensures exact { IfOk result (λ o. HearsPromise self.old from promise.now self.new o) }
+        ensures exact { IfOk result (λ o. HandlesPromise self.old from promise.now self.new o) }
         ensures safe { IfOk result
             (λ o. ActsSafely M.meaning (λ h. HasSent h.genesis h.sent from (kinds.Promise promise.now))
             self.old self.new nothing o) }

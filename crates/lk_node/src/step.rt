@@ -9,7 +9,7 @@ ghost use Rattle.lk_node.specs.Executing.{NothingToRun};
 ghost use Rattle.lk_node.specs.Histories.{IsHeard};
 ghost use Rattle.lk_node.specs.Leading.{NothingToPropose};
 ghost use Rattle.lk_node.specs.Serving.{ActsSafely};
-ghost use Rattle.lk_node.specs.Steps.{Hears, HearsNode, TakesBytes, TakesDatagram, Steps, WasHeard};
+ghost use Rattle.lk_node.specs.Steps.{Handles, HandlesNode, TakesBytes, TakesDatagram, Steps, WasHeard};
 
 use crate::node::Node;
 use lk_node_interface::{Halted, Input, Outbox};
@@ -26,7 +26,7 @@ impl<M: Machine> Node<M> {
         message: &NodeMessageRef<'_>,
     ) -> Result<Outbox, NoMemory>
         ensures exact { IfOk result
-            (λ o. HearsNode M.meaning M.IsText self.old from (shown_node message.now) self.new o) }
+            (λ o. HandlesNode M.meaning M.IsText self.old from (shown_node message.now) self.new o) }
         ensures safe { IfOk result
             (λ o. ActsSafely M.meaning (λ h. HasSent h.genesis h.sent from (shown_node message.now))
             self.old self.new nothing o) }
@@ -48,7 +48,7 @@ impl<M: Machine> Node<M> {
     #[tactic(auto, using(crate::proofs::Serving::rests_here))]
     // Dispatches a message of this cluster: a client's request, or a node's message.
     fn handle_message(&mut self, content: &ContentRef<'_>) -> Result<Outbox, NoMemory>
-        ensures exact { IfOk result (λ o. Hears M.meaning M.IsText self.old (shown_content content.now) self.new o) }
+        ensures exact { IfOk result (λ o. Handles M.meaning M.IsText self.old (shown_content content.now) self.new o) }
         ensures safe { IfOk result
             (λ o. ActsSafely M.meaning (λ h. WasHeard h (shown_content content.now)) self.old self.new nothing o) }
     {

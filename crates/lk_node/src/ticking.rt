@@ -5,10 +5,10 @@ ghost use Rattle.lk_node_interface.specs.Outboxes.{nothing};
 ghost use Rattle.lk_node.specs.Beginning.{BeginsBallot};
 ghost use Rattle.lk_node.specs.Reminding.{Ticks};
 ghost use Rattle.lk_node.specs.Serving.{ActsSafely};
-ghost use Rattle.lk_node.specs.Waiting.{place_of, ticked, BeginsWhereDue};
+ghost use Rattle.lk_node.specs.Waiting.{index_of, ticked, BeginsWhereDue};
 
 use crate::node::Node;
-use lk_node_interface::{Outbox, place_of};
+use lk_node_interface::{Outbox, index_of};
 use lk_state::Machine;
 use lk_types::{NoMemory, Position, RealBallot};
 use lk_wire::NodeMessage;
@@ -39,7 +39,7 @@ impl<M: Machine> Node<M> {
         ensures safe { IfOk result (λ o. ActsSafely M.meaning (λ h. Unit {0}) self.old self.new nothing o) }
     {
         let (promised, own) = (self.acceptor.promised(), self.header.node());
-        if !self.ticks.is_enough(place_of(self.roster(), own)) {
+        if !self.ticks.is_enough(index_of(self.roster(), own)) {
             return Ok(Outbox::new(self.alloc));
         }
         let Some(ballot) = self.rounds.next_ballot(promised, own) else {

@@ -143,7 +143,7 @@ impl Story {
         Some(Event::OtherGenesis(node))
     }
 
-    /// Returns `OtherCluster` if it received from another cluster, and that is to be reported.
+    /// Returns `OtherCluster` if datagrams of another cluster (`foreign`) came, and that is to be reported.
     pub fn foreign(&self, seen: &Observation) -> Option<Event>
         ensures { Gives straying self.now seen.now result }
     {

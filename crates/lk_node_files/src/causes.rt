@@ -43,15 +43,15 @@ pub fn open_socket<R: Net, E: Write>(
 /// Opens a socket at an address. On failure it writes the reason and returns `CannotOpen`.
 pub fn open_socket_at<R: Net, E: Write>(
     rt: &R,
-    place: SocketAddr,
+    address: SocketAddr,
     err: &mut E,
 ) -> Result<LocalSocket, ServiceFault>
     ensures fault { IfErr result (λ fault. fault ≡ ServiceFault.CannotOpen) }
     ensures quiet { IfOk result (λ _. err.new ≡ err.old) }
 {
-    match LocalSocket::open_at(rt, place) {
+    match LocalSocket::open_at(rt, address) {
         Ok(socket) => Ok(socket),
-        Err(error) => Err(write_cause(place, error, err)),
+        Err(error) => Err(write_cause(address, error, err)),
     }
 }
 

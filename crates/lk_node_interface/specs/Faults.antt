@@ -2,7 +2,7 @@
 use Rattle.std.specs.Prelude.{◌≡◌, ℕ, ◌==◌, ◌⊎◌, List, Result, Ok, Err, Vec, MatchBool, MatchResult, if◌then◌else◌}
 use Rattle.std.specs.Global.{Global}
 use Rattle.lk_disk.specs.Disk.{one_more}
-use Rattle.lk_disk.specs.Meters.{Passes, Breaks}
+use Rattle.lk_disk.specs.Meters.{CallsSucceed, Breaks}
 use Rattle.lk_disk.specs.declared.meter.Meter.{Meter}
 use Rattle.lk_log.specs.declared.fault.StoreFault.{StoreFault}
 use Rattle.lk_log.specs.declared.fault.StoreFault.TheVariants as store
@@ -34,11 +34,11 @@ RaisesFailures before now (Err e) = now ≡ failures_by (fault_number e) before
 
 -- the calls of a metered device before an error of this number: one has failed, or all have passed
 abbrev pub RefusedAfter : ℕ → Meter → Meter → Type 0
-RefusedAfter number m n = MatchBool (number == 7) (Breaks m n) ((k : ℕ) × Passes m n k)
+RefusedAfter number m n = MatchBool (number == 7) (Breaks m n) ((k : ℕ) × CallsSucceed m n k)
 
 -- this many passed, or it failed with this
-abbrev pub PassesOr : {T : Type 0} → Meter → Meter → ℕ → Result T ReplicaFault → Type 0
-PassesOr m n k r = MatchResult r (λ _. Passes m n k) (λ e. RefusedAfter (fault_number e) m n)
+abbrev pub SucceedsOr : {T : Type 0} → Meter → Meter → ℕ → Result T ReplicaFault → Type 0
+SucceedsOr m n k r = MatchResult r (λ _. CallsSucceed m n k) (λ e. RefusedAfter (fault_number e) m n)
 
 -- an error of the store is one of the replica
 abbrev pub fault_of : StoreFault → ReplicaFault

@@ -25,8 +25,8 @@ next_members [] = []
 next_members (set ∷ sets) = set
 
 -- the place of the node among them, from 0
-abbrev pub place_in : List (List Member) → ℕ → Option ℕ
-place_in sets node = position (λ m. m.node == node) (next_members sets)
+abbrev pub index_in : List (List Member) → ℕ → Option ℕ
+index_in sets node = position (λ m. m.node == node) (next_members sets)
 
 -- a node, and its port in the window
 abbrev pub to_node : List (List Member) → ℕ → To

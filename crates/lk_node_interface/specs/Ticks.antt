@@ -3,8 +3,8 @@ use Rattle.std.specs.Prelude.{ℕ, ◌+◌, ◌*◌, Bool, false, nat_le, Option
 
 -- the first member waits this many ticks for a leader before it begins a ballot, and each further one this many more
 -- than the one before it
-abbrev pub ticks_a_place : ℕ
-ticks_a_place = 4
+abbrev pub ticks_a_member : ℕ
+ticks_a_member = 4
 
 -- the wait of the last of seven members; no more ticks are counted
 abbrev pub max_ticks : ℕ
@@ -13,4 +13,4 @@ max_ticks = 28
 -- how many ticks are enough at this place
 abbrev pub is_enough : ℕ → Option ℕ → Bool
 is_enough ticks None = false
-is_enough ticks (Some place) = nat_le (ticks_a_place + ticks_a_place * place) ticks
+is_enough ticks (Some index) = nat_le (ticks_a_member + ticks_a_member * index) ticks

@@ -27,7 +27,7 @@ pub use letter::Letter;
 pub use note::Note;
 pub use outbox::Outbox;
 pub use post::{Post, SendFault};
-pub use recipients::{letters_to, others, place_of, window_nodes};
+pub use recipients::{index_of, letters_to, others, window_nodes};
 pub use replies::{is_granted, kept_reply, session_of, session_reply};
 pub use seen_round::SeenRound;
 pub use spelling::spelled;

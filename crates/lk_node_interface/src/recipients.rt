@@ -2,7 +2,7 @@
 // alpha positions.
 ghost use Rattle.std.specs.Prelude.{◌≡◌, IfOk, OnOk};
 ghost use Rattle.lk_messages.specs.Grammar.{IsMessage};
-ghost use Rattle.lk_node_interface.specs.Recipients.{AreWindowNodes, AreOthers, place_in, to_node, letters_to};
+ghost use Rattle.lk_node_interface.specs.Recipients.{AreWindowNodes, AreOthers, index_in, to_node, letters_to};
 ghost use Rattle.lk_node_interface.specs.Saying.{saying};
 
 use crate::letter::Letter;
@@ -43,8 +43,8 @@ pub fn others(alloc: Global, roster: &Roster, own: NodeNo) -> Result<Vec<NodeNo>
 }
 
 /// Returns the index of the node, from 0, among the members of the next position; `None` if it is not one of them.
-pub fn place_of(roster: &Roster, node: NodeNo) -> Option<usize>
-    ensures { result ≡ place_in roster.now.sets node }
+pub fn index_of(roster: &Roster, node: NodeNo) -> Option<usize>
+    ensures { result ≡ index_in roster.now.sets node }
 {
     let members = roster.window().get(0)?.as_slice();
     members.iter().position(|member| member.node == node)

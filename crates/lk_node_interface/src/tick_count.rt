@@ -6,7 +6,7 @@ use std::marker::Model;
 
 // How many ticks the first member waits for a leader before it begins a ballot, and how many more each member waits
 // than the one before it, so that two seldom begin a ballot at once.
-const TICKS_A_PLACE: u8 = 4;
+const TICKS_A_MEMBER: u8 = 4;
 
 // How many ticks the last of seven members waits. There are at most seven, so no more ticks are counted.
 const MAX_TICKS: u8 = 28;
@@ -63,13 +63,13 @@ impl TickCount {
 
     /// Whether a node at this place, from 0, among the members of the next position has waited long enough for a
     /// leader: 4 ticks, and 4 more for each place. A node that is no member (`None`) never has.
-    pub fn is_enough(&self, place: Option<usize>) -> bool
-        ensures { result ≡ is_enough self.now place }
+    pub fn is_enough(&self, index: Option<usize>) -> bool
+        ensures { result ≡ is_enough self.now index }
     {
         let ticks = self.get();
         // The same as 4 + 4 * place <= ticks, without a sum that could overflow.
-        match place {
-            Some(place) => ticks >= TICKS_A_PLACE && place < usize::from(ticks / TICKS_A_PLACE),
+        match index {
+            Some(index) => ticks >= TICKS_A_MEMBER && index < usize::from(ticks / TICKS_A_MEMBER),
             None => false,
         }
     }

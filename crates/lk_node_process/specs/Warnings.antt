@@ -5,7 +5,7 @@ use Rattle.lk_node_interface.specs.Letters.{LetterValue}
 use Rattle.lk_replica.specs.ReplicaValue.{ReplicaValue}
 use Rattle.lk_served_replica.specs.Showing.{IsShown}
 use Rattle.lk_served_replica.specs.declared.probed_state.ProbedState.{ProbedState}
-use Rattle.lk_server.specs.Probes.{Tells}
+use Rattle.lk_server.specs.Probes.{ReportsStatus}
 use Rattle.lk_server.specs.Servers.{ServerValue}
 use Rattle.lk_transport.specs.Chains.{Repeats}
 use Rattle.lk_node_setup.specs.Reminders.{IsDue, Reminds, having_warned}
@@ -25,7 +25,7 @@ reminded s r bytes = record { server = s; reminder = r; written = bytes }
 -- this status tells what the server's replica shows, and the server's own count of ticks
 abbrev pub IsStatusOf : ServerValue ReplicaValue → Status → Type 0
 IsStatusOf s status =
-    (shown : ProbedState) × IsShown s.replica shown × Tells s.addresses.seals.genesis s.ticks shown status
+    (shown : ProbedState) × IsShown s.replica shown × ReportsStatus s.addresses.seals.genesis s.ticks shown status
 
 -- by the server's own status, the line of the node of that number, which listens at that port, is written if a warning
 -- is due, and else nothing is; the next one is due a minute later, also where the line could not be written

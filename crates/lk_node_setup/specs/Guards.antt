@@ -13,4 +13,4 @@ IsOfThisMachine a = MatchIp a IsLoopbackV4 IsLoopbackV6
 
 -- no other machine can reach the address, or the nodes have a key
 abbrev pub IsReachedWithKey : Seals → SocketAddr → Type 0
-IsReachedWithKey s place = IsOfThisMachine (socket_ip place) ⊎ (key_list s.nodes ≢ [])
+IsReachedWithKey s address = IsOfThisMachine (socket_ip address) ⊎ (key_list s.nodes ≢ [])

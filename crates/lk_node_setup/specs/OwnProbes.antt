@@ -60,8 +60,8 @@ IsHeard frame most false old new = StaysAway frame most old new
 -- ---- the probe
 
 -- the bytes are sent there, once and alone, and after that it is heard in 30 datagrams whether they come back
-pub record SendsAndHears (place : SocketAddr) (frame : List ℕ) (is_back : Bool) (old new : SocketValue) : Type 0 where
-  pub sent : new.sent ≡ old.sent ++ (place, frame) ∷ []
+pub record SendsAndHears (address : SocketAddr) (frame : List ℕ) (is_back : Bool) (old new : SocketValue) : Type 0 where
+  pub sent : new.sent ≡ old.sent ++ (address, frame) ∷ []
   pub failures : new.failures ≡ old.failures
   pub heard : IsHeard frame 30 is_back old.incoming new.incoming
 
@@ -78,18 +78,18 @@ IsOwnProbe header s frame =
 
 -- the node sends that probe there, once, and tells whether it came back
 abbrev pub ProbesItself : HeaderValue → Seals → SocketAddr → Bool → SocketValue → SocketValue → Type 0
-ProbesItself header s place is_back old new =
+ProbesItself header s address is_back old new =
     (frame : List ℕ) × IsOwnProbe header s frame
-    × (SendsAndHears place frame is_back old new ⊎ CannotSend is_back old new)
+    × (SendsAndHears address frame is_back old new ⊎ CannotSend is_back old new)
 
 -- the node sends that probe to this port of this address, and the port is unheard if it does not come back
 pub record ProbesAt (header : HeaderValue) (s : Seals) (host : IpAddr) (port : ℕ) (unheard : Option ℕ)
     (old new : SocketValue) : Type 0 where
-  pub place : SocketAddr
-  pub at_host : socket_ip place ≡ host
-  pub at_port : socket_port place ≡ port
+  pub address : SocketAddr
+  pub at_host : socket_ip address ≡ host
+  pub at_port : socket_port address ≡ port
   pub is_back : Bool
-  pub probes : ProbesItself header s place is_back old new
+  pub probes : ProbesItself header s address is_back old new
   pub tells : unheard ≡ (if is_back then None else Some port)
 
 -- which port is not heard, of the one that the genesis names where the node listens at another: without such a port

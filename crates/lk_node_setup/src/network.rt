@@ -77,10 +77,10 @@ fn read_file<R: Files<File = File>, E: Write>(
 
 // Parses a line of the hosts: NODE ADDRESS.
 fn host_of(line: &[u8]) -> Option<(NodeNo, IpAddr)> {
-    let (node, address) = split_word(line)?;
+    let (node, host) = split_word(line)?;
     let node = node_of(node)?;
-    match IpAddr::parse_ascii(address) {
-        Ok(address) => Some((node, address)),
+    match IpAddr::parse_ascii(host) {
+        Ok(host) => Some((node, host)),
         Err(_) => None,
     }
 }
@@ -181,7 +181,7 @@ fn write_no_address<E: Write>(node: NodeNo, path: &str, err: &mut E) -> ServiceF
 }
 
 // Returns the address on which a node listens: that of `--bind`, or else its address among the hosts.
-fn place_of<E: Write>(
+fn own_host<E: Write>(
     header: &Header,
     hosts: &Hosts,
     path: Option<&str>,
@@ -189,7 +189,7 @@ fn place_of<E: Write>(
     err: &mut E,
 ) -> Result<IpAddr, ServiceFault> {
     match bind.or(hosts.address(header.node())) {
-        Some(address) => Ok(address),
+        Some(host) => Ok(host),
         None => Err(write_no_address(header.node(), path.unwrap_or(""), err)),
     }
 }
@@ -237,20 +237,24 @@ fn load_seals<R: Files<File = File>, E: Write>(
 }
 
 // Rejects an address that other machines can reach if the nodes have no key, and warns if the clients have none.
-fn check_reach<E: Write>(seals: &Seals, place: SocketAddr, err: &mut E) -> Result<(), ServiceFault>
-    ensures { OnOk result (IsReachedWithKey seals.now place) }
+fn check_reach<E: Write>(
+    seals: &Seals,
+    address: SocketAddr,
+    err: &mut E,
+) -> Result<(), ServiceFault>
+    ensures { OnOk result (IsReachedWithKey seals.now address) }
 {
-    let address = place.ip();
-    if address.is_loopback() {
+    let host = address.ip();
+    if host.is_loopback() {
         return Ok(());
     }
     if seals.nodes.is_none() {
-        return Err(write_cause(place, "no key, and other machines reach it", err));
+        return Err(write_cause(address, "no key, and other machines reach it", err));
     }
     if seals.clients.is_none() {
         let _ = writeln!(
             err,
-            "warning: other machines reach {address}, and clients have no key"
+            "warning: other machines reach {host}, and clients have no key"
         );
     }
     Ok(())
@@ -273,10 +277,10 @@ pub fn network_of<R: Files<File = File>, E: Write>(
 {
     let hosts = load_hosts(rt, alloc, options.hosts, err)?;
     let seals = load_seals(rt, alloc, header, options, err)?;
-    let address = place_of(header, &hosts, options.hosts, options.bind, err)?;
-    let place = SocketAddr::from((address, port.get()));
-    check_reach(&seals, place, err)?;
-    Ok((Network { hosts, seals }, place))
+    let host = own_host(header, &hosts, options.hosts, options.bind, err)?;
+    let address = SocketAddr::from((host, port.get()));
+    check_reach(&seals, address, err)?;
+    Ok((Network { hosts, seals }, address))
 }
 
 /// Reads what a client's options name. Returns the address that it asks first (127.0.0.1 if none is given), where the

@@ -58,9 +58,9 @@ fn probe_itself<S: DatagramSocket>(
     socket: &mut S,
     header: &Header,
     seals: &Seals,
-    place: SocketAddr,
+    address: SocketAddr,
 ) -> Result<bool, ServiceFault>
-    ensures probes { S.is_observable → IfOk result (λ is_back. ProbesItself header.now seals.now place is_back
+    ensures probes { S.is_observable → IfOk result (λ is_back. ProbesItself header.now seals.now address is_back
         (socket_value S.sent S.failures S.incoming socket.old) (socket_value S.sent S.failures S.incoming socket.new)) }
     ensures err { OnErr result (socket.new ≡ socket.old) }
     ensures only { IfErr result (λ f. f ≡ ServiceFault.NoMemory) }
@@ -72,7 +72,7 @@ fn probe_itself<S: DatagramSocket>(
     let probe = question(header.genesis().cluster, asker).datagram();
     let mut frame = Vec::new(alloc);
     let framed = seals.seal_to_node(header.node().get(), &probe, &mut frame)?;
-    match socket.send_to(place, framed) {
+    match socket.send_to(address, framed) {
         Ok(()) => Ok(comes_back(socket, framed)),
         Err(_) => Ok(false),
     }
@@ -98,10 +98,10 @@ pub fn unheard_port<S: DatagramSocket>(
     let Some(port) = named else {
         return Ok(None);
     };
-    let Some(address) = network.hosts.address(header.node()) else {
+    let Some(host) = network.hosts.address(header.node()) else {
         return Ok(Some(port));
     };
-    let place = SocketAddr::from((address, port.get()));
-    let is_heard = probe_itself(alloc, socket, header, &network.seals, place)?;
+    let address = SocketAddr::from((host, port.get()));
+    let is_heard = probe_itself(alloc, socket, header, &network.seals, address)?;
     Ok(if is_heard { None } else { Some(port) })
 }

@@ -82,9 +82,9 @@ fn other_port(plan: &NodePlan<'_>) -> Option<Port>
     }
 }
 
-// Finds out whether the node is heard at the port that the genesis names, if it listens at another one. Warns if it is
-// not, and returns that port.
-fn warn_of_port<S: DatagramSocket, E: Write>(
+// Probes the port that the genesis names, if the node listens at another one. Warns if the node is not heard there, and
+// returns that port.
+fn check_named_port<S: DatagramSocket, E: Write>(
     alloc: Global,
     plan: &NodePlan<'_>,
     network: &Network,
@@ -172,9 +172,9 @@ pub fn open_resources<R: Files<File = File> + Net, E: Write>(
         (λ r. IfSome r.0.unheard (λ port. misnamed plan.now.header plan.now.port ≡ Some port)) }
 {
     warn_of_members(plan, err);
-    let (network, place) = network_of(rt, alloc, &plan.header, plan.port, &plan.options, err)?;
-    let mut socket = open_socket_at(rt, place, err)?;
-    let unheard = warn_of_port(alloc, plan, &network, &mut socket, err)?;
+    let (network, address) = network_of(rt, alloc, &plan.header, plan.port, &plan.options, err)?;
+    let mut socket = open_socket_at(rt, address, err)?;
+    let unheard = check_named_port(alloc, plan, &network, &mut socket, err)?;
     let lock = FolderLock::take(rt, alloc, plan.folder, err)?;
     let device = open_device(rt, alloc, plan.folder, err)?;
     let pace = pace_with(&network.seals, plan.pace);

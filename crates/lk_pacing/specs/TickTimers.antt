@@ -24,11 +24,11 @@ Leaves old new left = (reading : Option Instant) × LeavesAt reading old new lef
 
 -- whether the period has ended at this reading, where the next one then begins; if the clock failed it has, and nothing
 -- changes
-abbrev pub PassesAt : Option Instant → Option Instant → Option Instant → Bool → Type 0
-PassesAt None old new passed = (passed ≡ true) × (new ≡ old)
-PassesAt (Some now) old new true = (100000000 ≤ spent now old) × (new ≡ Some now)
-PassesAt (Some now) old new false = (spent now old < 100000000) × (new ≡ Some (begun_by now old))
+abbrev pub ElapsesAt : Option Instant → Option Instant → Option Instant → Bool → Type 0
+ElapsesAt None old new passed = (passed ≡ true) × (new ≡ old)
+ElapsesAt (Some now) old new true = (100000000 ≤ spent now old) × (new ≡ Some now)
+ElapsesAt (Some now) old new false = (spent now old < 100000000) × (new ≡ Some (begun_by now old))
 
 -- the same for some reading
-abbrev pub Passes : Option Instant → Option Instant → Bool → Type 0
-Passes old new passed = (reading : Option Instant) × PassesAt reading old new passed
+abbrev pub Elapses : Option Instant → Option Instant → Bool → Type 0
+Elapses old new passed = (reading : Option Instant) × ElapsesAt reading old new passed

@@ -30,8 +30,9 @@ impl Pace {
         }
     }
 
-    /// Returns whether a tick is due at the end of a turn that found this. With `Datagrams` silence brings a tick and
-    /// input for the replica does not, and both restart the 100 ms; otherwise a tick is due once these have passed.
+    /// Returns whether a tick is due at the end of a turn that found this. With `Datagrams` silence brings a tick,
+    /// input for the replica brings none, and either restarts the 100 ms. For filtered datagrams, and with `Clock`, a
+    /// tick is due once the 100 ms have passed.
     pub fn is_due<C: Clock>(self, found: TurnInput, tick_timer: &mut TickTimer<C>) -> bool
         // With `Datagrams` it is due if nothing came, and not if the replica was given something.
         ensures none { self ≡ Pace.Datagrams → found ≡ TurnInput.Nothing → result ≡ true }

@@ -2,7 +2,7 @@
 
 ghost use Rattle.std.specs.Duration.{as_nanos};
 ghost use Rattle.std.specs.Prelude.{◌≡◌, ◌↔◌, ◌≤◌, ◌-◌, Some, None, true, false};
-ghost use Rattle.lk_pacing.specs.TickTimers.{Leaves, Passes, begun_by, spent};
+ghost use Rattle.lk_pacing.specs.TickTimers.{Leaves, Elapses, begun_by, spent};
 
 use std::time::{Clock, Duration, Instant};
 use std::{io, thread};
@@ -53,7 +53,7 @@ impl<C: Clock> TickTimer<C> {
     }
 
     // Returns whether the period has ended at `now`; if so, the next one begins there.
-    fn passes_at(&mut self, now: Instant) -> bool
+    fn elapses_at(&mut self, now: Instant) -> bool
         ensures passed { result ≡ true ↔ (100000000 ≤ spent now self.old.began) }
         ensures again { result ≡ true → self.new.began ≡ Some now }
         ensures goes_on { result ≡ false → self.new.began ≡ Some (begun_by now self.old.began) }
@@ -81,10 +81,10 @@ impl<C: Clock> TickTimer<C> {
     /// that ticks go on, and changes nothing.
     pub fn has_passed(&mut self) -> bool
         // This holds for some reading of the clock: no contract states which.
-        ensures { Passes self.old.began self.new.began result }
+        ensures { Elapses self.old.began self.new.began result }
     {
         match Instant::now(&self.clock) {
-            Ok(now) => self.passes_at(now),
+            Ok(now) => self.elapses_at(now),
             Err(_) => true,
         }
     }

@@ -28,17 +28,18 @@ read_there (z ∷ xs) (suc at) x y within is = read_there xs at x y (omega (arit
 
 -- an entry takes the place of one that is a stranger's at the same address, or at none
 same_strangers : (es : Entries) (at : ℕ) (e f : Option Neighbour) → slice_get es at ≡ Some e
-    → ((place : SocketAddr) → is_stranger_at place f ≡ is_stranger_at place e)
+    → ((address : SocketAddr) → is_stranger_at address f ≡ is_stranger_at address e)
     → is_stranger (slice_set es at f) ≡ is_stranger es
 unfolding is_stranger
-same_strangers es at e f is same = λ i place. any_set (is_stranger_at place) es at e f is (same place) i
+same_strangers es at e f is same = λ i address. any_set (is_stranger_at address) es at e f is (same address) i
 
 -- a node has written
-pub met_strangers : (es : Entries) (at : ℕ) (e : Option Neighbour) (place : SocketAddr) (binds : Bool)
-    → slice_get es at ≡ Some e → is_stranger (slice_set es at (Some (having_met place binds e))) ≡ is_stranger es
-met_strangers es at None place binds is = same_strangers es at None (Some (having_met place binds None)) is (λ p. refl)
-met_strangers es at (Some n) place binds is =
-    same_strangers es at (Some n) (Some (having_met place binds (Some n))) is (λ p. refl)
+pub met_strangers : (es : Entries) (at : ℕ) (e : Option Neighbour) (address : SocketAddr) (binds : Bool)
+    → slice_get es at ≡ Some e → is_stranger (slice_set es at (Some (having_met address binds e))) ≡ is_stranger es
+met_strangers es at None address binds is = same_strangers es at None (Some (having_met address binds None)) is
+    (λ p. refl)
+met_strangers es at (Some n) address binds is =
+    same_strangers es at (Some n) (Some (having_met address binds (Some n))) is (λ p. refl)
 
 still_other : (k : Knowledge) (now : ℕ) (so : Bool) → if_other (having_asked now k) so ≡ if_other k so
 still_other Unknown now so = refl
@@ -52,4 +53,4 @@ pub asked_strangers : (es : Entries) (at : ℕ) (n : Neighbour) (now : ℕ) → 
     → is_stranger (slice_set es at (Some (record n { knowledge = having_asked now n.knowledge }))) ≡ is_stranger es
 asked_strangers es at n now is =
     same_strangers es at (Some n) (Some (record n { knowledge = having_asked now n.knowledge })) is
-    (λ p. still_other n.knowledge now (is_at n.place p))
+    (λ p. still_other n.knowledge now (is_at n.address p))

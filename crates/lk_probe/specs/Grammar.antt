@@ -127,7 +127,7 @@ SpellsReport r bytes = IsReport r × (bytes ≡ report_spelling r)
 -- ---- what belongs together
 
 -- the report answers that probe
-pub record Answers (p : Probe) (r : Report) : Type 0 where
+pub record IsReportFor (p : Probe) (r : Report) : Type 0 where
   pub cluster : r.cluster ≡ p.cluster
   pub client : r.client ≡ p.client
   pub token : r.token ≡ p.token

@@ -22,13 +22,13 @@ is_at = (address.ghosts).eq
 
 -- an entry is that of an address, or free
 abbrev pub is_for : SocketAddr → Option Neighbour → Bool
-is_for place None = true
-is_for place (Some n) = is_at n.place place
+is_for address None = true
+is_for address (Some n) = is_at n.address address
 
 -- how many entries precede that of an address, or the first free one; all of them if there is neither
 abbrev pub entry_for : SocketAddr → Entries → ℕ
-entry_for place [] = 0
-entry_for place (e ∷ es) = if is_for place e then 0 else entry_for place es + 1
+entry_for address [] = 0
+entry_for address (e ∷ es) = if is_for address e then 0 else entry_for address es + 1
 
 -- ---- whose datagrams are dropped
 
@@ -41,12 +41,12 @@ if_other AskedTwice so = false
 if_other Same so = false
 
 abbrev pub is_stranger_at : SocketAddr → Option Neighbour → Bool
-is_stranger_at place None = false
-is_stranger_at place (Some n) = if_other n.knowledge (is_at n.place place)
+is_stranger_at address None = false
+is_stranger_at address (Some n) = if_other n.knowledge (is_at n.address address)
 
 -- a node of another genesis is at that address
 unfoldable pub is_stranger : Entries → SocketAddr → Bool
-is_stranger es place = list_any (is_stranger_at place) es
+is_stranger es address = list_any (is_stranger_at address) es
 
 -- ---- who is asked
 
@@ -84,30 +84,30 @@ readmitted (Other origin) = Unknown
 
 -- the entry after a node has written from there: it binds where it did before or does so now
 abbrev pub having_met : SocketAddr → Bool → Option Neighbour → Neighbour
-having_met place binds None = record { place = place; knowledge = Unknown; binds = binds }
-having_met place binds (Some n) = record { place = n.place; knowledge = n.knowledge; binds = n.binds || binds }
+having_met address binds None = record { address = address; knowledge = Unknown; binds = binds }
+having_met address binds (Some n) = record { address = n.address; knowledge = n.knowledge; binds = n.binds || binds }
 
 -- a node wrote from this address: its entry, or a free one, records that; if there is neither, nothing changes
-pub record Meets (place : SocketAddr) (binds : Bool) (old new : Entries) : Type 0 where
-  pub room : entry_for place old ≤ 63
-      → (e : Option Neighbour) × (slice_get old (entry_for place old) ≡ Some e)
-      × (new ≡ slice_set old (entry_for place old) (Some (having_met place binds e)))
-  pub full : 64 ≤ entry_for place old → new ≡ old
+pub record Meets (address : SocketAddr) (binds : Bool) (old new : Entries) : Type 0 where
+  pub room : entry_for address old ≤ 63
+      → (e : Option Neighbour) × (slice_get old (entry_for address old) ≡ Some e)
+      × (new ≡ slice_set old (entry_for address old) (Some (having_met address binds e)))
+  pub full : 64 ≤ entry_for address old → new ≡ old
 
 -- a probe is due there, and is noted as sent; every other entry is as it was
-pub record Asks (now : ℕ) (place : SocketAddr) (old new : Entries) : Type 0 where
+pub record ProbesNeighbour (now : ℕ) (address : SocketAddr) (old new : Entries) : Type 0 where
   pub entry : ℕ
   pub neighbour : Neighbour
   pub is : slice_get old entry ≡ Some (Some neighbour)
-  pub there : place ≡ neighbour.place
+  pub there : address ≡ neighbour.address
   pub due : is_due now neighbour.knowledge ≡ true
   pub becomes : new ≡ slice_set old entry (Some (record neighbour { knowledge = having_asked now neighbour.knowledge }))
 
 -- the node at that address is readmitted, where it has an entry; every other entry is as it was
-pub record Readmits (place : SocketAddr) (old new : Entries) : Type 0 where
-  pub known : (n : Neighbour) → slice_get old (entry_for place old) ≡ Some (Some n)
-      → new ≡ slice_set old (entry_for place old) (Some (record n { knowledge = readmitted n.knowledge }))
-  pub unknown : ((n : Neighbour) → slice_get old (entry_for place old) ≡ Some (Some n) → ⊥) → new ≡ old
+pub record Readmits (address : SocketAddr) (old new : Entries) : Type 0 where
+  pub known : (n : Neighbour) → slice_get old (entry_for address old) ≡ Some (Some n)
+      → new ≡ slice_set old (entry_for address old) (Some (record n { knowledge = readmitted n.knowledge }))
+  pub unknown : ((n : Neighbour) → slice_get old (entry_for address old) ≡ Some (Some n) → ⊥) → new ≡ old
 
 -- it was asked, and has not reported
 abbrev pub is_open : Knowledge → Bool
@@ -155,10 +155,10 @@ abbrev pub having_told : List ℕ → Origin → Knowledge
 having_told own told = if pointwise nat_eq told.genesis own then Same else Other told
 
 -- the node there was asked and has reported that origin; every other entry is unchanged
-pub record Learns (place : SocketAddr) (own : List ℕ) (told : Origin) (is : Neighbour)
+pub record Learns (address : SocketAddr) (own : List ℕ) (told : Origin) (is : Neighbour)
     (old new : Entries) : Type 0 where
   pub neighbour : Neighbour
-  pub entry : slice_get old (entry_for place old) ≡ Some (Some neighbour)
+  pub entry : slice_get old (entry_for address old) ≡ Some (Some neighbour)
   pub asked : is_open neighbour.knowledge ≡ true
   pub learned : is ≡ record neighbour { knowledge = having_told own told }
-  pub becomes : new ≡ slice_set old (entry_for place old) (Some is)
+  pub becomes : new ≡ slice_set old (entry_for address old) (Some is)

@@ -1,7 +1,7 @@
 -- The probe by which a node asks for the genesis of another one, and what it keeps of the report.
 use Rattle.std.specs.Prelude.{◌≡◌, ℕ, List, Option, Some, None}
 use Rattle.std.specs.declared.net.socket_addr.SocketAddr.{SocketAddr}
-use Rattle.lk_probe.specs.Grammar.{SpellsReport, Answers}
+use Rattle.lk_probe.specs.Grammar.{SpellsReport, IsReportFor}
 use Rattle.lk_probe.specs.declared.neighbours.Origin.{Origin}
 use Rattle.lk_probe.specs.declared.probe.Probe.{Probe}
 use Rattle.lk_probe.specs.declared.probe.Report.{Report}
@@ -13,7 +13,7 @@ question cluster asker = record { cluster = cluster; origin = Some asker; client
 
 -- what is kept of a datagram that was received from there: what a report names, if it answers the probe
 abbrev pub IsReportedOf : Probe → SocketAddr × List ℕ → Option Reported → Type 0
-IsReportedOf p d None = (r : Report) → SpellsReport r d.1 → Answers p r → ⊥
+IsReportedOf p d None = (r : Report) → SpellsReport r d.1 → IsReportFor p r → ⊥
 IsReportedOf p d (Some t) =
-    (r : Report) × SpellsReport r d.1 × Answers p r × (t.from ≡ d.0)
+    (r : Report) × SpellsReport r d.1 × IsReportFor p r × (t.from ≡ d.0)
     × (t.told ≡ record { node = r.node; genesis = r.status.identity.genesis })

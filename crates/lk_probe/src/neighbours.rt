@@ -3,7 +3,8 @@
 ghost use Rattle.std.specs.Prelude.{◌≡◌, ◌≤◌, ◌<◌, true, false, Some, length, is_some, slice_get, IfSome, IsNone};
 ghost use Rattle.std.specs.List.{list_any};
 ghost use Rattle.std.specs.declared.net.socket_addr.SocketAddr.{SocketAddr as Address};
-ghost use Rattle.lk_probe.specs.Neighbours.{Asks, Learns, Meets, Readmits, bound_at, bound_by, bound_in, entry_for};
+ghost use Rattle.lk_probe.specs.Neighbours.{ProbesNeighbour, Learns, Meets, Readmits, bound_at};
+ghost use Rattle.lk_probe.specs.Neighbours.{bound_by, bound_in, entry_for};
 ghost use Rattle.lk_probe.specs.Neighbours.{having_asked, having_met, having_told, is_due, is_due_at, is_for, is_open};
 ghost use Rattle.lk_probe.specs.Neighbours.{is_open_at, is_stranger, other_of, is_stranger_at, readmitted};
 
@@ -40,7 +41,7 @@ pub enum Knowledge {
 /// An address from which a node writes.
 #[derive(Clone, Copy)]
 pub struct Neighbour {
-    pub place: SocketAddr,
+    pub address: SocketAddr,
     pub knowledge: Knowledge,
     /// Whether it has sent a Prepare, an Accept, a Lead or a Decided: messages by which this node follows the sender.
     pub binds: bool,
@@ -123,22 +124,22 @@ impl Knowledge {
 }
 
 // Whether an entry is that of an address, or free.
-fn is_for(place: SocketAddr, entry: &Option<Neighbour>) -> bool
-    ensures { result ≡ is_for place entry.now }
+fn is_for(address: SocketAddr, entry: &Option<Neighbour>) -> bool
+    ensures { result ≡ is_for address entry.now }
 {
     match entry {
         None => true,
-        Some(neighbour) => neighbour.place == place,
+        Some(neighbour) => neighbour.address == address,
     }
 }
 
 // Returns an entry after a node has written from its address. `binds` stays set once it was.
-fn having_met(place: SocketAddr, binds: bool, entry: Option<Neighbour>) -> Neighbour
-    ensures { result ≡ having_met place binds entry }
+fn having_met(address: SocketAddr, binds: bool, entry: Option<Neighbour>) -> Neighbour
+    ensures { result ≡ having_met address binds entry }
 {
     match entry {
         None => Neighbour {
-            place,
+            address,
             knowledge: Knowledge::Unknown,
             binds,
         },
@@ -150,11 +151,11 @@ fn having_met(place: SocketAddr, binds: bool, entry: Option<Neighbour>) -> Neigh
 }
 
 // Returns the node of another genesis of an entry, if the entry is that of the address.
-fn stranger_at(place: SocketAddr, entry: &Option<Neighbour>) -> Option<NodeNo>
-    ensures { is_some result ≡ is_stranger_at place entry.now }
+fn stranger_at(address: SocketAddr, entry: &Option<Neighbour>) -> Option<NodeNo>
+    ensures { is_some result ≡ is_stranger_at address entry.now }
 {
     match entry {
-        Some(neighbour) if neighbour.place == place => Some(neighbour.as_stranger()?.node),
+        Some(neighbour) if neighbour.address == address => Some(neighbour.as_stranger()?.node),
         _ => None,
     }
 }
@@ -198,13 +199,13 @@ fn bound_in(entries: &[Option<Neighbour>]) -> Option<Origin>
 }
 
 // Returns the index of an address' entry, or else of the first free one, or else the number of entries.
-fn entry_for(place: SocketAddr, entries: &[Option<Neighbour>]) -> usize
-    ensures is { result ≡ entry_for place entries.now }
+fn entry_for(address: SocketAddr, entries: &[Option<Neighbour>]) -> usize
+    ensures is { result ≡ entry_for address entries.now }
     ensures within { result ≤ length entries.now }
 {
     let mut at = 0;
     for entry in entries {
-        if is_for(place, entry) {
+        if is_for(address, entry) {
             return at;
         }
         at += 1;
@@ -231,11 +232,11 @@ fn first_due(now: u64, entries: &[Option<Neighbour>]) -> Option<(usize, Neighbou
 
 // Returns the node of another genesis at an address, by the entries.
 #[tactic(auto, unfolding(crate::specs::Neighbours::is_stranger))]
-fn stranger_in(place: SocketAddr, entries: &[Option<Neighbour>]) -> Option<NodeNo>
-    ensures { is_some result ≡ is_stranger entries.now place }
+fn stranger_in(address: SocketAddr, entries: &[Option<Neighbour>]) -> Option<NodeNo>
+    ensures { is_some result ≡ is_stranger entries.now address }
 {
     for entry in entries {
-        if let Some(node) = stranger_at(place, entry) {
+        if let Some(node) = stranger_at(address, entry) {
             return Some(node);
         }
     }
@@ -246,7 +247,7 @@ impl Neighbours {
     /// Returns an empty table.
     #[tactic(auto, unfolding(crate::specs::Neighbours::is_stranger))]
     pub fn new() -> Neighbours
-        ensures { (place : Address) → is_stranger result place ≡ false }
+        ensures { (address : Address) → is_stranger result address ≡ false }
     {
         Neighbours {
             entries: [None; ROOM],
@@ -255,13 +256,13 @@ impl Neighbours {
 
     /// Records that a node has written from an address, and whether this node follows it by that. Ignores the address
     /// if it is new and the table is full.
-    pub fn meet(&mut self, place: SocketAddr, binds: bool)
-        ensures meets { Meets place binds self.old self.new }
+    pub fn meet(&mut self, address: SocketAddr, binds: bool)
+        ensures meets { Meets address binds self.old self.new }
         ensures strangers { is_stranger self.new ≡ is_stranger self.old }
     {
-        let at = entry_for(place, &self.entries);
+        let at = entry_for(address, &self.entries);
         if at < ROOM {
-            self.entries[at] = Some(having_met(place, binds, self.entries[at]));
+            self.entries[at] = Some(having_met(address, binds, self.entries[at]));
         }
     }
 
@@ -269,7 +270,7 @@ impl Neighbours {
     /// due.
     #[tactic(auto, using(crate::proofs::Strangers::asked_strangers))]
     pub fn next_to_probe(&mut self, now: u64) -> Option<SocketAddr>
-        ensures some { IfSome result (λ place. Asks now place self.old self.new) }
+        ensures some { IfSome result (λ address. ProbesNeighbour now address self.old self.new) }
         ensures none { IsNone result → (list_any (is_due_at now) self.old ≡ false) × (self.new ≡ self.old) }
         ensures strangers { is_stranger self.new ≡ is_stranger self.old }
     {
@@ -280,15 +281,15 @@ impl Neighbours {
             knowledge: neighbour.knowledge.having_asked(now),
             ..neighbour
         });
-        Some(neighbour.place)
+        Some(neighbour.address)
     }
 
     /// Records that a node of this genesis has asked from an address. If another genesis was known there, it is
     /// forgotten, so that the address is probed again.
-    pub fn readmit(&mut self, place: SocketAddr)
-        ensures { Readmits place self.old self.new }
+    pub fn readmit(&mut self, address: SocketAddr)
+        ensures { Readmits address self.old self.new }
     {
-        let at = entry_for(place, &self.entries);
+        let at = entry_for(address, &self.entries);
         if at >= ROOM {
             return;
         }
@@ -304,15 +305,15 @@ impl Neighbours {
     /// if it was not asked, or has answered before.
     pub fn learn(
         &mut self,
-        place: SocketAddr,
+        address: SocketAddr,
         own: &[u8; DIGEST],
         told: Origin,
     ) -> Option<Neighbour>
-        ensures some { IfSome result (λ n. Learns place own.now told n self.old self.new) }
+        ensures some { IfSome result (λ n. Learns address own.now told n self.old self.new) }
         ensures none { IsNone result
-            → (is_open_at (slice_get self.old (entry_for place self.old)) ≡ false) × (self.new ≡ self.old) }
+            → (is_open_at (slice_get self.old (entry_for address self.old)) ≡ false) × (self.new ≡ self.old) }
     {
-        let at = entry_for(place, &self.entries);
+        let at = entry_for(address, &self.entries);
         if at >= ROOM {
             return None;
         }
@@ -330,10 +331,10 @@ impl Neighbours {
     }
 
     /// Returns the node of another genesis at that address, if there is one.
-    pub fn stranger(&self, place: SocketAddr) -> Option<NodeNo>
-        ensures { is_some result ≡ is_stranger self.now place }
+    pub fn stranger(&self, address: SocketAddr) -> Option<NodeNo>
+        ensures { is_some result ≡ is_stranger self.now address }
     {
-        stranger_in(place, &self.entries)
+        stranger_in(address, &self.entries)
     }
 
     /// Returns the first node of another genesis that this node follows, if there is one.

@@ -1,7 +1,7 @@
 // Probes and reports as values, and which report answers which probe.
 ghost use Rattle.std.specs.Prelude.{◌≡◌, ◌↔◌, IsTrue, IfSome};
 ghost use Rattle.lk_types.specs.Ranges.{IsClient};
-ghost use Rattle.lk_probe.specs.Grammar.{IsOrigin, IsProbe, IsReport, Answers, SpellsProbe, SpellsReport, node_in};
+ghost use Rattle.lk_probe.specs.Grammar.{IsOrigin, IsProbe, IsReport, IsReportFor, SpellsProbe, SpellsReport, node_in};
 
 use crate::neighbours::Origin;
 use crate::status::{LENGTH, Status};
@@ -91,8 +91,8 @@ impl Probe {
     }
 
     /// Returns the report that answers this probe: with its cluster, client and token, and that node and status.
-    pub fn answer(&self, node: NodeNo, status: Status) -> Report
-        ensures answers { Answers self.now result }
+    pub fn report(&self, node: NodeNo, status: Status) -> Report
+        ensures is_for { IsReportFor self.now result }
         ensures node { result.node ≡ node }
         ensures status { result.status ≡ status }
     {
@@ -127,8 +127,8 @@ impl Report {
     }
 
     /// Whether it answers that probe: cluster, client and token are the same.
-    pub fn answers(&self, probe: &Probe) -> bool
-        ensures { IsTrue result ↔ Answers probe.now self.now }
+    pub fn is_for(&self, probe: &Probe) -> bool
+        ensures { IsTrue result ↔ IsReportFor probe.now self.now }
     {
         self.cluster == probe.cluster && self.client == probe.client && self.token == probe.token
     }

@@ -33,7 +33,7 @@ impl Reported {
         ensures { IsReportedOf probe.now (from, datagram.now) result }
     {
         let report = Report::read(datagram)?;
-        if !report.answers(probe) {
+        if !report.is_for(probe) {
             return None;
         }
         let told = Origin {

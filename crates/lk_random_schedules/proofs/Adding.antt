@@ -4,15 +4,15 @@ use Rattle.std.proofs.Common.{ℕ, List, [], ◌∷◌, ◌++◌}
 use Rattle.std.proofs.Math.Seq.{take-append_seam}
 use Rattle.lk_replica.specs.Behaviours.{Behaviour}
 use Rattle.lk_script_lines.specs.EventLines.{line_of, lines_for}
-use Rattle.lk_sim.specs.Runs.{Passes}
+use Rattle.lk_sim.specs.Runs.{AreExecuted}
 use Rattle.lk_sim.specs.Scenes.{Scene}
 use Rattle.lk_sim.specs.declared.event.Event.{Event}
 use Rattle.lk_random_schedules.specs.Transcripts.{kept_lines, Adds, AddsSome}
 use Rattle.lk_random_schedules.specs.declared.transcript.Transcript.{Transcript}
 
-passes_on : {R : Type 0} (b : Behaviour R) (es fs : List Event) (old mid new : Scene R) → Passes b es old mid
-    → Passes b fs mid new → Passes b (es ++ fs) old new
-passes_on b [] fs old mid new p q = subst (λ w. Passes b fs w new) p q
+passes_on : {R : Type 0} (b : Behaviour R) (es fs : List Event) (old mid new : Scene R) → AreExecuted b es old mid
+    → AreExecuted b fs mid new → AreExecuted b (es ++ fs) old new
+passes_on b [] fs old mid new p q = subst (λ w. AreExecuted b fs w new) p q
 passes_on b (e ∷ es) fs old mid new p q = (p.0, p.1, passes_on b es fs p.0 mid new p.2 q)
 
 lines_on : (kept : Bool) (es fs : List Event) → kept_lines kept (es ++ fs) ≡ kept_lines kept es ++ kept_lines kept fs

@@ -5,7 +5,7 @@ use Rattle.lk_node_interface.specs.declared.note.Note.{Note}
 use Rattle.lk_node_interface.specs.declared.note.Note.TheVariants.{Ran}
 use Rattle.lk_replica.specs.Behaviours.{Behaviour}
 use Rattle.lk_script_lines.specs.EventLines.{lines_for}
-use Rattle.lk_sim.specs.Runs.{Passes}
+use Rattle.lk_sim.specs.Runs.{AreExecuted}
 use Rattle.lk_sim.specs.Scenes.{Scene}
 use Rattle.lk_sim.specs.declared.event.Event.{Event}
 use Rattle.lk_random_schedules.specs.Schedules.{IsNew, Fuzzes}
@@ -54,5 +54,5 @@ pub record IsScript {R : Type 0} (b : Behaviour R) (plan : Plan) (text : List â„
   pub ended : Scene R
   pub run : IsRun b plan begun ended
   pub events : List Event
-  pub passes : Passes b events begun ended
+  pub passes : AreExecuted b events begun ended
   pub lines : text â‰¡ world_line ++ lines_for events

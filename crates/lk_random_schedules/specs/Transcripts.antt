@@ -2,7 +2,7 @@
 use Rattle.std.specs.Prelude.{◌≡◌, ℕ, Bool, true, false, List, [], ◌++◌}
 use Rattle.lk_replica.specs.Behaviours.{Behaviour}
 use Rattle.lk_script_lines.specs.EventLines.{lines_for}
-use Rattle.lk_sim.specs.Runs.{Passes}
+use Rattle.lk_sim.specs.Runs.{AreExecuted}
 use Rattle.lk_sim.specs.Scenes.{Scene}
 use Rattle.lk_sim.specs.declared.event.Event.{Event}
 use Rattle.lk_random_schedules.specs.declared.transcript.Transcript.{Transcript}
@@ -15,7 +15,8 @@ kept_lines true events = lines_for events
 -- these events happened, one after another, and their lines were added
 abbrev pub Adds : {R : Type 0} → Behaviour R → List Event → Scene R → Transcript → Scene R → Transcript → Type 0
 Adds b events old t new u =
-    Passes b events old new × (u.is_kept ≡ t.is_kept) × (u.text.items ≡ t.text.items ++ kept_lines t.is_kept events)
+    AreExecuted b events old new × (u.is_kept ≡ t.is_kept)
+    × (u.text.items ≡ t.text.items ++ kept_lines t.is_kept events)
 
 -- some events happened, and their lines were added
 abbrev pub AddsSome : {R : Type 0} → Behaviour R → Scene R → Transcript → Scene R → Transcript → Type 0

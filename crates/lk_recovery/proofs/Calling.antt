@@ -1,7 +1,7 @@
 -- Which calls of a device are made.
 use Rattle.std.proofs.Common.{ℕ, ◌+◌, ◌==◌, ◌≡◌, Bool, true, false, Result, Ok, Err, IsErrAnd, IfErr, MatchBool}
 use Rattle.std.proofs.Common.{MatchResult, sym, subst}
-use Rattle.lk_disk.specs.Meters.{Passes, Breaks}
+use Rattle.lk_disk.specs.Meters.{CallsSucceed, Breaks}
 use Rattle.lk_disk.specs.declared.meter.Meter.{Meter}
 use Rattle.lk_disk.proofs.Devices.{passes_on, breaks_on}
 use Rattle.lk_log.specs.Causes.{IsRefusedBy}
@@ -33,12 +33,12 @@ refused_after m n store.Device by = by
 refused_after m n store.NoMemory by = by
 refused_after m n store.Failed by = by
 
-after_some : {l m : Meter} (j : ℕ) → Passes l m j → (n : Meter) (b : Bool)
-    → MatchBool b (Breaks m n) ((k : ℕ) × Passes m n k) → MatchBool b (Breaks l n) ((k : ℕ) × Passes l n k)
+after_some : {l m : Meter} (j : ℕ) → CallsSucceed l m j → (n : Meter) (b : Bool)
+    → MatchBool b (Breaks m n) ((k : ℕ) × CallsSucceed m n k) → MatchBool b (Breaks l n) ((k : ℕ) × CallsSucceed l n k)
 after_some j before n true by = breaks_on j before by
 after_some j before n false by = (j + by.0, passes_on j before by.0 by.1)
 
 -- a refusal after calls that passed
-pub refused_on : {l m : Meter} (j : ℕ) → Passes l m j → (n : Meter) (number : ℕ) → RefusedAfter number m n
+pub refused_on : {l m : Meter} (j : ℕ) → CallsSucceed l m j → (n : Meter) (number : ℕ) → RefusedAfter number m n
     → RefusedAfter number l n
 refused_on j before n number by = after_some j before n (number == 7) by

@@ -9,7 +9,7 @@ use Rattle.lk_types.proofs.Values.{below_by_test}
 use Rattle.lk_messages.specs.declared.message.NodeMessage.{NodeMessage}
 use Rattle.lk_messages.specs.declared.message.NodeMessage.TheVariants as kinds
 use Rattle.lk_disk.specs.Disk.{Disk, contents}
-use Rattle.lk_disk.specs.Meters.{Passes}
+use Rattle.lk_disk.specs.Meters.{CallsSucceed}
 use Rattle.lk_disk.proofs.Devices.{passes_on}
 use Rattle.lk_store_format.specs.Standings.{greater, greatest_of, ballot_of, of_base, HasHeader, StandsFor}
 use Rattle.lk_store_format.specs.Entries.{plain}
@@ -434,7 +434,7 @@ module _ (m : Meaning) (node : NodeValue) (old new : StoreValue)
   pub files_switched : (Metered : Type 0) → (new.generation ≡ old.generation + 1)
       → ((ks ls : List Stored) → HoldsEntries old ks ls
       → HoldsEntries new (Base (next_base old (standing_of node)) ∷ []) [])
-      → (Metered → Passes old.meter new.meter rebase_calls) → length (contents new.live_disk) ≤ 49152
+      → (Metered → CallsSucceed old.meter new.meter rebase_calls) → length (contents new.live_disk) ≤ 49152
       → HasSwitchedFiles m Metered node old (with_snapshot node) new
   files_switched Metered further writes calls short = record {
     rebases = record { becomes = refl; generation = further; writes = writes };
@@ -473,7 +473,7 @@ leaves_safe m node old new safe = record {
 -- ---- one that is made where it is due, once the store was asked how long its live file is
 
 module _ (m : Meaning) (node : NodeValue) (old mid : StoreValue) (same : IsSameStore old mid) where
-  pub ready_as_was : (Metered : Type 0) → (IsDue node old → ⊥) → (Metered → Passes old.meter mid.meter 0)
+  pub ready_as_was : (Metered : Type 0) → (IsDue node old → ⊥) → (Metered → CallsSucceed old.meter mid.meter 0)
       → length (contents mid.live_disk) < 131072 → IsReadyToStep m Metered node old node mid
   ready_as_was Metered none calls short = record {
     rebases = record { due = λ due. absurd (none due); rests = λ other. (refl, same) };
@@ -501,7 +501,7 @@ module _ (m : Meaning) (node : NodeValue) (old mid : StoreValue) (same : IsSameS
   }
 
   pub ready_by_rebase : (Metered : Type 0) (new : NodeValue) (after : StoreValue) → IsDue node old
-      → (Metered → Passes old.meter mid.meter 0) → HasSwitchedFiles m Metered node mid new after
+      → (Metered → CallsSucceed old.meter mid.meter 0) → HasSwitchedFiles m Metered node mid new after
       → StaysSafe m node mid after → IsReadyToStep m Metered node old new after
   ready_by_rebase Metered new after due calls done safe = record {
     rebases = record {

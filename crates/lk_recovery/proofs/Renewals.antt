@@ -5,7 +5,7 @@ use Rattle.std.specs.List.{AllByRecursion}
 use Rattle.std.proofs.lemmas.Bool.{cases_lt, ne_eqb}
 use Rattle.lk_types.specs.Limits.{max_count}
 use Rattle.lk_disk.specs.Disk.{Disk, other}
-use Rattle.lk_disk.specs.Meters.{Passes}
+use Rattle.lk_disk.specs.Meters.{CallsSucceed}
 use Rattle.lk_disk.specs.declared.device.Side.{Side}
 use Rattle.lk_disk.specs.declared.meter.Meter.{Meter}
 use Rattle.lk_disk.proofs.Devices.{passes_on}
@@ -150,7 +150,7 @@ module _ (before : Image) (whose : HeaderValue) (zero' : List ℕ) (store : Stor
 
 pub revival_calls : (d : Side → Disk) (l m n : Meter) (whose : HeaderValue) (zero' : List ℕ) (store : StoreValue)
     (s : StandingValue) → Opens (seen d) whose zero' store s
-    → CallsOfOpening d l m → Passes m n (renew_calls store.format) → CallsOfRevival d l n
+    → CallsOfOpening d l m → CallsSucceed m n (renew_calls store.format) → CallsOfRevival d l n
 revival_calls d l m n whose zero' store s o c more = (
   c.0,
   renew_calls store.format,

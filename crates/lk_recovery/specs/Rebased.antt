@@ -3,7 +3,7 @@ use Rattle.std.specs.Prelude.{◌≡◌, ℕ, ◌+◌, ◌<◌, ◌≤◌, false
 use Rattle.lk_types.specs.Limits.{max_base, max_count}
 use Rattle.lk_disk.specs.Disk.{Disk, contents}
 use Rattle.lk_disk.specs.declared.device.Side.{Side}
-use Rattle.lk_disk.specs.Meters.{Passes}
+use Rattle.lk_disk.specs.Meters.{CallsSucceed}
 use Rattle.lk_log.specs.Causes.{rebase_calls}
 use Rattle.lk_log.specs.Rooms.{StaysWithin}
 use Rattle.lk_log.specs.StoreValue.{StoreValue, disks}
@@ -46,7 +46,7 @@ pub record StandsOnBase (node : NodeValue) (store : StoreValue) (new : NodeValue
 pub record HasSwitchedFiles (m : Meaning) (Metered : Type 0) (node : NodeValue) (store : StoreValue) (new : NodeValue)
     (after : StoreValue) : Type 0 where
   pub rebases : Rebases node store new after
-  pub calls : Metered → Passes store.meter after.meter rebase_calls
+  pub calls : Metered → CallsSucceed store.meter after.meter rebase_calls
   pub short : length (contents after.live_disk) ≤ max_base
   pub goes : (h : History) (n : ℕ) → NodeFits m h n (ReplicaHolds m node store h.genesis n) (disks store)
       → LeavesFit m h n (ReplicaHolds m new after h.genesis n) (disks after) [] []
@@ -100,7 +100,7 @@ pub record StaysAlive (node : NodeValue) (store : StoreValue) (new : NodeValue) 
 pub record IsReadyToStep (m : Meaning) (Metered : Type 0) (node : NodeValue) (store : StoreValue) (new : NodeValue)
     (after : StoreValue) : Type 0 where
   pub rebases : RebasesWhereDue node store new after
-  pub calls : Metered → (k : ℕ) × CallsWhereDue node store k × Passes store.meter after.meter k
+  pub calls : Metered → (k : ℕ) × CallsWhereDue node store k × CallsSucceed store.meter after.meter k
   pub short : length (contents after.live_disk) < 131072
   pub fits : (h : History) (n : ℕ) → NodeFits m h n (ReplicaHolds m node store h.genesis n) (disks store)
       → NodeFits m h n (ReplicaHolds m new after h.genesis n) (disks after)
@@ -114,10 +114,10 @@ pub record IsReadyToStep (m : Meaning) (Metered : Type 0) (node : NodeValue) (st
 -- what a call leaves on the disks, however it ends: if the history has the call's input, each image that a stop may
 -- leave fits the earlier history; each covers what every image covered; and neither file has grown, except up to this
 -- many bytes, nor by more than a step except by a Base
-pub record LeavesDisks (m : Meaning) (Hears : History → Type 0) (most : ℕ) (node : NodeValue) (store : StoreValue)
+pub record LeavesDisks (m : Meaning) (Heard : History → Type 0) (most : ℕ) (node : NodeValue) (store : StoreValue)
     (after : Side → Disk) : Type 0 where
   pub ends : (h : History) (n : ℕ) → NodeFits m h n (ReplicaHolds m node store h.genesis n) (disks store)
-      → Hears h → DisksFit m h n after
+      → Heard h → DisksFit m h n after
   pub covers : (genesis : Genesis) (n : ℕ) (x : NodeMessage) → ReplicaRemembers node store genesis n
       → AllCover m genesis n (disks store) x → AllCover m genesis n after x
   pub room : StaysWithin most (disks store) after

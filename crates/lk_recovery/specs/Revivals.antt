@@ -4,7 +4,7 @@ use Rattle.std.specs.Prelude.{Contains}
 use Rattle.lk_types.specs.Limits.{max_count}
 use Rattle.lk_types.specs.declared.vote.Vote.{Vote}
 use Rattle.lk_disk.specs.Disk.{Disk}
-use Rattle.lk_disk.specs.Meters.{Passes}
+use Rattle.lk_disk.specs.Meters.{CallsSucceed}
 use Rattle.lk_disk.specs.declared.device.Side.{Side}
 use Rattle.lk_disk.specs.declared.meter.Meter.{Meter}
 use Rattle.lk_store_format.specs.Formats.{format}
@@ -125,11 +125,11 @@ pub record RenewsBy (image : Image) (k : ℕ) : Type 0 where
 
 -- the changing calls of a metered device in which a store was opened
 abbrev pub CallsOfOpening : (Side → Disk) → Meter → Meter → Type 0
-CallsOfOpening disks m n = (k : ℕ) × OpensBy (seen disks) k × Passes m n k
+CallsOfOpening disks m n = (k : ℕ) × OpensBy (seen disks) k × CallsSucceed m n k
 
 -- the same, and it was converted to format 2 if it had format 1
 abbrev pub CallsOfRevival : (Side → Disk) → Meter → Meter → Type 0
-CallsOfRevival disks m n = (k j : ℕ) × OpensBy (seen disks) k × RenewsBy (seen disks) j × Passes m n (k + j)
+CallsOfRevival disks m n = (k j : ℕ) × OpensBy (seen disks) k × RenewsBy (seen disks) j × CallsSucceed m n (k + j)
 
 -- each image of the new disks has the verdict and the entries of an image of the old ones, or is a new store if there
 -- was none, or, if the file had format 1, has its entries or the Base of format 2 of the next generation alone

@@ -11,7 +11,7 @@ ghost use Rattle.lk_node.specs.Reaching.{HoldsNear};
 ghost use Rattle.lk_recovery.specs.Compacting.{IsDue, IsSameStore};
 ghost use Rattle.lk_recovery.specs.Rebased.{StandsOnBase, HasSwitchedFiles, StaysSafe, IsNotRebased, StaysAlive};
 ghost use Rattle.lk_recovery.specs.Rebased.{IsReadyToStep, LeavesDisks};
-ghost use Rattle.lk_node_interface.specs.Faults.{fault_number, RaisesFailures, PassesOr, WantsNoMemory};
+ghost use Rattle.lk_node_interface.specs.Faults.{fault_number, RaisesFailures, SucceedsOr, WantsNoMemory};
 
 use lk_disk::LogDisk;
 use lk_log::Store;
@@ -35,11 +35,11 @@ pub fn write_base<M: Machine, D: LogDisk + Drop>(
     // file has grown, except up to the size of a Base.
     ensures disks { D.is_honest → StaysSafe M.meaning node.old store.old store.new }
     // However it ends, every image has what it had before, or the Base alone.
-    ensures any { D.is_honest → (ks ls : List Stored) → HoldsEntries store.old ks ls
+    ensures every_image { D.is_honest → (ks ls : List Stored) → HoldsEntries store.old ks ls
         → KeepsOrIs (disks store.new) ks ls (next_base store.old (standing_of node.old)) }
     // What the node holds above what it has executed lies near.
     ensures near { HoldsNear node.old }
-    ensures wakes { node.new.halted ≡ node.old.halted }
+    ensures halted { node.new.halted ≡ node.old.halted }
     ensures format_stays { store.old.format ≡ 2 → store.new.format ≡ 2 }
     // An error leaves the node unchanged, and the same file live.
     ensures refused { IfErr result (IsNotRebased D.is_honest D.is_metered node.old store.old node.new store.new) }
@@ -70,7 +70,7 @@ pub fn is_rebase_due<M: Machine, D: LogDisk + Drop>(
     ensures memory { IfErr result (λ e. WantsNoMemory (fault_number e)) }
     ensures failed_before { store.old.failed ≡ false → IsErrOf result ReplicaFault.Failed → ⊥ }
     ensures cause { RaisesFailures store.old.failures store.new.failures result }
-    ensures metered { D.is_metered → PassesOr store.old.meter store.new.meter 0 result }
+    ensures metered { D.is_metered → SucceedsOr store.old.meter store.new.meter 0 result }
     ensures small { D.is_honest → IfOk result (λ due. due ≡ false → length (contents store.new.live_disk) < 131072) }
 {
     let length = store.live_length()?;
@@ -87,7 +87,7 @@ pub fn rebase_if_due<M: Machine, D: LogDisk + Drop>(
     ensures alive { OnOk result (StaysAlive node.old store.old node.new store.new) }
     // What is on the disks, however it ends: neither file has grown, except up to the size of a Base.
     ensures disks { D.is_honest → LeavesDisks M.meaning (λ h. ⊤) max_base node.old store.old (disks store.new) }
-    ensures wakes { node.new.halted ≡ node.old.halted }
+    ensures halted { node.new.halted ≡ node.old.halted }
     ensures format_stays { store.old.format ≡ 2 → store.new.format ≡ 2 }
     ensures refused { IfErr result (IsNotRebased D.is_honest D.is_metered node.old store.old node.new store.new) }
     // If a rebase is due at generation 2^48, it fails with `Failed`, even if it is out of memory, or with `Device` if

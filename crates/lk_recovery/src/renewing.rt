@@ -6,7 +6,7 @@ ghost use Rattle.lk_log.specs.StoreValue.{disks};
 ghost use Rattle.lk_log.specs.Stores.{HoldsEntries, KeepsOrIs, next_base};
 ghost use Rattle.lk_node.specs.Packing.{standing_of};
 ghost use Rattle.lk_recovery.specs.Compacting.{renew_calls};
-ghost use Rattle.lk_node_interface.specs.Faults.{fault_number, RaisesFailures, PassesOr};
+ghost use Rattle.lk_node_interface.specs.Faults.{fault_number, RaisesFailures, SucceedsOr};
 ghost use Rattle.lk_recovery.specs.Rebased.{StaysSafe};
 ghost use Rattle.lk_recovery.specs.Renewals.{IsRenewed, HasFormatTwo, IsNotRenewed};
 
@@ -28,7 +28,7 @@ pub fn renew<M: Machine, D: LogDisk + Drop>(
     // However it ends, every image that a stop may leave fits and covers what every image covered before, and neither
     // file has grown, except up to the size of a Base.
     ensures safe { D.is_honest → StaysSafe M.meaning node.old store.old store.new }
-    ensures wakes { node.new.halted ≡ node.old.halted }
+    ensures halted { node.new.halted ≡ node.old.halted }
     // After an error every image has what it had before, or the Base alone.
     ensures left { D.is_honest → (ks ls : List Stored) → HoldsEntries store.old ks ls
         → OnErr result (KeepsOrIs (disks store.new) ks ls (next_base store.old (standing_of node.old))) }
@@ -38,7 +38,7 @@ pub fn renew<M: Machine, D: LogDisk + Drop>(
         → (store.new ≡ store.old) × IsErrOf result ReplicaFault.Failed }
     ensures cause { RaisesFailures store.old.failures store.new.failures result }
     ensures metered { D.is_metered → D.is_honest
-        → PassesOr store.old.meter store.new.meter (renew_calls store.old.format) result }
+        → SucceedsOr store.old.meter store.new.meter (renew_calls store.old.format) result }
 {
     if store.format() == 2 {
         return Ok(());

@@ -31,29 +31,30 @@ use Rattle.lk_node.specs.NodeValue.{NodeValue}
 use Rattle.lk_node.specs.Packing.{standing_of, with_snapshot}
 use Rattle.lk_node.specs.Reaching.{HoldsNear}
 use Rattle.lk_node.specs.Served.{IsOfNode, IsBorneOut}
-use Rattle.lk_node.specs.Serving.{IsLight, Tells, Serves, ActsSafely}
+use Rattle.lk_node.specs.Serving.{IsNeitherPromiseNorVote, IsCoveredLetter, Serves, ActsSafely}
 use Rattle.lk_replica.specs.Posts.{AreOf}
 use Rattle.lk_recovery.specs.Remembering.{ReplicaRemembers}
-use Rattle.lk_replica.proofs.Going.{said_covered, said_light, batch_covered, bound, serves}
+use Rattle.lk_replica.proofs.Going.{said_covered, said_neither, batch_covered, bound, serves}
 use Rattle.lk_recovery.proofs.Recoveries.{fit_disks, snapshot_covers, base_stands, here, rebase_stands, base_fits}
 use Rattle.lk_recovery.proofs.Recoveries.{here_fits}
 use Rattle.lk_replica.proofs.Thinning.{batch_among}
 
 -- all but promises and votes may still be sent
-light_may : (h : History) (w : PaxosState) (i : ℕ) (x : NodeMessage) → IsLight x → MaySend h.genesis h.sent w x
+neither_may : (h : History) (w : PaxosState) (i : ℕ) (x : NodeMessage) → IsNeitherPromiseNorVote x
+    → MaySend h.genesis h.sent w x
     → MaySend h.genesis h.sent (holding_acceptor w (without_votes_to w.acceptor i)) x
-light_may h w i (kinds.Prepare b first) light may = may
-light_may h w i (kinds.Promise p) light may = absurd light
-light_may h w i (kinds.Accept v) light may = may
-light_may h w i (kinds.Accepted v) light may = absurd light
-light_may h w i (kinds.Nack k) light may = may
-light_may h w i (kinds.Decided d) light may = may
-light_may h w i (kinds.Want k) light may = may
-light_may h w i (kinds.Part p) light may = may
-light_may h w i (kinds.Answer k) light may = may
-light_may h w i (kinds.Elsewhere k) light may = may
-light_may h w i (kinds.Passed p) light may = may
-light_may h w i (kinds.Lead b k) light may = may
+neither_may h w i (kinds.Prepare b first) neither may = may
+neither_may h w i (kinds.Promise p) neither may = absurd neither
+neither_may h w i (kinds.Accept v) neither may = may
+neither_may h w i (kinds.Accepted v) neither may = absurd neither
+neither_may h w i (kinds.Nack k) neither may = may
+neither_may h w i (kinds.Decided d) neither may = may
+neither_may h w i (kinds.Want k) neither may = may
+neither_may h w i (kinds.Part p) neither may = may
+neither_may h w i (kinds.Answer k) neither may = may
+neither_may h w i (kinds.Elsewhere k) neither may = may
+neither_may h w i (kinds.Passed p) neither may = may
+neither_may h w i (kinds.Lead b k) neither may = may
 
 -- The node stands on the store as it was before the step, since the step has left its acceptor and what is unsynced
 -- known.
@@ -61,9 +62,9 @@ module _ (m : Meaning) (h : History) (n : ℕ) (node : NodeValue) (old new : Sto
     (shown : HoldsBeforeRebase m node old h.genesis n x)
     (may : MayBegin (standing_of node)) (close : HoldsNear node) (lawful : IsLawful m h) (fits : HoldingFits m h n x)
     (out : OutboxValue) (tells : (l : LetterValue) → Contains out.letters l
-    → Tells node.header node.acceptor.state out.rebase l)
+    → IsCoveredLetter node.header node.acceptor.state out.rebase l)
     (goes : (d : Datagram) → Contains (batch_of n out.letters) d → MayGo m h n x.paxos d)
-    (light : (d : Datagram) (c : Contains (batch_of n out.letters) d) → IsLight (goes d c).message)
+    (neither : (d : Datagram) (c : Contains (batch_of n out.letters) d) → IsNeitherPromiseNorVote (goes d c).message)
     (noted : (k : Note) → Contains out.notes k → IsOfNode k × IsBorneOut m h k)
     (holds : HoldsEntries new (Base (next_base old (standing_of node)) ∷ []) [])
     (sent : List LetterValue) (among : AreOf sent out.letters) where
@@ -109,7 +110,7 @@ module _ (m : Meaning) (h : History) (n : ℕ) (node : NodeValue) (old new : Sto
           message = k.message;
           from = k.from;
           spelled = k.spelled;
-          may = light_may h x.paxos (executed node.learner) k.message (light d listed) k.may;
+          may = neither_may h x.paxos (executed node.learner) k.message (neither d listed) k.may;
           served = k.served;
         };
     noted = noted;
@@ -182,5 +183,5 @@ module _ (m : Meaning) (h : History) (n : ℕ) (node stepped : NodeValue) (old :
       rebased_goes m h n stepped old new served.holding stepped_fits.shown may close f.lawful
       served.fits out b.tells served.may
       (λ d c. let k = served.may d c in
-      said_light h.genesis n stepped out.rebase out.letters served.whose b.tells is k.message d c n k.spelled)
+      said_neither h.genesis n stepped out.rebase out.letters served.whose b.tells is k.message d c n k.spelled)
       served.noted holds sent among

@@ -2,7 +2,7 @@
 use Rattle.std.proofs.Common.{◌≡◌, ◌∙◌, ◌≤◌, false, Result, Ok, Err, OnOk, ap, inl, inr, arith}
 use Rattle.std.specs.Prelude.{⊤, IfErr, IsErrOf}
 use Rattle.lk_types.specs.Limits.{max_count}
-use Rattle.lk_disk.specs.Meters.{Passes}
+use Rattle.lk_disk.specs.Meters.{CallsSucceed}
 use Rattle.lk_log.specs.Causes.{rebase_calls}
 use Rattle.lk_learner.specs.Learners.{executed}
 use Rattle.lk_state.specs.Meanings.{Meaning}
@@ -74,7 +74,7 @@ told old new (Err e) why = why.of_store
 -- the calls of the device that it has made
 pub calls_ok : {T : Type 0} (m : Meaning) (old new : ReplicaValue) (r : Result T ReplicaFault)
     → OnOk r (HasSwitchedFiles m ⊤ old.node old.store new.node new.store)
-    → OnOk r (Passes old.store.meter new.store.meter rebase_calls)
+    → OnOk r (CallsSucceed old.store.meter new.store.meter rebase_calls)
 calls_ok m old new (Ok x) done = done.calls tt
 calls_ok m old new (Err e) done = tt
 

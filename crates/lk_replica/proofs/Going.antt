@@ -5,7 +5,7 @@ use Rattle.std.specs.List.{AllByRecursion}
 use Rattle.lk_types.specs.declared.entry.Entry.{Entry}
 use Rattle.lk_types.specs.declared.entry.Entry.TheVariants.{Promise, Vote, Decided}
 use Rattle.std.specs.Prelude.{if◌then◌else◌}
-use Rattle.lk_disk.specs.Meters.{Passes}
+use Rattle.lk_disk.specs.Meters.{CallsSucceed}
 use Rattle.lk_disk.specs.declared.meter.Meter.{Meter}
 use Rattle.lk_log.specs.Causes.{put_calls, rebase_calls}
 use Rattle.lk_replica.specs.Taking.{write_calls}
@@ -37,7 +37,7 @@ use Rattle.lk_node.specs.Leavings.{header_of, acceptor_of, paxos_of, DisksFit, A
 use Rattle.lk_replica.specs.Posts.{AreOf}
 use Rattle.lk_recovery.specs.Remembering.{ReplicaRemembers}
 use Rattle.lk_node.specs.NodeValue.{NodeValue}
-use Rattle.lk_node.specs.Serving.{IsLight, with_entries, Tells, Binds, Serves, ActsSafely}
+use Rattle.lk_node.specs.Serving.{IsNeitherPromiseNorVote, with_entries, IsCoveredLetter, Binds, Serves, ActsSafely}
 use Rattle.lk_recovery.proofs.Recoveries.{known_rests, held_fit, fit_disks, cover_disks, put_fits, put_covers}
 use Rattle.lk_node.proofs.Nodes.{take_contains, map_contains, letter_spelled, told_behind, told_synced}
 use Rattle.lk_replica.proofs.Standings.{entries_are, decided_leave, entries_behind}
@@ -121,7 +121,7 @@ letter_of n letters d c = map_contains (datagram_of n) letters d c
 
 module _ (genesis : Genesis) (n : ℕ) (new : NodeValue) (rebase : Bool) (letters : List LetterValue)
     (is : new.header ≡ header_of genesis n)
-    (tells : (l : LetterValue) → Contains letters l → Tells new.header new.acceptor.state rebase l) where
+    (tells : (l : LetterValue) → Contains letters l → IsCoveredLetter new.header new.acceptor.state rebase l) where
   -- what a datagram of the batch says, a letter tells
   letter_says : (x : NodeMessage) (d : Datagram) → Contains (batch_of n letters) d → (k : ℕ)
       → Spells (said_by genesis k x) d.bytes → (l : LetterValue) × (c : Contains letters l) × ((tells l c).message ≡ x)
@@ -141,11 +141,11 @@ module _ (genesis : Genesis) (n : ℕ) (new : NodeValue) (rebase : Bool) (letter
   said_covered x d c k said = let l = letter_says x d c k said in
       subst (Covers new.acceptor.state) l.2 (tells l.0 l.1).covers
 
-  -- and it is light where the step rebases
-  pub said_light : rebase ≡ true → (x : NodeMessage) (d : Datagram) → Contains (batch_of n letters) d → (k : ℕ)
-      → Spells (said_by genesis k x) d.bytes → IsLight x
-  said_light rebases x d c k said = let l = letter_says x d c k said in
-      subst IsLight l.2 ((tells l.0 l.1).light rebases)
+  -- and it is neither a promise nor a vote where the step rebases
+  pub said_neither : rebase ≡ true → (x : NodeMessage) (d : Datagram) → Contains (batch_of n letters) d → (k : ℕ)
+      → Spells (said_by genesis k x) d.bytes → IsNeitherPromiseNorVote x
+  said_neither rebases x d c k said = let l = letter_says x d c k said in
+      subst IsNeitherPromiseNorVote l.2 ((tells l.0 l.1).rebased rebases)
 
   pub batch_covered : (k : ℕ) → CoversSent genesis (take k (batch_of n letters)) n new.acceptor.state
   batch_covered k x sent =
@@ -211,7 +211,7 @@ module _ (m : Meaning) (h : History) (n : ℕ) (node new : NodeValue) (old store
   -- these letters of it are sent
   module _ (k : KeepsToo (header_of h.genesis n) store new.acceptor.state f.shown.keeps.standing unsynced out.entries
       out.sync) (left : DisksFit m h n (disks store)) (sent : List LetterValue) (among : AreOf sent out.letters) where
-    tells : (l : LetterValue) → Contains sent l → Tells new.header new.acceptor.state out.rebase l
+    tells : (l : LetterValue) → Contains sent l → IsCoveredLetter new.header new.acceptor.state out.rebase l
     tells l c = (bound m (λ k. InputFits k i) node new out g).tells l (among l c)
 
     known : AllByRecursion (IsKnown served.holding.paxos) k.keeps.loose
@@ -311,15 +311,15 @@ module _ (m : Meaning) (genesis : Genesis) (n : ℕ) (node new : NodeValue) (old
 -- ---- the calls in which a step is written
 
 pub put_written : (m n : Meter) (o : OutboxValue) (entries : List Entry) (sync : Bool) → entries ≡ o.entries
-    → sync ≡ o.sync → o.rebase ≡ false → Passes m n (put_calls entries sync) → Passes m n (write_calls o)
+    → sync ≡ o.sync → o.rebase ≡ false → CallsSucceed m n (put_calls entries sync) → CallsSucceed m n (write_calls o)
 put_written m n o entries sync these said not_so calls =
-    subst (λ (b : Bool). Passes m n (if b then rebase_calls else put_calls o.entries o.sync)) (sym not_so)
-    (subst₂ (λ (es : List Entry) (b : Bool). Passes m n (put_calls es b)) these said calls)
+    subst (λ (b : Bool). CallsSucceed m n (if b then rebase_calls else put_calls o.entries o.sync)) (sym not_so)
+    (subst₂ (λ (es : List Entry) (b : Bool). CallsSucceed m n (put_calls es b)) these said calls)
 
-pub base_written : (m n : Meter) (o : OutboxValue) → o.rebase ≡ true → Passes m n rebase_calls
-    → Passes m n (write_calls o)
+pub base_written : (m n : Meter) (o : OutboxValue) → o.rebase ≡ true → CallsSucceed m n rebase_calls
+    → CallsSucceed m n (write_calls o)
 base_written m n o so calls =
-    subst (λ (b : Bool). Passes m n (if b then rebase_calls else put_calls o.entries o.sync)) (sym so) calls
+    subst (λ (b : Bool). CallsSucceed m n (if b then rebase_calls else put_calls o.entries o.sync)) (sym so) calls
 
 -- an outbox asks for a rebase or not
 pub by_kind : {P : Type 0} (rebase : Bool) → (rebase ≡ true → P) → (rebase ≡ false → P) → P

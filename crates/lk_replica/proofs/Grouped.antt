@@ -11,7 +11,7 @@ use Rattle.lk_disk.specs.declared.device.Side.{Side}
 use Rattle.lk_disk.specs.Disk.{contents, fully_synced}
 use Rattle.lk_disk.specs.declared.device.Side.TheVariants.{A, B}
 use Rattle.lk_log.specs.Rooms.{StaysWithin}
-use Rattle.lk_disk.specs.Meters.{Passes}
+use Rattle.lk_disk.specs.Meters.{CallsSucceed}
 use Rattle.lk_disk.specs.declared.meter.Meter.{Meter}
 use Rattle.lk_disk.proofs.Devices.{passes_on}
 use Rattle.lk_log.specs.Causes.{put_calls, rebase_calls}
@@ -52,10 +52,11 @@ use Rattle.lk_node.specs.Served.{text}
 use Rattle.lk_node.specs.Serving.{with_entries, ActsSafely}
 use Rattle.lk_node.proofs.Nodes.{with_all_behind, near_behind, told_behind, told_synced}
 use Rattle.lk_recovery.specs.Compacting.{IsDue, IsSameStore, Rebases}
-use Rattle.lk_replica.specs.Groups.{as_synced, as_sent, needs_sync_after, StoreKeepsInGroup, RemembersInGroup}
+use Rattle.lk_replica.specs.Groups.{as_synced, as_released, needs_sync_after, StoreKeepsInGroup, RemembersInGroup}
 use Rattle.lk_replica.specs.Groups.{HoldsInGroup, GroupFits}
-use Rattle.lk_replica.specs.Groups.{GroupLeavesFit, GroupStays, Settles, GroupValue, Adds, IsCovered, IsRefusedInGroup}
-use Rattle.lk_replica.specs.Groups.{LeavesInGroup, IsSettled, MakesRoom, settle_calls, gather_calls}
+use Rattle.lk_replica.specs.Groups.{GroupLeavesFit, GroupStays, SyncsIfNeeded, GroupValue, Adds}
+use Rattle.lk_replica.specs.Groups.{IsGroupCovered, IsRefusedInGroup}
+use Rattle.lk_replica.specs.Groups.{LeavesInGroup, IsGroupSynced, MakesRoom, sync_calls, gather_calls}
 use Rattle.lk_node_interface.specs.Faults.{IsStoreFault, fault_number, failures_by, WantsNoMemory}
 use Rattle.lk_replica.specs.Posts.{AreOf}
 use Rattle.lk_replica.specs.ReplicaValue.{ReplicaValue}
@@ -109,7 +110,7 @@ whole_keeps s ks more h image left = (
 
 -- as it will be, it keeps what the acceptor holds
 abbrev pub group_keeps : (whose : HeaderValue) (s : StoreValue) (needs_sync : Bool) (a : AcceptorState)
-    → StoreKeepsInGroup whose s needs_sync a → StoreKeeps whose (as_sent needs_sync s) a
+    → StoreKeepsInGroup whose s needs_sync a → StoreKeeps whose (as_released needs_sync s) a
 group_keeps whose s false a k = record {
   entries = k.entries;
   loose = k.loose;
@@ -147,7 +148,7 @@ group_begins whose s a k = record {
 
 abbrev pub group_stands : (m : Meaning) (node : NodeValue) (s : StoreValue) (needs_sync : Bool) (genesis : Genesis)
     (n : ℕ) (x : Holding) → HoldsInGroup m node s needs_sync genesis n x
-    → ReplicaHolds m node (as_sent needs_sync s) genesis n x
+    → ReplicaHolds m node (as_released needs_sync s) genesis n x
 group_stands m node s false genesis n x g =
     record {
       whose = g.whose;
@@ -167,7 +168,7 @@ group_stands m node s true genesis n x g =
 
 abbrev pub group_fits : (m : Meaning) (h : History) (n : ℕ) (node : NodeValue) (s : StoreValue) (needs_sync : Bool)
     → GroupFits m h n node s needs_sync
-    → NodeFits m h n (ReplicaHolds m node (as_sent needs_sync s) h.genesis n) (disks (as_sent needs_sync s))
+    → NodeFits m h n (ReplicaHolds m node (as_released needs_sync s) h.genesis n) (disks (as_released needs_sync s))
 group_fits m h n node s needs_sync f =
     record {
       lawful = f.lawful;
@@ -237,7 +238,7 @@ module _ (whose : HeaderValue) (old store : StoreValue) (a b : AcceptorState) (o
   pub keeps_more : (needs_sync after : Bool) → after ≡ needs_sync_after needs_sync out
       → (k : StoreKeepsInGroup whose old needs_sync a)
       → HoldsEntries store k.entries (plain k.loose ++ plain out.entries)
-      → KeepsAtLeast (as_sent after store) (group_keeps whose old needs_sync a k).entries
+      → KeepsAtLeast (as_released after store) (group_keeps whose old needs_sync a k).entries
       (plain (group_keeps whose old needs_sync a k).loose ++ plain out.entries)
   keeps_more false false e k added = holds_keeps store k.entries (plain k.loose ++ plain out.entries) added
   keeps_more true false e k added = absurd (let z = none_waits out.rebase true out.sync is e in cc (z.0))
@@ -263,7 +264,7 @@ module _ (whose : HeaderValue) (old store : StoreValue) (a b : AcceptorState) (o
   pub keeps_too : (needs_sync after : Bool) (e : after ≡ needs_sync_after needs_sync out)
       (k : StoreKeepsInGroup whose old needs_sync a)
       (added : HoldsEntries store k.entries (plain k.loose ++ plain out.entries))
-      → KeepsToo whose (as_sent after store) b (group_keeps whose old needs_sync a k).standing
+      → KeepsToo whose (as_released after store) b (group_keeps whose old needs_sync a k).standing
       (group_keeps whose old needs_sync a k).loose out.entries out.sync
   keeps_too false false e k added = record {
     keeps = group_keeps whose store false b (gathers_more false false e k added);
@@ -307,8 +308,8 @@ module _ (m : Meaning) (h : History) (n : ℕ) (node new : NodeValue) (old store
   abbrev after : Bool
   after = needs_sync_after needs_sync out
 
-  abbrev fits : NodeFits m h n (ReplicaHolds m node (as_sent needs_sync old) h.genesis n)
-      (disks (as_sent needs_sync old))
+  abbrev fits : NodeFits m h n (ReplicaHolds m node (as_released needs_sync old) h.genesis n)
+      (disks (as_released needs_sync old))
   fits = group_fits m h n node old needs_sync f
 
   abbrev pub gathered_more : StoreKeepsInGroup mine store after new.acceptor.state
@@ -316,14 +317,15 @@ module _ (m : Meaning) (h : History) (n : ℕ) (node new : NodeValue) (old store
       gathers_more mine old store node.acceptor.state new.acceptor.state out is b.written b.unsynced needs_sync
       after refl f.shown.keeps added
 
-  at_least : KeepsAtLeast (as_sent after store) fits.shown.keeps.entries
+  at_least : KeepsAtLeast (as_released after store) fits.shown.keeps.entries
       (plain fits.shown.keeps.loose ++ plain out.entries)
   at_least = let b = bound m (λ k. InputFits k i) node new out g in by_waits b.written b.unsynced needs_sync f added
     where
       by_waits : new.acceptor.state ≡ with_entries out.entries node.acceptor.state
           → (out.sync ≡ false → AllByRecursion TellsDecided out.entries) → (w : Bool) (k : GroupFits m h n node old w)
           → HoldsEntries store k.shown.keeps.entries (plain k.shown.keeps.loose ++ plain out.entries)
-          → KeepsAtLeast (as_sent (needs_sync_after w out) store) (group_fits m h n node old w k).shown.keeps.entries
+          → KeepsAtLeast (as_released (needs_sync_after w out) store)
+          (group_fits m h n node old w k).shown.keeps.entries
           (plain (group_fits m h n node old w k).shown.keeps.loose ++ plain out.entries)
       by_waits written unsynced false k added =
           keeps_more mine old store node.acceptor.state new.acceptor.state out is written unsynced false
@@ -332,14 +334,14 @@ module _ (m : Meaning) (h : History) (n : ℕ) (node new : NodeValue) (old store
           keeps_more mine old store node.acceptor.state new.acceptor.state out is written unsynced true
           (needs_sync_after true out) refl k.shown.keeps added
 
-  too : KeepsToo mine (as_sent after store) new.acceptor.state fits.shown.keeps.standing
+  too : KeepsToo mine (as_released after store) new.acceptor.state fits.shown.keeps.standing
       fits.shown.keeps.loose out.entries out.sync
   too = let b = bound m (λ k. InputFits k i) node new out g in by_waits b.written b.unsynced needs_sync f added
     where
       by_waits : new.acceptor.state ≡ with_entries out.entries node.acceptor.state
           → (out.sync ≡ false → AllByRecursion TellsDecided out.entries) → (w : Bool) (k : GroupFits m h n node old w)
           → HoldsEntries store k.shown.keeps.entries (plain k.shown.keeps.loose ++ plain out.entries)
-          → KeepsToo mine (as_sent (needs_sync_after w out) store) new.acceptor.state
+          → KeepsToo mine (as_released (needs_sync_after w out) store) new.acceptor.state
           (group_fits m h n node old w k).shown.keeps.standing
           (group_fits m h n node old w k).shown.keeps.loose out.entries out.sync
       by_waits written unsynced false k added =
@@ -349,9 +351,9 @@ module _ (m : Meaning) (h : History) (n : ℕ) (node new : NodeValue) (old store
           keeps_too mine old store node.acceptor.state new.acceptor.state out is written unsynced true
           (needs_sync_after true out) refl k.shown.keeps added
 
-  pub leaves_as_sent : DisksFit m h n (disks (as_sent after store))
+  pub leaves_as_sent : DisksFit m h n (disks (as_released after store))
   leaves_as_sent =
-      put_leaves m h n node new (as_sent needs_sync old) (as_sent after store) i out fits heard g on at_least
+      put_leaves m h n node new (as_released needs_sync old) (as_released after store) i out fits heard g on at_least
 
   known_now : (w : PaxosState) → AllByRecursion (IsKnown w) fits.shown.keeps.loose
       → (out.sync ≡ false → AllByRecursion (IsKnown w) out.entries) → after ≡ false
@@ -383,9 +385,9 @@ module _ (m : Meaning) (h : History) (n : ℕ) (node new : NodeValue) (old store
   pub gather_goes : (sent : List LetterValue) → AreOf sent out.letters
       → GroupLeavesFit m h n new store after out.notes (batch_of n sent)
   gather_goes sent among =
-      let s = serves m h n node new (as_sent needs_sync old) (as_sent after store) i out fits heard g in
-      let p = put_goes m h n node new (as_sent needs_sync old)
-      (as_sent after store) i out fits heard g on too leaves_as_sent sent among in
+      let s = serves m h n node new (as_released needs_sync old) (as_released after store) i out fits heard g in
+      let p = put_goes m h n node new (as_released needs_sync old)
+      (as_released after store) i out fits heard g on too leaves_as_sent sent among in
       record {
         holding = s.holding;
         shown = record {
@@ -408,14 +410,14 @@ module _ (m : Meaning) (h : History) (n : ℕ) (node new : NodeValue) (old store
     (i : Input) (out : OutboxValue)
     (s : GroupStays m h n node old needs_sync) (heard : InputFits h i)
     (g : ActsSafely m (λ k. InputFits k i) node new nothing out) (on : TellsOn node new out.entries) where
-  abbrev pretended : NodeFits m h n (ReplicaHolds m node (as_sent needs_sync old) h.genesis n)
-      (disks (as_sent needs_sync old))
+  abbrev pretended : NodeFits m h n (ReplicaHolds m node (as_released needs_sync old) h.genesis n)
+      (disks (as_released needs_sync old))
   pretended = group_fits m h n node old needs_sync s.fits
 
   -- what it writes rests on what was sent
   rests_too : AllByRecursion (Rests h) (s.fits.shown.keeps.loose ++ out.entries)
   rests_too = all-append (Rests h) s.fits.shown.keeps.loose out.entries s.rests
-      (serves m h n node new (as_sent needs_sync old) old i out pretended heard g).rests
+      (serves m h n node new (as_released needs_sync old) old i out pretended heard g).rests
 
   near_too : EntriesLieNear h.genesis.alpha s.fits.shown.keeps.standing (s.fits.shown.keeps.loose ++ out.entries)
   near_too =
@@ -435,7 +437,7 @@ module _ (m : Meaning) (h : History) (n : ℕ) (node new : NodeValue) (old store
       → HoldsEntries store s.fits.shown.keeps.entries (plain s.fits.shown.keeps.loose ++ plain out.entries)
       → GroupStays m h n new store (needs_sync_after needs_sync out)
   group_stays is keeps added =
-      let v = serves m h n node new (as_sent needs_sync old) old i out pretended heard g in
+      let v = serves m h n node new (as_released needs_sync old) old i out pretended heard g in
       record {
         fits = record {
           lawful = s.fits.lawful;
@@ -461,7 +463,7 @@ module _ (m : Meaning) (h : History) (n : ℕ) (node new : NodeValue) (old store
 
 -- as it will be, it remembers
 abbrev pub recalled : (node : NodeValue) (s : StoreValue) (needs_sync : Bool) (genesis : Genesis) (n : ℕ)
-    → RemembersInGroup node s needs_sync genesis n → ReplicaRemembers node (as_sent needs_sync s) genesis n
+    → RemembersInGroup node s needs_sync genesis n → ReplicaRemembers node (as_released needs_sync s) genesis n
 recalled node s needs_sync genesis n r =
     record { whose = r.whose; keeps = group_keeps (header_of genesis n) s needs_sync node.acceptor.state r.keeps }
 
@@ -482,20 +484,20 @@ module _ (m : Meaning) (genesis : Genesis) (n : ℕ) (node new : NodeValue) (old
   -- once all is synced that waits for it, whatever the step says is covered
   pub gather_syncs : (x : NodeMessage) (d : Datagram) → Contains (batch_of n out.letters) d
       → Spells (said_by genesis n x) d.bytes
-      → AllCover m genesis n (disks (as_sent (needs_sync_after needs_sync out) store)) x
+      → AllCover m genesis n (disks (as_released (needs_sync_after needs_sync out) store)) x
   gather_syncs x d c said =
-      step_syncs m genesis n node new (as_sent needs_sync old)
-      (as_sent (needs_sync_after needs_sync out) store) Heard out (recalled node old needs_sync genesis n r) g
+      step_syncs m genesis n node new (as_released needs_sync old)
+      (as_released (needs_sync_after needs_sync out) store) Heard out (recalled node old needs_sync genesis n r) g
       (group_keeps (header_of genesis n) store
       (needs_sync_after needs_sync out) new.acceptor.state gather_recalls.keeps) x d c said
 
   -- and whatever was
-  pub gather_covers : (x : NodeMessage) → AllCover m genesis n (disks (as_sent needs_sync old)) x
-      → AllCover m genesis n (disks (as_sent (needs_sync_after needs_sync out) store)) x
+  pub gather_covers : (x : NodeMessage) → AllCover m genesis n (disks (as_released needs_sync old)) x
+      → AllCover m genesis n (disks (as_released (needs_sync_after needs_sync out) store)) x
   gather_covers x c =
       let b = bound m Heard node new out g in
-      step_covers m genesis n node new (as_sent needs_sync old)
-      (as_sent (needs_sync_after needs_sync out) store) Heard out (recalled node old needs_sync genesis n r) g
+      step_covers m genesis n node new (as_released needs_sync old)
+      (as_released (needs_sync_after needs_sync out) store) Heard out (recalled node old needs_sync genesis n r) g
       (keeps_more (header_of genesis n) old store node.acceptor.state new.acceptor.state out is b.written b.unsynced
       needs_sync (needs_sync_after needs_sync out) refl r.keeps added) x c
 
@@ -510,7 +512,7 @@ gather_still_covers m genesis n node old store needs_sync es r keeps x c =
 -- ---- the sync
 
 pub settled_keeps : (whose : HeaderValue) (old new : StoreValue) (needs_sync : Bool) (a : AcceptorState)
-    → Settles needs_sync old new → StoreKeepsInGroup whose old needs_sync a → StoreKeeps whose new a
+    → SyncsIfNeeded needs_sync old new → StoreKeepsInGroup whose old needs_sync a → StoreKeeps whose new a
 settled_keeps whose old new false a same k =
     subst (λ (s : StoreValue). StoreKeeps whose s a) (sym same) (group_keeps whose old false a k)
 settled_keeps whose old new true a synced k = record {
@@ -526,7 +528,7 @@ settled_keeps whose old new true a synced k = record {
 
 -- the group is over: the node fits, in the history in which all that the group said is sent
 pub settled_fits : (m : Meaning) (h : History) (n : ℕ) (node : NodeValue) (old new : StoreValue) (needs_sync : Bool)
-    → Settles needs_sync old new → GroupFits m h n node old needs_sync
+    → SyncsIfNeeded needs_sync old new → GroupFits m h n node old needs_sync
     → NodeFits m h n (ReplicaHolds m node new h.genesis n) (disks new)
 settled_fits m h n node old new false same f =
     subst (λ (s : StoreValue). NodeFits m h n (ReplicaHolds m node s h.genesis n) (disks s)) (sym same)
@@ -561,8 +563,9 @@ settled_fits m h n node old new true synced f =
 
 -- and whatever was covered as it would be is covered
 pub settled_covers : (m : Meaning) (genesis : Genesis) (n : ℕ) (node : NodeValue) (old new : StoreValue)
-    (needs_sync : Bool) → Settles needs_sync old new → RemembersInGroup node old needs_sync genesis n
-    → (x : NodeMessage) → AllCover m genesis n (disks (as_sent needs_sync old)) x → AllCover m genesis n (disks new) x
+    (needs_sync : Bool) → SyncsIfNeeded needs_sync old new → RemembersInGroup node old needs_sync genesis n
+    → (x : NodeMessage) → AllCover m genesis n (disks (as_released needs_sync old)) x
+    → AllCover m genesis n (disks new) x
 settled_covers m genesis n node old new false same r x c =
     subst (λ (s : StoreValue). AllCover m genesis n (disks s) x) (sym same) c
 settled_covers m genesis n node old new true synced r x c =
@@ -634,9 +637,9 @@ begin_recalls node s genesis n needs_sync out is r =
 -- what is on its files it has synced
 pub based_cover : (m : Meaning) (genesis : Genesis) (n : ℕ) (s : StoreValue) (needs_sync : Bool) (out : OutboxValue)
     (x : NodeMessage) → out.rebase ≡ true → AllCover m genesis n (disks s) x
-    → AllCover m genesis n (disks (as_sent (needs_sync_after needs_sync out) s)) x
+    → AllCover m genesis n (disks (as_released (needs_sync_after needs_sync out) s)) x
 based_cover m genesis n s needs_sync out x is c =
-    subst (λ (w : Bool). AllCover m genesis n (disks (as_sent w s)) x) (sym (rebased_waits needs_sync out is)) c
+    subst (λ (w : Bool). AllCover m genesis n (disks (as_released w s)) x) (sym (rebased_waits needs_sync out is)) c
 
 module _ (m : Meaning) (h : History) (n : ℕ) (node stepped : NodeValue) (mid new : StoreValue) (needs_sync : Bool)
     (i : Input) (out : OutboxValue)
@@ -664,7 +667,7 @@ module _ (m : Meaning) (h : History) (n : ℕ) (node stepped : NodeValue) (mid n
 -- ---- a store that was asked how long its live file is
 
 module _ (m : Meaning) (old new : StoreValue) (same : IsSameStore old new) where
-  pub same_as_sent : (needs_sync : Bool) → disks (as_sent needs_sync new) ≡ disks (as_sent needs_sync old)
+  pub same_as_sent : (needs_sync : Bool) → disks (as_released needs_sync new) ≡ disks (as_released needs_sync old)
   same_as_sent true = λ i. pick (same.live i) (fully_synced (same.live_disk i)) (same.other_disk i)
   same_as_sent false = λ i. pick (same.live i) (same.live_disk i) (same.other_disk i)
 
@@ -715,8 +718,8 @@ module _ (m : Meaning) (old new : StoreValue) (same : IsSameStore old new) where
       }
 
   pub same_group_covers : (genesis : Genesis) (n : ℕ) (x : NodeMessage) (needs_sync : Bool)
-      → AllCover m genesis n (disks (as_sent needs_sync old)) x
-      → AllCover m genesis n (disks (as_sent needs_sync new)) x
+      → AllCover m genesis n (disks (as_released needs_sync old)) x
+      → AllCover m genesis n (disks (as_released needs_sync new)) x
   same_group_covers genesis n x needs_sync = subst (λ d. AllCover m genesis n d x) (sym (same_as_sent needs_sync))
 
 -- ---- a group, in the words of single calls
@@ -754,7 +757,7 @@ one_told s ks fs loose more t u h stands k others =
 -- what fits as it will be fits as it is
 pub as_gathered : (m : Meaning) (genesis : Genesis) (k : ℕ) (node : NodeValue) (s : StoreValue) (needs_sync : Bool)
     → RemembersInGroup node s needs_sync genesis k → (h : History) (n : ℕ)
-    → NodeFits m h n (ReplicaHolds m node (as_sent needs_sync s) h.genesis n) (disks (as_sent needs_sync s))
+    → NodeFits m h n (ReplicaHolds m node (as_released needs_sync s) h.genesis n) (disks (as_released needs_sync s))
     → GroupFits m h n node s needs_sync
 as_gathered m genesis k node s false r h n f = (begin_fits m h n node s f).fits
 as_gathered m genesis k node s true r h n f =
@@ -788,8 +791,8 @@ as_gathered m genesis k node s true r h n f =
 
 pub goes_as_sent : (m : Meaning) (h : History) (n : ℕ) (node : NodeValue) (s : StoreValue) (needs_sync : Bool)
     (notes : List Note) (batch : List Datagram) → GroupLeavesFit m h n node s needs_sync notes batch
-    → LeavesFit m h n (ReplicaHolds m node (as_sent needs_sync s) h.genesis n)
-    (disks (as_sent needs_sync s)) notes batch
+    → LeavesFit m h n (ReplicaHolds m node (as_released needs_sync s) h.genesis n)
+    (disks (as_released needs_sync s)) notes batch
 goes_as_sent m h n node s needs_sync notes batch g = record {
   holding = g.holding;
   shown = group_stands m node s needs_sync h.genesis n g.holding g.shown;
@@ -801,12 +804,12 @@ goes_as_sent m h n node s needs_sync notes batch g = record {
 
 -- one more step: what it says is covered, and what was said before
 pub says_more : (m : Meaning) (genesis : Genesis) (n : ℕ) (old new : GroupValue) (before after : StoreValue)
-    → ((x : NodeMessage) → AllCover m genesis n (disks (as_sent old.needs_sync before)) x
-    → AllCover m genesis n (disks (as_sent new.needs_sync after)) x)
+    → ((x : NodeMessage) → AllCover m genesis n (disks (as_released old.needs_sync before)) x
+    → AllCover m genesis n (disks (as_released new.needs_sync after)) x)
     → ((x : NodeMessage) → Adds old new
     (λ notes letters. (d : Datagram) → Contains (batch_of n letters) d → Spells (said_by genesis n x) d.bytes
-    → AllCover m genesis n (disks (as_sent new.needs_sync after)) x))
-    → IsCovered m genesis n old before → IsCovered m genesis n new after
+    → AllCover m genesis n (disks (as_released new.needs_sync after)) x))
+    → IsGroupCovered m genesis n old before → IsGroupCovered m genesis n new after
 says_more m genesis n old new first last still adds was x d c said =
     let a = adds x in
     let listed : Contains (batch_of n old.letters ++ batch_of n a.letters) d =
@@ -838,67 +841,71 @@ ended_in_group m old needs_sync after any room = record {
 
 -- the node fits to each history to which it fitted as it would be
 pub settled_node_fits : (m : Meaning) (Metered : Type 0) (old : ReplicaValue) (needs_sync : Bool) (new : ReplicaValue)
-    → IsSettled Metered old needs_sync new → (genesis : Genesis) (k : ℕ)
+    → IsGroupSynced Metered old needs_sync new → (genesis : Genesis) (k : ℕ)
     → RemembersInGroup old.node old.store needs_sync genesis k → (h : History) (n : ℕ)
-    → NodeFits m h n (ReplicaHolds m old.node (as_sent needs_sync old.store) h.genesis n)
-    (disks (as_sent needs_sync old.store)) → NodeFits m h n (ReplicaHolds m new.node new.store h.genesis n)
+    → NodeFits m h n (ReplicaHolds m old.node (as_released needs_sync old.store) h.genesis n)
+    (disks (as_released needs_sync old.store)) → NodeFits m h n (ReplicaHolds m new.node new.store h.genesis n)
     (disks new.store)
 settled_node_fits m Metered old needs_sync new s genesis k r h n f =
     subst (λ (x : NodeValue). NodeFits m h n (ReplicaHolds m x new.store h.genesis n) (disks new.store)) (sym s.node)
-    (settled_fits m h n old.node old.store new.store needs_sync s.settles
+    (settled_fits m h n old.node old.store new.store needs_sync s.syncs_all
     (as_gathered m genesis k old.node old.store needs_sync r h n f))
 
 -- ---- which calls were made
 
 pub settled_still : (old new : StoreValue) (needs_sync : Bool) → needs_sync ≡ false → new ≡ old
-    → Settles needs_sync old new
+    → SyncsIfNeeded needs_sync old new
 settled_still old new false is same = same
 settled_still old new true is same = absurd (cc is)
 
-pub settled_none : (m n : Meter) (needs_sync : Bool) → needs_sync ≡ false → Passes m n 0
-    → Passes m n (settle_calls needs_sync)
+pub settled_none : (m n : Meter) (needs_sync : Bool) → needs_sync ≡ false → CallsSucceed m n 0
+    → CallsSucceed m n (sync_calls needs_sync)
 settled_none m n false is none = none
 settled_none m n true is none = absurd (cc is)
 
-pub settled_once : (m n : Meter) (needs_sync : Bool) → needs_sync ≡ true → Passes m n 1
-    → Passes m n (settle_calls needs_sync)
+pub settled_once : (m n : Meter) (needs_sync : Bool) → needs_sync ≡ true → CallsSucceed m n 1
+    → CallsSucceed m n (sync_calls needs_sync)
 settled_once m n true is calls = calls
 settled_once m n false is calls = absurd (cc is)
 
 pub gathered_put : (m n : Meter) (needs_sync : Bool) (o : OutboxValue) (entries : List Entry) → entries ≡ o.entries
-    → o.rebase ≡ false → Passes m n (put_calls entries false) → Passes m n (gather_calls needs_sync o)
+    → o.rebase ≡ false → CallsSucceed m n (put_calls entries false) → CallsSucceed m n (gather_calls needs_sync o)
 gathered_put m n needs_sync o entries these not_so calls =
-    subst (λ (b : Bool). Passes m n (if b then settle_calls needs_sync + rebase_calls else put_calls o.entries false))
-    (sym not_so) (subst (λ (es : List Entry). Passes m n (put_calls es false)) these calls)
+    subst (λ (b : Bool). CallsSucceed m n (if b then sync_calls needs_sync + rebase_calls else put_calls o.entries
+    false))
+    (sym not_so) (subst (λ (es : List Entry). CallsSucceed m n (put_calls es false)) these calls)
 
 pub gathered_base : (l m n : Meter) (needs_sync : Bool) (o : OutboxValue) → o.rebase ≡ true
-    → Passes l m (settle_calls needs_sync) → Passes m n rebase_calls → Passes l n (gather_calls needs_sync o)
+    → CallsSucceed l m (sync_calls needs_sync) → CallsSucceed m n rebase_calls
+    → CallsSucceed l n (gather_calls needs_sync o)
 gathered_base l m n needs_sync o so first then_calls =
-    subst (λ (b : Bool). Passes l n (if b then settle_calls needs_sync + rebase_calls else put_calls o.entries false))
-    (sym so) (passes_on (settle_calls needs_sync) first rebase_calls then_calls)
+    subst (λ (b : Bool). CallsSucceed l n (if b then sync_calls needs_sync + rebase_calls else put_calls o.entries
+    false))
+    (sym so) (passes_on (sync_calls needs_sync) first rebase_calls then_calls)
 
 -- ---- a Base that is written after a sync
 
-pub settled_writes : (old mid after : StoreValue) (needs_sync : Bool) (t : StandingValue) → Settles needs_sync old mid
+pub settled_writes : (old mid after : StoreValue) (needs_sync : Bool) (t : StandingValue)
+    → SyncsIfNeeded needs_sync old mid
     → KeepsItsFile old mid → ((ks ls : List Stored) → HoldsEntries mid ks ls
     → HoldsEntries after (Base (next_base mid t) ∷ []) [])
     → (ks ls : List Stored) → HoldsEntries old ks ls → HoldsEntries after (Base (next_base old t) ∷ []) []
-settled_writes old mid after needs_sync t settles same writes ks ls h =
+settled_writes old mid after needs_sync t syncs_all same writes ks ls h =
     let b : next_base mid t ≡ next_base old t =
     λ i. record { generation = same.1 i + 1; format = 2; header = same.3 i; standing = t } in
-    subst (λ (x : BaseValue). HoldsEntries after (Base x ∷ []) []) b (by_waits needs_sync settles)
+    subst (λ (x : BaseValue). HoldsEntries after (Base x ∷ []) []) b (by_waits needs_sync syncs_all)
   where
-    by_waits : (w : Bool) → Settles w old mid → HoldsEntries after (Base (next_base mid t) ∷ []) []
+    by_waits : (w : Bool) → SyncsIfNeeded w old mid → HoldsEntries after (Base (next_base mid t) ∷ []) []
     by_waits true synced = writes (ks ++ ls) [] (synced ks ls h)
     by_waits false is = writes ks ls (subst (λ (s : StoreValue). HoldsEntries s ks ls) (sym is) h)
 
 pub settled_rebases : (node new : NodeValue) (old mid after : StoreValue) (needs_sync : Bool)
-    → Settles needs_sync old mid → KeepsItsFile old mid → Rebases node mid new after → Rebases node old new after
-settled_rebases node new old mid after needs_sync settles same r =
+    → SyncsIfNeeded needs_sync old mid → KeepsItsFile old mid → Rebases node mid new after → Rebases node old new after
+settled_rebases node new old mid after needs_sync syncs_all same r =
     record {
       becomes = r.becomes;
       generation = omega (arith, r.generation, same.1);
-      writes = settled_writes old mid after needs_sync (standing_of node) settles same r.writes;
+      writes = settled_writes old mid after needs_sync (standing_of node) syncs_all same r.writes;
     }
 
 -- that of a store that was asked how long its live file is
@@ -923,7 +930,7 @@ same_rebases m node new old mid after same r = record {
 
 -- none had to be made
 pub no_room_made : (Metered : Type 0) (node : NodeValue) (old new : StoreValue) (needs_sync : Bool)
-    → (IsDue node old → ⊥) → IsSameStore old new → (Metered → Passes old.meter new.meter 0)
+    → (IsDue node old → ⊥) → IsSameStore old new → (Metered → CallsSucceed old.meter new.meter 0)
     → MakesRoom Metered node old needs_sync node new needs_sync
 no_room_made Metered node old new needs_sync none same calls = record {
   rebases = record { due = λ is. absurd (none is); rests = λ other. (refl, same) };
@@ -934,27 +941,29 @@ no_room_made Metered node old new needs_sync none same calls = record {
 
 -- it was made by a rebase
 pub room_made : (m : Meaning) (Metered : Type 0) (node new : NodeValue) (old asked mid after : StoreValue)
-    (needs_sync : Bool) → IsDue node old → IsSameStore old asked → Settles needs_sync asked mid
+    (needs_sync : Bool) → IsDue node old → IsSameStore old asked → SyncsIfNeeded needs_sync asked mid
     → KeepsItsFile asked mid → Rebases node mid new after
-    → (Metered → Passes old.meter asked.meter 0) → (Metered → Passes asked.meter mid.meter (settle_calls needs_sync))
-    → (Metered → Passes mid.meter after.meter rebase_calls) → MakesRoom Metered node old needs_sync new after false
-room_made m Metered node new old asked mid after needs_sync due same settles file rebases first then_calls last =
+    → (Metered → CallsSucceed old.meter asked.meter 0) → (Metered
+    → CallsSucceed asked.meter mid.meter (sync_calls needs_sync))
+    → (Metered → CallsSucceed mid.meter after.meter rebase_calls)
+    → MakesRoom Metered node old needs_sync new after false
+room_made m Metered node new old asked mid after needs_sync due same syncs_all file rebases first then_calls last =
     record {
       rebases = record {
         due = λ is. same_rebases m node new old asked after same
-            (settled_rebases node new asked mid after needs_sync settles file rebases);
+            (settled_rebases node new asked mid after needs_sync syncs_all file rebases);
         rests = λ other. absurd (other due);
       };
       synced = λ is. refl;
       rests = λ other. absurd (other due);
       calls = λ metered.
-          let k : ℕ = settle_calls needs_sync + rebase_calls in
+          let k : ℕ = sync_calls needs_sync + rebase_calls in
           let all = passes_on 0 (first metered) k
-          (passes_on (settle_calls needs_sync) (then_calls metered) rebase_calls (last metered)) in
+          (passes_on (sync_calls needs_sync) (then_calls metered) rebase_calls (last metered)) in
           let none : 0 + k ≡ k = omega arith in (
             k,
             record { due = λ is. refl; rests = λ other. absurd (other due) },
-            subst (λ (j : ℕ). Passes old.meter after.meter j) none all,
+            subst (λ (j : ℕ). CallsSucceed old.meter after.meter j) none all,
           );
     }
 
@@ -992,7 +1001,7 @@ of_store_too number by = elim by [ inl device ↦ inl device | inr failed ↦ in
 -- ---- room
 
 as_long : (needs_sync : Bool) (s : StoreValue) (side : Side)
-    → length (contents (disks (as_sent needs_sync s) side)) ≡ length (contents (disks s side))
+    → length (contents (disks (as_released needs_sync s) side)) ≡ length (contents (disks s side))
 as_long false s side = refl
 as_long true s side = at s.live side
   where
@@ -1005,6 +1014,6 @@ as_long true s side = at s.live side
 
 -- the files as they will be are as long as they are
 pub room_as_sent : (most : ℕ) (before after : Bool) (old new : StoreValue) → StaysWithin most (disks old) (disks new)
-    → StaysWithin most (disks (as_sent before old)) (disks (as_sent after new))
+    → StaysWithin most (disks (as_released before old)) (disks (as_released after new))
 room_as_sent most before after old new stays side =
     omega (arith, stays side, as_long before old side, as_long after new side)

@@ -9,7 +9,7 @@ use Rattle.std.proofs.Math.Seq.{take-append_seam, drop-append_seam}
 use Rattle.std.proofs.lemmas.List.{append_cancel_left}
 use Rattle.lk_disk.specs.Disk.{Disk}
 use Rattle.lk_memory_disk.specs.Memory.{disk_of}
-use Rattle.lk_disk.specs.Meters.{Passes, start}
+use Rattle.lk_disk.specs.Meters.{CallsSucceed, start}
 use Rattle.lk_disk.specs.declared.device.Side.{Side}
 use Rattle.lk_disk.specs.declared.device.Side.TheVariants.{A, B}
 use Rattle.lk_disk.proofs.Devices.{passes_on}
@@ -29,8 +29,9 @@ use Rattle.lk_node.specs.Holdings.{Holding}
 use Rattle.lk_node.specs.Keeping.{ReplicaHolds}
 use Rattle.lk_node.specs.Leavings.{DisksFit, AllCover}
 use Rattle.lk_node.specs.NodeValue.{NodeValue}
-use Rattle.lk_replica.specs.Groups.{GroupValue, Adds, IsCovered, KeepsGroup, LeavesInGroup, IsGathered, IsSettled}
-use Rattle.lk_replica.specs.Groups.{IsRefusedInGroup, StepSaid, letters_of, GoesThrough, as_sent, with_step}
+use Rattle.lk_replica.specs.Groups.{GroupValue, Adds, IsGroupCovered, KeepsGroup, LeavesInGroup}
+use Rattle.lk_replica.specs.Groups.{IsGathered, IsGroupSynced}
+use Rattle.lk_replica.specs.Groups.{IsRefusedInGroup, StepSaid, letters_of, GoesThrough, as_released, with_step}
 use Rattle.lk_replica.specs.Groups.{gather_calls, RemembersInGroup, GroupStays}
 use Rattle.lk_replica.specs.Posts.{AreOf}
 use Rattle.lk_recovery.specs.Remembering.{ReplicaRemembers}
@@ -153,7 +154,7 @@ pub record TakenSoFar (m : Meaning) (IsText : List ℕ → Type 0) (begun_as : R
   pub recalls : (genesis : Genesis) (n : ℕ) → ReplicaRemembers begun_as.node begun_as.store genesis n
       → RemembersInGroup now.node now.store g.needs_sync genesis n
   pub covered : (genesis : Genesis) (n : ℕ) → ReplicaRemembers begun_as.node begun_as.store genesis n
-      → IsCovered m genesis n g now.store
+      → IsGroupCovered m genesis n g now.store
   pub covers : (genesis : Genesis) (n : ℕ) (x : NodeMessage) → ReplicaRemembers begun_as.node begun_as.store genesis n
       → AllCover m genesis n (disks begun_as.store) x → AllCover m genesis n (disks now.store) x
   pub stays : (h : History) (n : ℕ)
@@ -162,11 +163,11 @@ pub record TakenSoFar (m : Meaning) (IsText : List ℕ → Type 0) (begun_as : R
       → GroupStays m h n now.node now.store g.needs_sync × AllByRecursion (InputFits h) rest
   pub goes : (genesis : Genesis) (k : ℕ) → ReplicaRemembers begun_as.node begun_as.store genesis k
       → (n : ℕ) (q : ReplicaValue) (more : List StepSaid)
-      → GoesThrough m n (record { node = now.node; store = as_sent g.needs_sync now.store; failed = false }) rest q
+      → GoesThrough m n (record { node = now.node; store = as_released g.needs_sync now.store; failed = false }) rest q
       more → GoesThrough m n begun_as all q (said ++ more)
   pub room : StaysWithin max_after (disks begun_as.store) (disks now.store)
   pub calls : ℕ
-  pub passes : Passes begun_as.store.meter now.store.meter calls
+  pub passes : CallsSucceed begun_as.store.meter now.store.meter calls
 
 -- nothing
 nothing_taken : (m : Meaning) (IsText : List ℕ → Type 0) (r : ReplicaValue) (all : List Input)
@@ -212,11 +213,11 @@ module _ (m : Meaning) (IsText : List ℕ → Type 0) (begun_as : ReplicaValue) 
     (s : TakenSoFar m IsText begun_as all old g steps (i ∷ rest))
     (goes : Adds g new (λ notes letters. (genesis : Genesis) (k : ℕ)
     → RemembersInGroup old.node old.store g.needs_sync genesis k
-    → (h : History) (n : ℕ) → NodeFits m h n (ReplicaHolds m old.node (as_sent g.needs_sync old.store) h.genesis n)
-    (disks (as_sent g.needs_sync old.store)) → InputFits h i
+    → (h : History) (n : ℕ) → NodeFits m h n (ReplicaHolds m old.node (as_released g.needs_sync old.store) h.genesis n)
+    (disks (as_released g.needs_sync old.store)) → InputFits h i
     → (sent : List LetterValue) → AreOf sent letters
-    → LeavesFit m h n (ReplicaHolds m now.node (as_sent new.needs_sync now.store) h.genesis n)
-    (disks (as_sent new.needs_sync now.store)) notes (batch_of n sent)))
+    → LeavesFit m h n (ReplicaHolds m now.node (as_released new.needs_sync now.store) h.genesis n)
+    (disks (as_released new.needs_sync now.store)) notes (batch_of n sent)))
     (exact : IsGathered m IsText ⊤ old.node old.store g i now.node now.store new)
     (notes : step.notes.items ≡ new.notes) (sends : step.sends ≡ length new.letters - length g.letters) where
   abbrev one : GroupValue
@@ -262,14 +263,15 @@ module _ (m : Meaning) (IsText : List ℕ → Type 0) (begun_as : ReplicaValue) 
   -- in each history it goes on by it, as by a call of its own
   link : (genesis : Genesis) (k : ℕ) → RemembersInGroup old.node old.store g.needs_sync genesis k
       → (n : ℕ) (h : History)
-      → NodeFits m h n (ReplicaHolds m old.node (as_sent g.needs_sync old.store) h.genesis n)
-      (disks (as_sent g.needs_sync old.store)) → InputFits h i
+      → NodeFits m h n (ReplicaHolds m old.node (as_released g.needs_sync old.store) h.genesis n)
+      (disks (as_released g.needs_sync old.store)) → InputFits h i
       → (sent : List LetterValue) → AreOf sent one.letters
-      → LeavesFit m h n (ReplicaHolds m now.node (as_sent new.needs_sync now.store) h.genesis n)
-      (disks (as_sent new.needs_sync now.store)) one.notes (batch_of n sent)
+      → LeavesFit m h n (ReplicaHolds m now.node (as_released new.needs_sync now.store) h.genesis n)
+      (disks (as_released new.needs_sync now.store)) one.notes (batch_of n sent)
   link genesis k was n h f heard sent among =
-      subst (λ (l : List Note). LeavesFit m h n (ReplicaHolds m now.node (as_sent new.needs_sync now.store) h.genesis n)
-      (disks (as_sent new.needs_sync now.store)) l (batch_of n sent)) same_notes
+      subst (λ (l : List Note). LeavesFit m h n (ReplicaHolds m now.node
+      (as_released new.needs_sync now.store) h.genesis n)
+      (disks (as_released new.needs_sync now.store)) l (batch_of n sent)) same_notes
       (goes.are genesis k was h n f heard sent
       (subst (λ (l : List LetterValue). AreOf sent l) (sym same_letters) among))
 
@@ -280,7 +282,7 @@ module _ (m : Meaning) (IsText : List ℕ → Type 0) (begun_as : ReplicaValue) 
     abbrev calls : ℕ
     calls = (exact.room.calls tt).0 + gather_calls exact.needs_sync exact.out
 
-    passes : Passes old.store.meter now.store.meter calls
+    passes : CallsSucceed old.store.meter now.store.meter calls
     passes = let k = exact.room.calls tt in
         passes_on k.0 k.2 (gather_calls exact.needs_sync exact.out) (exact.steps.calls tt)
 
@@ -313,7 +315,7 @@ module _ (m : Meaning) (IsText : List ℕ → Type 0) (begun_as : ReplicaValue) 
           (sym (append_assoc s.said ((step.notes.items, one.letters) ∷ []) more))
           (subst (λ (l : List Note). GoesThrough m n begun_as all q (s.said ++ (l, one.letters) ∷ more)) (sym own_notes)
           (s.goes genesis k r n q ((one.notes, one.letters) ∷ more) (
-            record { node = now.node; store = as_sent new.needs_sync now.store; failed = false },
+            record { node = now.node; store = as_released new.needs_sync now.store; failed = false },
             one.notes,
             one.letters,
             more,
@@ -384,24 +386,24 @@ goes_in_memory m n is r q said goes =
 pub goes_to_the_end : (m : Meaning) (IsText : List ℕ → Type 0) (begun_as : ReplicaValue) (all : List Input)
     (now q : ReplicaValue) (g : GroupValue) (steps : List Step) (rest : List Input)
     (s : TakenSoFar m IsText begun_as all now g steps rest)
-    → rest ≡ [] → IsSettled ⊤ now g.needs_sync q → StaysWithin 0 (disks now.store) (disks q.store)
+    → rest ≡ [] → IsGroupSynced ⊤ now g.needs_sync q → StaysWithin 0 (disks now.store) (disks q.store)
     → (genesis : Genesis) (k : ℕ) → ReplicaRemembers begun_as.node begun_as.store genesis k → (n : ℕ)
     → GoesThrough m n begun_as all q s.said
-goes_to_the_end m IsText begun_as all now q g steps rest s none settled room genesis k r n =
+goes_to_the_end m IsText begun_as all now q g steps rest s none is_synced room genesis k r n =
     subst (λ (l : List StepSaid). GoesThrough m n begun_as all q l) (append-nil s.said)
     (s.goes genesis k r n q []
     (subst (λ (l : List Input). GoesThrough m n
-    (record { node = now.node; store = as_sent g.needs_sync now.store; failed = false }) l q []) (sym none) (
+    (record { node = now.node; store = as_released g.needs_sync now.store; failed = false }) l q []) (sym none) (
       refl,
       (λ h f. ended h f),
       room_as_sent 132704 g.needs_sync false now.store q.store
           (within_more 132704 (disks now.store) (disks q.store) room),
     )))
   where
-    ended : (h : History) → NodeFits m h n (ReplicaHolds m now.node (as_sent g.needs_sync now.store) h.genesis n)
-        (disks (as_sent g.needs_sync now.store)) → NodeFits m h n (ReplicaHolds m q.node q.store h.genesis n)
+    ended : (h : History) → NodeFits m h n (ReplicaHolds m now.node (as_released g.needs_sync now.store) h.genesis n)
+        (disks (as_released g.needs_sync now.store)) → NodeFits m h n (ReplicaHolds m q.node q.store h.genesis n)
         (disks q.store)
-    ended h f = settled_node_fits m ⊤ now g.needs_sync q settled genesis k (s.recalls genesis k r) h n f
+    ended h f = settled_node_fits m ⊤ now g.needs_sync q is_synced genesis k (s.recalls genesis k r) h n f
 
 -- ---- what a call leaves, where a part of it ended so
 
@@ -437,10 +439,10 @@ refused_in_all m IsText begun_as all now new g steps rest number s why = record 
 pub taken_in_all : (m : Meaning) (IsText : List ℕ → Type 0) (begun_as : ReplicaValue) (all : List Input)
     (now new : ReplicaValue) (g : GroupValue) (steps : List Step) (rest : List Input) (sent : List Datagram)
     → (s : TakenSoFar m IsText begun_as all now g steps rest) → rest ≡ []
-    → IsSettled ⊤ now g.needs_sync new → new.failed ≡ false → sent ≡ batch_of begun_as.node.header.node g.letters
+    → IsGroupSynced ⊤ now g.needs_sync new → new.failed ≡ false → sent ≡ batch_of begun_as.node.header.node g.letters
     → (sent ≡ sent_of (parts_of steps sent))
     × IsTakenTogether m IsText begun_as (map heard_by all) new (parts_of steps sent)
-taken_in_all m IsText begun_as all now new g steps rest sent s none settled alive batch =
+taken_in_all m IsText begun_as all now new g steps rest sent s none is_synced alive batch =
     let n : ℕ = begun_as.node.header.node in
     let letters : sent ≡ batch_of n (letters_of s.said) = batch ∙ ap (batch_of n) (sym s.letters) in
     let parts : parts_of steps sent ≡ said_by_steps n s.said = ap (parts_of steps) letters
@@ -453,7 +455,7 @@ taken_in_all m IsText begun_as all now new g steps rest sent s none settled aliv
         needs_sync = g.needs_sync;
         steps = s.said;
         gathered = s.gathered;
-        settled = settled;
+        is_synced = is_synced;
         sends = parts;
         alive = alive;
       },
@@ -463,12 +465,12 @@ taken_in_all m IsText begun_as all now new g steps rest sent s none settled aliv
 pub gone_in_all : (m : Meaning) (IsText : List ℕ → Type 0) (begun_as : ReplicaValue) (all : List Input)
     (now new : ReplicaValue) (g : GroupValue) (steps : List Step) (rest : List Input) (sent : List Datagram)
     → (s : TakenSoFar m IsText begun_as all now g steps rest) → rest ≡ []
-    → IsSettled ⊤ now g.needs_sync new → StaysWithin 0 (disks now.store) (disks new.store)
+    → IsGroupSynced ⊤ now g.needs_sync new → StaysWithin 0 (disks now.store) (disks new.store)
     → sent ≡ batch_of begun_as.node.header.node g.letters
     → (genesis : Genesis) (n : ℕ) → ReplicaRemembers begun_as.node begun_as.store genesis n
     → EachLeavesFit (λ (r : ReplicaValue) genesis k x. ReplicaHolds m r.node r.store genesis k x)
     (λ (r : ReplicaValue). disk_of (device_of r.store)) m n begun_as all new (parts_of steps sent)
-gone_in_all m IsText begun_as all now new g steps rest sent s none settled room batch genesis n r =
+gone_in_all m IsText begun_as all now new g steps rest sent s none is_synced room batch genesis n r =
     let own : begun_as.node.header.node ≡ n = ap (λ (w : HeaderValue). w.node) r.whose in
     let letters : sent ≡ batch_of n (letters_of s.said) = batch ∙ ap (λ (k : ℕ). batch_of k g.letters) own
     ∙ ap (batch_of n) (sym s.letters) in
@@ -479,17 +481,17 @@ gone_in_all m IsText begun_as all now new g steps rest sent s none settled room 
     (λ (r : ReplicaValue). disk_of (device_of r.store)) m n begun_as all new l) (sym parts)
     (goes_in_memory m n all begun_as new (said_by_steps n s.said)
     (goes_all m n all begun_as new s.said
-    (goes_to_the_end m IsText begun_as all now new g steps rest s none settled room genesis n r n)))
+    (goes_to_the_end m IsText begun_as all now new g steps rest s none is_synced room genesis n r n)))
 
 -- what was sent every image covers
 pub covered_in_all : (m : Meaning) (IsText : List ℕ → Type 0) (begun_as : ReplicaValue) (all : List Input)
     (now new : ReplicaValue) (g : GroupValue) (steps : List Step) (rest : List Input) (sent : List Datagram)
     → TakenSoFar m IsText begun_as all now g steps rest
-    → IsSettled ⊤ now g.needs_sync new → sent ≡ batch_of begun_as.node.header.node g.letters
+    → IsGroupSynced ⊤ now g.needs_sync new → sent ≡ batch_of begun_as.node.header.node g.letters
     → (genesis : Genesis) (n : ℕ) (x : NodeMessage) → ReplicaRemembers begun_as.node begun_as.store genesis n
     → (d : Datagram) → Contains sent d → Spells (said_by genesis n x) d.bytes → AllCover m genesis n (disks new.store) x
-covered_in_all m IsText begun_as all now new g steps rest sent s settled batch genesis n x r d listed spelled =
+covered_in_all m IsText begun_as all now new g steps rest sent s is_synced batch genesis n x r d listed spelled =
     let own : begun_as.node.header.node ≡ n = ap (λ (w : HeaderValue). w.node) r.whose in
     let letters : sent ≡ batch_of n g.letters = batch ∙ ap (λ (k : ℕ). batch_of k g.letters) own in
-    settled_covers m genesis n now.node now.store new.store g.needs_sync settled.settles (s.recalls genesis n r) x
+    settled_covers m genesis n now.node now.store new.store g.needs_sync is_synced.syncs_all (s.recalls genesis n r) x
     (s.covered genesis n r x d (subst (λ (l : List Datagram). Contains l d) letters listed) spelled)

@@ -2,7 +2,7 @@
 use Rattle.std.specs.Prelude.{◌≡◌, ℕ, ◌<◌, ◌≤◌, ⊤, true, false, Result, Ok, Err}
 use Rattle.lk_types.specs.Limits.{max_count}
 use Rattle.lk_memory_disk.specs.Memory.{disk_of}
-use Rattle.lk_disk.specs.Meters.{Passes}
+use Rattle.lk_disk.specs.Meters.{CallsSucceed}
 use Rattle.lk_log.specs.Causes.{rebase_calls}
 use Rattle.lk_log.specs.StoreValue.{disks}
 use Rattle.lk_log.specs.Stores.{KeepsItsFile}
@@ -22,7 +22,7 @@ pub record IsCompacted (m : Meaning) (old new : ReplicaValue) : Type 0 where
   pub rebases : Rebases old.node old.store new.node new.store
   pub stands : (genesis : Genesis) (n : ℕ) (x : Holding) → ReplicaHolds m old.node old.store genesis n x
       → AllStandAt m genesis n (disk_of (device_of new.store)) (executed new.node.learner) x.paxos.done
-  pub calls : Passes old.store.meter new.store.meter rebase_calls
+  pub calls : CallsSucceed old.store.meter new.store.meter rebase_calls
   pub alive : new.failed ≡ false
   pub store_alive : new.store.failed ≡ false
 

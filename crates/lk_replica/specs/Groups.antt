@@ -6,7 +6,7 @@ use Rattle.std.specs.List.{AllByRecursion}
 use Rattle.lk_types.specs.declared.entry.Entry.{Entry}
 use Rattle.lk_disk.specs.Disk.{Disk, contents, fully_synced}
 use Rattle.lk_disk.specs.declared.device.Side.{Side}
-use Rattle.lk_disk.specs.Meters.{Passes}
+use Rattle.lk_disk.specs.Meters.{CallsSucceed}
 use Rattle.lk_log.specs.Causes.{put_calls, rebase_calls}
 use Rattle.lk_store_format.specs.Entries.{plain}
 use Rattle.lk_store_format.specs.Standings.{HasHeader, StandsFor, with_all}
@@ -45,9 +45,9 @@ abbrev pub as_synced : StoreValue → StoreValue
 as_synced s = record s { live_disk = fully_synced s.live_disk }
 
 -- the store as it will be when the group's letters are sent: synced, if something waits for that
-abbrev pub as_sent : Bool → StoreValue → StoreValue
-as_sent true s = as_synced s
-as_sent false s = s
+abbrev pub as_released : Bool → StoreValue → StoreValue
+as_released true s = as_synced s
+as_released false s = s
 
 -- whether something waits for a sync after one more step: a rebase has synced everything
 abbrev pub needs_sync_after : Bool → OutboxValue → Bool
@@ -88,24 +88,26 @@ pub record HoldsInGroup (m : Meaning) (node : NodeValue) (store : StoreValue) (n
 -- synced
 abbrev pub GroupFits : Meaning → History → ℕ → NodeValue → StoreValue → Bool → Type 0
 GroupFits m h n node store needs_sync =
-    NodeFits m h n (HoldsInGroup m node store needs_sync h.genesis n) (disks (as_sent needs_sync store))
+    NodeFits m h n (HoldsInGroup m node store needs_sync h.genesis n) (disks (as_released needs_sync store))
 
 -- the effect of a step of a group with these letters
 abbrev pub GroupLeavesFit : Meaning → History → ℕ → NodeValue → StoreValue → Bool → List Note → List Datagram → Type 0
 GroupLeavesFit m h n node store needs_sync notes batch =
-    LeavesFit m h n (HoldsInGroup m node store needs_sync h.genesis n) (disks (as_sent needs_sync store)) notes batch
+    LeavesFit m h n (HoldsInGroup m node store needs_sync h.genesis n) (disks
+    (as_released needs_sync store)) notes batch
 
 -- what a caller sees of both: the node fits in what it holds and has on its disks once everything that waits is synced,
 -- and goes on from there
 abbrev pub FitsOnceSynced : Meaning → History → ℕ → NodeValue → StoreValue → Bool → Type 0
 FitsOnceSynced m h n node store needs_sync =
-    NodeFits m h n (ReplicaHolds m node (as_sent needs_sync store) h.genesis n) (disks (as_sent needs_sync store))
+    NodeFits m h n (ReplicaHolds m node (as_released needs_sync store) h.genesis n) (disks
+    (as_released needs_sync store))
 
 abbrev pub LeavesFitOnceSynced : Meaning → History → ℕ → NodeValue → StoreValue → Bool → List Note → List Datagram
     → Type 0
 LeavesFitOnceSynced m h n node store needs_sync notes batch =
-    LeavesFit m h n (ReplicaHolds m node (as_sent needs_sync store) h.genesis n)
-    (disks (as_sent needs_sync store)) notes batch
+    LeavesFit m h n (ReplicaHolds m node (as_released needs_sync store) h.genesis n)
+    (disks (as_released needs_sync store)) notes batch
 
 -- in this history, which contains nothing of what the group has said, the node fits, what it has written rests on what
 -- was sent and lies near, and whatever a stop may leave of the files as they are fits
@@ -117,9 +119,9 @@ pub record GroupStays (m : Meaning) (h : History) (n : ℕ) (node : NodeValue) (
   pub left : DisksFit m h n (disks store)
 
 -- the effect of a sync, if something waits for it
-abbrev pub Settles : Bool → StoreValue → StoreValue → Type 0
-Settles true old new = (ks ls : List Stored) → HoldsEntries old ks ls → HoldsEntries new (ks ++ ls) []
-Settles false old new = new ≡ old
+abbrev pub SyncsIfNeeded : Bool → StoreValue → StoreValue → Type 0
+SyncsIfNeeded true old new = (ks ls : List Stored) → HoldsEntries old ks ls → HoldsEntries new (ks ++ ls) []
+SyncsIfNeeded false old new = new ≡ old
 
 -- the notes and the letters of a group so far, in order, and whether something that it has written waits for a sync
 pub record GroupValue : Type 0 where
@@ -145,38 +147,38 @@ pub record Adds (old new : GroupValue) (Are : List Note → List LetterValue →
   pub are : Are notes letters
 
 -- once everything that waits is synced, everything that the group has said is covered
-abbrev pub IsCovered : Meaning → Genesis → ℕ → GroupValue → StoreValue → Type 0
-IsCovered m genesis n g s =
+abbrev pub IsGroupCovered : Meaning → Genesis → ℕ → GroupValue → StoreValue → Type 0
+IsGroupCovered m genesis n g s =
     (x : NodeMessage) (d : Datagram) → Contains (batch_of n g.letters) d → Spells (said_by genesis n x) d.bytes
-    → AllCover m genesis n (disks (as_sent g.needs_sync s)) x
+    → AllCover m genesis n (disks (as_released g.needs_sync s)) x
 
 -- What a call leaves on the disks in the middle of a group, however it ends: if the history has the call's input, each
 -- image that a stop may leave fits the earlier history, in which nothing of the group is sent; each covers what every
 -- image covered; and neither file has grown, except up to this many bytes.
-pub record LeavesInGroup (m : Meaning) (Hears : History → Type 0) (most : ℕ) (node : NodeValue) (store : StoreValue)
+pub record LeavesInGroup (m : Meaning) (Heard : History → Type 0) (most : ℕ) (node : NodeValue) (store : StoreValue)
     (needs_sync : Bool) (after : Side → Disk) : Type 0 where
-  pub ends : (h : History) (n : ℕ) → GroupStays m h n node store needs_sync → Hears h → DisksFit m h n after
+  pub ends : (h : History) (n : ℕ) → GroupStays m h n node store needs_sync → Heard h → DisksFit m h n after
   pub covers : (genesis : Genesis) (n : ℕ) (x : NodeMessage) → RemembersInGroup node store needs_sync genesis n
       → AllCover m genesis n (disks store) x → AllCover m genesis n after x
   pub room : StaysWithin most (disks store) after
 
 -- What a step preserves in a group: in a history in which nothing of the group is sent, the node still fits; its store
 -- has what its acceptor holds; and everything that the group has said is covered once everything that waits is synced.
-pub record KeepsGroup (m : Meaning) (Hears : History → Type 0) (node : NodeValue) (store : StoreValue)
+pub record KeepsGroup (m : Meaning) (Heard : History → Type 0) (node : NodeValue) (store : StoreValue)
     (group : GroupValue) (new : NodeValue) (after : StoreValue) (now : GroupValue) : Type 0 where
-  pub stays : (h : History) (n : ℕ) → GroupStays m h n node store group.needs_sync → Hears h
+  pub stays : (h : History) (n : ℕ) → GroupStays m h n node store group.needs_sync → Heard h
       → GroupStays m h n new after now.needs_sync
   pub recalls : (genesis : Genesis) (n : ℕ) → RemembersInGroup node store group.needs_sync genesis n
       → RemembersInGroup new after now.needs_sync genesis n
   pub said : (genesis : Genesis) (n : ℕ) → RemembersInGroup node store group.needs_sync genesis n
-      → IsCovered m genesis n group store → IsCovered m genesis n now after
+      → IsGroupCovered m genesis n group store → IsGroupCovered m genesis n now after
 
 -- what a step of a group leaves on the disks, however it ends: as `LeavesInGroup`, with two differences. The files have
 -- their bound only if the live one was shorter than what makes a rebase due, and each grows by at most one step, unless
 -- a Base was written to it
-pub record StepLeavesInGroup (m : Meaning) (Hears : History → Type 0) (most : ℕ) (node : NodeValue)
+pub record StepLeavesInGroup (m : Meaning) (Heard : History → Type 0) (most : ℕ) (node : NodeValue)
     (store : StoreValue) (needs_sync : Bool) (after : Side → Disk) : Type 0 where
-  pub ends : (h : History) (n : ℕ) → GroupStays m h n node store needs_sync → Hears h → DisksFit m h n after
+  pub ends : (h : History) (n : ℕ) → GroupStays m h n node store needs_sync → Heard h → DisksFit m h n after
   pub covers : (genesis : Genesis) (n : ℕ) (x : NodeMessage) → RemembersInGroup node store needs_sync genesis n
       → AllCover m genesis n (disks store) x → AllCover m genesis n after x
   pub room : length (contents store.live_disk) < 131072 → StaysWithin most (disks store) after
@@ -186,31 +188,31 @@ pub record StepLeavesInGroup (m : Meaning) (Hears : History → Type 0) (most : 
 -- permitted its notes and letters. stays: in each that contains nothing of it, the node still fits. recalls: its store
 -- has what its acceptor holds. syncs: once everything that waits is synced, the step's letters are covered. still: and
 -- so is whatever was covered.
-pub record StepKeepsGroup (m : Meaning) (Hears : History → Type 0) (node : NodeValue) (store : StoreValue)
+pub record StepKeepsGroup (m : Meaning) (Heard : History → Type 0) (node : NodeValue) (store : StoreValue)
     (needs_sync : Bool) (out : OutboxValue) (new : NodeValue) (after : StoreValue) : Type 0 where
-  pub goes : (h : History) (n : ℕ) → GroupFits m h n node store needs_sync → Hears h
+  pub goes : (h : History) (n : ℕ) → GroupFits m h n node store needs_sync → Heard h
       → (sent : List LetterValue) → AreOf sent out.letters
       → GroupLeavesFit m h n new after (needs_sync_after needs_sync out) out.notes (batch_of n sent)
-  pub stays : (h : History) (n : ℕ) → GroupStays m h n node store needs_sync → Hears h
+  pub stays : (h : History) (n : ℕ) → GroupStays m h n node store needs_sync → Heard h
       → GroupStays m h n new after (needs_sync_after needs_sync out)
   pub recalls : (genesis : Genesis) (n : ℕ) → RemembersInGroup node store needs_sync genesis n
       → RemembersInGroup new after (needs_sync_after needs_sync out) genesis n
   pub syncs : (genesis : Genesis) (n : ℕ) (x : NodeMessage) → RemembersInGroup node store needs_sync genesis n
       → (d : Datagram) → Contains (batch_of n out.letters) d → Spells (said_by genesis n x) d.bytes
-      → AllCover m genesis n (disks (as_sent (needs_sync_after needs_sync out) after)) x
+      → AllCover m genesis n (disks (as_released (needs_sync_after needs_sync out) after)) x
   pub still : (genesis : Genesis) (n : ℕ) (x : NodeMessage) → RemembersInGroup node store needs_sync genesis n
-      → AllCover m genesis n (disks (as_sent needs_sync store)) x
-      → AllCover m genesis n (disks (as_sent (needs_sync_after needs_sync out) after)) x
+      → AllCover m genesis n (disks (as_released needs_sync store)) x
+      → AllCover m genesis n (disks (as_released (needs_sync_after needs_sync out) after)) x
 
 -- ---- what the steps of a group have done, and nothing else
 
 -- how many changing calls of the device the sync takes
-abbrev pub settle_calls : Bool → ℕ
-settle_calls needs_sync = if needs_sync then 1 else 0
+abbrev pub sync_calls : Bool → ℕ
+sync_calls needs_sync = if needs_sync then 1 else 0
 
 -- how many it takes to make room: those of a rebase if that is due, after a sync if something waits for that
 pub record CallsOfRoom (node : NodeValue) (store : StoreValue) (needs_sync : Bool) (k : ℕ) : Type 0 where
-  pub due : IsDue node store → k ≡ settle_calls needs_sync + rebase_calls
+  pub due : IsDue node store → k ≡ sync_calls needs_sync + rebase_calls
   pub rests : (IsDue node store → ⊥) → k ≡ 0
 
 -- Room was made for a step: a rebase was made if that was due, after a sync if something waited for that; after a
@@ -220,11 +222,11 @@ pub record MakesRoom (Metered : Type 0) (node : NodeValue) (store : StoreValue) 
   pub rebases : RebasesWhereDue node store new after
   pub synced : IsDue node store → still ≡ false
   pub rests : (IsDue node store → ⊥) → still ≡ needs_sync
-  pub calls : Metered → (k : ℕ) × CallsOfRoom node store needs_sync k × Passes store.meter after.meter k
+  pub calls : Metered → (k : ℕ) × CallsOfRoom node store needs_sync k × CallsSucceed store.meter after.meter k
 
 -- how many calls a step writes by: those of its entries, or of a Base, after a sync if something waited for that
 abbrev pub gather_calls : Bool → OutboxValue → ℕ
-gather_calls needs_sync out = if out.rebase then settle_calls needs_sync + rebase_calls else put_calls out.entries false
+gather_calls needs_sync out = if out.rebase then sync_calls needs_sync + rebase_calls else put_calls out.entries false
 
 -- the outbox's entries follow what the store held, and nothing more is synced
 abbrev pub Appends : StoreValue → OutboxValue → StoreValue → Type 0
@@ -240,7 +242,7 @@ pub record StepsToFile (m : Meaning) (IsText : List ℕ → Type 0) (Metered : T
   pub rebases : out.rebase ≡ true → Rebases stepped store new after
   pub puts : out.rebase ≡ false → (new ≡ stepped) × Appends store out after
   pub grows : out.rebase ≡ false → GrowsByStep (disks store) (disks after)
-  pub calls : Metered → Passes store.meter after.meter (gather_calls needs_sync out)
+  pub calls : Metered → CallsSucceed store.meter after.meter (gather_calls needs_sync out)
 
 -- One more input of a group was taken: room was made for it, a step was taken, and its outbox is written, unsynced; its
 -- notes and letters follow those of the steps before it, the group waits for a sync exactly if something that it has
@@ -257,11 +259,11 @@ pub record IsGathered (m : Meaning) (IsText : List ℕ → Type 0) (Metered : Ty
   pub adds : now ≡ with_step needs_sync out before
 
 -- What waited for a sync is synced, in one call, and nothing else was done.
-pub record IsSettled (Metered : Type 0) (old : ReplicaValue) (needs_sync : Bool) (new : ReplicaValue) : Type 0 where
+pub record IsGroupSynced (Metered : Type 0) (old : ReplicaValue) (needs_sync : Bool) (new : ReplicaValue) : Type 0 where
   pub lived : old.failed ≡ false
   pub node : new.node ≡ old.node
-  pub settles : Settles needs_sync old.store new.store
-  pub calls : Metered → Passes old.store.meter new.store.meter (settle_calls needs_sync)
+  pub syncs_all : SyncsIfNeeded needs_sync old.store new.store
+  pub calls : Metered → CallsSucceed old.store.meter new.store.meter (sync_calls needs_sync)
   pub store_alive : old.store.failed ≡ false → new.store.failed ≡ false
 
 -- A call of a group failed with the fault of this number, as one of `take` does (`IsRefused`), and has ended the

@@ -2,7 +2,7 @@
 use Rattle.std.specs.Prelude.{◌≡◌, ℕ, ◌+◌, ◌<◌, ◌≤◌, ⊤, true, false, if◌then◌else◌, Option, Result, Ok, Err, List, []}
 use Rattle.std.specs.Prelude.{◌++◌, length, Contains, Vec}
 use Rattle.std.specs.Global.{Global}
-use Rattle.lk_disk.specs.Meters.{Passes}
+use Rattle.lk_disk.specs.Meters.{CallsSucceed}
 use Rattle.lk_types.specs.Limits.{max_count}
 use Rattle.lk_store_format.specs.Entries.{plain}
 use Rattle.lk_store_format.specs.declared.stored.Stored.{Stored}
@@ -57,7 +57,7 @@ write_calls out = if out.rebase then rebase_calls else put_calls out.entries out
 -- the calls of a metered device in which a step's outbox was written, after a rebase that was due
 abbrev pub CallsOfStep : NodeValue → StoreValue → OutboxValue → StoreValue → Type 0
 CallsOfStep node store out new =
-    (k : ℕ) × CallsWhereDue node store k × Passes store.meter new.meter (k + write_calls out)
+    (k : ℕ) × CallsWhereDue node store k × CallsSucceed store.meter new.meter (k + write_calls out)
 
 -- a step was taken, and its outbox is written, in the calls that this takes of a device that counts them (`Metered`)
 pub record StepsToDisk (m : Meaning) (IsText : List ℕ → Type 0) (Metered : Type 0) (node : NodeValue)
@@ -65,7 +65,7 @@ pub record StepsToDisk (m : Meaning) (IsText : List ℕ → Type 0) (Metered : T
   pub stepped : NodeValue
   pub steps : Steps m IsText node i stepped out
   pub writes : Writes stepped store out new after
-  pub calls : Metered → Passes store.meter after.meter (write_calls out)
+  pub calls : Metered → CallsSucceed store.meter after.meter (write_calls out)
 
 -- the replica has rebased if that was due, taken a step, written the outbox, returned its notes, and sent its letters,
 -- and goes on. `Metered` says that its device counts its calls
@@ -161,10 +161,10 @@ pub record IsCutShort (Honest Metered : Type 0) (most : ℕ) (node : NodeValue) 
   pub awake : node.halted ≡ false → (fault_number e ≡ 14 → ⊥) → new.halted ≡ false
 
 -- the same of a step alone: the files are no longer than that if the live one was shorter than what makes a rebase due
-pub record StepLeavesDisks (m : Meaning) (Hears : History → Type 0) (most : ℕ) (node : NodeValue) (store : StoreValue)
+pub record StepLeavesDisks (m : Meaning) (Heard : History → Type 0) (most : ℕ) (node : NodeValue) (store : StoreValue)
     (after : Side → Disk) : Type 0 where
   pub ends : (h : History) (n : ℕ) → NodeFits m h n (ReplicaHolds m node store h.genesis n) (disks store)
-      → Hears h → DisksFit m h n after
+      → Heard h → DisksFit m h n after
   pub covers : (genesis : Genesis) (n : ℕ) (x : NodeMessage) → ReplicaRemembers node store genesis n
       → AllCover m genesis n (disks store) x → AllCover m genesis n after x
   pub room : length (contents store.live_disk) < 131072 → StaysWithin most (disks store) after

@@ -13,7 +13,7 @@ use Rattle.lk_node.specs.Calls.{heard_by, InputFits, NodeFits, LeavesFit}
 use Rattle.lk_node.specs.Histories.{History, Genesis, Datagram}
 use Rattle.lk_node.specs.Holdings.{Holding}
 use Rattle.lk_node.specs.NodeValue.{NodeValue}
-use Rattle.lk_replica.specs.Groups.{GroupValue, IsGathered, IsRefusedInGroup, IsSettled, StepSaid}
+use Rattle.lk_replica.specs.Groups.{GroupValue, IsGathered, IsRefusedInGroup, IsGroupSynced, StepSaid}
 use Rattle.lk_replica.specs.ReplicaValue.{ReplicaValue}
 use Rattle.lk_recovery.specs.Rooms.{max_after}
 use Rattle.lk_replica.specs.declared.taken.Step.{Step}
@@ -90,7 +90,7 @@ pub record IsTakenTogether (m : Meaning) (IsText : List ℕ → Type 0) (old : R
   pub needs_sync : Bool
   pub steps : List StepSaid
   pub gathered : IsGatheredFrom m IsText old inputs mid needs_sync steps
-  pub settled : IsSettled ⊤ mid needs_sync new
+  pub is_synced : IsGroupSynced ⊤ mid needs_sync new
   pub sends : said ≡ said_by_steps old.node.header.node steps
   pub alive : new.failed ≡ false
 
@@ -102,7 +102,7 @@ pub record IsNotKept (mid new : ReplicaValue) (number : ℕ) : Type 0 where
 -- memory ran out for what was to be sent, once it was synced
 pub record IsNotSent (mid : ReplicaValue) (needs_sync : Bool) (new : ReplicaValue) (number : ℕ) : Type 0 where
   pub not_sent : number ≡ 15
-  pub settled : IsSettled ⊤ mid needs_sync new
+  pub is_synced : IsGroupSynced ⊤ mid needs_sync new
 
 -- it took the first of these, and then a call failed with this; nothing was sent
 pub record IsTogetherRefused (m : Meaning) (IsText : List ℕ → Type 0) (old : ReplicaValue)

@@ -3,7 +3,7 @@ use Rattle.std.specs.Prelude.{◌≡◌, ◌+◌, ◌*◌, ◌<◌, ◌≤◌, �
 use Rattle.lk_types.specs.Limits.{max_base, max_count}
 use Rattle.lk_types.specs.declared.entry.Entry.{Entry}
 use Rattle.lk_disk.specs.Disk.{contents}
-use Rattle.lk_disk.specs.Meters.{Passes}
+use Rattle.lk_disk.specs.Meters.{CallsSucceed}
 use Rattle.lk_store_format.specs.Entries.{plain}
 use Rattle.lk_store_format.specs.declared.stored.Stored.{Stored}
 use Rattle.lk_log.specs.Rooms.{StaysWithin}
@@ -18,14 +18,14 @@ use Rattle.lk_node_interface.specs.declared.fault.ReplicaFault.{ReplicaFault}
 use Rattle.lk_node_interface.specs.declared.fault.ReplicaFault.TheVariants as fault
 use Rattle.lk_recovery.specs.Compacting.{Rebases}
 use Rattle.lk_recovery.specs.Rebased.{HasSwitchedFiles, StandsOnBase, StaysSafe}
-use Rattle.lk_replica.specs.Groups.{Settles, Appends, gather_calls}
+use Rattle.lk_replica.specs.Groups.{SyncsIfNeeded, Appends, gather_calls}
 use Rattle.lk_replica.specs.Taking.{Puts, write_calls}
 
 -- entries were put into the store, which may have failed: each image that a stop may leave has everything that was
 -- synced, and a prefix of the rest and of these; the same file is live, and has grown by no more bytes than so many
 -- entries have; and the other file is unchanged
 pub record HasPut (store : StoreValue) (es : List Entry) (after : StoreValue) : Type 0 where
-  pub any : (ks ls : List Stored) → HoldsEntries store ks ls → KeepsAtLeast after ks (ls ++ plain es)
+  pub every_image : (ks ls : List Stored) → HoldsEntries store ks ls → KeepsAtLeast after ks (ls ++ plain es)
   pub live : after.live ≡ store.live
   pub grows : length (contents after.live_disk) ≤ length (contents store.live_disk) + 102 * length es
   pub beside : after.other_disk ≡ store.other_disk
@@ -42,7 +42,7 @@ pub record HasWritten (m : Meaning) (Metered : Type 0) (node : NodeValue) (store
     (new : NodeValue) (after : StoreValue) : Type 0 where
   pub switches : out.rebase ≡ true → HasSwitchedFiles m Metered node store new after
   pub puts : out.rebase ≡ false → Puts store out after
-  pub calls : Metered → Passes store.meter after.meter (write_calls out)
+  pub calls : Metered → CallsSucceed store.meter after.meter (write_calls out)
 
 -- the store goes on after it; the node matches its Base if the outbox asked for one, and is otherwise unchanged
 pub record StaysWritten (node : NodeValue) (store : StoreValue) (out : OutboxValue) (new : NodeValue)
@@ -55,24 +55,24 @@ pub record StaysWritten (node : NodeValue) (store : StoreValue) (out : OutboxVal
 
 -- a Base of the node was to be written after a sync, if something waited for one: the sync failed, or ended, and a
 -- write of a Base followed; and neither file has grown, except up to the size of a Base
-pub record LeavesOnceSettled (m : Meaning) (node : NodeValue) (store : StoreValue) (needs_sync : Bool)
+pub record LeavesOnceSynced (m : Meaning) (node : NodeValue) (store : StoreValue) (needs_sync : Bool)
     (after : StoreValue) : Type 0 where
   pub room : StaysWithin max_base (disks store) (disks after)
   pub mid : StoreValue
-  pub any : (ks ls : List Stored) → HoldsEntries store ks ls → KeepsAtLeast mid ks ls
-  pub safe : (after ≡ mid) ⊎ (Settles needs_sync store mid × StaysSafe m node mid after)
+  pub every_image : (ks ls : List Stored) → HoldsEntries store ks ls → KeepsAtLeast mid ks ls
+  pub safe : (after ≡ mid) ⊎ (SyncsIfNeeded needs_sync store mid × StaysSafe m node mid after)
 
 -- an outbox was written unsynced, or its write failed
 pub record LeavesGathered (m : Meaning) (node : NodeValue) (store : StoreValue) (needs_sync : Bool) (out : OutboxValue)
     (after : StoreValue) : Type 0 where
-  pub based : out.rebase ≡ true → LeavesOnceSettled m node store needs_sync after
+  pub based : out.rebase ≡ true → LeavesOnceSynced m node store needs_sync after
   pub put : out.rebase ≡ false → HasPut store out.entries after
 
 -- the store has switched to a Base of the node, after a sync if something waited for one
-pub record SwitchesOnceSettled (m : Meaning) (Metered : Type 0) (node : NodeValue) (store : StoreValue)
+pub record SwitchesOnceSynced (m : Meaning) (Metered : Type 0) (node : NodeValue) (store : StoreValue)
     (needs_sync : Bool) (new : NodeValue) (after : StoreValue) : Type 0 where
   pub mid : StoreValue
-  pub settles : Settles needs_sync store mid
+  pub syncs_all : SyncsIfNeeded needs_sync store mid
   pub switches : HasSwitchedFiles m Metered node mid new after
   pub safe : StaysSafe m node mid after
   pub rebases : Rebases node store new after
@@ -81,9 +81,9 @@ pub record SwitchesOnceSettled (m : Meaning) (Metered : Type 0) (node : NodeValu
 -- of a device that counts them (`Metered`)
 pub record HasGathered (m : Meaning) (Metered : Type 0) (node : NodeValue) (store : StoreValue) (needs_sync : Bool)
     (out : OutboxValue) (new : NodeValue) (after : StoreValue) : Type 0 where
-  pub switches : out.rebase ≡ true → SwitchesOnceSettled m Metered node store needs_sync new after
+  pub switches : out.rebase ≡ true → SwitchesOnceSynced m Metered node store needs_sync new after
   pub puts : out.rebase ≡ false → Appends store out after
-  pub calls : Metered → Passes store.meter after.meter (gather_calls needs_sync out)
+  pub calls : Metered → CallsSucceed store.meter after.meter (gather_calls needs_sync out)
 
 -- its write failed with this fault, for its cause (`IsNotWritten`), perhaps after a sync. The same file is live
 pub record IsNotGathered (Honest Metered : Type 0) (store after : StoreValue) (e : ReplicaFault) : Type 0 where

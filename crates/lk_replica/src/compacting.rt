@@ -28,7 +28,7 @@ impl<M: Machine, D: LogDisk + Drop> Replica<M, D> {
         // What is on the disks, however it ends: neither file has grown, except up to the size of a Base.
         ensures disks { D.is_honest
             → LeavesDisks M.meaning (λ h. ⊤) max_base self.old.node self.old.store (disks self.new.store) }
-        ensures wakes { self.new.node.halted ≡ self.old.node.halted }
+        ensures halted { self.new.node.halted ≡ self.old.node.halted }
         // It fails only with 7, 8 or 11, each for its cause, and each ends it; the node is unchanged, and the same
         // file is live.
         ensures refused { IfErr result

@@ -3,7 +3,7 @@ ghost use Rattle.std.specs.Prelude.{◌≡◌, ℕ, ◌-◌, ◌<◌, List, [], 
 ghost use Rattle.std.specs.Prelude.{OnErr, IsErrOf, ⊤};
 ghost use Rattle.lk_types.specs.Limits.{max_base};
 ghost use Rattle.lk_disk.specs.Disk.{contents};
-ghost use Rattle.lk_disk.specs.Meters.{Passes};
+ghost use Rattle.lk_disk.specs.Meters.{CallsSucceed};
 ghost use Rattle.lk_store_format.specs.declared.stored.Stored.{Stored};
 ghost use Rattle.lk_log.specs.Rooms.{StaysWithin};
 ghost use Rattle.lk_log.specs.StoreValue.{disks};
@@ -17,12 +17,11 @@ ghost use Rattle.lk_node.specs.Histories.{History, Genesis};
 ghost use Rattle.lk_node.specs.Keeping.{ReplicaHolds};
 ghost use Rattle.lk_node.specs.Leavings.{DisksFit, AllCover};
 ghost use Rattle.lk_node_interface.specs.Faults.{RaisesFailures, fault_number};
-ghost use Rattle.lk_replica.specs.Groups.{Adds, IsCovered, LeavesInGroup, KeepsGroup, MakesRoom, StepsToFile};
-ghost use Rattle.lk_replica.specs.Groups.{IsGathered, IsSettled, IsRefusedInGroup, settle_calls, as_sent};
-ghost use Rattle.lk_replica.specs.Groups.{needs_sync_after, with_step, Settles, RemembersInGroup, GroupFits};
-ghost use Rattle.lk_replica.specs.Groups.{GroupLeavesFit};
-ghost use Rattle.lk_replica.specs.Groups.{StepKeepsGroup, StepLeavesInGroup};
-ghost use Rattle.lk_replica.specs.Groups.{GroupStays, FitsOnceSynced, LeavesFitOnceSynced};
+ghost use Rattle.lk_replica.specs.Groups.{Adds, IsGroupCovered, LeavesInGroup, KeepsGroup, MakesRoom, StepsToFile};
+ghost use Rattle.lk_replica.specs.Groups.{IsGathered, IsGroupSynced, IsRefusedInGroup, sync_calls, as_released};
+ghost use Rattle.lk_replica.specs.Groups.{needs_sync_after, with_step, SyncsIfNeeded, RemembersInGroup, GroupFits};
+ghost use Rattle.lk_replica.specs.Groups.{GroupLeavesFit, StepKeepsGroup, StepLeavesInGroup, GroupStays};
+ghost use Rattle.lk_replica.specs.Groups.{FitsOnceSynced, LeavesFitOnceSynced};
 ghost use Rattle.lk_replica.specs.Posts.{AreOf, CarriesAll, TellsSends};
 ghost use Rattle.lk_recovery.specs.Rebased.{IsNotWritten, StaysAlive};
 ghost use Rattle.lk_recovery.specs.Rooms.{GrowsFromBase, max_after};
@@ -143,17 +142,19 @@ fn are_sent<P: Post>(letters: &[Letter], post: &mut P) -> bool
 }
 
 /// Syncs the live file if something waits for that, and otherwise gives what was written to the operating system.
-pub fn sync_if_waiting<D: LogDisk + Drop>(
+pub fn sync_or_flush<D: LogDisk + Drop>(
     store: &mut Store<D>,
     needs_sync: bool,
 ) -> Result<(), ReplicaFault>
     requires { store.old.format ≡ 2 }
-    ensures settles { D.is_honest → OnOk result (Settles needs_sync store.old store.new) }
+    ensures syncs_all { D.is_honest → OnOk result (SyncsIfNeeded needs_sync store.old store.new) }
     // However it ends, every image that a stop may leave has everything that was synced, and a prefix of the rest.
-    ensures any { D.is_honest → (ks ls : List Stored) → HoldsEntries store.old ks ls → KeepsAtLeast store.new ks ls }
+    ensures every_image { D.is_honest → (ks ls : List Stored) → HoldsEntries store.old ks ls
+        → KeepsAtLeast store.new ks ls }
     ensures room { D.is_honest → StaysWithin 0 (disks store.old) (disks store.new) }
     ensures refused { IfErr result (IsNotWritten D.is_honest D.is_metered store.old store.new) }
-    ensures metered { D.is_metered → OnOk result (Passes store.old.meter store.new.meter (settle_calls needs_sync)) }
+    ensures metered { D.is_metered → OnOk result (CallsSucceed store.old.meter store.new.meter
+        (sync_calls needs_sync)) }
     ensures alive { store.old.failed ≡ false → OnOk result (store.new.failed ≡ false) }
     ensures file { KeepsItsFile store.old store.new }
     ensures format { store.new.format ≡ 2 }
@@ -181,12 +182,12 @@ fn write_to_file<M: Machine, D: LogDisk + Drop>(
     ensures goes { OnOk result (StaysWritten node.old store.old outbox.now node.new store.new) }
     ensures disks { D.is_honest → LeavesGathered M.meaning node.old store.old needs_sync outbox.now store.new }
     ensures refused { IfErr result (IsNotGathered D.is_honest D.is_metered store.old store.new) }
-    ensures wakes { node.new.halted ≡ node.old.halted }
+    ensures halted { node.new.halted ≡ node.old.halted }
     ensures format { store.new.format ≡ 2 }
     ensures cause { RaisesFailures store.old.failures store.new.failures result }
 {
     if outbox.rebase {
-        sync_if_waiting(store, needs_sync)?;
+        sync_or_flush(store, needs_sync)?;
         write_base(node, store)?;
         return Ok(());
     }
@@ -225,8 +226,7 @@ fn step_to_file<M: Machine, D: LogDisk + Drop>(
     Ok(outbox)
 }
 
-// Rebases if that is due, after a sync if something waits for one. Returns whether something still waits: never after a
-// rebase.
+// Rebases if due, after a sync if something waits for one. Returns whether something still waits: not after a rebase.
 fn make_room<M: Machine, D: LogDisk + Drop>(
     node: &mut Node<M>,
     store: &mut Store<D>,
@@ -241,8 +241,8 @@ fn make_room<M: Machine, D: LogDisk + Drop>(
         → IfOk result (λ w. GroupStays M.meaning h n node.new store.new w) }
     ensures still { D.is_honest → (genesis : Genesis) (n : ℕ) (x : NodeMessage)
         → RemembersInGroup node.old store.old needs_sync genesis n
-        → AllCover M.meaning genesis n (disks (as_sent needs_sync store.old)) x
-        → IfOk result (λ w. AllCover M.meaning genesis n (disks (as_sent w store.new)) x) }
+        → AllCover M.meaning genesis n (disks (as_released needs_sync store.old)) x
+        → IfOk result (λ w. AllCover M.meaning genesis n (disks (as_released w store.new)) x) }
     ensures covers { D.is_honest → (genesis : Genesis) (n : ℕ) (x : NodeMessage)
         → RemembersInGroup node.old store.old needs_sync genesis n → AllCover M.meaning genesis n (disks store.old) x
         → AllCover M.meaning genesis n (disks store.new) x }
@@ -256,7 +256,7 @@ fn make_room<M: Machine, D: LogDisk + Drop>(
     ensures refused { IfErr result
         (IsCutShort D.is_honest D.is_metered 1 node.old store.old node.new store.new
         (KeepsItsFile store.old store.new) ⊤) }
-    ensures wakes { node.new.halted ≡ node.old.halted }
+    ensures halted { node.new.halted ≡ node.old.halted }
     // Then the live file has room for a step.
     ensures small { D.is_honest → OnOk result (length (contents store.new.live_disk) < 131072) }
     ensures format { store.new.format ≡ 2 }
@@ -266,7 +266,7 @@ fn make_room<M: Machine, D: LogDisk + Drop>(
     if !due {
         return Ok(needs_sync);
     }
-    sync_if_waiting(store, needs_sync)?;
+    sync_or_flush(store, needs_sync)?;
     write_base(node, store)?;
     Ok(false)
 }
@@ -314,8 +314,8 @@ impl<M: Machine, D: LogDisk + Drop> Replica<M, D> {
     /// It fails as `take` does, but never with `Send`, and after that every call fails with `Failed` (11): nothing of
     /// the group is sent.
     pub fn gather(&mut self, input: Input, group: &mut Group) -> Result<(), ReplicaFault>
-        // In each history that the node will fit once everything that waits is synced, it goes on: what it then holds
-        // permits its notes and letters. So the history may contain everything that the group said before.
+        // In each history that the node fits once synced, what it holds after the call permits its notes and letters.
+        // So the history may contain everything that the group said before.
         ensures goes { D.is_honest
             → OnOk result (Adds group.old group.new
             (λ notes letters. (genesis : Genesis) (k : ℕ)
@@ -380,7 +380,7 @@ impl<M: Machine, D: LogDisk + Drop> Replica<M, D> {
         // Sync before send: every image covers everything that the group says.
         ensures syncs { D.is_honest → (genesis : Genesis) (n : ℕ) (x : NodeMessage)
             → RemembersInGroup self.old.node self.old.store group.now.needs_sync genesis n
-            → IsCovered M.meaning genesis n group.now self.old.store
+            → IsGroupCovered M.meaning genesis n group.now self.old.store
             → IfOk result (λ all. (d : DatagramValue) → Contains (batch_of n group.now.letters) d
             → Spells (said_by genesis n x) d.bytes → AllCover M.meaning genesis n (disks self.new.store) x) }
         // The letters were given to the post in order, each once, and nothing else; after an error none was.
@@ -388,7 +388,7 @@ impl<M: Machine, D: LogDisk + Drop> Replica<M, D> {
         ensures tells { IfOk result (λ all. TellsSends all (P.failures post.old) (P.failures post.new)) }
         ensures silent { OnErr result (post.new ≡ post.old) }
         // It has synced once what waited for that, and has done nothing else.
-        ensures exact { D.is_honest → OnOk result (IsSettled D.is_metered self.old group.now.needs_sync self.new) }
+        ensures exact { D.is_honest → OnOk result (IsGroupSynced D.is_metered self.old group.now.needs_sync self.new) }
         // It fails only with 7, 8 or 11, each for its cause, and each ends it.
         ensures refused { IfErr result
             (λ e. IsRefusedInGroup D.is_honest D.is_metered self.old self.new (fault_number e)) }

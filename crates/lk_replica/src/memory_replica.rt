@@ -3,7 +3,7 @@ ghost use Rattle.std.specs.Prelude.{◌≡◌, ℕ, [], map, Contains, Ok, Err, 
 ghost use Rattle.std.specs.List.{AllByRecursion};
 ghost use Rattle.lk_types.specs.Limits.{max_base};
 ghost use Rattle.lk_memory_disk.specs.Memory.{disk_of};
-ghost use Rattle.lk_disk.specs.Meters.{Passes};
+ghost use Rattle.lk_disk.specs.Meters.{CallsSucceed};
 ghost use Rattle.lk_disk.specs.declared.trap.Trap.{Trap as TrapValue};
 ghost use Rattle.lk_log.specs.Causes.{rebase_calls};
 ghost use Rattle.lk_log.specs.Rooms.{StaysWithin};
@@ -83,7 +83,7 @@ pub trait MemoryReplica: Sized + Drop {
         // Neither file has grown, except up to the size of a Base.
         ensures room { IfOk result (λ r. StaysWithin max_base (disk_of device) (disks_by behaves r.replica)) }
         ensures room_err { IfErr result (λ e. StaysWithin max_base (disk_of device) (disk_of e.device)) }
-        ensures calls { IfOk result (λ r. (k : ℕ) × Passes device.meter (behaves.memory r.replica).meter k) }
+        ensures calls { IfOk result (λ r. (k : ℕ) × CallsSucceed device.meter (behaves.memory r.replica).meter k) }
         ensures calls_err { IfErr result (λ e. RefusedAfter (fault_number e.fault) device.meter e.device.meter) }
         ensures exact { IfOk result (λ r. behaves.Revives device header.now (Ok (r.replica, r.notes.items))) }
         ensures refused { IfErr result
@@ -111,7 +111,7 @@ pub trait MemoryReplica: Sized + Drop {
         // At Ok its device has made this many changing calls, and all have passed. After error 7 one has failed; after
         // any other error all have passed.
         ensures calls { IfOk result
-            (λ t. (k : ℕ) × Passes (behaves.memory self.old).meter (behaves.memory self.new).meter k) }
+            (λ t. (k : ℕ) × CallsSucceed (behaves.memory self.old).meter (behaves.memory self.new).meter k) }
         ensures calls_err { IfErr result
             (λ e. RefusedAfter (fault_number e) (behaves.memory self.old).meter (behaves.memory self.new).meter) }
         ensures told { IfErr result (λ e. IsNumberOfCalls (fault_number e)) }
@@ -142,7 +142,7 @@ pub trait MemoryReplica: Sized + Drop {
             → AllCover meaning genesis n (disks_by behaves self.new) x }
         ensures room { StaysWithin max_after (disks_by behaves self.old) (disks_by behaves self.new) }
         ensures calls { IfOk result
-            (λ t. (k : ℕ) × Passes (behaves.memory self.old).meter (behaves.memory self.new).meter k) }
+            (λ t. (k : ℕ) × CallsSucceed (behaves.memory self.old).meter (behaves.memory self.new).meter k) }
         ensures calls_err { IfErr result
             (λ e. RefusedAfter (fault_number e) (behaves.memory self.old).meter (behaves.memory self.new).meter) }
         // It sends the letters of the steps, in order.
@@ -178,7 +178,7 @@ pub trait MemoryReplica: Sized + Drop {
         // At Ok its device has made the changing calls of a rebase, and all have passed. After error 7 one has failed;
         // after any other error all have passed.
         ensures calls { OnOk result
-            (Passes (behaves.memory self.old).meter (behaves.memory self.new).meter rebase_calls) }
+            (CallsSucceed (behaves.memory self.old).meter (behaves.memory self.new).meter rebase_calls) }
         ensures calls_err { IfErr result
             (λ e. RefusedAfter (fault_number e) (behaves.memory self.old).meter (behaves.memory self.new).meter) }
         ensures told { IfErr result (λ e. IsStoreFault (fault_number e)) }

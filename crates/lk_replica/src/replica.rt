@@ -198,7 +198,7 @@ fn write_to_disk<M: Machine, D: LogDisk + Drop>(
     ensures goes { OnOk result (StaysWritten node.old store.old outbox.now node.new store.new) }
     ensures disks { D.is_honest → LeavesWritten M.meaning node.old store.old outbox.now store.new }
     ensures refused { IfErr result (IsNotWritten D.is_honest D.is_metered store.old store.new) }
-    ensures wakes { node.new.halted ≡ node.old.halted }
+    ensures halted { node.new.halted ≡ node.old.halted }
     ensures format { store.new.format ≡ 2 }
     ensures last { max_count ≤ store.old.generation → OnOk result (outbox.now.rebase ≡ false) }
     ensures cause { RaisesFailures store.old.failures store.new.failures result }

@@ -2,10 +2,10 @@
 ghost use Rattle.std.specs.Prelude.{◌≡◌, ◌∷◌, ◌++◌, [], false, IfErr, OnOk, ⊤};
 ghost use Rattle.lk_log.specs.StoreValue.{disks};
 ghost use Rattle.lk_node_interface.specs.Faults.{RaisesFailures, fault_number};
-ghost use Rattle.lk_replica.specs.Groups.{IsRefusedInGroup, IsSettled, LeavesInGroup};
+ghost use Rattle.lk_replica.specs.Groups.{IsRefusedInGroup, IsGroupSynced, LeavesInGroup};
 ghost use Rattle.lk_replica.specs.Together.{IsNotKept};
 
-use crate::grouping::sync_if_waiting;
+use crate::grouping::sync_or_flush;
 use crate::replica::Replica;
 use crate::taken::Step;
 use lk_disk::LogDisk;
@@ -30,7 +30,7 @@ impl<M: Machine, D: LogDisk + Drop> Replica<M, D> {
 
     // Syncs the live file once, if something waits for that, or else flushes it. If that fails, the replica ends.
     pub(crate) fn sync_group(&mut self, needs_sync: bool) -> Result<(), ReplicaFault>
-        ensures exact { D.is_honest → OnOk result (IsSettled D.is_metered self.old needs_sync self.new) }
+        ensures exact { D.is_honest → OnOk result (IsGroupSynced D.is_metered self.old needs_sync self.new) }
         // After any exit, if nothing of the group is sent, the disks fit, and neither file has grown.
         ensures disks { D.is_honest
             → LeavesInGroup M.meaning (λ h. ⊤) 0 self.old.node self.old.store needs_sync (disks self.new.store) }
@@ -43,7 +43,7 @@ impl<M: Machine, D: LogDisk + Drop> Replica<M, D> {
             return Err(ReplicaFault::Failed);
         }
         self.failed = true;
-        sync_if_waiting(&mut self.store, needs_sync)?;
+        sync_or_flush(&mut self.store, needs_sync)?;
         self.failed = false;
         Ok(())
     }

@@ -5,7 +5,7 @@ use Rattle.std.proofs.Math.Seq.{take-length}
 use Rattle.std.proofs.lemmas.List.{take-replicate, length-replicate}
 use Rattle.lk_replica.specs.Behaviours.{Behaviour}
 use Rattle.lk_sim.specs.Events.{IsExecuted, IsRefused}
-use Rattle.lk_sim.specs.Runs.{Passes}
+use Rattle.lk_sim.specs.Runs.{AreExecuted}
 use Rattle.lk_sim.specs.Scenes.{Scene}
 use Rattle.lk_sim.specs.declared.event.Event.{Event}
 use Rattle.lk_sim_nodes.specs.declared.refused.Refused.{Refused}
@@ -23,10 +23,10 @@ module _ {R : Type 0} (b : Behaviour R) where
 
   -- where none was refused, all events have happened
   pub all_passed : (events : List Event) (k : ℕ) (old new : Scene R) → Follows b old events k None new
-      → Passes b events old new
+      → AreExecuted b events old new
   all_passed events k old new f =
-      subst (λ w. Passes b events old w) (sym f.stops.1)
-      (subst (λ es. Passes b es old f.last) (ap (λ n. take n events) f.stops.0 ∙ take-length events) f.passes)
+      subst (λ w. AreExecuted b events old w) (sym f.stops.1)
+      (subst (λ es. AreExecuted b es old f.last) (ap (λ n. take n events) f.stops.0 ∙ take-length events) f.passes)
 
   -- ---- one event
 
@@ -44,15 +44,15 @@ module _ {R : Type 0} (b : Behaviour R) where
   -- ---- the same event many times
 
   module _ (e : Event) where
-    more : (n : ℕ) (old mid new : Scene R) → Passes b (replicate n e) old mid → IsExecuted b mid e new
-        → Passes b (replicate (suc n) e) old new
+    more : (n : ℕ) (old mid new : Scene R) → AreExecuted b (replicate n e) old mid → IsExecuted b mid e new
+        → AreExecuted b (replicate (suc n) e) old new
     more zero old mid new p d = (new, subst (λ w. IsExecuted b w e new) p d, refl)
     more (suc n) old mid new p d = (p.0, p.1, more n p.0 mid new p.2 d)
 
-    pub one_more : (n : ℕ) (old mid new : Scene R) → Passes b (replicate n e) old mid → IsExecuted b mid e new
-        → Passes b (replicate (n + 1) e) old new
+    pub one_more : (n : ℕ) (old mid new : Scene R) → AreExecuted b (replicate n e) old mid → IsExecuted b mid e new
+        → AreExecuted b (replicate (n + 1) e) old new
     one_more n old mid new p d =
-        subst (λ k. Passes b (replicate k e) old new) (sym (add-one n)) (more n old mid new p d)
+        subst (λ k. AreExecuted b (replicate k e) old new) (sym (add-one n)) (more n old mid new p d)
 
     at : (times i : ℕ) → i < times → slice_get (replicate times e) i ≡ Some e
     at zero i below = absurd (omega (arith, below))
@@ -60,19 +60,20 @@ module _ {R : Type 0} (b : Behaviour R) where
     at (suc times) (suc i) below = at times i (omega (arith, below))
 
     -- the next one was refused
-    pub cut_short : (times i : ℕ) (old mid new : Scene R) (r : Refused) → i < times → Passes b (replicate i e) old mid
+    pub cut_short : (times i : ℕ) (old mid new : Scene R) (r : Refused) → i < times
+        → AreExecuted b (replicate i e) old mid
         → IsRefused b mid e r new → Follows b old (replicate times e) i (Some r) new
     cut_short times i old mid new r below p refused = record {
       last = mid;
-      passes = subst (λ es. Passes b es old mid) (sym (take-replicate i times e (omega (arith, below)))) p;
+      passes = subst (λ es. AreExecuted b es old mid) (sym (take-replicate i times e (omega (arith, below)))) p;
       stops = (e, at times i below, refused);
     }
 
     -- none was
-    pub done : (times : ℕ) (old new : Scene R) → Passes b (replicate times e) old new
+    pub done : (times : ℕ) (old new : Scene R) → AreExecuted b (replicate times e) old new
         → Follows b old (replicate times e) times None new
     done times old new p = record {
       last = new;
-      passes = subst (λ es. Passes b es old new) (sym (take-replicate times times e (omega arith))) p;
+      passes = subst (λ es. AreExecuted b es old new) (sym (take-replicate times times e (omega arith))) p;
       stops = (sym (length-replicate times e), refl);
     }

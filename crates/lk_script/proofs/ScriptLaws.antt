@@ -7,7 +7,7 @@ use Rattle.lk_types.proofs.Appending.{appends_nothing, appends_more}
 use Rattle.lk_types.specs.declared.member.Member.{Member}
 use Rattle.lk_members.specs.Effects.{Command}
 use Rattle.lk_replica.specs.Behaviours.{Behaviour}
-use Rattle.lk_sim.specs.Runs.{Passes}
+use Rattle.lk_sim.specs.Runs.{AreExecuted}
 use Rattle.lk_sim_nodes.specs.declared.refused.Refused.{Refused}
 use Rattle.lk_script_lines.specs.HexLines.{SpellsBytes}
 use Rattle.lk_script_lines.specs.Lines.{lines_of, TakesLine, TakesWithinLine}
@@ -92,7 +92,7 @@ world_line b begun run new line text fits went = absurd fits
 world_line b (table cluster L) run new line text fits went = absurd fits
 world_line b (world scene done) run new line text fits went =
     let o = went.0 in
-    let passes = subst (λ w. Passes b (events_of o) w new.world) fits.0
+    let passes = subst (λ w. AreExecuted b (events_of o) w new.world) fits.0
     (all_passed b (events_of o) went.1 run.world new.world went.3) in (
       world new.world (done + length (events_of o)),
       happens scene new.world done line text o went.2 passes,

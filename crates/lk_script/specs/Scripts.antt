@@ -4,7 +4,7 @@ use Rattle.lk_types.specs.declared.member.Member.{Member}
 use Rattle.lk_members.specs.Effects.{Command}
 use Rattle.lk_members.specs.Rosters.{Genesis}
 use Rattle.lk_replica.specs.Behaviours.{Behaviour}
-use Rattle.lk_sim.specs.Runs.{Passes}
+use Rattle.lk_sim.specs.Runs.{AreExecuted}
 use Rattle.lk_sim.specs.Scenes.{Scene}
 use Rattle.lk_sim_nodes.specs.declared.refused.Refused.{Refused}
 use Rattle.lk_script_lines.specs.HexLines.{SpellsBytes}
@@ -45,7 +45,7 @@ pub data Takes {R : Type 0} (b : Behaviour R) : Script R → List ℕ → List �
       → Takes b (table cluster L) line (text ++ 10 ∷ []) (table cluster after)
   -- or an event of the world, or several, which happen in order; nothing is said here of what they print
   happens : (old new : Scene R) (done : ℕ) (line out : List ℕ) (o : Instruction) → SpellsInstruction line o
-      → Passes b (events_of o) old new
+      → AreExecuted b (events_of o) old new
       → Takes b (world old done) line out (world new (done + length (events_of o)))
 
 -- a valid line, of which an event is rejected: those before it happen in order, the rejection leaves this world, and

@@ -60,13 +60,13 @@ impl<R: MemoryReplica> WorldRun<R> {
             → IsRefused R.behaves self.old.world event r self.new.world × (self.new.done ≡ self.old.done) }
         ensures paces { self.new.done ≤ self.old.done + 1 }
     {
-        let places = (self.world.trace().len(), self.world.datagrams().len());
+        let counts = (self.world.trace().len(), self.world.datagrams().len());
         if let Err(refused) = self.world.apply(event) {
             return Ok(Some(refused));
         }
         self.done += 1;
         let (trace, sent) = (self.world.trace(), self.world.datagrams());
-        print_event(text, trace, sent, places, self.world.last_end())?;
+        print_event(text, trace, sent, counts, self.world.last_end())?;
         Ok(None)
     }
 

@@ -19,15 +19,15 @@ abbrev pub IsWord : ℕ → ℕ → ℕ → List ℕ → Type 0
 IsWord least most n word = (least ≤ n) × (n ≤ most) × (word ≡ decimal n)
 
 -- the words begin with such a number, followed by a space and these words
-abbrev pub Leads : ℕ → ℕ → ℕ → List ℕ → List ℕ → Type 0
-Leads least most n rest words = (least ≤ n) × (n ≤ most) × (words ≡ decimal n ++ 32 ∷ rest)
+abbrev pub BeginsWithNumber : ℕ → ℕ → ℕ → List ℕ → List ℕ → Type 0
+BeginsWithNumber least most n rest words = (least ≤ n) × (n ≤ most) × (words ≡ decimal n ++ 32 ∷ rest)
 
 -- a node, alone or with words after it
 abbrev pub IsNodeWord : ℕ → List ℕ → Type 0
 IsNodeWord = IsWord 1 max_node
 
 abbrev pub NodeLeads : ℕ → List ℕ → List ℕ → Type 0
-NodeLeads = Leads 1 max_node
+NodeLeads = BeginsWithNumber 1 max_node
 
 -- ---- what the words after each verb ask for
 
@@ -75,8 +75,8 @@ AsksForGroup words o = (n : ℕ) × (rest : List ℕ) × (turns : List GroupInpu
 
 -- `C NUMBER OP`
 abbrev pub SpellsRequest : List ℕ → RequestValue → Type 0
-SpellsRequest words r = (rest : List ℕ) × (text : List ℕ) × Leads 1 max_client r.client rest words
-    × Leads 1 max_count r.number text rest × SpellsOp text r.op
+SpellsRequest words r = (rest : List ℕ) × (text : List ℕ) × BeginsWithNumber 1 max_client r.client rest words
+    × BeginsWithNumber 1 max_count r.number text rest × SpellsOp text r.op
 
 -- `N C NUMBER OP`
 abbrev pub AsksOfClient : List ℕ → Instruction → Type 0
@@ -97,7 +97,8 @@ AsksToInject words o = (n : ℕ) × (digits : List ℕ) × (bytes : List ℕ) ×
 -- `N X Y`
 abbrev pub AsksToStop : List ℕ → Instruction → Type 0
 AsksToStop words o = (n : ℕ) × (x : ℕ) × (y : ℕ) × (more : List ℕ) × (word : List ℕ)
-    × NodeLeads n more words × Leads 0 max_count x word more × IsWord 0 max_count y word × (o ≡ Once (event.Stop n x y))
+    × NodeLeads n more words × BeginsWithNumber 0 max_count x word more × IsWord 0 max_count y word
+    × (o ≡ Once (event.Stop n x y))
 
 -- `N COUNT`
 abbrev pub AsksToFail : List ℕ → Instruction → Type 0
@@ -107,7 +108,7 @@ AsksToFail words o = (n : ℕ) × (count : ℕ) × (word : List ℕ) × NodeLead
 -- `N COUNT BYTES`
 abbrev pub AsksToArm : List ℕ → Instruction → Type 0
 AsksToArm words o = (n : ℕ) × (count : ℕ) × (bytes : ℕ) × (more : List ℕ) × (word : List ℕ)
-    × NodeLeads n more words × Leads 1 max_count count word more × IsWord 0 max_count bytes word
+    × NodeLeads n more words × BeginsWithNumber 1 max_count count word more × IsWord 0 max_count bytes word
     × (o ≡ Once (event.Arm n count bytes))
 
 -- ---- a line
@@ -125,19 +126,20 @@ word_of verb.Stop = codes "stop"
 word_of verb.Fail = codes "fail"
 word_of verb.Arm = codes "arm"
 
-abbrev pub Asks : EventVerb → List ℕ → Instruction → Type 0
-Asks verb.Start = AsksToStart
-Asks verb.Restart = AsksToRestart
-Asks verb.Tick = AsksForTicks
-Asks verb.Compact = AsksToCompact
-Asks verb.Deliver = AsksToDeliver
-Asks verb.Group = AsksForGroup
-Asks verb.Client = AsksOfClient
-Asks verb.Inject = AsksToInject
-Asks verb.Stop = AsksToStop
-Asks verb.Fail = AsksToFail
-Asks verb.Arm = AsksToArm
+abbrev pub SpellsAfterVerb : EventVerb → List ℕ → Instruction → Type 0
+SpellsAfterVerb verb.Start = AsksToStart
+SpellsAfterVerb verb.Restart = AsksToRestart
+SpellsAfterVerb verb.Tick = AsksForTicks
+SpellsAfterVerb verb.Compact = AsksToCompact
+SpellsAfterVerb verb.Deliver = AsksToDeliver
+SpellsAfterVerb verb.Group = AsksForGroup
+SpellsAfterVerb verb.Client = AsksOfClient
+SpellsAfterVerb verb.Inject = AsksToInject
+SpellsAfterVerb verb.Stop = AsksToStop
+SpellsAfterVerb verb.Fail = AsksToFail
+SpellsAfterVerb verb.Arm = AsksToArm
 
 -- a verb, a space, and words of that verb
 abbrev pub SpellsInstruction : List ℕ → Instruction → Type 0
-SpellsInstruction line o = (v : EventVerb) × (words : List ℕ) × (line ≡ word_of v ++ 32 ∷ words) × Asks v words o
+SpellsInstruction line o = (v : EventVerb) × (words : List ℕ) × (line ≡ word_of v ++ 32 ∷ words)
+    × SpellsAfterVerb v words o

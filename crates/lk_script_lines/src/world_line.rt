@@ -9,7 +9,8 @@ ghost use Rattle.lk_script_lines.specs.declared.instruction.Instruction.{Instruc
 ghost use Rattle.lk_script_lines.specs.WorldLines.{IsNodeWord, AsksToStart, AsksToRestart, AsksForTicks, AsksToCompact};
 ghost use Rattle.lk_script_lines.specs.WorldLines.{AsksToDeliver, AsksForGroup, SpellsRequest, AsksOfClient};
 ghost use Rattle.lk_script_lines.specs.WorldLines.{AsksToInject};
-ghost use Rattle.lk_script_lines.specs.WorldLines.{AsksToStop, AsksToFail, AsksToArm, Asks, SpellsInstruction};
+ghost use Rattle.lk_script_lines.specs.WorldLines.{AsksToStop, AsksToFail, AsksToArm};
+ghost use Rattle.lk_script_lines.specs.WorldLines.{SpellsAfterVerb, SpellsInstruction};
 
 use crate::event_verb::EventVerb;
 use crate::fault::LineFault;
@@ -220,9 +221,9 @@ fn understood(instruction: Option<Instruction>) -> Result<Instruction, LineFault
 
 // Reads the words after this verb.
 fn instruction_of(alloc: Global, verb: EventVerb, words: &[u8]) -> Result<Instruction, LineFault>
-    ensures ok { IfOk result (Asks verb words.now) }
+    ensures ok { IfOk result (SpellsAfterVerb verb words.now) }
     ensures not_understood { IsErrOf result LineFault.NotUnderstood → (o : InstructionValue)
-        → Asks verb words.now o → ⊥ }
+        → SpellsAfterVerb verb words.now o → ⊥ }
 {
     match verb {
         EventVerb::Start => understood(read_start(words)),

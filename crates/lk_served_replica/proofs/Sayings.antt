@@ -23,8 +23,9 @@ use Rattle.lk_node.specs.Leavings.{AllCover}
 use Rattle.lk_node.specs.NodeValue.{NodeValue}
 use Rattle.lk_node_interface.specs.Faults.{fault_number, IsNumberOfCalls}
 use Rattle.lk_replica.specs.Groups.{Adds, GroupValue, StepSaid, letters_of, KeepsGroup, LeavesInGroup, MakesRoom}
-use Rattle.lk_replica.specs.Groups.{IsGathered, IsSettled, IsRefusedInGroup, GoesThrough, IsCovered, RemembersInGroup}
-use Rattle.lk_replica.specs.Groups.{as_sent}
+use Rattle.lk_replica.specs.Groups.{IsGathered, IsGroupSynced, IsRefusedInGroup, GoesThrough}
+use Rattle.lk_replica.specs.Groups.{IsGroupCovered, RemembersInGroup}
+use Rattle.lk_replica.specs.Groups.{as_released}
 use Rattle.lk_replica.specs.Groups.{with_step}
 use Rattle.lk_replica.specs.Posts.{AreOf, CarriesAll, GivesLetters}
 use Rattle.lk_replica.specs.ReplicaValue.{ReplicaValue}
@@ -180,11 +181,11 @@ module _ (m : Meaning) (IsText : List ℕ → Type 0) (Honest Metered : Type 0) 
     abbrev Links : List Note → List LetterValue → Type 0
     Links notes letters = (genesis : Genesis) (k : ℕ) → RemembersInGroup old.node old.store group.needs_sync genesis k
         → (h : History) (n : ℕ) → NodeFits m h n (ReplicaHolds m old.node
-        (as_sent group.needs_sync old.store) h.genesis n)
-        (disks (as_sent group.needs_sync old.store)) → InputFits h i
+        (as_released group.needs_sync old.store) h.genesis n)
+        (disks (as_released group.needs_sync old.store)) → InputFits h i
         → (sent : List LetterValue) → AreOf sent letters
-        → LeavesFit m h n (ReplicaHolds m new.node (as_sent now.needs_sync new.store) h.genesis n)
-        (disks (as_sent now.needs_sync new.store)) notes (batch_of n sent)
+        → LeavesFit m h n (ReplicaHolds m new.node (as_released now.needs_sync new.store) h.genesis n)
+        (disks (as_released now.needs_sync new.store)) notes (batch_of n sent)
 
     -- they are those of its outbox
     links_of : Adds group now Links
@@ -217,7 +218,7 @@ module _ (m : Meaning) (IsText : List ℕ → Type 0) (Honest Metered : Type 0) 
           (sym (append_assoc g.inputs (i ∷ []) more))
           (sym (append_assoc g.said ((e.out.notes, e.out.letters) ∷ []) rest))
           (g.goes genesis k remembers n (i ∷ more) q ((e.out.notes, e.out.letters) ∷ rest) (
-            record { node = new.node; store = as_sent now.needs_sync new.store; failed = false },
+            record { node = new.node; store = as_released now.needs_sync new.store; failed = false },
             e.out.notes,
             e.out.letters,
             rest,
@@ -263,11 +264,11 @@ module _ (m : Meaning) (IsText : List ℕ → Type 0) (Honest Metered : Type 0) 
         → (Honest → OnOk r (Adds group now
         (λ notes letters. (genesis : Genesis) (k : ℕ) → RemembersInGroup old.node old.store group.needs_sync genesis k
         → (h : History) (n : ℕ) → NodeFits m h n (ReplicaHolds m old.node
-        (as_sent group.needs_sync old.store) h.genesis n)
-        (disks (as_sent group.needs_sync old.store)) → InputFits h i
+        (as_released group.needs_sync old.store) h.genesis n)
+        (disks (as_released group.needs_sync old.store)) → InputFits h i
         → (sent : List LetterValue) → AreOf sent letters
-        → LeavesFit m h n (ReplicaHolds m new.node (as_sent now.needs_sync new.store) h.genesis n)
-        (disks (as_sent now.needs_sync new.store)) notes (batch_of n sent))))
+        → LeavesFit m h n (ReplicaHolds m new.node (as_released now.needs_sync new.store) h.genesis n)
+        (disks (as_released now.needs_sync new.store)) notes (batch_of n sent))))
         → (Honest → OnOk r (KeepsGroup m (λ h. InputFits h i) old.node old.store group new.node new.store now))
         → (Honest → LeavesInGroup m (λ h. InputFits h i) 132704 old.node old.store group.needs_sync (disks new.store))
         → (Honest → GrowsFromBase (disks old.store) (disks new.store))
@@ -313,18 +314,18 @@ module _ (m : Meaning) (IsText : List ℕ → Type 0) (Honest Metered : Type 0) 
         → GathersOf m IsText Metered first given group old
         → ((genesis : Genesis) (k : ℕ) → RemembersInGroup old.node old.store group.needs_sync genesis k
         → (h : History) (n : ℕ)
-        → NodeFits m h n (ReplicaHolds m old.node (as_sent group.needs_sync old.store) h.genesis n)
-        (disks (as_sent group.needs_sync old.store))
+        → NodeFits m h n (ReplicaHolds m old.node (as_released group.needs_sync old.store) h.genesis n)
+        (disks (as_released group.needs_sync old.store))
         → NodeFits m h n (ReplicaHolds m new.node new.store h.genesis n) (disks new.store))
         → LeavesInGroup m (λ h. ⊤) 0 old.node old.store group.needs_sync (disks new.store)
         → ((genesis : Genesis) (n : ℕ) (x : NodeMessage)
         → RemembersInGroup old.node old.store group.needs_sync genesis n
-        → IsCovered m genesis n group old.store
+        → IsGroupCovered m genesis n group old.store
         → (d : Datagram) → Contains (batch_of n group.letters) d → Spells (said_by genesis n x) d.bytes
         → AllCover m genesis n (disks new.store) x)
-        → IsSettled Metered old group.needs_sync new → new.failed ≡ false
+        → IsGroupSynced Metered old group.needs_sync new → new.failed ≡ false
         → SaysOf m IsText Metered first given group.letters new
-    says_all first given g fits leaves syncs settled alive = record {
+    says_all first given g fits leaves syncs is_synced alive = record {
       inputs = g.inputs;
       are_given = g.are_given;
       comes = inl (record {
@@ -337,12 +338,12 @@ module _ (m : Meaning) (IsText : List ℕ → Type 0) (Honest Metered : Type 0) 
           store = old.store;
           group = group;
           steps = g.steps;
-          same = settled.node;
-          settles = settled.settles;
-          calls = settled.calls;
+          same = is_synced.node;
+          syncs_all = is_synced.syncs_all;
+          calls = is_synced.calls;
           alive = alive;
-          store_alive = λ some. settled.store_alive (g.up some).0;
-          awake = λ some. ap (λ (x : NodeValue). x.halted) settled.node ∙ (g.up some).1;
+          store_alive = λ some. is_synced.store_alive (g.up some).0;
+          awake = λ some. ap (λ (x : NodeValue). x.halted) is_synced.node ∙ (g.up some).1;
         };
         goes = λ genesis k remembers n.
             subst₂ (λ (is : List Input) (l : List StepSaid). GoesThrough m n first is new l)
@@ -358,7 +359,7 @@ module _ (m : Meaning) (IsText : List ℕ → Type 0) (Honest Metered : Type 0) 
       });
       leaves = so_leaves first given g leaves;
       once = λ was. absurd (let both : true ≡ false = sym was ∙ sym (ap (λ (r : ReplicaValue). r.failed) (g.once was))
-          ∙ settled.lived in cc both);
+          ∙ is_synced.lived in cc both);
     }
 
     says_none : (first : ReplicaValue) (given : List (Option (List ℕ)))
@@ -378,16 +379,16 @@ module _ (m : Meaning) (IsText : List ℕ → Type 0) (Honest Metered : Type 0) 
     pub released_of : (r : Result Bool ReplicaFault)
         → (Honest → (genesis : Genesis) (k : ℕ) → RemembersInGroup old.node old.store group.needs_sync genesis k
         → (h : History) (n : ℕ) → NodeFits m h n (ReplicaHolds m old.node
-        (as_sent group.needs_sync old.store) h.genesis n)
-        (disks (as_sent group.needs_sync old.store))
+        (as_released group.needs_sync old.store) h.genesis n)
+        (disks (as_released group.needs_sync old.store))
         → IfOk r (λ all. NodeFits m h n (ReplicaHolds m new.node new.store h.genesis n) (disks new.store)))
         → (Honest → LeavesInGroup m (λ h. ⊤) 0 old.node old.store group.needs_sync (disks new.store))
         → (Honest → (genesis : Genesis) (n : ℕ) (x : NodeMessage)
-        → RemembersInGroup old.node old.store group.needs_sync genesis n → IsCovered m genesis n group old.store
+        → RemembersInGroup old.node old.store group.needs_sync genesis n → IsGroupCovered m genesis n group old.store
         → IfOk r (λ all. (d : Datagram) → Contains (batch_of n group.letters) d → Spells (said_by genesis n x) d.bytes
         → AllCover m genesis n (disks new.store) x))
         → IfOk r (λ all. CarriesAll Carries before group.letters after)
-        → (Honest → OnOk r (IsSettled Metered old group.needs_sync new)) → OnOk r (new.failed ≡ false)
+        → (Honest → OnOk r (IsGroupSynced Metered old group.needs_sync new)) → OnOk r (new.failed ≡ false)
         → OnOk r (GivesLetters Carries before after
         (λ letters. (first : ReplicaValue) (given : List (Option (List ℕ))) → Gathered first given group old
         → Said first given letters new))

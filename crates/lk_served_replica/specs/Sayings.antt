@@ -3,7 +3,7 @@
 use Rattle.std.specs.Prelude.{◌≡◌, ◌≢◌, ◌⊎◌, ℕ, true, false, List, [], ◌∷◌, ◌++◌, length, map, Option, Contains}
 use Rattle.std.specs.List.{AllByRecursion}
 use Rattle.lk_disk.specs.Disk.{Disk}
-use Rattle.lk_disk.specs.Meters.{Passes}
+use Rattle.lk_disk.specs.Meters.{CallsSucceed}
 use Rattle.lk_disk.specs.declared.device.Side.{Side}
 use Rattle.lk_messages.specs.Grammar.{Spells}
 use Rattle.lk_state.specs.Meanings.{Meaning}
@@ -17,8 +17,9 @@ use Rattle.lk_node.specs.Histories.{History, Genesis, Datagram}
 use Rattle.lk_node.specs.Keeping.{ReplicaHolds}
 use Rattle.lk_node.specs.Leavings.{DisksFit, AllCover}
 use Rattle.lk_node.specs.NodeValue.{NodeValue}
-use Rattle.lk_replica.specs.Groups.{GroupValue, StepSaid, letters_of, IsGathered, GoesThrough, GroupStays, IsCovered}
-use Rattle.lk_replica.specs.Groups.{RemembersInGroup, Settles, as_sent, settle_calls}
+use Rattle.lk_replica.specs.Groups.{GroupValue, StepSaid, letters_of, IsGathered, GoesThrough}
+use Rattle.lk_replica.specs.Groups.{GroupStays, IsGroupCovered}
+use Rattle.lk_replica.specs.Groups.{RemembersInGroup, SyncsIfNeeded, as_released, sync_calls}
 use Rattle.lk_recovery.specs.Remembering.{ReplicaRemembers}
 use Rattle.lk_replica.specs.ReplicaValue.{ReplicaValue}
 use Rattle.lk_recovery.specs.Rooms.{GrowsBySteps, max_after}
@@ -48,8 +49,8 @@ pub record IsGroupTaken (m : Meaning) (IsText : List ℕ → Type 0) (Metered : 
   pub group : GroupValue
   pub steps : AreGathered m IsText Metered old.node old.store nothing_taken inputs said node store group
   pub same : new.node ≡ node
-  pub settles : Settles group.needs_sync store new.store
-  pub calls : Metered → Passes store.meter new.store.meter (settle_calls group.needs_sync)
+  pub syncs_all : SyncsIfNeeded group.needs_sync store new.store
+  pub calls : Metered → CallsSucceed store.meter new.store.meter (sync_calls group.needs_sync)
   pub alive : new.failed ≡ false
   pub store_alive : inputs ≢ [] → new.store.failed ≡ false
   pub awake : inputs ≢ [] → new.node.halted ≡ false
@@ -78,10 +79,10 @@ pub record IsSilenced (letters : List LetterValue) (new : ReplicaValue) : Type 0
 -- what a group leaves on the disks, however it ends: where the history has all that it was given, each image that a
 -- stop may leave fits the history as it was; each covers what every image covered; and neither file is longer than it
 -- was, or else than so many bytes, nor has it grown by more than so many steps apart from a Base
-pub record GroupLeaves (m : Meaning) (Hears : History → Type 0) (most steps : ℕ) (node : NodeValue)
+pub record GroupLeaves (m : Meaning) (Heard : History → Type 0) (most steps : ℕ) (node : NodeValue)
     (store : StoreValue) (after : Side → Disk) : Type 0 where
   pub ends : (h : History) (n : ℕ) → NodeFits m h n (ReplicaHolds m node store h.genesis n) (disks store)
-      → Hears h → DisksFit m h n after
+      → Heard h → DisksFit m h n after
   pub covers : (genesis : Genesis) (n : ℕ) (x : NodeMessage) → ReplicaRemembers node store genesis n
       → AllCover m genesis n (disks store) x → AllCover m genesis n after x
   pub room : StaysWithin most (disks store) after
@@ -113,10 +114,11 @@ pub record GathersOf (m : Meaning) (IsText : List ℕ → Type 0) (Metered : Typ
   pub steps : AreGathered m IsText Metered start.node start.store nothing_taken inputs said now.node now.store group
   pub goes : (genesis : Genesis) (k : ℕ) → ReplicaRemembers start.node start.store genesis k
       → (n : ℕ) (more : List Input) (q : ReplicaValue) (rest : List StepSaid)
-      → GoesThrough m n (record { node = now.node; store = as_sent group.needs_sync now.store; failed = false }) more q
+      → GoesThrough m n (record { node = now.node; store = as_released group.needs_sync now.store; failed = false })
+      more q
       rest → GoesThrough m n start (inputs ++ more) q (said ++ rest)
   pub recalls : (genesis : Genesis) (n : ℕ) → ReplicaRemembers start.node start.store genesis n
-      → RemembersInGroup now.node now.store group.needs_sync genesis n × IsCovered m genesis n group now.store
+      → RemembersInGroup now.node now.store group.needs_sync genesis n × IsGroupCovered m genesis n group now.store
   pub stays : (h : History) (n : ℕ) → NodeFits m h n (ReplicaHolds m start.node start.store h.genesis n)
       (disks start.store)
       → AllByRecursion (InputFits h) inputs

@@ -6,28 +6,28 @@ use Rattle.lk_transport.specs.Inquiring.{AsksOne, LearnsKept, ReadmitsKept}
 use Rattle.lk_transport.specs.Posts.{SendState}
 use Rattle.lk_transport.specs.declared.received_probe.ReceivedProbe.{ReceivedProbe}
 use Rattle.lk_server.specs.ProbeHandling.{HandlesProbes}
-use Rattle.lk_server.specs.Probes.{AnswersKept}
+use Rattle.lk_server.specs.Probes.{RepliesToKept}
 use Rattle.lk_server.specs.Servers.{ServerValue, send_state_at}
 use Rattle.lk_served_replica.specs.declared.probed_state.ProbedState.{ProbedState}
 
 -- an answer leaves what is to come
 answer_still : {R : Type 0} (Shows : R → ProbedState → Type 0) (tells : Type 0) (asked : Option ReceivedProbe)
-    (old new : ServerValue R) → AnswersKept Shows tells asked old new → tells → new.incoming ≡ old.incoming
+    (old new : ServerValue R) → RepliesToKept Shows tells asked old new → tells → new.incoming ≡ old.incoming
 answer_still {R} Shows tells None old new same t = ap (λ (s : ServerValue R). s.incoming) same
 answer_still Shows tells (Some a) old new one t = one.still t
 
 module _ {R : Type 0} (Shows : R → ProbedState → Type 0) (tells : Type 0) (asked : Option ReceivedProbe)
-    (reported : Option Reported) (now : ℕ) (old answered readmitted learned new : ServerValue R) where
+    (reported : Option Reported) (now : ℕ) (old replied readmitted learned new : ServerValue R) where
   -- it answers, readmits, learns and asks
-  pub acted : AnswersKept Shows tells asked old answered
-      → answered ≡ record old {
-        sent = answered.sent;
-        socket_failures = answered.socket_failures;
-        incoming = answered.incoming;
+  pub acted : RepliesToKept Shows tells asked old replied
+      → replied ≡ record old {
+        sent = replied.sent;
+        socket_failures = replied.socket_failures;
+        incoming = replied.incoming;
       }
-      → ReadmitsKept asked answered.addresses readmitted.addresses
-      → IsSameNetwork answered.addresses readmitted.addresses
-      → readmitted ≡ record answered { addresses = readmitted.addresses }
+      → ReadmitsKept asked replied.addresses readmitted.addresses
+      → IsSameNetwork replied.addresses readmitted.addresses
+      → readmitted ≡ record replied { addresses = readmitted.addresses }
       → LearnsKept reported readmitted.addresses learned.addresses
       → IsSameNetwork readmitted.addresses learned.addresses
       → learned ≡ record readmitted { addresses = learned.addresses }
@@ -41,19 +41,19 @@ module _ {R : Type 0} (Shows : R → ProbedState → Type 0) (tells : Type 0) (a
         incoming = new.incoming;
       }
       → HandlesProbes Shows tells asked reported old new
-  acted answers answered_so readmits heard readmitted_so learns known learned_so own asks kept still new_so =
-      let book : answered.addresses ≡ old.addresses = ap (λ (s : ServerValue R). s.addresses) answered_so in
-      let again : learned ≡ record answered { addresses = learned.addresses } = learned_so
+  acted replies answered_so readmits heard readmitted_so learns known learned_so own asks kept still new_so =
+      let book : replied.addresses ≡ old.addresses = ap (λ (s : ServerValue R). s.addresses) answered_so in
+      let again : learned ≡ record replied { addresses = learned.addresses } = learned_so
       ∙ ap (λ (s : ServerValue R). record s { addresses = learned.addresses }) readmitted_so in
       let node : learned.node ≡ old.node = ap (λ (s : ServerValue R). s.node) again
       ∙ ap (λ (s : ServerValue R). s.node) answered_so in
-      let tray : send_state_at learned.own learned ≡ send_state_at answered.own answered =
+      let tray : send_state_at learned.own learned ≡ send_state_at replied.own replied =
       ap (λ (s : ServerValue R). send_state_at s.own s) again in
       let since : learned ≡ record old {
         addresses = learned.addresses;
-        sent = answered.sent;
-        socket_failures = answered.socket_failures;
-        incoming = answered.incoming;
+        sent = replied.sent;
+        socket_failures = replied.socket_failures;
+        incoming = replied.incoming;
       } =
       again ∙ ap (λ (s : ServerValue R). record s { addresses = learned.addresses }) answered_so in
       let time : now ≡ old.ticks = own ∙ ap (λ (s : ServerValue R). s.ticks) since in
@@ -62,8 +62,8 @@ module _ {R : Type 0} (Shows : R → ProbedState → Type 0) (tells : Type 0) (a
       subst (λ (n : ℕ). AsksOne tells n learned.node learned.addresses new.addresses (send_state_at learned.own learned)
       (send_state_at new.own new)) time asks in
       record {
-        answered = answered;
-        answers = answers;
+        replied = replied;
+        replies = replies;
         readmitted = readmitted.addresses;
         readmits = subst (λ (b : AddressBook). ReadmitsKept asked b readmitted.addresses) book readmits;
         learned = learned.addresses;
@@ -75,7 +75,7 @@ module _ {R : Type 0} (Shows : R → ProbedState → Type 0) (tells : Type 0) (a
           kept.1 ∙ known.1 ∙ heard.1 ∙ ap (λ (b : AddressBook). b.seals) book,
         );
         still = λ t. still t ∙ ap (λ (s : ServerValue R). s.incoming) again
-            ∙ answer_still Shows tells asked old answered answers t;
+            ∙ answer_still Shows tells asked old replied replies t;
         same = new_so ∙ ap (λ (s : ServerValue R). record s {
           addresses = new.addresses;
           sent = new.sent;

@@ -14,7 +14,9 @@ use Rattle.lk_auth.specs.declared.seals.Seals.{Seals}
 use Rattle.lk_auth.specs.Clients.{client_in}
 use Rattle.lk_auth.specs.Vouching.{IsSealedByClient}
 use Rattle.lk_auth.proofs.VouchLaws.{is_vouched, is_of_who_it_names}
-use Rattle.lk_server.specs.Premises.{IsFree, IsToldByANode, IsToldOrAsked}
+use Rattle.lk_node.specs.NodeValue.{NodeValue}
+use Rattle.lk_node.specs.Steps.{IsForeign}
+use Rattle.lk_server.specs.Premises.{IsNoNodeMessage, IsToldByANode, IsToldOrAsked, IsUnsealed}
 
 -- a message of kind 9 is a request
 of_kind_9 : (c : Content) → kind c ≡ 9 → (r : Request) × (c ≡ content.Request r)
@@ -32,7 +34,7 @@ of_kind_9 (content.Node node (kinds.Elsewhere x)) e = absurd (omega (arith, e))
 of_kind_9 (content.Node node (kinds.Passed p)) e = absurd (omega (arith, e))
 of_kind_9 (content.Node node (kinds.Lead b executed)) e = absurd (omega (arith, e))
 
-free : (bytes : List ℕ) → IsOfNoNode bytes → IsFree bytes
+free : (bytes : List ℕ) → IsOfNoNode bytes → IsNoNodeMessage bytes
 free bytes (inl none) m spells =
     let empty : [] ≡ spelling m = sym none ∙ spells.1 in
     absurd cc
@@ -53,7 +55,7 @@ request_names m r is fits =
     ∙ from_be_bytes-to_be_bytes_2 r.client (omega (arith, fits.1))
 
 -- what spells a request, and was sealed by the client that it names
-asked : (s : Seals) (frame bytes : List ℕ) → IsFree bytes
+asked : (s : Seals) (frame bytes : List ℕ) → IsNoNodeMessage bytes
     → (bytes ≡ []) ⊎ IsSealedByClient s (client_in bytes) frame bytes
     → (m : Message) → Spells m bytes
     → (r : Request) × (m.content ≡ content.Request r) × IsSealedByClient s r.client frame bytes
@@ -76,3 +78,18 @@ told_or_asked s frame some masters = elim (told_by_a_node s frame some) [
     | inr own ↦ inr (asked s frame (heard s frame) none_says own)
   ]
 ]
+
+-- what nobody has sealed opens to nothing
+pub unsealed_opens : (s : Seals) (frame : List ℕ) → key_list s.nodes ≢ [] → key_list s.clients ≢ []
+    → IsUnsealed s frame → heard s frame ≡ []
+unsealed_opens s frame some masters unsealed = elim (is_of_who_it_names s frame some masters) [
+  | inl by_node ↦ absurd (unsealed.by_nodes (heard s frame) by_node)
+  | inr (inl none) ↦ none
+  | inr (inr by_client) ↦ absurd (unsealed.by_clients (client_in (heard s frame)) (heard s frame) by_client)
+]
+
+-- nothing spells no message
+pub empty_is_foreign : (node : NodeValue) → IsForeign node []
+empty_is_foreign node m spells same =
+    let empty : [] ≡ spelling m = spells.1 in
+    absurd cc

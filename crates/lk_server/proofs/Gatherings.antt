@@ -14,7 +14,7 @@ use Rattle.lk_server.specs.Gatherings.{EndsSocket, AreFound, Finds}
 use Rattle.lk_pacing.specs.declared.turn_input.TurnInput.{TurnInput}
 use Rattle.lk_pacing.specs.declared.turn_input.TurnInput.TheVariants.{Nothing, Filtered, Something}
 use Rattle.lk_transport.specs.ReceiveBuffers.{listed}
-use Rattle.lk_transport.specs.Posts.{Hears, HearsAll, is_filtered_out, opened_as, filtered, all_filtered}
+use Rattle.lk_transport.specs.Posts.{RecordsSender, RecordsSenders, is_filtered_out, opened_as, filtered, all_filtered}
 use Rattle.lk_pacing.specs.Paces.{ticks_after}
 use Rattle.lk_pacing.specs.declared.pace.Pace.{Pace}
 use Rattle.lk_server.specs.Servers.{ServerValue, one_more, one_more_tick, ticks_behind, inputs, all_inputs, all_ticks}
@@ -154,8 +154,8 @@ some_own own taken left l parts none =
 
 -- what was heard, one datagram after another
 pub hears_more : (cluster : ℕ) (xs ys : List (SocketAddr × List ℕ)) (old mid new : AddressBook)
-    → HearsAll cluster xs old mid → HearsAll cluster ys mid new → HearsAll cluster (xs ++ ys) old new
-hears_more cluster [] ys old mid new a b = subst (λ (k : AddressBook). HearsAll cluster ys k new) a b
+    → RecordsSenders cluster xs old mid → RecordsSenders cluster ys mid new → RecordsSenders cluster (xs ++ ys) old new
+hears_more cluster [] ys old mid new a b = subst (λ (k : AddressBook). RecordsSenders cluster ys k new) a b
 hears_more cluster (x ∷ xs) ys old mid new a b = (a.0, a.1, hears_more cluster xs ys a.0 mid new a.2 b)
 
 pub same_network : (old mid new : AddressBook) → IsSameFilter old mid → IsSameFilter mid new → IsSameFilter old new
@@ -344,11 +344,11 @@ module _ {R : Type 0} (G : Gatherings R) where
               (datagrams_in [] (all_filtered (filter_of old.addresses) ys)) group one now old mid new a.takes.takes
               (subst (λ (s : Filter). TakesAll G (datagrams_in [] (all_filtered s ys)) one now mid new) filter
               b.takes.takes));
-          heard = subst (λ (cs : List (SocketAddr × List ℕ)). HearsAll old.cluster cs old.addresses new.addresses)
+          heard = subst (λ (cs : List (SocketAddr × List ℕ)). RecordsSenders old.cluster cs old.addresses new.addresses)
               (sym (taken_more (filter_of old.addresses) xs ys))
               (hears_more old.cluster (all_filtered (filter_of old.addresses) xs)
               (all_filtered (filter_of old.addresses) ys) old.addresses mid.addresses new.addresses a.takes.heard
-              (subst₂ (λ (n : ℕ) (s : Filter). HearsAll n (all_filtered s ys) mid.addresses new.addresses)
+              (subst₂ (λ (n : ℕ) (s : Filter). RecordsSenders n (all_filtered s ys) mid.addresses new.addresses)
               cluster filter b.takes.heard));
           network = same_network old.addresses mid.addresses new.addresses a.takes.network b.takes.network;
         };
@@ -359,7 +359,7 @@ module _ {R : Type 0} (G : Gatherings R) where
   -- a frame of which this was taken
   pub heard_one : (frame x : SocketAddr × List ℕ) (group now : GroupValue) (old mid new : ServerValue R)
       → opened_as (filter_of old.addresses) frame ≡ x → is_filtered_out (filter_of old.addresses) frame ≡ false
-      → Hears old.cluster x.1 x.0 old.addresses mid.addresses → IsSameFilter old.addresses mid.addresses
+      → RecordsSender old.cluster x.1 x.0 old.addresses mid.addresses → IsSameFilter old.addresses mid.addresses
       → new.addresses ≡ mid.addresses → mid.replica ≡ old.replica → mid.received ≡ old.received
       → mid.pace ≡ old.pace → mid.ticks ≡ old.ticks
       → TakesAll G (x.1 ∷ []) group now mid new → TakesHeard G (frame ∷ []) group now old new
@@ -367,7 +367,7 @@ module _ {R : Type 0} (G : Gatherings R) where
     takes = subst (λ (cs : List (SocketAddr × List ℕ)). TakesAll G (datagrams_in [] cs) group now old new)
         (sym (taken_one (filter_of old.addresses) frame x is apart))
         (takes_from (x.1 ∷ []) group now old mid new replica received pace time takes);
-    heard = subst (λ (cs : List (SocketAddr × List ℕ)). HearsAll old.cluster cs old.addresses new.addresses)
+    heard = subst (λ (cs : List (SocketAddr × List ℕ)). RecordsSenders old.cluster cs old.addresses new.addresses)
         (sym (taken_one (filter_of old.addresses) frame x is apart)) (mid.addresses, hears, book);
     network = subst (λ (b : AddressBook). IsSameFilter old.addresses b) (sym book) network;
   }
@@ -392,7 +392,7 @@ module _ {R : Type 0} (G : Gatherings R) where
               (takes_from [] group now old mid new (ap (λ (s : ServerValue R). s.replica) others)
               (ap (λ (s : ServerValue R). s.received) others) (ap (λ (s : ServerValue R). s.pace) others)
               (ap (λ (s : ServerValue R). s.ticks) others) (takes_nothing group now mid new still same));
-          heard = subst (λ (cs : List (SocketAddr × List ℕ)). HearsAll old.cluster cs old.addresses new.addresses)
+          heard = subst (λ (cs : List (SocketAddr × List ℕ)). RecordsSenders old.cluster cs old.addresses new.addresses)
               (sym gone) book;
           network = (ap (λ (b : AddressBook). b.hosts) book, ap (λ (b : AddressBook). filter_of b) book);
         };
@@ -456,7 +456,7 @@ module _ {R : Type 0} (G : Gatherings R) where
             ticks = ap (λ (s : ServerValue R). s.ticks) same ∙ a.takes.takes.ticks;
             pace = ap (λ (s : ServerValue R). s.pace) same ∙ a.takes.takes.pace;
           };
-          heard = subst (λ (b : AddressBook). HearsAll old.cluster
+          heard = subst (λ (b : AddressBook). RecordsSenders old.cluster
               (all_filtered (filter_of old.addresses) xs) old.addresses b) (sym book) a.takes.heard;
           network = subst (λ (b : AddressBook). IsSameFilter old.addresses b) (sym book) a.takes.network;
         };
@@ -566,7 +566,7 @@ module _ {R : Type 0} (S : Sayings R) (G : Gatherings R) where
 
   pub ends_heard : (frame x : SocketAddr × List ℕ) (group : GroupValue) (old mid new : ServerValue R)
       → opened_as (filter_of old.addresses) frame ≡ x → is_filtered_out (filter_of old.addresses) frame ≡ false
-      → Hears old.cluster x.1 x.0 old.addresses mid.addresses → IsSameFilter old.addresses mid.addresses
+      → RecordsSender old.cluster x.1 x.0 old.addresses mid.addresses → IsSameFilter old.addresses mid.addresses
       → new.addresses ≡ mid.addresses → mid.replica ≡ old.replica → mid.received ≡ old.received
       → mid.pace ≡ old.pace → mid.ticks ≡ old.ticks
       → EndsWithin S G (x.1 ∷ []) group mid new → EndsHeard S G (frame ∷ []) group old new
@@ -574,7 +574,7 @@ module _ {R : Type 0} (S : Sayings R) (G : Gatherings R) where
     ends = subst (λ (cs : List (SocketAddr × List ℕ)). EndsWithin S G (datagrams_in [] cs) group old new)
         (sym (taken_one (filter_of old.addresses) frame x is apart))
         (ends_from (x.1 ∷ []) group old mid new replica received pace time ends);
-    heard = subst (λ (cs : List (SocketAddr × List ℕ)). HearsAll old.cluster cs old.addresses new.addresses)
+    heard = subst (λ (cs : List (SocketAddr × List ℕ)). RecordsSenders old.cluster cs old.addresses new.addresses)
         (sym (taken_one (filter_of old.addresses) frame x is apart)) (mid.addresses, hears, book);
     network = subst (λ (b : AddressBook). IsSameFilter old.addresses b) (sym book) network;
   }
@@ -616,11 +616,11 @@ module _ {R : Type 0} (S : Sayings R) (G : Gatherings R) where
               (datagrams_in [] (all_filtered (filter_of old.addresses) ys)) group one old mid new a.takes.takes
               (subst (λ (s : Filter). EndsWithin S G (datagrams_in [] (all_filtered s ys)) one mid new) filter
               b.ends.ends));
-          heard = subst (λ (cs : List (SocketAddr × List ℕ)). HearsAll old.cluster cs old.addresses new.addresses)
+          heard = subst (λ (cs : List (SocketAddr × List ℕ)). RecordsSenders old.cluster cs old.addresses new.addresses)
               (sym (taken_more (filter_of old.addresses) xs ys))
               (hears_more old.cluster (all_filtered (filter_of old.addresses) xs)
               (all_filtered (filter_of old.addresses) ys) old.addresses mid.addresses new.addresses a.takes.heard
-              (subst₂ (λ (n : ℕ) (s : Filter). HearsAll n (all_filtered s ys) mid.addresses new.addresses)
+              (subst₂ (λ (n : ℕ) (s : Filter). RecordsSenders n (all_filtered s ys) mid.addresses new.addresses)
               cluster filter b.ends.heard));
           network = same_network old.addresses mid.addresses new.addresses a.takes.network b.ends.network;
         };

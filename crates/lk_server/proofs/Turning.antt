@@ -12,7 +12,7 @@ use Rattle.lk_server.specs.Gatherings.{AreFound, Finds, TakesAll, EndsWithin, Ta
 use Rattle.lk_server.specs.Gatherings.{EndsSocket, TakesWaiting, TakesGroup, EndsGroup, DeliversAllLetters, SaysNothing}
 use Rattle.lk_pacing.specs.Paces.{MayFollow}
 use Rattle.lk_auth.specs.Seals.{heard}
-use Rattle.lk_transport.specs.Posts.{HearsAll, is_filtered_out, all_filtered}
+use Rattle.lk_transport.specs.Posts.{RecordsSenders, is_filtered_out, all_filtered}
 use Rattle.lk_server.specs.Servers.{ServerValue, DeliversLetters, DeliversNothing, HasReceived, IsSameServer, Turn}
 use Rattle.lk_server.specs.Servers.{LastTurn}
 use Rattle.lk_server.specs.Servers.{IsIdle, Given, GivenPrefix, TakesFirst, all_inputs, all_ticks, counted}
@@ -291,8 +291,8 @@ module _ {R : Type 0} (S : Sayings R) (G : Gatherings R) (tells : Type 0) where
     tick_left : new.own ≡ drop 64 old.own
     tick_left = ap (λ (s : ServerValue R). s.own) same ∙ t.left
 
-    tick_heard : HearsAll old.cluster (all_filtered (filter_of old.addresses) frames) old.addresses new.addresses
-    tick_heard = subst (λ (b : AddressBook). HearsAll old.cluster
+    tick_heard : RecordsSenders old.cluster (all_filtered (filter_of old.addresses) frames) old.addresses new.addresses
+    tick_heard = subst (λ (b : AddressBook). RecordsSenders old.cluster
         (all_filtered (filter_of old.addresses) frames) old.addresses b)
         (sym (ap (λ (s : ServerValue R). s.addresses) same)) t.heard
 
@@ -369,8 +369,8 @@ module _ {R : Type 0} (S : Sayings R) (G : Gatherings R) (tells : Type 0) where
     alone_book : new.addresses ≡ old.addresses
     alone_book = ap (λ (s : ServerValue R). s.addresses) same ∙ ap (λ (s : ServerValue R). s.addresses) f.same
 
-    alone_heard : HearsAll old.cluster (all_filtered (filter_of old.addresses) frames) old.addresses new.addresses
-    alone_heard = subst (λ (cs : List (SocketAddr × List ℕ)). HearsAll old.cluster cs old.addresses new.addresses)
+    alone_heard : RecordsSenders old.cluster (all_filtered (filter_of old.addresses) frames) old.addresses new.addresses
+    alone_heard = subst (λ (cs : List (SocketAddr × List ℕ)). RecordsSenders old.cluster cs old.addresses new.addresses)
         (sym none_taken) alone_book
 
     alone_outside : IsSameFilter old.addresses new.addresses
@@ -544,7 +544,7 @@ module _ {R : Type 0} (S : Sayings R) (G : Gatherings R) (tells : Type 0) where
         (hands old t.given (t.gathers old.replica [] begins) (sym sent) (sym failures));
     counted = received ∙ t.counted;
     ticks = untimed ∙ t.ticks;
-    heard = subst (λ (b : AddressBook). HearsAll old.cluster
+    heard = subst (λ (b : AddressBook). RecordsSenders old.cluster
         (all_filtered (filter_of old.addresses) frames) old.addresses b) (sym book) t.heard;
     same = same_further old mid new first.cluster first.node first.pace then;
     alive = lives;
@@ -571,7 +571,7 @@ module _ {R : Type 0} (S : Sayings R) (G : Gatherings R) (tells : Type 0) where
     });
     silent = refl;
     ticks = untimed ∙ t.ticks;
-    heard = subst (λ (b : AddressBook). HearsAll old.cluster
+    heard = subst (λ (b : AddressBook). RecordsSenders old.cluster
         (all_filtered (filter_of old.addresses) frames) old.addresses b) (sym book) t.heard;
     same = same_further old mid new first.cluster first.node first.pace then;
     ended = ended;

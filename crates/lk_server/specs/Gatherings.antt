@@ -6,7 +6,7 @@ use Rattle.lk_served_replica.specs.Groups.{Sayings, Gatherings, GathersMore, Say
 use Rattle.lk_pacing.specs.declared.turn_input.TurnInput.{TurnInput}
 use Rattle.lk_pacing.specs.declared.turn_input.TurnInput.TheVariants.{Nothing, Filtered, Something}
 use Rattle.lk_transport.specs.Addresses.{Filter, filter_of, IsSameFilter}
-use Rattle.lk_transport.specs.Posts.{HearsAll, is_filtered_out, all_filtered}
+use Rattle.lk_transport.specs.Posts.{RecordsSenders, is_filtered_out, all_filtered}
 use Rattle.lk_server.specs.Servers.{ServerValue, all_inputs, all_ticks, counted, datagrams_in, Given, GivenPrefix}
 use Rattle.lk_server.specs.Servers.{HasReceived, IsPrefix, TakesLetters, DeliversLetters}
 
@@ -94,7 +94,7 @@ module _ {R : Type 0} (Gathers : Gatherings R) where
   pub record TakesHeard (frames : List (SocketAddr × List ℕ)) (group now : GroupValue)
       (old new : ServerValue R) : Type 0 where
     pub takes : TakesAll (datagrams_in [] (all_filtered (filter_of old.addresses) frames)) group now old new
-    pub heard : HearsAll old.cluster (all_filtered (filter_of old.addresses) frames) old.addresses new.addresses
+    pub heard : RecordsSenders old.cluster (all_filtered (filter_of old.addresses) frames) old.addresses new.addresses
     pub network : IsSameFilter old.addresses new.addresses
 
   -- their content was taken, and exactly these frames came from the socket, in order
@@ -111,7 +111,7 @@ module _ {R : Type 0} (Gathers : Gatherings R) where
         new
     pub some : datagrams_in (take 64 old.own) (all_filtered (filter_of old.addresses) frames) ≢ []
     pub left : new.own ≡ drop 64 old.own
-    pub heard : HearsAll old.cluster (all_filtered (filter_of old.addresses) frames) old.addresses new.addresses
+    pub heard : RecordsSenders old.cluster (all_filtered (filter_of old.addresses) frames) old.addresses new.addresses
     pub network : IsSameFilter old.addresses new.addresses
 
   -- what is taken in a turn: what waits, and a tick where one is due
@@ -126,7 +126,7 @@ module _ {R : Type 0} (Gathers : Gatherings R) where
         ≡ counted old.received (datagrams_in (take 64 old.own) (all_filtered (filter_of old.addresses) frames))
     pub ticks : new.ticks ≡ all_ticks old.ticks given
     pub left : new.own ≡ drop 64 old.own
-    pub heard : HearsAll old.cluster (all_filtered (filter_of old.addresses) frames) old.addresses new.addresses
+    pub heard : RecordsSenders old.cluster (all_filtered (filter_of old.addresses) frames) old.addresses new.addresses
     pub network : IsSameFilter old.addresses new.addresses
 
 module _ {R : Type 0} (Says : Sayings R) (Gathers : Gatherings R) where
@@ -150,7 +150,7 @@ module _ {R : Type 0} (Says : Sayings R) (Gathers : Gatherings R) where
   pub record EndsHeard (frames : List (SocketAddr × List ℕ)) (group : GroupValue)
       (old new : ServerValue R) : Type 0 where
     pub ends : EndsWithin (datagrams_in [] (all_filtered (filter_of old.addresses) frames)) group old new
-    pub heard : HearsAll old.cluster (all_filtered (filter_of old.addresses) frames) old.addresses new.addresses
+    pub heard : RecordsSenders old.cluster (all_filtered (filter_of old.addresses) frames) old.addresses new.addresses
     pub network : IsSameFilter old.addresses new.addresses
 
   -- the replica ended at their content, and exactly these frames came from the socket, in order
@@ -171,7 +171,7 @@ module _ {R : Type 0} (Says : Sayings R) (Gathers : Gatherings R) where
     pub silent : SaysNoMore Says Gathers given group old.replica new.replica
     pub ticks : new.ticks ≡ all_ticks old.ticks given
     pub left : new.own ≡ drop count old.own
-    pub heard : HearsAll old.cluster (all_filtered (filter_of old.addresses) frames) old.addresses new.addresses
+    pub heard : RecordsSenders old.cluster (all_filtered (filter_of old.addresses) frames) old.addresses new.addresses
     pub network : IsSameFilter old.addresses new.addresses
 
   -- ---- the end of a group

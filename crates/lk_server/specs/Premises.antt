@@ -11,13 +11,14 @@ use Rattle.lk_auth.specs.Vouching.{IsSealedByClient}
 use Rattle.lk_auth.specs.declared.seals.Seals.{Seals}
 
 -- no node's message: it spells a client's request, or nothing
-abbrev pub IsFree : List ℕ → Type 0
-IsFree bytes = (m : Message) → Spells m bytes → (r : Request) × (m.content ≡ content.Request r)
+abbrev pub IsNoNodeMessage : List ℕ → Type 0
+IsNoNodeMessage bytes = (m : Message) → Spells m bytes → (r : Request) × (m.content ≡ content.Request r)
 
 -- what is taken from a frame was sealed for this node by someone who has a key of the nodes, or it is no node's
 -- message
 abbrev pub IsToldByANode : Seals → List ℕ → Type 0
-IsToldByANode s frame = IsSealedBy (key_list s.nodes) (to_node s s.node) frame (heard s frame) ⊎ IsFree (heard s frame)
+IsToldByANode s frame = IsSealedBy (key_list s.nodes) (to_node s s.node) frame (heard s frame)
+    ⊎ IsNoNodeMessage (heard s frame)
 
 -- what is taken from a frame is a request of the client under whose key it was sealed, or it spells nothing
 abbrev pub IsAskedByItsClient : Seals → List ℕ → Type 0
@@ -29,6 +30,11 @@ IsAskedByItsClient s frame =
 abbrev pub IsToldOrAsked : Seals → List ℕ → Type 0
 IsToldOrAsked s frame =
     IsSealedBy (key_list s.nodes) (to_node s s.node) frame (heard s frame) ⊎ IsAskedByItsClient s frame
+
+-- nobody who has a key of the nodes sealed it for this node, and nobody who has a client's key sealed it as that client
+pub record IsUnsealed (s : Seals) (frame : List ℕ) : Type 0 where
+  pub by_nodes : (datagram : List ℕ) → IsSealedBy (key_list s.nodes) (to_node s s.node) frame datagram → ⊥
+  pub by_clients : (client : ℕ) (datagram : List ℕ) → IsSealedByClient s client frame datagram → ⊥
 
 -- someone who has a key of the nodes sealed a probe for this node
 abbrev pub IsProbedByANode : Seals → List ℕ → Type 0

@@ -4,7 +4,7 @@ use Rattle.lk_probe.specs.declared.reported.Reported.{Reported}
 use Rattle.lk_transport.specs.Addresses.{AddressBook, IsSameNetwork}
 use Rattle.lk_transport.specs.Inquiring.{AsksOne, LearnsKept, ReadmitsKept}
 use Rattle.lk_transport.specs.declared.received_probe.ReceivedProbe.{ReceivedProbe}
-use Rattle.lk_server.specs.Probes.{AnswersKept}
+use Rattle.lk_server.specs.Probes.{RepliesToKept}
 use Rattle.lk_server.specs.Servers.{ServerValue, send_state_at}
 use Rattle.lk_served_replica.specs.declared.probed_state.ProbedState.{ProbedState}
 
@@ -14,14 +14,14 @@ use Rattle.lk_served_replica.specs.declared.probed_state.ProbedState.{ProbedStat
 -- replica shows
 pub record HandlesProbes {R : Type 0} (Shows : R → ProbedState → Type 0) (tells : Type 0)
     (asked : Option ReceivedProbe) (reported : Option Reported) (old new : ServerValue R) : Type 0 where
-  pub answered : ServerValue R
-  pub answers : AnswersKept Shows tells asked old answered
+  pub replied : ServerValue R
+  pub replies : RepliesToKept Shows tells asked old replied
   pub readmitted : AddressBook
   pub readmits : ReadmitsKept asked old.addresses readmitted
   pub learned : AddressBook
   pub learns : LearnsKept reported readmitted learned
   pub asks : AsksOne tells old.ticks old.node learned new.addresses
-      (send_state_at answered.own answered) (send_state_at new.own new)
+      (send_state_at replied.own replied) (send_state_at new.own new)
   pub network : IsSameNetwork old.addresses new.addresses
   pub still : tells → new.incoming ≡ old.incoming
   pub same : new ≡ record old {

@@ -1,6 +1,6 @@
 -- The report of a node, and how a server answers a probe with it.
 use Rattle.std.specs.Prelude.{◌≡◌, ℕ, List, Option, Some, None}
-use Rattle.lk_probe.specs.Grammar.{SpellsReport, Answers}
+use Rattle.lk_probe.specs.Grammar.{SpellsReport, IsReportFor}
 use Rattle.lk_probe.specs.declared.probe.Probe.{Probe}
 use Rattle.lk_probe.specs.declared.probe.Report.{Report}
 use Rattle.lk_probe.specs.declared.status.Status.{Status}
@@ -13,7 +13,7 @@ use Rattle.lk_transport.specs.Askers.{Replies}
 
 -- a status tells what a replica shows, the digest of the genesis, and that count of ticks. The rest the server has
 -- counted
-pub record Tells (digest : List ℕ) (count : ℕ) (shown : ProbedState) (s : Status) : Type 0 where
+pub record ReportsStatus (digest : List ℕ) (count : ℕ) (shown : ProbedState) (s : Status) : Type 0 where
   pub genesis : s.identity.genesis ≡ digest
   pub format : s.identity.format ≡ shown.format
   pub leadership : s.leadership ≡ shown.leadership
@@ -26,28 +26,28 @@ pub record Tells (digest : List ℕ) (count : ℕ) (shown : ProbedState) (s : St
 
 -- these bytes are a report of that node that answers the probe, and tells what the replica shows and that count of
 -- ticks. By the laws of lk_probe it is as long as the probe
-pub record IsAnswer (node : ℕ) (genesis : List ℕ) (count : ℕ) (shown : ProbedState) (p : Probe)
+pub record IsReportTo (node : ℕ) (genesis : List ℕ) (count : ℕ) (shown : ProbedState) (p : Probe)
     (bytes : List ℕ) : Type 0 where
   pub report : Report
   pub spelled : SpellsReport report bytes
-  pub answers : Answers p report
+  pub is_for : IsReportFor p report
   pub node_told : report.node ≡ node
-  pub told : Tells genesis count shown report.status
+  pub told : ReportsStatus genesis count shown report.status
 
 -- the probe was answered, by the server's own count of ticks, and nothing else is sent or changed; nor is what is to
 -- come, if the socket tells that. `Shows` is what a replica shows
-pub record AnswersOne {R : Type 0} (Shows : R → ProbedState → Type 0) (tells : Type 0) (a : ReceivedProbe)
+pub record RepliesToProbe {R : Type 0} (Shows : R → ProbedState → Type 0) (tells : Type 0) (a : ReceivedProbe)
     (old new : ServerValue R) : Type 0 where
   pub shown : ProbedState
   pub shows : Shows old.replica shown
   pub bytes : List ℕ
-  pub answer : IsAnswer old.node old.addresses.seals.genesis old.ticks shown a.probe bytes
+  pub reports : IsReportTo old.node old.addresses.seals.genesis old.ticks shown a.probe bytes
   pub replies : Replies tells old.addresses.seals a bytes (send_state_at old.own old) (send_state_at new.own new)
   pub still : tells → new.incoming ≡ old.incoming
   pub same : new ≡ record old { sent = new.sent; socket_failures = new.socket_failures; incoming = new.incoming }
 
 -- the probe that is kept was answered, if one is; else nothing is sent or changed
-abbrev pub AnswersKept : {R : Type 0} → (R → ProbedState → Type 0) → Type 0 → Option ReceivedProbe
+abbrev pub RepliesToKept : {R : Type 0} → (R → ProbedState → Type 0) → Type 0 → Option ReceivedProbe
     → ServerValue R → ServerValue R → Type 0
-AnswersKept Shows tells None old new = new ≡ old
-AnswersKept Shows tells (Some a) old new = AnswersOne Shows tells a old new
+RepliesToKept Shows tells None old new = new ≡ old
+RepliesToKept Shows tells (Some a) old new = RepliesToProbe Shows tells a old new

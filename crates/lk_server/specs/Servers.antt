@@ -7,7 +7,7 @@ use Rattle.lk_node_interface.specs.Letters.{LetterValue}
 use Rattle.lk_replica.specs.Posts.{CarriesAll}
 use Rattle.lk_transport.specs.Addresses.{AddressBook, filter_of, client_at, node_at}
 use Rattle.lk_pacing.specs.Paces.{ticks_after, MayFollow}
-use Rattle.lk_transport.specs.Posts.{HearsAll, SendState, Becomes, all_filtered}
+use Rattle.lk_transport.specs.Posts.{RecordsSenders, SendState, Becomes, all_filtered}
 use Rattle.lk_transport.specs.declared.network.Network.{Network}
 use Rattle.lk_pacing.specs.declared.pace.Pace.{Pace}
 use Rattle.lk_pacing.specs.declared.pace.Pace.TheVariants.{Clock}
@@ -193,7 +193,7 @@ pub record Turn {R : Type 0} (Says : R → List (Option (List ℕ)) → List Let
   pub hands_on : DeliversLetters Says tells given (drop 64 old.own) old new
   pub counted : new.received ≡ counted old.received (datagrams_in (take 64 old.own) came)
   pub ticks : new.ticks ≡ all_ticks old.ticks given
-  pub heard : HearsAll old.cluster came old.addresses new.addresses
+  pub heard : RecordsSenders old.cluster came old.addresses new.addresses
   pub same : IsSameServer old new
   pub alive : new.failed ≡ false
 
@@ -209,7 +209,7 @@ pub record LastTurn {R : Type 0} (Says : R → List (Option (List ℕ)) → List
   pub hands_on : DeliversLetters Says tells given (drop count old.own) old new
   pub silent : hands_on.letters ≡ []
   pub ticks : new.ticks ≡ all_ticks old.ticks given
-  pub heard : HearsAll old.cluster came old.addresses new.addresses
+  pub heard : RecordsSenders old.cluster came old.addresses new.addresses
   pub same : IsSameServer old new
   pub ended : new.failed ≡ true
 

@@ -2,11 +2,14 @@
 
 ghost use Rattle.std.specs.Prelude.{◌≡◌, ◌≢◌, ℕ, List, [], Some, IsSome};
 ghost use Rattle.std.specs.declared.net.socket_addr.SocketAddr.{SocketAddr};
-ghost use Rattle.lk_auth.specs.Seals.{key_list};
+ghost use Rattle.lk_auth.specs.Seals.{key_list, heard};
 ghost use Rattle.lk_auth.specs.declared.seals.Seals.{Seals};
+ghost use Rattle.lk_node.specs.NodeValue.{NodeValue};
+ghost use Rattle.lk_node.specs.Steps.{IsForeign};
 ghost use Rattle.lk_transport.specs.Askers.{BringsProbe};
 ghost use Rattle.lk_transport.specs.declared.received_probe.ReceivedProbe.{ReceivedProbe};
 ghost use Rattle.lk_server.specs.Premises.{IsToldByANode, IsToldOrAsked, IsProbedByANode, IsProbedByWhomItNames};
+ghost use Rattle.lk_server.specs.Premises.{IsUnsealed};
 
 /// If the nodes have a key, whatever a server takes from a frame was sealed for this node by someone who has one of
 /// the nodes' keys, or it is no node's message: it is a client's request, or it does not parse.
@@ -18,6 +21,14 @@ pub fn is_told_by_a_node()
 /// the client that it names. No client can act as another.
 pub fn is_told_or_asked()
     ensures { (s : Seals) (frame : List ℕ) → key_list s.nodes ≢ [] → key_list s.clients ≢ [] → IsToldOrAsked s frame }
+{}
+
+/// If nodes and clients have keys, a frame that nobody sealed with one of them gives a replica the empty datagram. That
+/// is no message of any cluster, so a node that takes it stands still: see `TakesBytes`.
+pub fn unsealed_frames_are_ignored()
+    ensures opens { (s : Seals) (frame : List ℕ) → key_list s.nodes ≢ [] → key_list s.clients ≢ [] → IsUnsealed s frame
+        → heard s frame ≡ [] }
+    ensures ignored { (node : NodeValue) → IsForeign node [] }
 {}
 
 /// A probe that is kept was sealed by whom it names. If nodes and clients have keys, someone has sealed it who has one

@@ -128,7 +128,7 @@ impl<R: ServedReplica, S: DatagramSocket + Drop> Server<R, S> {
         ensures bound { result ≡ bound_in self.new.addresses.neighbours }
     {
         let asked = buffer.take_probe();
-        self.answer(&asked);
+        self.report_to(&asked);
         self.readmit(&asked);
         self.learn(buffer, log);
         let now = self.now();

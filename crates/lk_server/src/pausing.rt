@@ -31,7 +31,8 @@ fn pauses<C: Clock>(pause: &mut SyncPause, tick_timer: &TickTimer<C>, group: &Gr
     true
 }
 
-// Sleeps for a pause, if one is due before the group's sync, and then receives a datagram that is waiting.
+// Sleeps for a pause, if one is due before the group's sync, and then receives a datagram that is waiting. If none is
+// due, nothing is received.
 fn receive_after_pause<S: DatagramSocket + Drop, C: Clock>(
     post: &mut SocketPost<S>,
     pause: &mut SyncPause,

@@ -1,7 +1,7 @@
 //! Composes a node's report, and answers a probe with it.
 
 ghost use Rattle.std.specs.Prelude.{◌≡◌};
-ghost use Rattle.lk_server.specs.Probes.{AnswersKept, IsAnswer, Tells};
+ghost use Rattle.lk_server.specs.Probes.{RepliesToKept, IsReportTo, ReportsStatus};
 ghost use Rattle.lk_served_replica.specs.declared.probed_state.ProbedState.{ProbedState as ProbedStateValue};
 
 use crate::server::Server;
@@ -15,7 +15,7 @@ impl<R: ServedReplica, S: DatagramSocket + Drop> Server<R, S> {
     /// what else it has counted itself, and the version of the lock table, as it was last read.
     pub fn status(&self) -> Status
         ensures { (shown : ProbedStateValue) × R.Shows self.now.replica shown
-            × Tells self.now.addresses.seals.genesis self.now.ticks shown result }
+            × ReportsStatus self.now.addresses.seals.genesis self.now.ticks shown result }
     {
         let shown = self.replica.show();
         Status {
@@ -45,21 +45,21 @@ impl<R: ServedReplica, S: DatagramSocket + Drop> Server<R, S> {
         }
     }
 
-    // Returns the bytes of the report that answers a probe.
+    // Returns the bytes of the report that answers a probe: the server's status, with what its replica shows now.
     fn report(&self, asked: &ReceivedProbe) -> [u8; LENGTH]
         ensures { (shown : ProbedStateValue) × R.Shows self.now.replica shown
-            × IsAnswer self.now.node self.now.addresses.seals.genesis self.now.ticks shown asked.now.probe result }
+            × IsReportTo self.now.node self.now.addresses.seals.genesis self.now.ticks shown asked.now.probe result }
     {
         asked
             .probe
-            .answer(self.post.node(), self.status())
+            .report(self.post.node(), self.status())
             .datagram()
     }
 
     /// Sends the report that answers a probe to where the probe came from, if there is one. Reads the lock table's
     /// version first if that is unknown. A failed send is counted.
-    pub fn answer(&mut self, asked: &Option<ReceivedProbe>)
-        ensures answers { AnswersKept R.Shows S.is_observable asked.now self.old self.new }
+    pub fn report_to(&mut self, asked: &Option<ReceivedProbe>)
+        ensures replies { RepliesToKept R.Shows S.is_observable asked.now self.old self.new }
         ensures others { self.new
             ≡ record self.old {
               sent = self.new.sent;

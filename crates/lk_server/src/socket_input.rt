@@ -10,7 +10,7 @@ ghost use Rattle.lk_transport.specs.Addresses.{filter_of, IsSameFilter};
 ghost use Rattle.lk_server.specs.Gatherings.{Finds, TakesHeard, EndsHeard, TakesSocket, EndsSocket, TakesWaiting};
 ghost use Rattle.lk_server.specs.Gatherings.{EndsGroup, ChangesAtFrame, ChangesAtSocket};
 ghost use Rattle.lk_transport.specs.ReceiveBuffers.{listed};
-ghost use Rattle.lk_transport.specs.Posts.{Hears, is_filtered_out};
+ghost use Rattle.lk_transport.specs.Posts.{RecordsSender, is_filtered_out};
 ghost use Rattle.lk_transport.specs.Kept.{KeepsProbes, KeepsOf};
 
 use crate::gathering::FURTHER;
@@ -73,7 +73,7 @@ impl<R: ServedReplica, S: DatagramSocket + Drop> Server<R, S> {
         from: SocketAddr,
         log: &L,
     ) -> Arrival
-        ensures heard { Hears self.old.cluster datagram.now from self.old.addresses self.new.addresses }
+        ensures heard { RecordsSender self.old.cluster datagram.now from self.old.addresses self.new.addresses }
         // Where nodes live and the keys do not change.
         ensures network { IsSameFilter self.old.addresses self.new.addresses }
         ensures others { self.new ≡ record self.old { addresses = self.new.addresses } }

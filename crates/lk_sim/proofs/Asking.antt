@@ -22,7 +22,7 @@ use Rattle.lk_node.specs.Histories.{History, Genesis, Datagram, RequestValue}
 use Rattle.lk_node.specs.Served.{BearsOut}
 use Rattle.lk_node.specs.Holdings.{Holding}
 use Rattle.lk_node.specs.Leavings.{DisksFit}
-use Rattle.lk_sim_nodes.specs.Told.{Tells}
+use Rattle.lk_sim_nodes.specs.Told.{NotesReplies}
 use Rattle.lk_sim.specs.Traces.{asked_in, happened, told_in}
 use Rattle.lk_sim_nodes.proofs.Tellings.{tells_append}
 use Rattle.lk_sim.proofs.Told.{told_in-append}
@@ -45,7 +45,7 @@ module _ {R : Type 0} (Shows : R → Genesis → ℕ → Holding → Type 0) (di
   -- datagrams of clients
   module _ (more : List Datagram) (fits : WorldFits genesis (record { sent = sent ++ more; states = w.states }))
       (silent : (d : Datagram) → Contains more d → (n : ℕ) (x : NodeMessage) → Spells (said_by genesis n x) d.bytes → ⊥)
-      (tells : Tells more []) (asks : (d : Datagram) → Contains more d → (q : RequestValue) (cluster : ℕ)
+      (tells : NotesReplies more []) (asks : (d : Datagram) → Contains more d → (q : RequestValue) (cluster : ℕ)
       → Spells (record { cluster = cluster; content = content.Request q }) d.bytes → q ≡ r) where
     abbrev notes : List Note
     notes = note.Asked r ∷ []
@@ -101,7 +101,7 @@ module _ {R : Type 0} (Shows : R → Genesis → ℕ → Holding → Type 0) (di
         | inr e ↦ subst (λ z. BearsOut m since w.list z) e (asked_last trace r)
       ];
       messages = λ n x h. w.messages n x (old_sent n x h);
-      told = subst (λ l. Tells (sent ++ more) l) (sym (told_in-append trace notes))
+      told = subst (λ l. NotesReplies (sent ++ more) l) (sym (told_in-append trace notes))
           (tells_append sent more (told_in trace) [] w.told tells);
       in_time = still_in_time m genesis sent more trace notes w.in_time
           (λ x c. subst (λ z. RestsOn m genesis sent trace z) (only (note.Asked r) x c) tt);

@@ -11,7 +11,7 @@ use Rattle.lk_node_interface.specs.declared.note.Note.{Note}
 use Rattle.lk_node.specs.Histories.{History, Genesis, Datagram, RequestValue}
 use Rattle.lk_node.specs.Holdings.{Holding}
 use Rattle.lk_node.specs.Leavings.{header_of}
-use Rattle.lk_sim_nodes.specs.Told.{Tells}
+use Rattle.lk_sim_nodes.specs.Told.{NotesReplies}
 use Rattle.lk_sim.specs.Traces.{asked_in, happened, asked_note}
 use Rattle.lk_sim.specs.Scenes.{Scene}
 use Rattle.lk_sim_nodes.specs.Seats.{At, SeatFits, SeatGoes, stopped_on, fallen_on, rested_on, device_in}
@@ -23,7 +23,7 @@ use Rattle.lk_sim.specs.Events.{IsCompacted}
 use Rattle.lk_sim.specs.Events.{IsHalted, LeftBy, LeftByRevival}
 use Rattle.lk_sim_nodes.specs.Outcomes.{HasEndedByFault, HasTaken, HasRevived, HasCompacted, HasStoppedOutOfMemory}
 use Rattle.lk_sim_nodes.specs.Outcomes.{Rests}
-use Rattle.lk_sim.specs.Settled.{HasAdded, HasSettled, HasGivenUp}
+use Rattle.lk_sim.specs.Concluded.{HasAdded, HasConcluded, HasGivenUp}
 use Rattle.lk_sim.specs.Worlds.{WorldInvariant}
 use Rattle.lk_sim_nodes.specs.declared.end.End.{End}
 use Rattle.lk_sim_nodes.specs.declared.seat.Seat.{Seat}
@@ -39,8 +39,8 @@ use Rattle.lk_sim.proofs.Given.{set_twice, asked_maybe, went_down, went_off, wen
 pub at_same : {X : Type 0} (xs : List X) (i : ℕ) (x y : X) → At xs i x → At xs i y → x ≡ y
 at_same xs i x y a b = sym a.1 ∙ get_or_default xs i x y a.0 ∙ b.1
 
-nothing_told : (batch : List Datagram) (told : List Note) → batch ≡ [] → Tells batch told → told ≡ []
-nothing_told batch told none tells = subst (λ l. Tells l told) none tells
+nothing_told : (batch : List Datagram) (told : List Note) → batch ≡ [] → NotesReplies batch told → told ≡ []
+nothing_told batch told none tells = subst (λ l. NotesReplies l told) none tells
 
 -- a stop leaves of the node's device what it leaves of such a one
 abbrev pub StopsOn : {R : Type 0} → Behaviour R → (Memory → Type 0) → Life R → Type 0
@@ -50,7 +50,7 @@ module _ {R : Type 0} (b : Behaviour R) (old new : Scene R) where
   -- a node that a fault ended, or an armed stop at a call of its device, has added nothing of its own
   pub falls : (Ends : ℕ → Memory → Type 0) (t next : Seat R) (asked mine told : List Note) (batch : List Datagram)
       (how : Option End) (stop : Option ℕ) → Adds old new ((asked ++ mine) ++ told) batch
-      → Tells batch told → new.ended ≡ how
+      → NotesReplies batch told → new.ended ≡ how
       → next.number ≡ t.number → Rests b stop t next → IsToldEnd how → HasEndedByFault Ends t mine batch how stop
       → EndsByFault Ends old new next asked
   falls Ends t next asked mine told batch how stop a tells ended number rests tellable f = record {
@@ -74,7 +74,8 @@ module _ {R : Type 0} (b : Behaviour R) (old new : Scene R) where
   -- a node that went on, up to an armed stop at a send if there was one
   went : (r : R) (t next : Seat R) (o : Option (List ℕ)) (asked mine told : List Note) (batch : List Datagram)
       (how : Option End) (stop : Option ℕ) → (k : HasTaken b r o t mine batch how stop) → AreOwn mine
-      → Adds old new ((asked ++ mine) ++ told) batch → Tells batch told → new.ended ≡ how → next.number ≡ t.number
+      → Adds old new ((asked ++ mine) ++ told) batch → NotesReplies batch told → new.ended ≡ how
+      → next.number ≡ t.number
       → Rests b stop t next → Comes b old new r next o asked
   went r t next o asked mine told batch how None k own adds tells ended number rests = inl (record {
     replica = k.replica;
@@ -105,7 +106,7 @@ module _ {R : Type 0} (b : Behaviour R) (old new : Scene R) where
     stop = k.sends.1;
     down = rests ∙ ap (λ (z : Life R). Down (stopped_on bytes bytes (device_in b z))) (k.up ∙ ap Up k.sends.2);
     own = own;
-    tells = subst (λ l. Tells l told) k.sends.3 tells;
+    tells = subst (λ l. NotesReplies l told) k.sends.3 tells;
     adds = subst (λ l. Adds old new ((asked ++ mine) ++ told) l) k.sends.3 adds;
     ended = ended ∙ k.ended ∙ ap (λ z. end_at (Some bytes) z) (sym number);
   }))
@@ -114,7 +115,8 @@ module _ {R : Type 0} (b : Behaviour R) (old new : Scene R) where
   pub given : (Shows : R → Genesis → ℕ → Holding → Type 0) (m : Meaning) (i n : ℕ) (s t : Seat R) (r : R)
       (o : Option (List ℕ)) (asked mine : List Note) (batch : List Datagram) (how : Option End) (stop : Option ℕ)
       → At old.seats i s → s.number ≡ n → s.life ≡ Up r → t.number ≡ s.number → ((q : R) → t.life ≡ Up q → AreOwn mine)
-      → HasSettled Shows b m (record old { seats = set old.seats i t }) i new asked mine batch how stop → IsToldEnd how
+      → HasConcluded Shows b m (record old { seats = set old.seats i t }) i new asked mine batch how stop
+      → IsToldEnd how
       → HasTaken b r o t mine batch how stop ⊎ HasEndedByFault (Breaks b r o) t mine batch how stop
       → IsGiven b old new n o asked
   given Shows m i n s t r o asked mine batch how stop at is up number own k tellable cases = record {
@@ -123,7 +125,7 @@ module _ {R : Type 0} (b : Behaviour R) (old new : Scene R) where
     replica = r;
     up = up;
     next = k.next;
-    turns = record { place = i; at = at; number = on ∙ number; seats = k.seats ∙ set_twice old.seats i t k.next };
+    turns = record { index = i; at = at; number = on ∙ number; seats = k.seats ∙ set_twice old.seats i t k.next };
     comes_to = elim cases [
       | inl q ↦ went r t k.next o asked mine k.told batch how stop q (own q.after q.up) adds k.tells k.ended on rests
       | inr f ↦ inr (inr (falls
@@ -146,7 +148,7 @@ module _ {R : Type 0} (b : Behaviour R) (old new : Scene R) where
   pub comes : (t next : Seat R) (d : Memory) (n : ℕ) (mine told : List Note) (batch : List Datagram)
       (how : Option End) (stop : Option ℕ)
       → t.number ≡ n → next.number ≡ t.number → Rests b stop t next → ((q : R) → t.life ≡ Up q → AreOwn mine)
-      → Adds old new (([] ++ mine) ++ told) batch → Tells batch told → new.ended ≡ how → IsToldEnd how
+      → Adds old new (([] ++ mine) ++ told) batch → NotesReplies batch told → new.ended ≡ how → IsToldEnd how
       → HasRevived b d (header_of old.genesis n) t mine batch how stop
       ⊎ HasEndedByFault (StaysDown b d (header_of old.genesis n)) t mine batch how stop → ComesUp b old new next d
   comes t next d n mine told batch how stop number on rests own a tells ended tellable cases = elim cases [
@@ -176,7 +178,7 @@ module _ {R : Type 0} (b : Behaviour R) (old new : Scene R) where
       (mine : List Note) (batch : List Datagram) (how : Option End) (stop : Option ℕ)
       → At old.seats i s → s.number ≡ n → s.life ≡ Down d → t.number ≡ s.number
       → ((q : R) → t.life ≡ Up q → AreOwn mine)
-      → HasSettled Shows b m (record old { seats = set old.seats i t }) i new [] mine batch how stop → IsToldEnd how
+      → HasConcluded Shows b m (record old { seats = set old.seats i t }) i new [] mine batch how stop → IsToldEnd how
       → HasRevived b d (header_of old.genesis s.number) t mine batch how stop
       ⊎ HasEndedByFault (StaysDown b d (header_of old.genesis s.number)) t mine batch how stop → IsBack b old new n
   back Shows m i n s t d mine batch how stop at is down number own k tellable cases =
@@ -188,7 +190,7 @@ module _ {R : Type 0} (b : Behaviour R) (old new : Scene R) where
         device = d;
         down = down;
         next = k.next;
-        turns = record { place = i; at = at; number = on ∙ number; seats = k.seats ∙ set_twice old.seats i t k.next };
+        turns = record { index = i; at = at; number = on ∙ number; seats = k.seats ∙ set_twice old.seats i t k.next };
         comes = comes t k.next d s.number mine k.told batch how stop number on
             (subst (λ z. Rests b stop z k.next) same k.rests) own
             (record { genesis = k.adds.genesis; sent = k.adds.sent; trace = k.adds.trace })
@@ -196,7 +198,8 @@ module _ {R : Type 0} (b : Behaviour R) (old new : Scene R) where
       }
 
   packs : (t next : Seat R) (r : R) (mine told : List Note) (batch : List Datagram) (how : Option End) (stop : Option ℕ)
-      → next.number ≡ t.number → Rests b stop t next → Adds old new (([] ++ mine) ++ told) batch → Tells batch told
+      → next.number ≡ t.number → Rests b stop t next → Adds old new (([] ++ mine) ++ told) batch
+      → NotesReplies batch told
       → new.ended ≡ how → IsToldEnd how
       → HasCompacted b r t mine batch how stop ⊎ HasEndedByFault (FailsToCompact b r) t mine batch how stop
       → GoesOnCompacted b old new r next ⊎ EndsByFault (FailsToCompact b r) old new next []
@@ -221,7 +224,7 @@ module _ {R : Type 0} (b : Behaviour R) (old new : Scene R) where
   pub compacted : (Shows : R → Genesis → ℕ → Holding → Type 0) (m : Meaning) (i n : ℕ) (s t : Seat R) (r : R)
       (mine : List Note) (batch : List Datagram) (how : Option End) (stop : Option ℕ)
       → At old.seats i s → s.number ≡ n → s.life ≡ Up r → t.number ≡ s.number
-      → HasSettled Shows b m (record old { seats = set old.seats i t }) i new [] mine batch how stop → IsToldEnd how
+      → HasConcluded Shows b m (record old { seats = set old.seats i t }) i new [] mine batch how stop → IsToldEnd how
       → HasCompacted b r t mine batch how stop ⊎ HasEndedByFault (FailsToCompact b r) t mine batch how stop
       → IsCompacted b old new n
   compacted Shows m i n s t r mine batch how stop at is up number k tellable cases =
@@ -233,7 +236,7 @@ module _ {R : Type 0} (b : Behaviour R) (old new : Scene R) where
         replica = r;
         up = up;
         next = k.next;
-        turns = record { place = i; at = at; number = on ∙ number; seats = k.seats ∙ set_twice old.seats i t k.next };
+        turns = record { index = i; at = at; number = on ∙ number; seats = k.seats ∙ set_twice old.seats i t k.next };
         comes_to = packs t k.next r mine k.told batch how stop on (subst (λ z. Rests b stop z k.next) same k.rests)
             (record { genesis = k.adds.genesis; sent = k.adds.sent; trace = k.adds.trace })
             k.tells k.ended tellable cases;
@@ -251,7 +254,7 @@ module _ {R : Type 0} (b : Behaviour R) (old new : Scene R) where
         number = is;
         next = k.next;
         turns = record {
-          place = i;
+          index = i;
           at = at;
           number = k.number ∙ ap (λ (z : Seat R). z.number) same ∙ number;
           seats = k.seats ∙ set_twice old.seats i t k.next;
@@ -319,7 +322,7 @@ module _ {R : Type 0} (old : Scene R) (Left : Life R → Memory → Type 0) (End
     seat = s;
     number = is;
     next = t;
-    turns = record { place = i; at = at; number = number; seats = refl };
+    turns = record { index = i; at = at; number = number; seats = refl };
     device = k.left;
     left = left;
     down = k.down;
@@ -387,7 +390,7 @@ module _ {R : Type 0} (Shows : R → Genesis → ℕ → Holding → Type 0) (b 
     abbrev mid : Option End → Scene R
     mid ended = record { genesis = genesis; seats = set seats i t; sent = sent; trace = trace; ended = ended }
 
-    added : (told : List Note) → Tells batch told
+    added : (told : List Note) → NotesReplies batch told
         → WorldInvariant Shows (disks_by b) m genesis (set seats i t) (sent ++ batch) (trace
         ++ ((asked_note o ++ mine) ++ told))
     added told tells = elim cases [
@@ -416,7 +419,7 @@ module _ {R : Type 0} (Shows : R → Genesis → ℕ → Holding → Type 0) (b 
 
     -- what the node has added, and an armed stop to which it has come, keeps all that holds
     pub settled_holds : (before how : Option End) (stop : Option ℕ) (new : Scene R)
-        → HasSettled Shows b m (mid before) i new (asked_note o) mine batch how stop
+        → HasConcluded Shows b m (mid before) i new (asked_note o) mine batch how stop
         → WorldInvariant Shows (disks_by b) m new.genesis new.seats new.sent new.trace
     settled_holds before how stop new k =
         let same : k.seat ≡ t = at_same (set seats i t) i k.seat t k.at (at_set_here seats i t at.0) in

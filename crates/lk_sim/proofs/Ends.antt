@@ -7,7 +7,7 @@ use Rattle.lk_node_interface.specs.declared.note.Note.{Note}
 use Rattle.lk_sim_nodes.specs.Ends.{IsToldEnd}
 use Rattle.lk_sim.specs.Events.{IsGiven, IsGivenTogether, ComesUp, HasEffect, IsExecuted, Wants, IsRefused}
 use Rattle.lk_sim.specs.Groups.{given_by}
-use Rattle.lk_sim.specs.Runs.{Passes, StopsAt, Runs}
+use Rattle.lk_sim.specs.Runs.{AreExecuted, StopsAt, Runs}
 use Rattle.lk_sim.specs.Scenes.{Scene}
 use Rattle.lk_sim.specs.Traces.{asked_note}
 use Rattle.lk_sim.specs.declared.end.RunEnd.{RunEnd}
@@ -84,7 +84,8 @@ module _ {R : Type 0} (b : Behaviour R) where
   refused_told old new e r told k =
       elim k [ inl same ↦ same_told old new same.1 told | inr wants ↦ wants_told old new e wants.2 told ]
 
-  passes_told : (es : List Event) (old new : Scene R) → Passes b es old new → IsToldEnd old.ended → IsToldEnd new.ended
+  passes_told : (es : List Event) (old new : Scene R) → AreExecuted b es old new → IsToldEnd old.ended
+      → IsToldEnd new.ended
   passes_told [] old new p told = same_told old new p told
   passes_told (e ∷ es) old new p told = passes_told es p.0 new p.2 (done_told old p.0 e p.1)
 

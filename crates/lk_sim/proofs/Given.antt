@@ -10,7 +10,7 @@ use Rattle.lk_node_interface.specs.declared.note.Note.{Note}
 use Rattle.lk_node.specs.Histories.{Genesis, Datagram, RequestValue}
 use Rattle.lk_node.specs.Holdings.{Holding}
 use Rattle.lk_node.specs.Calls.{LeavesFit}
-use Rattle.lk_sim_nodes.specs.Told.{Tells}
+use Rattle.lk_sim_nodes.specs.Told.{NotesReplies}
 use Rattle.lk_sim.specs.Traces.{asked_in, happened, asked_note}
 use Rattle.lk_sim_nodes.specs.Seats.{SeatFits, SeatGoes, At}
 use Rattle.lk_sim.specs.Worlds.{WorldInvariant}
@@ -57,7 +57,7 @@ module _ {R : Type 0} (Shows : R → Genesis → ℕ → Holding → Type 0) (di
 
   -- it went on
   pub went_on : (notes told : List Note) (batch : List Datagram)
-      → SeatGoes Shows disks m (happened genesis sent trace) new notes batch → Tells batch told
+      → SeatGoes Shows disks m (happened genesis sent trace) new notes batch → NotesReplies batch told
       → WorldInvariant Shows disks m genesis (set seats i new) (sent ++ batch) (trace ++ (notes ++ told))
   went_on notes told batch f tells =
       goes_on Shows disks m genesis seats sent trace w i s new at f.replica number f.up notes told batch

@@ -24,12 +24,12 @@ use Rattle.lk_sim_nodes.specs.Sends.{after_sends, stop_among}
 use Rattle.lk_sim.specs.Events.{Adds, AreAllOwn, EndsByFault, ComesTogether, IsGivenTogether, LeftByGroup}
 use Rattle.lk_sim.specs.Groups.{WasSentTo, WereSentTo, AreNotesOf, given_by}
 use Rattle.lk_sim_nodes.specs.Outcomes.{HasTakenTogether, HasFallenTogether, Rests}
-use Rattle.lk_sim.specs.Settled.{HasSettledSteps, HasGivenUp}
+use Rattle.lk_sim.specs.Concluded.{HasConcludedSteps, HasGivenUp}
 use Rattle.lk_sim.specs.Refusals.{AreFor, IsFor}
 use Rattle.lk_sim_nodes.specs.Rooms.{AreShort}
 use Rattle.lk_sim.specs.Scenes.{Scene}
 use Rattle.lk_sim_nodes.specs.Seats.{At, SeatFits, stopped_on, fallen_on, device_in}
-use Rattle.lk_sim_nodes.specs.Told.{Tells}
+use Rattle.lk_sim_nodes.specs.Told.{NotesReplies}
 use Rattle.lk_sim.specs.Traces.{happened}
 use Rattle.lk_sim.specs.Worlds.{WorldInvariant}
 use Rattle.lk_sim_nodes.specs.declared.end.End.{End}
@@ -144,15 +144,16 @@ module _ {R : Type 0} (b : Behaviour R) (old new : Scene R) where
       (subst (λ (l : List Note). Adds old new l batch) (no_notes steps batch notes f.no_steps tells) adds)
       (nothing f.fallen.no_batch) ended number rests tellable f.fallen
     where
-      nothing : batch ≡ [] → Tells batch []
-      nothing none = subst (λ (l : List Datagram). Tells l []) (sym none) refl
+      nothing : batch ≡ [] → NotesReplies batch []
+      nothing none = subst (λ (l : List Datagram). NotesReplies l []) (sym none) refl
 
   -- a node that was given a group
   pub given_together : (Shows : R → Genesis → ℕ → Holding → Type 0) (m : Meaning) (i n : ℕ) (s t : Seat R) (r : R)
       (given : List (Option (List ℕ))) (steps : List Step) (batch : List Datagram) (how : Option End) (stop : Option ℕ)
       → At old.seats i s → s.number ≡ n → s.life ≡ Up r → t.number ≡ s.number
       → ((k : HasTakenTogether b r given t steps batch how stop) → AreAllOwn (parts_of steps k.all))
-      → HasSettledSteps Shows b m (record old { seats = set old.seats i t }) i new steps batch how stop → IsToldEnd how
+      → HasConcludedSteps Shows b m (record old { seats = set old.seats i t }) i new steps batch how stop
+      → IsToldEnd how
       → HasTakenTogether b r given t steps batch how stop
       ⊎ HasFallenTogether (BreaksTogether b r given) t steps batch how stop → IsGivenTogether b old new n given
   given_together Shows m i n s t r given steps batch how stop at is up number own k tellable cases = record {
@@ -161,7 +162,7 @@ module _ {R : Type 0} (b : Behaviour R) (old new : Scene R) where
     replica = r;
     up = up;
     next = k.next;
-    turns = record { place = i; at = at; number = on ∙ number; seats = k.seats ∙ set_twice old.seats i t k.next };
+    turns = record { index = i; at = at; number = on ∙ number; seats = k.seats ∙ set_twice old.seats i t k.next };
     comes_to = elim cases [
       | inl q ↦ went_together r t k.next given steps k.notes batch how stop q (own q) k.tells adds k.ended on rests
       | inr f ↦ inr (inr (fell_together
@@ -251,7 +252,7 @@ module _ {R : Type 0} (Shows : R → Genesis → ℕ → Holding → Type 0) (b 
     mid = record { genesis = genesis; seats = set seats i t; sent = sent; trace = trace; ended = before }
 
     -- the node rests, where it has come to an armed stop
-    rested_holds : (new : Scene R) → (k : HasSettledSteps Shows b m mid i new steps batch how stop)
+    rested_holds : (new : Scene R) → (k : HasConcludedSteps Shows b m mid i new steps batch how stop)
         → WorldInvariant Shows (disks_by b) m genesis (set seats i t) (sent ++ batch) (trace ++ k.notes)
         → WorldInvariant Shows (disks_by b) m new.genesis new.seats new.sent new.trace
     rested_holds new k now =
@@ -274,7 +275,7 @@ module _ {R : Type 0} (Shows : R → Genesis → ℕ → Holding → Type 0) (b 
         → ((q : R) → t.life ≡ Up q → EachLeavesFit Shows (disks_by b) m s.number r is q (parts_of steps batch))
         → DisksFit m h t.number (disk_of (device_in b t.life)) → AreShort (disk_of (device_in b t.life))
         → HasTakenTogether b r given t steps batch how stop ⊎ HasFallenTogether Ends t steps batch how stop
-        → HasSettledSteps Shows b m mid i new steps batch how stop
+        → HasConcludedSteps Shows b m mid i new steps batch how stop
         → WorldInvariant Shows (disks_by b) m new.genesis new.seats new.sent new.trace
     settled_steps_hold new r is given Ends was were goes left short cases k = rested_holds new k (elim cases [
       | inl q ↦ taken_holds r q.after is steps batch k.notes was q.up were (goes q.after q.up)

@@ -14,7 +14,7 @@ use Rattle.lk_node_interface.specs.declared.note.Note.{Note}
 use Rattle.lk_node_interface.specs.declared.note.Note.TheVariants as note
 use Rattle.lk_node.specs.Histories.{History, Genesis, Datagram, RequestValue, IsHeard}
 use Rattle.lk_node.specs.Holdings.{Holding}
-use Rattle.lk_sim.specs.Heard.{Reads, Asks, IsForged}
+use Rattle.lk_sim.specs.Heard.{Reads, IsRequestIn, IsForged}
 use Rattle.lk_sim.specs.Traces.{asked_in, happened, asked_note}
 use Rattle.lk_sim.specs.Refusals.{datagram_at}
 use Rattle.lk_sim.specs.Worlds.{WorldInvariant}
@@ -97,16 +97,16 @@ reads_nothing bytes none x s = absurd (none x s)
 
 -- what is asked may be heard, once it is noted, and is not forged
 pub heard_asked : (genesis : Genesis) (sent : List Datagram) (trace : List Note) (bytes : List ℕ)
-    (o : Option RequestValue) → Asks bytes o → IsHeard (happened genesis sent (trace ++ asked_note o)) bytes
+    (o : Option RequestValue) → IsRequestIn bytes o → IsHeard (happened genesis sent (trace ++ asked_note o)) bytes
 heard_asked genesis sent trace bytes None a = heard_nothing (happened genesis sent (trace ++ [])) bytes a.only
 heard_asked genesis sent trace bytes (Some r) a =
     heard_request genesis sent trace (trace ++ note.Asked r ∷ []) bytes r a.only refl
 
-pub asked_unforged : (bytes : List ℕ) (o : Option RequestValue) → Asks bytes o → IsForged bytes → ⊥
+pub asked_unforged : (bytes : List ℕ) (o : Option RequestValue) → IsRequestIn bytes o → IsForged bytes → ⊥
 asked_unforged bytes o a f = let r = a.only f.message f.spelled in f.of_node r.0 r.1
 
 pub asks_request : (bytes : List ℕ) (x : Message) (r : RequestValue) → Spells x bytes
-    → x.content ≡ content.Request r → Asks bytes (Some r)
+    → x.content ≡ content.Request r → IsRequestIn bytes (Some r)
 asks_request bytes x r s e = record {
   only = reads_request bytes x r s e;
   spelled = λ q is. (x.cluster, subst (λ (z : Message). Spells z bytes) (same x r q e (same_some r q is)) s);
@@ -116,5 +116,5 @@ asks_request bytes x r s e = record {
         → x ≡ record { cluster = x.cluster; content = content.Request q }
     same x r q e f = ap (λ c. record { cluster = x.cluster; content = c }) (e ∙ ap content.Request f)
 
-pub asks_nothing : (bytes : List ℕ) → ((x : Message) → Spells x bytes → ⊥) → Asks bytes None
+pub asks_nothing : (bytes : List ℕ) → ((x : Message) → Spells x bytes → ⊥) → IsRequestIn bytes None
 asks_nothing bytes none = record { only = reads_nothing bytes none; spelled = λ q is. absurd (cc is) }

@@ -19,7 +19,7 @@ use Rattle.lk_sim.specs.Networks.{MayCome, IsRequestIn, AreAsking, MayHear, Tell
 use Rattle.lk_sim.specs.Networks.{Ends, Stops, Steps, StepsAll, nothing}
 use Rattle.lk_sim.specs.Scenes.{Scene}
 use Rattle.lk_sim_nodes.specs.Seats.{UpFits, SeatFits, SeatGoes, At}
-use Rattle.lk_sim_nodes.specs.Told.{Tells}
+use Rattle.lk_sim_nodes.specs.Told.{NotesReplies}
 use Rattle.lk_sim.specs.Traces.{asked_in, happened, asked_note}
 use Rattle.lk_sim.specs.Worlds.{WorldInvariant}
 use Rattle.lk_sim_nodes.specs.declared.seat.Seat.{Seat}
@@ -60,7 +60,7 @@ heard genesis sent trace (Some bytes) o may asks = heard_bytes genesis sent trac
 -- ---- what may go out reads
 
 pub tells_all : (batch : List Datagram) (told : List Note)
-    → ((d : Datagram) → Contains batch d → (m : _) × Spells m d.bytes) → TellsOf batch told → Tells batch told
+    → ((d : Datagram) → Contains batch d → (m : _) × Spells m d.bytes) → TellsOf batch told → NotesReplies batch told
 tells_all [] told reads tells = tells
 tells_all (d ∷ batch) told reads (inl t) =
     (t.0, t.1, t.2, t.3, tells_all batch t.1 (λ x c. reads x (contains_more d batch x c)) t.4)
@@ -99,7 +99,7 @@ module _ {R : Type 0} (Shows : R → Genesis → ℕ → Holding → Type 0) (di
   restarts : (old new : Scene R) → HoldsOf old → Restarts Shows disks m old new → HoldsOf new
   restarts old new w a =
       let h = happened old.genesis old.sent old.trace in
-      let f = w.seated a.turns.place a.seat a.turns.at in
+      let f = w.seated a.turns.index a.seat a.turns.at in
       let g = a.restarts.goes h refl (lawful Shows disks m old.genesis old.seats old.sent old.trace w)
       (f.down a.device a.down) in
       let seat_goes : SeatGoes Shows disks m h a.next a.notes [] = record {
@@ -110,28 +110,28 @@ module _ {R : Type 0} (Shows : R → Genesis → ℕ → Holding → Type 0) (di
             (sym a.turns.number) g;
         room = a.restarts.short (f.room a.device a.down);
       } in
-      let went = went_on Shows disks m old.genesis old.seats old.sent old.trace w a.turns.place a.seat a.next
+      let went = went_on Shows disks m old.genesis old.seats old.sent old.trace w a.turns.index a.seat a.next
       a.turns.at a.turns.number a.notes [] [] seat_goes refl in
-      moved old new (set old.seats a.turns.place a.next) a.notes [] a.turns.seats a.adds
-      (subst (λ l. WorldInvariant Shows disks m old.genesis (set old.seats a.turns.place a.next) (old.sent ++ [])
+      moved old new (set old.seats a.turns.index a.next) a.notes [] a.turns.seats a.adds
+      (subst (λ l. WorldInvariant Shows disks m old.genesis (set old.seats a.turns.index a.next) (old.sent ++ [])
       (old.trace ++ l)) (append-nil a.notes) went)
 
   -- of a node that is down, the history is lawful, and its disks fit it
-  pub holds_down : (c : Scene R) → HoldsOf c → (place : ℕ) (s : Seat R) → At c.seats place s
+  pub holds_down : (c : Scene R) → HoldsOf c → (index : ℕ) (s : Seat R) → At c.seats index s
       → (d : Memory) → s.life ≡ Down d
       → IsLawful m (happened c.genesis c.sent c.trace)
       × DisksFit m (happened c.genesis c.sent c.trace) s.number (disk_of d)
-  holds_down c w place s at d down =
-      (lawful Shows disks m c.genesis c.seats c.sent c.trace w, (w.seated place s at).down d down)
+  holds_down c w index s at d down =
+      (lawful Shows disks m c.genesis c.seats c.sent c.trace w, (w.seated index s at).down d down)
 
   rests : (old new : Scene R) → HoldsOf old → Rests m old new → HoldsOf new
   rests old new w a =
       let h = happened old.genesis old.sent old.trace in
-      let f = w.seated a.turns.place a.seat a.turns.at in
+      let f = w.seated a.turns.index a.seat a.turns.at in
       let left = a.rests.ends h refl (lawful Shows disks m old.genesis old.seats old.sent old.trace w)
       (f.down a.device a.down) in
-      moved_silent old new (set old.seats a.turns.place a.next) a.turns.seats a.adds
-      (went_down Shows disks m old.genesis old.seats old.sent old.trace w a.turns.place a.seat a.next
+      moved_silent old new (set old.seats a.turns.index a.next) a.turns.seats a.adds
+      (went_down Shows disks m old.genesis old.seats old.sent old.trace w a.turns.index a.seat a.next
       a.turns.at a.turns.number
       (down_fits Shows disks m h (w.states a.seat.number) a.next a.left a.still
       (subst (λ k. DisksFit m h k (disk_of a.left)) (sym a.turns.number) left)
@@ -142,7 +142,7 @@ module _ {R : Type 0} (Shows : R → Genesis → ℕ → Holding → Type 0) (di
     before = happened old.genesis old.sent old.trace
 
     fit : SeatFits Shows disks m before (w.states a.seat.number) a.seat
-    fit = w.seated a.turns.place a.seat a.turns.at
+    fit = w.seated a.turns.index a.seat a.turns.at
 
     stopped_by : (was : Side → Disk) → ((s : Side) → (k : ℕ) × (disk_of a.left s ≡ after_stop k (was s)))
         → DisksFit m before a.seat.number was → AreShort was
@@ -156,8 +156,8 @@ module _ {R : Type 0} (Shows : R → Genesis → ℕ → Holding → Type 0) (di
     of_life (Down d) is = stopped_by (disk_of d) (a.was_down d is) (fit.down d is) (fit.room d is)
 
     stops : HoldsOf new
-    stops = moved_silent old new (set old.seats a.turns.place a.next) a.turns.seats a.adds
-        (went_down Shows disks m old.genesis old.seats old.sent old.trace w a.turns.place a.seat a.next a.turns.at
+    stops = moved_silent old new (set old.seats a.turns.index a.next) a.turns.seats a.adds
+        (went_down Shows disks m old.genesis old.seats old.sent old.trace w a.turns.index a.seat a.next a.turns.at
         a.turns.number (of_life a.seat.life refl))
 
   -- what a step began with, once what was asked is noted
@@ -168,15 +168,15 @@ module _ {R : Type 0} (Shows : R → Genesis → ℕ → Holding → Type 0) (di
     since : WorldInvariant Shows disks m old.genesis old.seats old.sent asked
     since = asked_maybe Shows disks m old.genesis old.seats old.sent old.trace w o
 
-    fits_before : (place : ℕ) (seat : Seat R) → At old.seats place seat → (r : R) → seat.life ≡ Up r
+    fits_before : (index : ℕ) (seat : Seat R) → At old.seats index seat → (r : R) → seat.life ≡ Up r
         → UpFits Shows disks m (happened old.genesis old.sent asked) (since.states seat.number) seat.number r
-    fits_before place seat at r was = (since.seated place seat at).up r was
+    fits_before index seat at r was = (since.seated index seat at).up r was
 
-    node_before : (place : ℕ) (seat : Seat R) → At old.seats place seat → (r : R) → seat.life ≡ Up r
+    node_before : (index : ℕ) (seat : Seat R) → At old.seats index seat → (r : R) → seat.life ≡ Up r
         → NodeFits m (happened old.genesis old.sent asked) seat.number (Shows r old.genesis seat.number) (disks r)
-    node_before place seat at r was =
+    node_before index seat at r was =
         node_fits Shows disks m (happened old.genesis old.sent asked) (since.states seat.number) seat.number r
-        (lawful Shows disks m old.genesis old.seats old.sent asked since) (fits_before place seat at r was)
+        (lawful Shows disks m old.genesis old.seats old.sent asked since) (fits_before index seat at r was)
 
   goes_on : (old new : Scene R) → HoldsOf old → GoesOn Shows disks m old new → HoldsOf new
   goes_on old new w a =
@@ -185,21 +185,21 @@ module _ {R : Type 0} (Shows : R → Genesis → ℕ → Holding → Type 0) (di
       let now = since old w a.request in
       let hears = heard old.genesis old.sent old.trace a.came a.request a.may a.asks in
       let g = a.goes.goes (happened old.genesis old.sent trace)
-      (node_before old w a.request a.turns.place a.seat a.turns.at a.before a.was) hears in
+      (node_before old w a.request a.turns.index a.seat a.turns.at a.before a.was) hears in
       let seat_goes : SeatGoes Shows disks m (happened old.genesis old.sent trace) a.next a.notes a.batch = record {
         replica = a.after;
         up = a.up;
         goes = subst (λ k. LeavesFit m (happened old.genesis old.sent trace) k (Shows a.after old.genesis k)
             (disks a.after) a.notes a.batch) (sym a.turns.number) g;
-        room = a.goes.short (fits_before old w a.request a.turns.place a.seat a.turns.at a.before a.was).room;
+        room = a.goes.short (fits_before old w a.request a.turns.index a.seat a.turns.at a.before a.was).room;
       } in
       let tells = tells_all a.batch a.told
       (λ d c. let p = g.may d c in (said_by old.genesis n p.message, p.spelled)) a.tells in
-      let went = went_on Shows disks m old.genesis old.seats old.sent trace now a.turns.place a.seat a.next a.turns.at
+      let went = went_on Shows disks m old.genesis old.seats old.sent trace now a.turns.index a.seat a.next a.turns.at
       a.turns.number a.notes a.told a.batch seat_goes tells in
-      moved old new (set old.seats a.turns.place a.next)
+      moved old new (set old.seats a.turns.index a.next)
       ((asked_note a.request ++ a.notes) ++ a.told) a.batch a.turns.seats a.adds
-      (subst (λ l. WorldInvariant Shows disks m old.genesis (set old.seats a.turns.place a.next) (old.sent
+      (subst (λ l. WorldInvariant Shows disks m old.genesis (set old.seats a.turns.index a.next) (old.sent
       ++ a.batch) l)
       (append_assoc old.trace (asked_note a.request) (a.notes ++ a.told)
       ∙ ap (λ l. old.trace ++ l) (sym (append_assoc (asked_note a.request) a.notes a.told))) went)
@@ -210,10 +210,10 @@ module _ {R : Type 0} (Shows : R → Genesis → ℕ → Holding → Type 0) (di
       let h = happened old.genesis old.sent trace in
       let now = since old w a.request in
       let hears = heard old.genesis old.sent old.trace a.came a.request a.may a.asks in
-      let left = a.ends.ends h (node_before old w a.request a.turns.place a.seat a.turns.at a.before a.was) hears in
-      let room = a.ends.short (fits_before old w a.request a.turns.place a.seat a.turns.at a.before a.was).room in
-      moved_still old new (set old.seats a.turns.place a.next) (asked_note a.request) a.turns.seats a.adds
-      (went_down Shows disks m old.genesis old.seats old.sent trace now a.turns.place a.seat a.next
+      let left = a.ends.ends h (node_before old w a.request a.turns.index a.seat a.turns.at a.before a.was) hears in
+      let room = a.ends.short (fits_before old w a.request a.turns.index a.seat a.turns.at a.before a.was).room in
+      moved_still old new (set old.seats a.turns.index a.next) (asked_note a.request) a.turns.seats a.adds
+      (went_down Shows disks m old.genesis old.seats old.sent trace now a.turns.index a.seat a.next
       a.turns.at a.turns.number
       (down_fits Shows disks m h (now.states a.seat.number) a.next a.left a.down
       (subst (λ k. DisksFit m h k (disk_of a.left)) (sym a.turns.number) left) room))

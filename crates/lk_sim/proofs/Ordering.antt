@@ -76,7 +76,7 @@ module _ (m : Meaning) (genesis : Genesis) (L : List Command) (client number : �
       | inr other ↦ (let none : None ≡ Some a = rw (all, other) at e in absurd (cc none))
       | inl mine ↦ (let parts = and_parts (eqb r.client client) (eqb r.number number) mine in
           record {
-            place = suc (length L);
+            index = suc (length L);
             request = r;
             before = omega (arith, length-append L (Request r ∷ []));
             of_client = eqb-true r.client client parts.0;
@@ -100,12 +100,12 @@ module _ (m : Meaning) (genesis : Genesis) (L : List Command) (client number : �
   effect_found c (Some s) a earlier e =
       let k = earlier s.answer refl in
       record {
-        place = k.place;
+        index = k.index;
         request = k.request;
         before = omega (arith, k.before, length-append L (c ∷ []));
         of_client = k.of_client;
         of_number = k.of_number;
-        effective = effective_longer L (c ∷ []) k.place k.request k.effective;
+        effective = effective_longer L (c ∷ []) k.index k.request k.effective;
       }
   effect_found Noop None a earlier e = absurd cc
   effect_found (Request r) None a earlier e = last_takes_effect r a e
@@ -180,13 +180,13 @@ module _ (m : Meaning) (genesis : Genesis) (sent : List Datagram) (sound : Sound
       let b = begins p.under L p.chosen l i r c.0 none in
       let k = reply_takes_effect m genesis p.under client number a p.replied in
       record {
-        place = k.place;
+        index = k.index;
         request = k.request;
         before = omega (arith, k.before, ends_before p.under L p.chosen l i r c.0 none);
         of_client = k.of_client;
         of_number = k.of_number;
-        effective = subst (λ z. IsEffectiveAt z k.place k.request) b.1
-            (effective_longer p.under b.0 k.place k.request k.effective);
+        effective = subst (λ z. IsEffectiveAt z k.index k.request) b.1
+            (effective_longer p.under b.0 k.index k.request k.effective);
       }
 
   -- what is replied was asked
@@ -198,7 +198,7 @@ module _ (m : Meaning) (genesis : Genesis) (sent : List Datagram) (sound : Sound
         k.request,
         k.of_client,
         k.of_number,
-        noted front k.request (p.1.asked k.request (has_entry p.1.under k.place (Request k.request) k.effective.0)),
+        noted front k.request (p.1.asked k.request (has_entry p.1.under k.index (Request k.request) k.effective.0)),
       )
 
 -- ---- it stays so

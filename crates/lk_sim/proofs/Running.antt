@@ -12,7 +12,7 @@ use Rattle.lk_sim.specs.Events.{IsNotGrouped, Grows}
 use Rattle.lk_replica.specs.Together.{sent_of}
 use Rattle.lk_sim.specs.Groups.{given_by}
 use Rattle.lk_sim.specs.declared.event.GroupInput.{GroupInput}
-use Rattle.lk_sim.specs.Runs.{Passes, StopsAt, Runs}
+use Rattle.lk_sim.specs.Runs.{AreExecuted, StopsAt, Runs}
 use Rattle.lk_sim.specs.Scenes.{Scene}
 use Rattle.lk_sim.specs.Traces.{asked_note}
 use Rattle.lk_sim.specs.declared.end.RunEnd.{RunEnd}
@@ -23,16 +23,16 @@ use Rattle.lk_sim_nodes.specs.declared.seat.Seat.{Seat}
 use Rattle.lk_sim_nodes.proofs.Tellings.{take_next}
 
 module _ {R : Type 0} (b : Behaviour R) where
-  passes_on : (es : List Event) (e : Event) (old mid new : Scene R) → Passes b es old mid → IsExecuted b mid e new
-      → Passes b (es ++ e ∷ []) old new
+  passes_on : (es : List Event) (e : Event) (old mid new : Scene R) → AreExecuted b es old mid → IsExecuted b mid e new
+      → AreExecuted b (es ++ e ∷ []) old new
   passes_on [] e old mid new p d = (new, subst (λ z. IsExecuted b z e new) p d, refl)
   passes_on (x ∷ es) e old mid new p d = (p.0, p.1, passes_on es e p.0 mid new p.2 d)
 
   -- one event more
   pub passes_next : (es : List Event) (i : ℕ) (e : Event) (old mid new : Scene R) → slice_get es i ≡ Some e
-      → Passes b (take i es) old mid → IsExecuted b mid e new → Passes b (take (suc i) es) old new
+      → AreExecuted b (take i es) old mid → IsExecuted b mid e new → AreExecuted b (take (suc i) es) old new
   passes_next es i e old mid new at p d =
-      subst (λ l. Passes b l old new) (sym (take_next es i e at)) (passes_on (take i es) e old mid new p d)
+      subst (λ l. AreExecuted b l old new) (sym (take_next es i e at)) (passes_on (take i es) e old mid new p d)
 
 -- what follows of each refusal
 pub if_err : {A E : Type 0} (P Q : E → Type 0) (r : Result A E) → ((e : E) → P e → Q e) → IfErr r P → IfErr r Q
@@ -135,7 +135,7 @@ module _ {R : Type 0} (b : Behaviour R) where
   both_grow : (old mid new : Scene R) → Grows old mid → Grows mid new → Grows old new
   both_grow old mid new x y = (x.0 ++ y.0, y.1 ∙ ap (λ l. l ++ y.0) x.1 ∙ append_assoc old.sent x.0 y.0)
 
-  passes_grow : (es : List Event) (old new : Scene R) → Passes b es old new → Grows old new
+  passes_grow : (es : List Event) (old new : Scene R) → AreExecuted b es old new → Grows old new
   passes_grow [] old new p = nothing_more old new p
   passes_grow (e ∷ es) old new p = both_grow old p.0 new (done_grows old p.0 e p.1) (passes_grow es p.0 new p.2)
 

@@ -15,7 +15,7 @@ use Rattle.lk_state.specs.Meanings.{Meaning}
 use Rattle.lk_agreement_laws.specs.Datagrams.{NodeMessage, Vote, Accept, said_by, HasSent, WasSent}
 use Rattle.lk_agreement_laws.specs.Nodes.{PaxosState, PaxosFits, MaySend, MayPostAll}
 use Rattle.lk_agreement_laws.specs.Chosen.{Chosen}
-use Rattle.lk_agreement_laws.specs.Worlds.{World, with_paxos, with_sent, WorldFits}
+use Rattle.lk_agreement_laws.specs.Worlds.{PaxosWorld, with_paxos, with_sent, WorldFits}
 use Rattle.lk_agreement_laws.proofs.Histories.{still_chosen, still_stems}
 use Rattle.lk_agreement_laws.proofs.Histories.{said_alike, sent_cases}
 use Rattle.lk_agreement_laws.proofs.Histories.{with_paxos_fits, batch_fits, covers_elsewhere}
@@ -26,7 +26,7 @@ use Rattle.lk_node.specs.Served.{BearsOut, BearsOutMessage}
 use Rattle.lk_node.specs.Holdings.{Holding}
 use Rattle.lk_node.specs.Leavings.{DisksFit}
 use Rattle.lk_node.specs.Calls.{LeavesFit}
-use Rattle.lk_sim_nodes.specs.Told.{told_by, Tells}
+use Rattle.lk_sim_nodes.specs.Told.{told_by, NotesReplies}
 use Rattle.lk_sim.specs.Traces.{asked_in, happened, told_in}
 use Rattle.lk_sim_nodes.specs.Rooms.{AreShort}
 use Rattle.lk_sim_nodes.specs.Seats.{UpFits, SeatFits, At}
@@ -65,7 +65,7 @@ module _ {R : Type 0} (Shows : R → Genesis → ℕ → Holding → Type 0) (di
     (i : ℕ) (s new : Seat R) (at : At seats i s) (r : R) (number : new.number ≡ s.number) (up : new.life ≡ Up r)
     (mine told : List Note) (batch : List Datagram)
     (g : LeavesFit m (happened genesis sent trace) s.number (Shows r genesis s.number) (disks r) mine batch)
-    (tells : Tells batch told) (short : AreShort (disks r)) where
+    (tells : NotesReplies batch told) (short : AreShort (disks r)) where
   abbrev notes : List Note
   notes = mine ++ told
 
@@ -75,10 +75,10 @@ module _ {R : Type 0} (Shows : R → Genesis → ℕ → Holding → Type 0) (di
   abbrev y : PaxosState
   y = g.holding.paxos
 
-  abbrev before : World
+  abbrev before : PaxosWorld
   before = record { sent = sent; states = w.states }
 
-  abbrev now : World
+  abbrev now : PaxosWorld
   now = with_paxos before n y
 
   now_fits : WorldFits genesis now
@@ -298,7 +298,7 @@ module _ {R : Type 0} (Shows : R → Genesis → ℕ → Holding → Type 0) (di
               (begins_all (BearsOutMessage m h) (message_longer m h) w.list a.0 a.2 x (w.messages k x old))
           | inr fresh ↦ b.3 fresh.datagram fresh.listed k x fresh.spelled
         ];
-        told = subst (λ l. Tells (sent ++ batch) l) (sym told_now)
+        told = subst (λ l. NotesReplies (sent ++ batch) l) (sym told_now)
             (tells_append sent batch (told_in trace) told w.told tells);
         in_time = still_in_time m genesis sent batch trace notes w.in_time rests_now;
       }

@@ -33,15 +33,15 @@ module _ {R : Type 0} (b : Behaviour R) (Shows : R → Genesis → ℕ → Holdi
       → (k : IsCompacted b old new n) → GoesOnCompacted b old new k.replica k.next
       → StandsPacked whole (disks_by b) m new n
   stands_packed old new w n k p = record {
-    place = k.turns.place;
+    index = k.turns.index;
     seat = k.next;
-    at = subst (λ l. At l k.turns.place k.next) (sym k.turns.seats)
-        (at_set_here old.seats k.turns.place k.next k.turns.at.0);
+    at = subst (λ l. At l k.turns.index k.next) (sym k.turns.seats)
+        (at_set_here old.seats k.turns.index k.next k.turns.at.0);
     number = k.turns.number ∙ k.number;
     replica = p.replica;
     up = p.up;
     stands = λ image may.
-        let u = (w.seated k.turns.place k.seat k.turns.at).up k.replica k.up in
+        let u = (w.seated k.turns.index k.seat k.turns.at).up k.replica k.up in
         let g = law k.replica p.replica old.genesis k.seat.number u.holding u.shown p.compacts image
         (subst (λ z. MayLeaveBoth (disks_of (disks_by b) z) image) p.up may) in (
           g.0,

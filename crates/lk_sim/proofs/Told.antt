@@ -15,7 +15,7 @@ use Rattle.lk_node_interface.specs.declared.note.Note.{Note}
 use Rattle.lk_node_interface.specs.declared.note.Note.TheVariants as note
 use Rattle.lk_node.specs.Histories.{History, Datagram, Command}
 use Rattle.lk_node.specs.Served.{IsOfNode, BearsOut, BearsOutMessage}
-use Rattle.lk_sim_nodes.specs.Told.{told_by_node, told_by, Tells}
+use Rattle.lk_sim_nodes.specs.Told.{told_by_node, told_by, NotesReplies}
 use Rattle.lk_sim.specs.Traces.{told_of, told_in}
 
 pub told_in-append : (xs ys : List Note) → told_in (xs ++ ys) ≡ told_in xs ++ told_in ys
@@ -51,14 +51,14 @@ all_told (content.Node n (kinds.Part p)) = refl
 all_told (content.Node n (kinds.Elsewhere e)) = refl
 all_told (content.Node n (kinds.Lead b e)) = refl
 
-pub told_in-tells : (ds : List Datagram) (xs : List Note) → Tells ds xs → told_in xs ≡ xs
+pub told_in-tells : (ds : List Datagram) (xs : List Note) → NotesReplies ds xs → told_in xs ≡ xs
 told_in-tells [] xs t = ap told_in t ∙ sym t
 told_in-tells (d ∷ ds) xs t =
     ap told_in t.3 ∙ told_in-append (told_by t.0.content) t.1 ∙ ap (λ l. l ++ told_in t.1) (all_told t.0.content)
     ∙ ap (λ l. told_by t.0.content ++ l) (told_in-tells ds t.1 t.4) ∙ sym t.3
 
 -- the datagram of a note
-pub told_from : (ds : List Datagram) (xs : List Note) → Tells ds xs → (x : Note) → Contains xs x
+pub told_from : (ds : List Datagram) (xs : List Note) → NotesReplies ds xs → (x : Note) → Contains xs x
     → (d : Datagram) × (m : Message) × Contains ds d × Spells m d.bytes × Contains (told_by m.content) x
 told_from [] xs t x c = absurd (omega (arith, (subst (λ l. Contains l x) t c).1))
 told_from (d ∷ ds) xs t x c =

@@ -4,7 +4,7 @@ use Rattle.std.specs.Prelude.{Ok, Err, set, Contains, Vec, vec_len, vec_capacity
 use Rattle.std.specs.Global.{Global}
 use Rattle.std.specs.List.{AllByRecursion}
 use Rattle.lk_memory_disk.specs.Memory.{Memory, empty}
-use Rattle.lk_disk.specs.Meters.{Passes, stopping}
+use Rattle.lk_disk.specs.Meters.{CallsSucceed, stopping}
 use Rattle.lk_disk.specs.declared.trap.Trap.{Trap}
 use Rattle.lk_disk.specs.declared.trap.Trap.TheVariants.{Fail, Arm}
 use Rattle.lk_store_format.specs.Values.{HeaderValue}
@@ -24,7 +24,7 @@ use Rattle.lk_sim_nodes.specs.Ends.{IsToldEnd}
 use Rattle.lk_sim_nodes.specs.Ends.{end_by}
 use Rattle.lk_sim_nodes.specs.Seats.{At, stopped_on, rested_on, IsTrapped}
 use Rattle.lk_sim_nodes.specs.Sends.{stop_among, after_sends, cut_short}
-use Rattle.lk_sim_nodes.specs.Told.{Tells}
+use Rattle.lk_sim_nodes.specs.Told.{NotesReplies}
 use Rattle.lk_sim_nodes.specs.declared.end.End.TheVariants.{Stopped}
 use Rattle.lk_sim_nodes.specs.declared.refused.Refused.{Refused}
 use Rattle.lk_sim_nodes.specs.declared.refused.Refused.TheVariants.{WorldMemory}
@@ -32,7 +32,7 @@ use Rattle.lk_sim_nodes.specs.declared.seat.Seat.{Seat}
 use Rattle.lk_sim_nodes.specs.declared.seat.Life.{Life}
 use Rattle.lk_sim_nodes.specs.declared.seat.Life.TheVariants.{Up, Down}
 use Rattle.lk_sim.specs.Groups.{AreNotesOf, given_by}
-use Rattle.lk_sim.specs.Heard.{Asks}
+use Rattle.lk_sim.specs.Heard.{IsRequestIn}
 use Rattle.lk_sim.specs.Refusals.{datagram_at, IsPermitted, MayGroup, MayInject, IsRejectedFor, NoGroup, NoInjection}
 use Rattle.lk_sim.specs.Scenes.{Scene}
 use Rattle.lk_sim.specs.Traces.{asked_note}
@@ -42,10 +42,10 @@ use Rattle.lk_sim.specs.declared.event.GroupInput.{GroupInput}
 
 -- of all nodes only this one has changed, from `s` to `t`, and has kept its number
 pub record ReplacesSeat {R : Type 0} (old new : List (Seat R)) (s t : Seat R) : Type 0 where
-  pub place : ℕ
-  pub at : At old place s
+  pub index : ℕ
+  pub at : At old index s
   pub number : t.number ≡ s.number
-  pub seats : new ≡ set old place t
+  pub seats : new ≡ set old index t
 
 -- each of these notes is of what a node counted or executed
 abbrev pub AreOwn : List Note → Type 0
@@ -82,11 +82,11 @@ pub record GoesOn {R : Type 0} (b : Behaviour R) (old new : Scene R) (r : R) (t 
   pub batch : List Datagram
   pub takes : b.Takes r o replica (Ok (notes, batch))
   pub calls : ℕ
-  pub passes : Passes (b.memory r).meter (b.memory replica).meter calls
+  pub passes : CallsSucceed (b.memory r).meter (b.memory replica).meter calls
   pub no_stop : stop_among (b.memory replica).meter.trap (length batch) ≡ None
   pub up : t.life ≡ Up (after_sends b (length batch) replica)
   pub own : AreOwn notes
-  pub tells : Tells batch told
+  pub tells : NotesReplies batch told
   pub adds : Adds old new ((asked ++ notes) ++ told) batch
   pub ended : new.ended ≡ None
 
@@ -99,13 +99,13 @@ pub record StopsSending {R : Type 0} (b : Behaviour R) (old new : Scene R) (r : 
   pub batch : List Datagram
   pub takes : b.Takes r o replica (Ok (notes, batch))
   pub calls : ℕ
-  pub passes : Passes (b.memory r).meter (b.memory replica).meter calls
+  pub passes : CallsSucceed (b.memory r).meter (b.memory replica).meter calls
   pub sends : ℕ
   pub bytes : ℕ
   pub stop : stop_among (b.memory replica).meter.trap (length batch) ≡ Some (sends, bytes)
   pub down : t.life ≡ Down (stopped_on bytes bytes (b.memory replica))
   pub own : AreOwn notes
-  pub tells : Tells (take sends batch) told
+  pub tells : NotesReplies (take sends batch) told
   pub adds : Adds old new ((asked ++ notes) ++ told) (take sends batch)
   pub ended : new.ended ≡ Some (Stopped t.number)
 
@@ -148,7 +148,7 @@ pub record GoesOnTogether {R : Type 0} (b : Behaviour R) (old new : Scene R) (r 
   pub notes : List Note
   pub takes : b.TakesAll r given replica (Ok said)
   pub calls : ℕ
-  pub passes : Passes (b.memory r).meter (b.memory replica).meter calls
+  pub passes : CallsSucceed (b.memory r).meter (b.memory replica).meter calls
   pub no_stop : stop_among (b.memory replica).meter.trap (length (sent_of said)) ≡ None
   pub up : t.life ≡ Up (after_sends b (length (sent_of said)) replica)
   pub own : AreAllOwn said
@@ -164,7 +164,7 @@ pub record StopsTogether {R : Type 0} (b : Behaviour R) (old new : Scene R) (r :
   pub notes : List Note
   pub takes : b.TakesAll r given replica (Ok said)
   pub calls : ℕ
-  pub passes : Passes (b.memory r).meter (b.memory replica).meter calls
+  pub passes : CallsSucceed (b.memory r).meter (b.memory replica).meter calls
   pub sends : ℕ
   pub bytes : ℕ
   pub stop : stop_among (b.memory replica).meter.trap (length (sent_of said)) ≡ Some (sends, bytes)
@@ -195,7 +195,7 @@ pub record IsGivenTogether {R : Type 0} (b : Behaviour R) (old new : Scene R) (n
 -- the node took these bytes, and a request in them was noted as asked
 pub record IsInjected {R : Type 0} (b : Behaviour R) (old new : Scene R) (n : ℕ) (bytes : List ℕ) : Type 0 where
   pub request : Option RequestValue
-  pub asks : Asks bytes request
+  pub asks : IsRequestIn bytes request
   pub given : IsGiven b old new n (Some bytes) (asked_note request)
 
 -- the client's datagram was added, addressed to the node, and noted as asked
@@ -217,7 +217,7 @@ pub record IsRevived {R : Type 0} (b : Behaviour R) (old new : Scene R) (t : Sea
   pub notes : List Note
   pub revives : b.Revives device (header_of old.genesis t.number) (Ok (replica, notes))
   pub calls : ℕ
-  pub passes : Passes device.meter (b.memory replica).meter calls
+  pub passes : CallsSucceed device.meter (b.memory replica).meter calls
   pub own : AreOwn notes
   pub adds : Adds old new notes []
   pub ended : new.ended ≡ None
@@ -251,7 +251,7 @@ pub record IsBack {R : Type 0} (b : Behaviour R) (old new : Scene R) (n : ℕ) :
 pub record GoesOnCompacted {R : Type 0} (b : Behaviour R) (old new : Scene R) (r : R) (t : Seat R) : Type 0 where
   pub replica : R
   pub compacts : b.Compacts r replica (Ok tt)
-  pub passes : Passes (b.memory r).meter (b.memory replica).meter rebase_calls
+  pub passes : CallsSucceed (b.memory r).meter (b.memory replica).meter rebase_calls
   pub up : t.life ≡ Up replica
   pub adds : Adds old new [] []
   pub ended : new.ended ≡ None
@@ -373,7 +373,7 @@ pub record IsHalted {R : Type 0} (Left : Life R → Memory → Type 0) (old new 
 -- request in them; or the node has stopped in a call that takes memory
 abbrev pub WantsInjection : {R : Type 0} → Behaviour R → Scene R → ℕ → List ℕ → Scene R → Type 0
 WantsInjection b old n bytes new =
-    ((new ≡ old) × ((r : RequestValue) × Asks bytes (Some r))) ⊎ IsHalted (LeftBy b (Some bytes)) old new n
+    ((new ≡ old) × ((r : RequestValue) × IsRequestIn bytes (Some r))) ⊎ IsHalted (LeftBy b (Some bytes)) old new n
 
 -- what running out of memory leaves of a group: nothing has changed, as there was no room for the inputs of a group
 -- that is not empty; or the node has stopped in a call that takes memory

@@ -7,7 +7,7 @@ use Rattle.lk_node_interface.specs.declared.note.Note.{Note}
 use Rattle.lk_node.specs.Histories.{Datagram}
 use Rattle.lk_replica.specs.Together.{Said}
 use Rattle.lk_sim.specs.Refusals.{datagram_at}
-use Rattle.lk_sim_nodes.specs.Told.{Tells}
+use Rattle.lk_sim_nodes.specs.Told.{NotesReplies}
 use Rattle.lk_sim.specs.declared.event.GroupInput.{GroupInput}
 use Rattle.lk_sim.specs.declared.event.GroupInput.TheVariants as turn
 
@@ -43,4 +43,4 @@ WereSentTo sent (i ∷ is) = WasSentTo sent i × WereSentTo sent is
 abbrev pub AreNotesOf : List Said → List Note → Type 0
 AreNotesOf [] notes = notes ≡ []
 AreNotesOf (x ∷ xs) notes =
-    (told rest : List Note) × Tells x.1 told × (notes ≡ (x.0 ++ told) ++ rest) × AreNotesOf xs rest
+    (told rest : List Note) × NotesReplies x.1 told × (notes ≡ (x.0 ++ told) ++ rest) × AreNotesOf xs rest

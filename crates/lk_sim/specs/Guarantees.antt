@@ -12,7 +12,7 @@ use Rattle.lk_sim.specs.Orders.{InOrder, ToldInTime}
 use Rattle.lk_sim_nodes.specs.Rooms.{AreShort}
 use Rattle.lk_sim.specs.Scenes.{Scene}
 use Rattle.lk_sim.specs.States.{SumsUpChosen}
-use Rattle.lk_sim_nodes.specs.Told.{Tells}
+use Rattle.lk_sim_nodes.specs.Told.{NotesReplies}
 use Rattle.lk_sim.specs.Traces.{told_in}
 use Rattle.lk_sim_nodes.specs.declared.seat.Seat.{Seat}
 use Rattle.lk_state.specs.Meanings.{Meaning}
@@ -33,7 +33,7 @@ pub record WorldGuarantee {R : Type 0} (b : Behaviour R) (whole : R → WholeVal
   pub agree : (L K : List Command) → Chosen w.genesis w.sent L → Chosen w.genesis w.sent K
       → IsBeginning L K ⊎ IsBeginning K L
   -- the trace has, in order, each answer that was sent
-  pub told : Tells w.sent (told_in w.trace)
+  pub told : NotesReplies w.sent (told_in w.trace)
   -- each node that is up has executed a chosen list
   pub states : (k : ℕ) (s : Seat R) → At w.seats k s → SumsUpChosen whole (disks_by b) m w.genesis w.sent s
   -- whatever a stop may leave of a node's disks covers everything that the node has sent

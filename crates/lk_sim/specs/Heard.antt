@@ -10,7 +10,7 @@ abbrev pub Reads : List ℕ → Option RequestValue → Type 0
 Reads bytes o = (x : Message) → Spells x bytes → (r : RequestValue) × (x.content ≡ content.Request r) × (o ≡ Some r)
 
 -- the bytes spell the request, if there is one, and nothing if there is none
-pub record Asks (bytes : List ℕ) (o : Option RequestValue) : Type 0 where
+pub record IsRequestIn (bytes : List ℕ) (o : Option RequestValue) : Type 0 where
   pub only : Reads bytes o
   pub spelled : (r : RequestValue) → o ≡ Some r
       → (cluster : ℕ) × Spells (record { cluster = cluster; content = content.Request r }) bytes

@@ -7,7 +7,7 @@ pub mod States
 pub mod Refusals
 pub mod Groups
 pub mod Events
-pub mod Settled
+pub mod Concluded
 pub mod Orders
 pub mod Kept
 pub mod Packed

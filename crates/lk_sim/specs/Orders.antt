@@ -16,12 +16,12 @@ IsEffectiveAt L i r = (command_at L i ≡ Some (Request r)) × (in_effect (take 
 
 -- a request of this client and number takes effect before this position
 pub record IsEffectiveBefore (L : List Command) (i client number : ℕ) : Type 0 where
-  pub place : ℕ
+  pub index : ℕ
   pub request : RequestValue
-  pub before : place < i
+  pub before : index < i
   pub of_client : request.client ≡ client
   pub of_number : request.number ≡ number
-  pub effective : IsEffectiveAt L place request
+  pub effective : IsEffectiveAt L index request
 
 -- wherever a trace is split: what was answered in the first part takes effect, in each chosen list, before each
 -- request that takes effect there and was not asked in that part

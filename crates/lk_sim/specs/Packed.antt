@@ -17,9 +17,9 @@ use Rattle.lk_sim_nodes.specs.declared.seat.Life.TheVariants.{Up}
 -- it has executed: the packed text of a chosen list of that length
 pub record StandsPacked {R : Type 0} (whole : R → WholeValue) (disks : R → Side → Disk) (m : Meaning)
     (w : Scene R) (n : ℕ) : Type 0 where
-  pub place : ℕ
+  pub index : ℕ
   pub seat : Seat R
-  pub at : At w.seats place seat
+  pub at : At w.seats index seat
   pub number : seat.number ≡ n
   pub replica : R
   pub up : seat.life ≡ Up replica

@@ -8,9 +8,9 @@ use Rattle.lk_sim.specs.declared.event.Event.{Event}
 use Rattle.lk_sim_nodes.specs.declared.refused.Refused.{Refused}
 
 -- the events are done, one after another
-abbrev pub Passes : {R : Type 0} → Behaviour R → List Event → Scene R → Scene R → Type 0
-Passes b [] old new = new ≡ old
-Passes {R = R} b (e ∷ es) old new = (mid : Scene R) × IsExecuted b old e mid × Passes b es mid new
+abbrev pub AreExecuted : {R : Type 0} → Behaviour R → List Event → Scene R → Scene R → Type 0
+AreExecuted b [] old new = new ≡ old
+AreExecuted {R = R} b (e ∷ es) old new = (mid : Scene R) × IsExecuted b old e mid × AreExecuted b es mid new
 
 -- all events were done, or the next one was rejected
 abbrev pub StopsAt : {R : Type 0} → Behaviour R → List Event → ℕ → Option Refused → Scene R → Scene R → Type 0
@@ -21,5 +21,5 @@ StopsAt b events done (Some r) last new = (e : Event) × (slice_get events done 
 pub record Runs {R : Type 0} (b : Behaviour R) (old : Scene R) (events : List Event) (how : RunEnd)
     (new : Scene R) : Type 0 where
   pub last : Scene R
-  pub passes : Passes b (take how.done events) old last
+  pub passes : AreExecuted b (take how.done events) old last
   pub stops : StopsAt b events how.done how.refused last new

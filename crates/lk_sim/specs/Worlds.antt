@@ -15,7 +15,7 @@ use Rattle.lk_node.specs.Served.{BearsOut, BearsOutMessage}
 use Rattle.lk_node.specs.Holdings.{Holding}
 use Rattle.lk_sim.specs.Orders.{InTime}
 use Rattle.lk_sim.specs.Scenes.{Scene}
-use Rattle.lk_sim_nodes.specs.Told.{Tells}
+use Rattle.lk_sim_nodes.specs.Told.{NotesReplies}
 use Rattle.lk_sim.specs.Traces.{asked_in, happened, told_in}
 use Rattle.lk_sim_nodes.specs.Seats.{SeatFits, At}
 use Rattle.lk_sim_nodes.specs.declared.seat.Seat.{Seat}
@@ -44,7 +44,7 @@ pub record WorldInvariant {R : Type 0} (Shows : R → Genesis → ℕ → Holdin
   pub messages : (n : ℕ) (x : NodeMessage) → HasSent genesis sent n x
       → BearsOutMessage m (happened genesis sent trace) list x
   -- what was answered and told was noted, in order
-  pub told : Tells sent (told_in trace)
+  pub told : NotesReplies sent (told_in trace)
   -- what was answered is borne out by what had been asked by then
   pub in_time : InTime m genesis sent trace
 

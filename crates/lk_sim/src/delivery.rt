@@ -7,7 +7,7 @@ ghost use Rattle.lk_messages.specs.declared.message.Content.TheVariants as conte
 ghost use Rattle.lk_node.specs.Histories.{RequestValue};
 ghost use Rattle.lk_replica.specs.Behaviours.{disks_by};
 ghost use Rattle.lk_sim.specs.Events.{IsExecuted, IsInjected, IsNotInjected, IsRefused};
-ghost use Rattle.lk_sim.specs.Heard.{Asks, IsForged};
+ghost use Rattle.lk_sim.specs.Heard.{IsRequestIn, IsForged};
 ghost use Rattle.lk_sim.specs.Refusals.{datagram_at, HasRoom, NoTurn, NoDelivery, MayInject};
 ghost use Rattle.lk_sim.specs.Rooms.{HasNoteRoom};
 ghost use Rattle.lk_sim_nodes.specs.Seats.{IsUpAt};
@@ -108,7 +108,7 @@ fn request_of(said: &ContentRef<'_>) -> Result<Request, Refused>
 
 // Returns the client's request in the bytes, or `None` if they do not parse. A node's datagram is rejected as `Forged`.
 fn request_in(viewed: &Datagram<'_>) -> Result<Option<Request>, Refused>
-    ensures ok { IfOk result (λ o. Asks viewed.now o) }
+    ensures ok { IfOk result (λ o. IsRequestIn viewed.now o) }
     ensures err { IfErr result (λ e. (e ≡ Refused.Forged) × IsForged viewed.now) }
 {
     let Ok(message) = viewed.message() else {

@@ -5,10 +5,10 @@ ghost use Rattle.lk_node.specs.Calls.{heard_by, InputFits};
 ghost use Rattle.lk_node.specs.Leavings.{header_of};
 ghost use Rattle.lk_replica.specs.Behaviours.{disks_by};
 ghost use Rattle.lk_sim.specs.Events.{IsGiven, IsHalted, IsBack, LeftBy, LeftByRevival};
-ghost use Rattle.lk_sim.specs.Settled.{HasAdded, HasSettled, HasGivenUp};
+ghost use Rattle.lk_sim.specs.Concluded.{HasAdded, HasConcluded, HasGivenUp};
 ghost use Rattle.lk_sim.specs.Rooms.{HasNoteRoom};
 ghost use Rattle.lk_sim_nodes.specs.Seats.{IsUpAt, IsDownAt};
-ghost use Rattle.lk_sim_nodes.specs.Told.{Tells};
+ghost use Rattle.lk_sim_nodes.specs.Told.{NotesReplies};
 ghost use Rattle.lk_sim.specs.Traces.{happened, asked_note};
 ghost use Rattle.lk_sim.specs.Worlds.{PartsKeepInvariant, scene_of};
 
@@ -29,7 +29,7 @@ fn notes_of(
 ) -> Result<Vec<Note>, NoMemory>
     ensures ok { IfOk result
         (λ all. (told : List NoteValue) × (all.items ≡ (asked_note asked ++ notes.items) ++ told)
-        × Tells batch.now told) }
+        × NotesReplies batch.now told) }
 {
     if let Some(request) = asked {
         notes.insert(0, Note::Asked(request))?;
@@ -116,10 +116,10 @@ pub fn finish_call<R: MemoryReplica>(
     asked: Option<Request>,
     outcome: Outcome,
 ) -> Result<(), NoMemory>
-    requires place { i < length parts.old.seats.items }
+    requires index { i < length parts.old.seats.items }
     requires room { HasNoteRoom asked parts.old.trace }
     ensures ok { OnOk result
-        (HasSettled R.Shows R.behaves R.meaning (scene_of parts.old) i (scene_of parts.new)
+        (HasConcluded R.Shows R.behaves R.meaning (scene_of parts.old) i (scene_of parts.new)
         (asked_note asked) outcome.notes.items outcome.sent.items outcome.ended outcome.stop) }
     ensures err { OnErr result (HasGivenUp R.Shows R.behaves R.meaning (scene_of parts.old) i (scene_of parts.new)) }
     ensures wants { OnErr result (outcome.notes.items ≡ [] → outcome.sent.items ≡ [] → ⊥) }

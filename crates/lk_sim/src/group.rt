@@ -7,7 +7,7 @@ ghost use Rattle.lk_sim_nodes.specs.Seats.{IsUpAt};
 ghost use Rattle.lk_sim.specs.Events.{IsGivenTogether, IsHalted, IsNotGrouped, LeftByGroup};
 ghost use Rattle.lk_sim.specs.Groups.{AreNotesOf, WereSentTo, copied, given_by};
 ghost use Rattle.lk_sim.specs.Refusals.{AreFor, IsFor, MayGroup};
-ghost use Rattle.lk_sim.specs.Settled.{HasAddedSteps, HasGivenUp, HasSettledSteps};
+ghost use Rattle.lk_sim.specs.Concluded.{HasAddedSteps, HasGivenUp, HasConcludedSteps};
 ghost use Rattle.lk_sim.specs.Worlds.{PartsKeepInvariant, scene_of};
 
 use crate::datagrams::{datagram, has_room};
@@ -84,9 +84,9 @@ fn finish_group<R: MemoryReplica>(
     i: usize,
     outcome: GroupOutcome,
 ) -> Result<(), NoMemory>
-    requires place { i < length parts.old.seats.items }
+    requires index { i < length parts.old.seats.items }
     ensures ok { OnOk result
-        (HasSettledSteps R.Shows R.behaves R.meaning (scene_of parts.old) i
+        (HasConcludedSteps R.Shows R.behaves R.meaning (scene_of parts.old) i
         (scene_of parts.new) outcome.steps.items outcome.sent.items outcome.ended outcome.stop) }
     ensures err { OnErr result (HasGivenUp R.Shows R.behaves R.meaning (scene_of parts.old) i (scene_of parts.new)) }
     ensures wants { OnErr result (outcome.steps.items ≡ [] → outcome.sent.items ≡ [] → ⊥) }

@@ -21,10 +21,10 @@ told_by (content.Request r) = []
 told_by (content.Node n x) = told_by_node n x
 
 -- these notes are, in order, exactly those of the answers and passes among the datagrams
-abbrev pub Tells : List Datagram → List Note → Type 0
-Tells [] notes = notes ≡ []
-Tells (d ∷ ds) notes =
-    (m : Message) × (rest : List Note) × Spells m d.bytes × (notes ≡ told_by m.content ++ rest) × Tells ds rest
+abbrev pub NotesReplies : List Datagram → List Note → Type 0
+NotesReplies [] notes = notes ≡ []
+NotesReplies (d ∷ ds) notes =
+    (m : Message) × (rest : List Note) × Spells m d.bytes × (notes ≡ told_by m.content ++ rest) × NotesReplies ds rest
 
 abbrev pub listed : Option Note → List Note
 listed None = []

@@ -1,7 +1,7 @@
 // Makes the notes of the answers and passes among datagrams.
 ghost use Rattle.std.specs.Prelude.{◌≡◌, ◌++◌, [], ◌∷◌, List, OnOk};
 ghost use Rattle.lk_node_interface.specs.declared.note.Note.{Note as NoteValue};
-ghost use Rattle.lk_sim_nodes.specs.Told.{told_by, listed, Tells};
+ghost use Rattle.lk_sim_nodes.specs.Told.{told_by, listed, NotesReplies};
 
 use lk_node_interface::Note;
 use lk_replica::Datagram;
@@ -27,7 +27,7 @@ fn note_of(message: &Message) -> Option<Note>
 // Appends the note of the datagram, if it has one.
 fn add_note(alloc: Global, notes: &mut Vec<Note>, datagram: &Datagram) -> Result<(), NoMemory>
     ensures { OnOk result ((more : List NoteValue) × (notes.new.items ≡ notes.old.items ++ more)
-        × Tells (datagram.now ∷ []) more) }
+        × NotesReplies (datagram.now ∷ []) more) }
 {
     let Ok(message) = read(alloc, &datagram.bytes) else {
         // A node sends only datagrams that parse, so it was memory that the read lacked.
@@ -42,7 +42,7 @@ fn add_note(alloc: Global, notes: &mut Vec<Note>, datagram: &Datagram) -> Result
 /// Appends the notes of the answers and passes among the datagrams, in order.
 pub fn add_notes(alloc: Global, notes: &mut Vec<Note>, batch: &[Datagram]) -> Result<(), NoMemory>
     ensures { OnOk result ((more : List NoteValue) × (notes.new.items ≡ notes.old.items ++ more)
-        × Tells batch.now more) }
+        × NotesReplies batch.now more) }
 {
     for datagram in batch {
         add_note(alloc, notes, datagram)?;

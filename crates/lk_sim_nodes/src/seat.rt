@@ -58,6 +58,7 @@ pub fn take_device<R: MemoryReplica>(alloc: Global, seat: &mut Seat<R>) -> Memor
 /// Stops the node; its disks A and B keep up to `x` and `y` of their unsynced bytes. A pending trap is gone.
 pub fn stop<R: MemoryReplica>(alloc: Global, seat: &mut Seat<R>, x: usize, y: usize)
     ensures number { seat.new.number ≡ seat.old.number }
+    // Every history and Paxos state that explains the node and its disks still does.
     ensures fits { (h : History) (w : PaxosState) → SeatFits R.Shows (disks_by R.behaves) R.meaning h w seat.old
         → SeatFits R.Shows (disks_by R.behaves) R.meaning h w seat.new }
     ensures stopped { seat.new.life ≡ Down (stopped_on x y (device_in R.behaves seat.old.life)) }

@@ -163,10 +163,10 @@ clients_rise low (s ∷ l) h (suc i) (suc j) d le lt =
     (omega arith) (omega arith)
 
 -- where the clients in front are below and the others are not
-pub place_is_before : (client n : ℕ) (l : List Session)
+pub index_is_before : (client n : ℕ) (l : List Session)
     → IsPartitionPoint (λ (s : Session). nat_lt s.client client ≡ true)
     (λ (s : Session). nat_lt s.client client ≡ false) l n → n ≤ length l → n ≡ before client l
-place_is_before client n l point le =
+index_is_before client n l point le =
     sym (prefix_len_is (λ (s : Session). nat_lt s.client client) l n
     (record { client = 0; number = 0; answer = Bad }) le (λ k lt. point.0 k _ (omega arith) lt)
     (λ lt. point.1 n _ (omega arith) lt))

@@ -22,10 +22,10 @@ use std::alloc::AllocError;
 fn put_window(out: &mut BytesMut, window: &Window) -> Result<(), AllocError>
     ensures { OnOk result (out.new.items ≡ out.old.items ++ sets_text window.now) }
 {
-    let places = window.as_slice();
-    put_u8(out, places.len() as u8)?;
-    for place in places {
-        put_members(out, place.set().as_slice())?;
+    let sets = window.as_slice();
+    put_u8(out, sets.len() as u8)?;
+    for each in sets {
+        put_members(out, each.set().as_slice())?;
     }
     Ok(())
 }

@@ -100,7 +100,7 @@ impl Sessions {
         ensures { result ≡ session_of client self.now }
     {
         let sessions = self.list.as_slice();
-        own_at(sessions, place_of(sessions, client), client)
+        own_at(sessions, index_of(sessions, client), client)
     }
 
     // Inserts the session, in place of the one of the same client if there is one.
@@ -108,7 +108,7 @@ impl Sessions {
         ensures { self.new ≡ with_session session.now self.old }
     {
         session.facts();
-        let at = place_of(self.list.as_slice(), session.client);
+        let at = index_of(self.list.as_slice(), session.client);
         if stands_at(self.list.as_slice(), at, session.client) {
             self.list[at] = *session;
         } else {
@@ -142,9 +142,9 @@ fn are_rising(sessions: &[Session]) -> bool
 }
 
 // Returns the index at which the client's session is, or would be inserted: how many clients are smaller.
-fn place_of(sessions: &[Session], client: ClientNo) -> usize
+fn index_of(sessions: &[Session], client: ClientNo) -> usize
     requires { IsTrue (are_sessions_above 0 sessions.now) }
-    ensures place { result ≡ prefix_len (λ s. nat_lt s.client client) sessions.now }
+    ensures index { result ≡ prefix_len (λ s. nat_lt s.client client) sessions.now }
     ensures within { result ≤ length sessions.now }
 {
     sessions.partition_point(|session| session.client < client)

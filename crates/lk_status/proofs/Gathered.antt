@@ -5,19 +5,20 @@ use Rattle.std.specs.declared.net.socket_addr.SocketAddr.{SocketAddr}
 use Rattle.lk_probe.specs.declared.probe.Report.{Report}
 use Rattle.lk_status.specs.declared.target.Inquiry.{Inquiry}
 use Rattle.lk_transport.specs.ReceiveBuffers.{listed, next_of}
-use Rattle.lk_status.specs.Rounds.{IsOfRound, AreOfRound, Adds, Hears, ProbesEach, Receives, Reacts, HearsOne}
+use Rattle.lk_status.specs.Rounds.{IsOfRound, AreOfRound, Adds, HearsReport, ProbesEach, Receives, Reacts, HearsOne}
 use Rattle.lk_status.specs.Rounds.{HearsOut}
 use Rattle.lk_status.specs.Rounds.{IsRound}
 
 -- nothing came, or what came was added
 pub hears_none : (i : Inquiry) (first : ℕ) (next : Option (SocketAddr × List ℕ)) (rs : List Report) → next ≡ None
-    → Hears i first next rs rs
-hears_none i first next rs none = subst (λ (n : Option (SocketAddr × List ℕ)). Hears i first n rs rs) (sym none) refl
+    → HearsReport i first next rs rs
+hears_none i first next rs none = subst (λ (n : Option (SocketAddr
+    × List ℕ)). HearsReport i first n rs rs) (sym none) refl
 
 pub hears_some : (i : Inquiry) (first : ℕ) (next : Option (SocketAddr × List ℕ)) (d : SocketAddr × List ℕ)
-    (old new : List Report) → next ≡ Some d → Adds i first d.1 old new → Hears i first next old new
+    (old new : List Report) → next ≡ Some d → Adds i first d.1 old new → HearsReport i first next old new
 hears_some i first next d old new some adds =
-    subst (λ (n : Option (SocketAddr × List ℕ)). Hears i first n old new) (sym some) adds
+    subst (λ (n : Option (SocketAddr × List ℕ)). HearsReport i first n old new) (sym some) adds
 
 pub one_more : (i : Inquiry) (first : ℕ) (rs : List Report) (r : Report) → AreOfRound i first rs → IsOfRound i first r
     → AreOfRound i first (rs ++ r ∷ [])
@@ -51,7 +52,7 @@ module _ {S : Type 0} (sent incoming : S → List (SocketAddr × List ℕ)) (fai
 
   -- something came
   pub hears_some_one : (before heard : S) (old new : List Report) (silences : ℕ)
-      → Receives sent incoming failures before heard → Hears i first (next_of incoming before) old new
+      → Receives sent incoming failures before heard → HearsReport i first (next_of incoming before) old new
       → is_some (next_of incoming before) ≡ true
       → HearsOne sent incoming failures i first (record { socket = before; reports = old; silences = silences })
       (record { socket = heard; reports = new; silences = silences })
@@ -65,7 +66,7 @@ module _ {S : Type 0} (sent incoming : S → List (SocketAddr × List ℕ)) (fai
 
   -- nothing came
   pub hears_no_one : (before heard asked : S) (old new : List Report) (silences : ℕ)
-      → Receives sent incoming failures before heard → Hears i first (next_of incoming before) old new
+      → Receives sent incoming failures before heard → HearsReport i first (next_of incoming before) old new
       → is_some (next_of incoming before) ≡ false
       → ProbesEach sent incoming failures i first i.targets.items new heard asked
       → HearsOne sent incoming failures i first (record { socket = before; reports = old; silences = silences })

@@ -54,9 +54,9 @@ Adds i first bytes old new =
     ⊎ (((r : Report) → IsReport i bytes r → IsAwaited i first old r → ⊥) × (new ≡ old))
 
 -- so of what came next, if anything did
-abbrev pub Hears : Inquiry → ℕ → Option (SocketAddr × List ℕ) → List Report → List Report → Type 0
-Hears i first None old new = new ≡ old
-Hears i first (Some d) old new = Adds i first d.1 old new
+abbrev pub HearsReport : Inquiry → ℕ → Option (SocketAddr × List ℕ) → List Report → List Report → Type 0
+HearsReport i first None old new = new ≡ old
+HearsReport i first (Some d) old new = Adds i first d.1 old new
 
 -- ---- what is sent
 
@@ -120,7 +120,7 @@ module _ {S : Type 0} (sent incoming : S → List (SocketAddr × List ℕ)) (fai
     pub record HearsOne (old new : Asker S) : Type 0 where
       pub heard : S
       pub receives : Receives old.socket heard
-      pub hears : Hears i first (next_of incoming old.socket) old.reports new.reports
+      pub hears : HearsReport i first (next_of incoming old.socket) old.reports new.reports
       pub reacts : Reacts (next_of incoming old.socket) heard old new
 
     -- the same while the round goes on

@@ -10,16 +10,16 @@ use Rattle.lk_status.specs.declared.target.Inquiry.{Inquiry}
 use Rattle.lk_status.specs.declared.target.Target.{Target}
 
 -- the word spells a node and its port, or a port alone
-abbrev pub SpellsPlace : List ℕ → Option ℕ → ℕ → Type 0
-SpellsPlace word (Some node) port = IsMemberWord (record { node = node; port = port }) word
-SpellsPlace word None port = IsPort port × (word ≡ decimal port)
+abbrev pub SpellsTarget : List ℕ → Option ℕ → ℕ → Type 0
+SpellsTarget word (Some node) port = IsMemberWord (record { node = node; port = port }) word
+SpellsTarget word None port = IsPort port × (word ≡ decimal port)
 
 -- each word spells the place of its target
 abbrev pub SpellTargets : List (List ℕ) → List Target → Type 0
 SpellTargets [] [] = ⊤
 SpellTargets [] (t ∷ ts) = ⊥
 SpellTargets (w ∷ ws) [] = ⊥
-SpellTargets (w ∷ ws) (t ∷ ts) = SpellsPlace w t.node t.port × SpellTargets ws ts
+SpellTargets (w ∷ ws) (t ∷ ts) = SpellsTarget w t.node t.port × SpellTargets ws ts
 
 -- the address at which a node lives, if there is one and that is known
 abbrev pub host_if : Inquiry → Option ℕ → Option IpAddr

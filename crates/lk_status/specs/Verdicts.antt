@@ -17,14 +17,14 @@ seeks_votes r =
     not r.status.leadership.leads && r.status.leadership.promised.node == r.node && r.status.leadership.silence == 0
 
 -- that node is among those that report
-abbrev pub has_answered : ℕ → List Report → Bool
-has_answered node [] = false
-has_answered node (r ∷ rs) = r.node == node || has_answered node rs
+abbrev pub has_reported : ℕ → List Report → Bool
+has_reported node [] = false
+has_reported node (r ∷ rs) = r.node == node || has_reported node rs
 
 -- how many of the members report
 abbrev pub count_reporting : List Member → List Report → ℕ
 count_reporting [] rs = 0
-count_reporting (m ∷ ms) rs = if has_answered m.node rs then suc (count_reporting ms rs) else count_reporting ms rs
+count_reporting (m ∷ ms) rs = if has_reported m.node rs then suc (count_reporting ms rs) else count_reporting ms rs
 
 -- a majority of the members that this report names have reported
 abbrev pub has_majority : Report → List Report → Bool

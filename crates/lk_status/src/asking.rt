@@ -3,7 +3,7 @@
 ghost use Rattle.std.specs.Prelude.{◌≡◌, ◌↔◌, ◌<◌, false, is_some, IfOk, OnOk, IfSome, IsNone, IsSomeAnd, IsTrue};
 ghost use Rattle.lk_probe.specs.declared.probe.Report.{Report as ReportValue};
 ghost use Rattle.lk_transport.specs.ReceiveBuffers.{next_of};
-ghost use Rattle.lk_status.specs.Rounds.{IsOfRound, AreOfRound, IsReport, IsAwaited, Adds, Hears, has_token};
+ghost use Rattle.lk_status.specs.Rounds.{IsOfRound, AreOfRound, IsReport, IsAwaited, Adds, HearsReport, has_token};
 ghost use Rattle.lk_status.specs.Rounds.{Probes};
 ghost use Rattle.lk_status.specs.Rounds.{ProbesUnless, ProbesEach, GoesOn, IsOver, Receives, HearsOne, HearsOut};
 ghost use Rattle.lk_status.specs.Rounds.{IsRound};
@@ -32,7 +32,7 @@ fn send_probe<S: DatagramSocket>(
     let probe = inquiry.probe(token).datagram();
     let seals = &inquiry.destination.seals;
     let framed = seals.frame_of(inquiry.client_number(), &probe, frame)?;
-    let _ = socket.send_to(inquiry.place_of(target), framed);
+    let _ = socket.send_to(inquiry.address_of(target), framed);
     Ok(())
 }
 
@@ -85,7 +85,7 @@ fn is_of_round(inquiry: &Inquiry, first: u64, report: &Report) -> bool
 {
     let token = report.token;
     let is_within = first <= token && token - first < inquiry.targets.len() as u64;
-    is_within && report.answers(&inquiry.probe(token))
+    is_within && report.is_for(&inquiry.probe(token))
 }
 
 // Whether a report answers a probe of the round that none of the others has answered.
@@ -159,7 +159,7 @@ fn receive_report<S: DatagramSocket>(
     ensures receives { S.is_observable → Receives S.sent S.incoming S.failures socket.old socket.new }
     ensures came { IfOk result (λ is. S.is_observable → is_some (next_of S.incoming socket.old) ≡ is) }
     ensures hears { OnOk result
-        (S.is_observable → Hears inquiry.now first
+        (S.is_observable → HearsReport inquiry.now first
         (next_of S.incoming socket.old) reports.old.items reports.new.items) }
     ensures of_round { OnOk result
         (AreOfRound inquiry.now first reports.old.items → AreOfRound inquiry.now first reports.new.items) }

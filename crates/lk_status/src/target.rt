@@ -5,7 +5,7 @@ ghost use Rattle.std.specs.Net.Socket.{socket_ip, socket_port};
 ghost use Rattle.std.specs.Prelude.{◌≡◌, None, is_some, map, IfOk, IfSome};
 ghost use Rattle.lk_probe.specs.Grammar.{or_zero};
 ghost use Rattle.lk_status.specs.Rounds.{has_token, report_of};
-ghost use Rattle.lk_status.specs.Targets.{SpellsPlace, SpellTargets, target_address};
+ghost use Rattle.lk_status.specs.Targets.{SpellsTarget, SpellTargets, target_address};
 
 use lk_client::destination::Destination;
 use lk_probe::{Probe, Report};
@@ -39,8 +39,8 @@ pub struct Inquiry {
 }
 
 // Reads `PORT` or `NODE:PORT` as the port and the node, if one is given. `None` if the word is neither.
-fn place_in(word: &[u8]) -> Option<(Option<NodeNo>, Port)>
-    ensures { IfSome result (λ place. SpellsPlace word.now place.0 place.1) }
+fn target_in(word: &[u8]) -> Option<(Option<NodeNo>, Port)>
+    ensures { IfSome result (λ target. SpellsTarget word.now target.0 target.1) }
 {
     if let Some(member) = member_of(word) {
         return Some((Some(member.node), member.port));
@@ -61,7 +61,7 @@ pub fn targets_of(alloc: Global, words: &[&str]) -> Result<Option<Vec<Target>>, 
     }
     let mut targets = Vec::new(alloc);
     'words: for word in words {
-        let Some((node, port)) = place_in(word.as_bytes()) else {
+        let Some((node, port)) = target_in(word.as_bytes()) else {
             return Ok(None);
         };
         targets.push(Target { node, port })?;
@@ -81,7 +81,7 @@ impl Inquiry {
     }
 
     /// Returns the address and port of a target: the address of its node if the hosts name it, else the inquiry's.
-    pub fn place_of(&self, target: &Target) -> SocketAddr
+    pub fn address_of(&self, target: &Target) -> SocketAddr
         ensures ip { socket_ip result ≡ target_address self.now target.now }
         ensures port { socket_port result ≡ target.now.port }
     {
@@ -96,11 +96,11 @@ impl Inquiry {
     /// loopback, or 127.0.0.1 if all are.
     pub fn own_address(&self) -> IpAddr {
         for target in self.targets.as_slice() {
-            let address = self.place_of(target).ip();
-            if !address.is_ipv4() {
+            let host = self.address_of(target).ip();
+            if !host.is_ipv4() {
                 return IpAddr::V6(Ipv6Addr::UNSPECIFIED);
             }
-            if !address.is_loopback() {
+            if !host.is_loopback() {
                 return IpAddr::V4(Ipv4Addr::UNSPECIFIED);
             }
         }

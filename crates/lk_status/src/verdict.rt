@@ -1,15 +1,15 @@
 //! Judges the reports of a round: whether the cluster is served, and whether all nodes are ready.
 
 ghost use Rattle.std.specs.Prelude.{◌≡◌, ◌↔◌, ◌≤◌, IsTrue, length};
-ghost use Rattle.lk_status.specs.Verdicts.{IsServed, seeks_votes, has_answered, count_reporting, has_majority};
+ghost use Rattle.lk_status.specs.Verdicts.{IsServed, seeks_votes, has_reported, count_reporting, has_majority};
 ghost use Rattle.lk_status.specs.Verdicts.{some_leads, tells, one_genesis, is_served, all_have, is_ready};
 
 use lk_probe::{DIGEST, Report};
 use lk_types::{Member, NodeNo};
 
 /// Whether that node is among those that report.
-pub fn has_answered(node: NodeNo, reports: &[Report]) -> bool
-    ensures { result ≡ has_answered node reports.now }
+pub fn has_reported(node: NodeNo, reports: &[Report]) -> bool
+    ensures { result ≡ has_reported node reports.now }
 {
     for report in reports {
         if report.node == node {
@@ -26,7 +26,7 @@ pub fn count_reporting(members: &[Member], reports: &[Report]) -> usize
 {
     let mut count = 0;
     for member in members {
-        if has_answered(member.node, reports) {
+        if has_reported(member.node, reports) {
             count += 1;
         }
     }

@@ -166,8 +166,8 @@ fn write_more_targets<W: Write>(
     Ok(())
 }
 
-// Writes the objects of these targets, with commas between them. The report of the first has the token `first`, that of
-// each other the next token.
+// Writes the objects of these targets, with commas between them. A report belongs to the target whose probe had its
+// token: that of the first target had `first`, and each other one the next number.
 fn write_targets<W: Write>(
     first: u64,
     targets: &[Target],

@@ -248,8 +248,8 @@ pub fn status<S: DatagramSocket, W: Write, E: Write>(
     err: &mut E,
 ) -> u8
     ensures status { result ≤ 1 }
-    // Status 0 only where all targets were asked, and the reports to that show that the cluster is served, and is ready
-    // if that is waited for: they are what was heard then, each a datagram that came and reads as that report.
+    // Status 0 only if all targets were asked, and their reports, each read from a datagram that came, show the cluster
+    // served, and ready if that was waited for.
     ensures served { result ≡ 0 → IsShownServed S.sent S.incoming S.failures S.is_observable plan.now socket.new }
 {
     match ask_and_print(alloc, socket, plan, out) {

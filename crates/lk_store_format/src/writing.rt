@@ -129,7 +129,7 @@ fn put_plain_body(out: &mut BytesMut, value: &Entry) -> Result<(), AllocError>
 }
 
 // Appends the length of the bytes, in four bytes, and then the bytes.
-fn put_behind_length(out: &mut BytesMut, text: &[u8]) -> Result<(), AllocError>
+fn put_length_prefixed(out: &mut BytesMut, text: &[u8]) -> Result<(), AllocError>
     requires { length text.now ≤ max_base - 4 }
     ensures { OnOk result (out.new.items ≡ out.old.items ++ (four (length text.now) ++ text.now)) }
 {
@@ -161,7 +161,7 @@ pub fn spelled_parts(
     let mut text = BytesMut::new(alloc);
     put_base_body(&mut text, generation, format, whose, value)?;
     let mut out = BytesMut::new(alloc);
-    put_behind_length(&mut out, &text)?;
+    put_length_prefixed(&mut out, &text)?;
     Ok(out)
 }
 
@@ -212,7 +212,7 @@ fn put_plain(alloc: Global, out: &mut BytesMut, entry: &Entry) -> Result<(), All
     entry_facts(entry);
     let mut text = BytesMut::new(alloc);
     put_plain_body(&mut text, entry)?;
-    put_behind_length(out, &text)?;
+    put_length_prefixed(out, &text)?;
     Ok(())
 }
 

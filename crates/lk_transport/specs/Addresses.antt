@@ -20,36 +20,36 @@ abbrev pub client_at : AddressBook → ℕ → Option SocketAddr
 client_at b client = slice_index_or b.clients (client - 1) None
 
 -- the address of an entry if it is the node's
-abbrev pub at_place : Option (ℕ × SocketAddr) → ℕ → Option SocketAddr → Option SocketAddr
-at_place None node behind = behind
-at_place (Some p) node behind = if p.0 == node then Some p.1 else behind
+abbrev pub in_entry : Option (ℕ × SocketAddr) → ℕ → Option SocketAddr → Option SocketAddr
+in_entry None node behind = behind
+in_entry (Some p) node behind = if p.0 == node then Some p.1 else behind
 
 -- the address of a node: that of its first entry
 abbrev pub node_in : List (Option (ℕ × SocketAddr)) → ℕ → Option SocketAddr
 node_in [] node = None
-node_in (place ∷ places) node = at_place place node (node_in places node)
+node_in (entry ∷ entries) node = in_entry entry node (node_in entries node)
 
 abbrev pub node_at : AddressBook → ℕ → Option SocketAddr
 node_at b node = node_in b.nodes node
 
 -- whether an entry is the node's
-abbrev pub is_place_of : ℕ → Option (ℕ × SocketAddr) → Bool
-is_place_of node None = false
-is_place_of node (Some p) = p.0 == node
+abbrev pub is_entry_of : ℕ → Option (ℕ × SocketAddr) → Bool
+is_entry_of node None = false
+is_entry_of node (Some p) = p.0 == node
 
 -- how many entries precede the node's; all of them if it has none
-abbrev pub place_in : List (Option (ℕ × SocketAddr)) → ℕ → ℕ
-place_in [] node = 0
-place_in (place ∷ places) node = if is_place_of node place then 0 else place_in places node + 1
+abbrev pub index_in : List (Option (ℕ × SocketAddr)) → ℕ → ℕ
+index_in [] node = 0
+index_in (entry ∷ entries) node = if is_entry_of node entry then 0 else index_in entries node + 1
 
 -- all entries but that one
 abbrev pub without : ℕ → List (Option (ℕ × SocketAddr)) → List (Option (ℕ × SocketAddr))
-without at places = take at places ++ drop (at + 1) places
+without at entries = take at entries ++ drop (at + 1) entries
 
 -- the node's entry comes first, and the others keep their order: its former entry is gone, or the last one if it had
 -- none
 abbrev pub moved_up : List (Option (ℕ × SocketAddr)) → ℕ → SocketAddr → List (Option (ℕ × SocketAddr))
-moved_up places node from = Some (node, from) ∷ without (min (place_in places node) (length places - 1)) places
+moved_up entries node from = Some (node, from) ∷ without (min (index_in entries node) (length entries - 1)) entries
 
 -- where nodes live and the keys are the same
 abbrev pub IsSameNetwork : AddressBook → AddressBook → Type 0

@@ -15,15 +15,15 @@ abbrev pub IsSealedAsNamed : Seals → List ℕ → Probe → Type 0
 IsSealedAsNamed s frame p = IsSome p.origin → key_list s.nodes ≢ [] → length frame ≢ length (heard s frame)
 
 -- the frame carries this probe, which the node that has these seals answers
-pub record Asks (s : Seals) (frame : List ℕ) (p : Probe) : Type 0 where
+pub record CarriesProbe (s : Seals) (frame : List ℕ) (p : Probe) : Type 0 where
   pub spelled : SpellsProbe p (heard s frame)
   pub cluster : p.cluster ≡ s.cluster
   pub sealed : IsSealedAsNamed s frame p
 
 -- a frame, with its source, carries this probe, or none that the node answers
 abbrev pub BringsProbe : Seals → SocketAddr × List ℕ → Option ReceivedProbe → Type 0
-BringsProbe s d None = (p : Probe) → Asks s d.1 p → ⊥
-BringsProbe s d (Some a) = (a.from ≡ d.0) × Asks s d.1 a.probe
+BringsProbe s d None = (p : Probe) → CarriesProbe s d.1 p → ⊥
+BringsProbe s d (Some a) = (a.from ≡ d.0) × CarriesProbe s d.1 a.probe
 
 -- the client or the node that asks, if the probe names one
 abbrev pub who : Option ℕ → Option ℕ → Option To
@@ -45,9 +45,9 @@ keys_to s None = []
 keys_to s (Some to) = keys_for s to
 
 -- a frame is sent there, once, if the socket reveals that, and no letter is kept
-pub record SendsTo (tells : Type 0) (place : SocketAddr) (frame : List ℕ) (old new : SendState) : Type 0 where
+pub record SendsTo (tells : Type 0) (address : SocketAddr) (frame : List ℕ) (old new : SendState) : Type 0 where
   pub own : new.own ≡ old.own
-  pub sent : tells → new.sent ≡ old.sent ++ (place, frame) ∷ []
+  pub sent : tells → new.sent ≡ old.sent ++ (address, frame) ∷ []
   pub failures : tells → new.failures ≡ old.failures
 
 -- a report goes to where the probe came from, and is sent or lost

@@ -5,7 +5,7 @@ use Rattle.std.specs.Cmp.Lexicographic.{pointwise}
 use Rattle.std.specs.List.{list_any}
 use Rattle.std.specs.declared.net.socket_addr.SocketAddr.{SocketAddr}
 use Rattle.lk_probe.specs.Grammar.{SpellsProbe}
-use Rattle.lk_probe.specs.Neighbours.{Asks, Learns, Readmits, entry_for, is_due_at, is_open_at}
+use Rattle.lk_probe.specs.Neighbours.{ProbesNeighbour, Learns, Readmits, entry_for, is_due_at, is_open_at}
 use Rattle.lk_probe.specs.Questions.{IsReportedOf, question}
 use Rattle.lk_probe.specs.declared.neighbours.Neighbour.{Neighbour}
 use Rattle.lk_probe.specs.declared.neighbours.Origin.{Origin}
@@ -23,8 +23,8 @@ use Rattle.lk_transport.specs.declared.received_probe.ReceivedProbe.{ReceivedPro
 -- a question is due at that address, and is noted as sent at that count of ticks; or nothing is due, or the nodes have
 -- a key, and nothing changes
 abbrev pub IsAskedAt : ℕ → Option SocketAddr → AddressBook → AddressBook → Type 0
-IsAskedAt now (Some place) old new =
-    (key_list old.seals.nodes ≡ []) × Asks now place old.neighbours new.neighbours
+IsAskedAt now (Some address) old new =
+    (key_list old.seals.nodes ≡ []) × ProbesNeighbour now address old.neighbours new.neighbours
     × (new ≡ record old { neighbours = new.neighbours })
 IsAskedAt now None old new =
     ((key_list old.seals.nodes ≢ []) ⊎ (list_any (is_due_at now) old.neighbours ≡ false)) × (new ≡ old)
@@ -36,15 +36,15 @@ question_by s node = question s.cluster (record { node = node; genesis = s.genes
 -- the probe is sent there unframed, or lost by a send that failed; nothing is sent if there is no address
 abbrev pub SendsProbe : Type 0 → Probe → Option SocketAddr → SendState → SendState → Type 0
 SendsProbe tells p None old new = new ≡ old
-SendsProbe tells p (Some place) old new =
-    (bytes : List ℕ) × SpellsProbe p bytes × (SendsTo tells place bytes old new ⊎ Loses tells [] old new)
+SendsProbe tells p (Some address) old new =
+    (bytes : List ℕ) × SpellsProbe p bytes × (SendsTo tells address bytes old new ⊎ Loses tells [] old new)
 
 -- the node of that number sends its question to one address at which one is due, if there is such an address, and
 -- nothing else
 pub record AsksOne (tells : Type 0) (now node : ℕ) (old new : AddressBook) (before after : SendState) : Type 0 where
-  pub place : Option SocketAddr
-  pub asked : IsAskedAt now place old new
-  pub sends : SendsProbe tells (question_by old.seals node) place before after
+  pub address : Option SocketAddr
+  pub asked : IsAskedAt now address old new
+  pub sends : SendsProbe tells (question_by old.seals node) address before after
 
 -- ---- whom it hears again
 
@@ -55,9 +55,9 @@ is_of genesis (Some asker) = pointwise nat_eq asker.genesis genesis
 
 -- if so, another genesis that is recorded for that address is forgotten; otherwise nothing changes
 abbrev pub ReadmitsIf : Bool → SocketAddr → AddressBook → AddressBook → Type 0
-ReadmitsIf true place old new =
-    Readmits place old.neighbours new.neighbours × (new ≡ record old { neighbours = new.neighbours })
-ReadmitsIf false place old new = new ≡ old
+ReadmitsIf true address old new =
+    Readmits address old.neighbours new.neighbours × (new ≡ record old { neighbours = new.neighbours })
+ReadmitsIf false address old new = new ≡ old
 
 -- the same for the address of a kept probe, exactly if the probe names a node of the same genesis
 abbrev pub ReadmitsKept : Option ReceivedProbe → AddressBook → AddressBook → Type 0

@@ -43,15 +43,15 @@ abbrev pub send_state_of : PostValue → SendState
 send_state_of p = record { own = p.own; sent = p.sent; failures = p.socket_failures }
 
 -- for a node: its port at its address, or, if that is not known, where it last wrote from
-abbrev pub IsPlaceOf : AddressBook → ℕ → ℕ → Option SocketAddr → Type 0
-IsPlaceOf b n port place =
-    MatchOption (host_of b.hosts n) (place ≡ node_at b n)
-    (λ host. IsSomeAnd place (λ a. (socket_port a ≡ port) × (socket_ip a ≡ host)))
+abbrev pub IsAddressOf : AddressBook → ℕ → ℕ → Option SocketAddr → Type 0
+IsAddressOf b n port address =
+    MatchOption (host_of b.hosts n) (address ≡ node_at b n)
+    (λ host. IsSomeAnd address (λ a. (socket_port a ≡ port) × (socket_ip a ≡ host)))
 
 -- for a client, where it last wrote from; for a node, where it lives, or, for port 0, where it last wrote from
 abbrev pub IsRoute : AddressBook → To → Option SocketAddr → Type 0
-IsRoute b (Client c) place = place ≡ client_at b c
-IsRoute b (Node n port) place = MatchBool (port == 0) (place ≡ node_at b n) (IsPlaceOf b n port place)
+IsRoute b (Client c) address = address ≡ client_at b c
+IsRoute b (Node n port) address = MatchBool (port == 0) (address ≡ node_at b n) (IsAddressOf b n port address)
 
 -- the form in which it is sent: sealed by the nodes' key for that node, or by the client's key; unchanged if there is
 -- no key
@@ -89,7 +89,7 @@ all_filtered c (d ∷ came) = filtered c d ++ all_filtered c came
 -- the datagram that is sent to an address; nothing if there is none
 abbrev pub carried : Option SocketAddr → List ℕ → List (SocketAddr × List ℕ)
 carried None bytes = []
-carried (Some place) bytes = (place, bytes) ∷ []
+carried (Some address) bytes = (address, bytes) ∷ []
 
 -- it is addressed to that node
 abbrev pub IsBoundFor : ℕ → To → Type 0
@@ -106,8 +106,8 @@ pub record KeepsOwnLetter (node : ℕ) (l : LetterValue) (old new : SendState) :
 -- its frame is sent to its destination, whole and once, if the socket reveals that, and no letter is kept
 pub record Sends (tells : Type 0) (book : AddressBook) (l : LetterValue) (old new : SendState) : Type 0 where
   pub own : new.own ≡ old.own
-  pub sent : tells → (place : Option SocketAddr) × IsRoute book l.to place
-      × (new.sent ≡ old.sent ++ carried place (frame_of book.seals l.to l.bytes))
+  pub sent : tells → (address : Option SocketAddr) × IsRoute book l.to address
+      × (new.sent ≡ old.sent ++ carried address (frame_of book.seals l.to l.bytes))
   pub failures : tells → new.failures ≡ old.failures
 
 -- it is lost: either one more send has failed, if the socket reveals that, or its frame ran out of memory, if there is
@@ -146,7 +146,7 @@ is_binding (message.Passed p) = false
 is_binding (message.Lead ballot executed) = true
 
 -- that client's address replaces its last one, and no other address changes
-pub record HearsClient (client : ℕ) (from : SocketAddr) (old new : AddressBook) : Type 0 where
+pub record RecordsClient (client : ℕ) (from : SocketAddr) (old new : AddressBook) : Type 0 where
   pub own : client_at new client ≡ Some from
   pub others : (c : ℕ) → IsClient c → c ≢ client → client_at new c ≡ client_at old c
   pub nodes : new.nodes ≡ old.nodes
@@ -155,25 +155,25 @@ pub record HearsClient (client : ℕ) (from : SocketAddr) (old new : AddressBook
 
 -- that node's address replaces its last one, no other node's changes, except for the one that is dropped if all
 -- entries are taken, and no client's does; a node has written from that address, and binds this one or not
-pub record HearsNode (node : ℕ) (from : SocketAddr) (binds : Bool) (old new : AddressBook) : Type 0 where
+pub record RecordsNode (node : ℕ) (from : SocketAddr) (binds : Bool) (old new : AddressBook) : Type 0 where
   pub own : node_at new node ≡ Some from
-  pub places : new.nodes ≡ moved_up old.nodes node from
+  pub moves : new.nodes ≡ moved_up old.nodes node from
   pub clients : new.clients ≡ old.clients
   pub meets : Meets from binds old.neighbours new.neighbours
   pub network : IsSameFilter old new
 
 -- the address of the sender of this content is recorded
-abbrev pub HearsContent : Content → SocketAddr → AddressBook → AddressBook → Type 0
-HearsContent (content.Request r) from old new = HearsClient r.client from old new
-HearsContent (content.Node n m) from old new = HearsNode n from (is_binding m) old new
+abbrev pub RecordsContentSender : Content → SocketAddr → AddressBook → AddressBook → Type 0
+RecordsContentSender (content.Request r) from old new = RecordsClient r.client from old new
+RecordsContentSender (content.Node n m) from old new = RecordsNode n from (is_binding m) old new
 
 -- the sender of a message of the cluster is recorded, and nothing else changes an address
-pub record Hears (cluster : ℕ) (bytes : List ℕ) (from : SocketAddr) (old new : AddressBook) : Type 0 where
-  pub message : (m : Message) → Spells m bytes → m.cluster ≡ cluster → HearsContent m.content from old new
+pub record RecordsSender (cluster : ℕ) (bytes : List ℕ) (from : SocketAddr) (old new : AddressBook) : Type 0 where
+  pub message : (m : Message) → Spells m bytes → m.cluster ≡ cluster → RecordsContentSender m.content from old new
   pub other : ((m : Message) → Spells m bytes → m.cluster ≡ cluster → ⊥) → new ≡ old
 
 -- the same for each of these, one after another
-abbrev pub HearsAll : ℕ → List (SocketAddr × List ℕ) → AddressBook → AddressBook → Type 0
-HearsAll cluster [] old new = new ≡ old
-HearsAll cluster (c ∷ came) old new =
-    (mid : AddressBook) × Hears cluster c.1 c.0 old mid × HearsAll cluster came mid new
+abbrev pub RecordsSenders : ℕ → List (SocketAddr × List ℕ) → AddressBook → AddressBook → Type 0
+RecordsSenders cluster [] old new = new ≡ old
+RecordsSenders cluster (c ∷ came) old new =
+    (mid : AddressBook) × RecordsSender cluster c.1 c.0 old mid × RecordsSenders cluster came mid new

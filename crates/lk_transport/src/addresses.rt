@@ -4,7 +4,7 @@
 ghost use Rattle.std.specs.Prelude.{◌≡◌, ◌≢◌, ℕ, Some, None, min};
 ghost use Rattle.lk_types.specs.Ranges.{IsClient};
 ghost use Rattle.lk_probe.specs.Neighbours.{Meets};
-ghost use Rattle.lk_transport.specs.Addresses.{client_at, node_at, node_in, place_in, moved_up, IsSameFilter};
+ghost use Rattle.lk_transport.specs.Addresses.{client_at, node_at, node_in, index_in, moved_up, IsSameFilter};
 ghost use Rattle.lk_transport.specs.Hosts.{host_of};
 
 use crate::hosts::Hosts;
@@ -49,11 +49,11 @@ impl Model for Addresses {
 }
 
 // Returns the address in the first entry of a node, if it has one.
-fn address_in(places: &[Option<(NodeNo, SocketAddr)>], node: NodeNo) -> Option<SocketAddr>
-    ensures { result ≡ node_in places.now node }
+fn address_in(entries: &[Option<(NodeNo, SocketAddr)>], node: NodeNo) -> Option<SocketAddr>
+    ensures { result ≡ node_in entries.now node }
 {
-    for place in places {
-        match place {
+    for entry in entries {
+        match entry {
             Some((other, from)) if *other == node => return Some(*from),
             _ => {}
         }
@@ -119,12 +119,12 @@ impl Addresses {
     }
 
     // Returns the index of a node's entry, or of the last entry if it has none: the one to overwrite.
-    fn place_of(&self, node: NodeNo) -> usize
-        ensures { result ≡ min (place_in self.now.nodes node) 63 }
+    fn index_of(&self, node: NodeNo) -> usize
+        ensures { result ≡ min (index_in self.now.nodes node) 63 }
     {
         let mut at = 0;
-        for place in &self.nodes {
-            match place {
+        for entry in &self.nodes {
+            match entry {
                 Some((other, _)) if *other == node => return at,
                 _ => at += 1,
             }
@@ -136,15 +136,15 @@ impl Addresses {
     /// dropped. `binds` is whether this node, by accepting the message, follows the sender.
     pub fn record_node(&mut self, node: NodeNo, from: SocketAddr, binds: bool)
         ensures own { node_at self.new node ≡ Some from }
-        ensures places { self.new.nodes ≡ moved_up self.old.nodes node from }
+        ensures moves { self.new.nodes ≡ moved_up self.old.nodes node from }
         ensures clients { self.new.clients ≡ self.old.clients }
         ensures meets { Meets from binds self.old.neighbours self.new.neighbours }
         ensures network { IsSameFilter self.old self.new }
     {
         self.neighbours.meet(from, binds);
-        let place = self.place_of(node);
+        let index = self.index_of(node);
         // The entry to overwrite moves to the front, and those before it move back by one.
-        self.nodes[..=place].rotate_right(1);
+        self.nodes[..=index].rotate_right(1);
         self.nodes[0] = Some((node, from));
     }
 }

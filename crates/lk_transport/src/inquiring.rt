@@ -33,11 +33,11 @@ impl Addresses {
 
     // Records that a node of this genesis asked from an address: if another genesis was recorded there, the address
     // counts as never asked.
-    fn readmit(&mut self, place: SocketAddr)
-        ensures readmits { Readmits place self.old.neighbours self.new.neighbours }
+    fn readmit(&mut self, address: SocketAddr)
+        ensures readmits { Readmits address self.old.neighbours self.new.neighbours }
         ensures others { self.new ≡ record self.old { neighbours = self.new.neighbours } }
     {
-        self.neighbours.readmit(place);
+        self.neighbours.readmit(address);
     }
 
     // Records the genesis that a report names for the node at its address, and returns the updated entry; `None`, and
@@ -95,8 +95,8 @@ impl<S: DatagramSocket + Drop> SocketPost<S> {
     }
 
     // Sends the question of this node to an address.
-    fn send_question(&mut self, place: SocketAddr) -> Result<(), SendFault>
-        ensures sends { SendsProbe S.is_observable (question_by self.old.addresses.seals self.old.node) (Some place)
+    fn send_question(&mut self, address: SocketAddr) -> Result<(), SendFault>
+        ensures sends { SendsProbe S.is_observable (question_by self.old.addresses.seals self.old.node) (Some address)
             (send_state_of self.old) (send_state_of self.new) }
         ensures still { S.is_observable → self.new.incoming ≡ self.old.incoming }
         ensures others { self.new
@@ -107,7 +107,7 @@ impl<S: DatagramSocket + Drop> SocketPost<S> {
             } }
     {
         let datagram = self.question().datagram();
-        self.socket.send_to(place, &datagram)
+        self.socket.send_to(address, &datagram)
     }
 
     /// Sends this node's question to one address at which it is due, if there is one. `now` is the count of ticks. A
@@ -126,16 +126,16 @@ impl<S: DatagramSocket + Drop> SocketPost<S> {
             } }
     {
         match self.addresses.next_to_probe(now) {
-            Some(place) => self.send_question(place),
+            Some(address) => self.send_question(address),
             None => Ok(()),
         }
     }
 
     /// Returns the node of another genesis at that address, if one reported from there.
-    pub fn stranger(&self, place: SocketAddr) -> Option<NodeNo>
-        ensures { is_some result ≡ is_stranger self.now.addresses.neighbours place }
+    pub fn stranger(&self, address: SocketAddr) -> Option<NodeNo>
+        ensures { is_some result ≡ is_stranger self.now.addresses.neighbours address }
     {
-        self.addresses.neighbours.stranger(place)
+        self.addresses.neighbours.stranger(address)
     }
 
     /// Returns the first node of another genesis that this node has followed, if there is one.

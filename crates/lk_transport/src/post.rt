@@ -7,7 +7,8 @@ ghost use Rattle.lk_disk.specs.Disk.{HasCause, one_more};
 ghost use Rattle.lk_transport.specs.Addresses.{client_at, node_at, IsSameFilter};
 ghost use Rattle.lk_transport.specs.ReceiveBuffers.{listed};
 ghost use Rattle.lk_auth.specs.Seals.{heard};
-ghost use Rattle.lk_transport.specs.Posts.{IsRoute, IsBoundFor, Becomes, Hears, send_state_of, frame_of, keys_for};
+ghost use Rattle.lk_transport.specs.Posts.{IsRoute, IsBoundFor, Becomes, RecordsSender};
+ghost use Rattle.lk_transport.specs.Posts.{send_state_of, frame_of, keys_for};
 ghost use Rattle.lk_transport.specs.Askers.{BringsProbe, Replies, asker, frame_for, keys_to};
 
 use crate::addresses::Addresses;
@@ -172,7 +173,7 @@ impl<S: DatagramSocket + Drop> SocketPost<S> {
         datagram: &Datagram<'_>,
         from: SocketAddr,
     ) -> Arrival
-        ensures heard { Hears cluster datagram.now from self.old.addresses self.new.addresses }
+        ensures heard { RecordsSender cluster datagram.now from self.old.addresses self.new.addresses }
         ensures network { IsSameFilter self.old.addresses self.new.addresses }
         ensures others { self.new ≡ record self.old { addresses = self.new.addresses } }
     {
@@ -337,11 +338,11 @@ impl<S: DatagramSocket + Drop> SocketPost<S> {
         ensures still { S.is_observable → self.new.incoming ≡ self.old.incoming }
         ensures cause { HasCause self.old.failures self.new.failures result }
     {
-        let Some(place) = route(&self.addresses, &to) else {
+        let Some(address) = route(&self.addresses, &to) else {
             return Ok(());
         };
         let sent = match framed(self.addresses.seals(), &to, bytes, &mut self.frame) {
-            Ok(framed) => self.socket.send_to(place, framed),
+            Ok(framed) => self.socket.send_to(address, framed),
             Err(_) => Err(SendFault),
         };
         match sent {

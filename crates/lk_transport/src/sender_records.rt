@@ -3,7 +3,7 @@
 ghost use Rattle.std.specs.Prelude.{◌≡◌};
 ghost use Rattle.lk_wire.specs.Shown.{shown_node};
 ghost use Rattle.lk_transport.specs.Addresses.{IsSameFilter};
-ghost use Rattle.lk_transport.specs.Posts.{Hears, is_binding};
+ghost use Rattle.lk_transport.specs.Posts.{RecordsSender, is_binding};
 
 use crate::addresses::Addresses;
 use crate::arrival::Arrival;
@@ -32,7 +32,7 @@ impl Addresses {
         datagram: &Datagram<'_>,
         from: SocketAddr,
     ) -> Arrival
-        ensures heard { Hears cluster datagram.now from self.old self.new }
+        ensures heard { RecordsSender cluster datagram.now from self.old self.new }
         ensures network { IsSameFilter self.old self.new }
     {
         let Ok(message) = datagram.message() else {

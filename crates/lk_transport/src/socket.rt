@@ -103,8 +103,8 @@ impl LocalSocket {
     }
 
     /// Opens a socket at an address. Returns the system's error.
-    pub fn open_at<R: Net>(rt: &R, place: SocketAddr) -> io::Result<LocalSocket> {
-        let socket = UdpSocket::bind(rt, place)?;
+    pub fn open_at<R: Net>(rt: &R, address: SocketAddr) -> io::Result<LocalSocket> {
+        let socket = UdpSocket::bind(rt, address)?;
         let wait = Duration::from_millis(WAIT);
         socket.set_read_timeout(Some(wait))?;
         Ok(LocalSocket {

@@ -34,9 +34,9 @@ shown_content (seen.Node node m) = content.Node node (shown_node m)
 abbrev pub shown : MessageRef → Message
 shown m = record { cluster = m.cluster; content = shown_content m.content }
 
--- from this place on the datagram is exactly this slice
+-- from this offset on the datagram is exactly this slice
 abbrev pub LiesAt : ℕ → List ℕ → List ℕ → Type 0
-LiesAt place slice bytes = drop place bytes ≡ slice
+LiesAt offset slice bytes = drop offset bytes ≡ slice
 
 abbrev pub NodeSlicesLie : NodeMessage → List ℕ → Type 0
 NodeSlicesLie (kinds.Promise p) bytes = LiesAt 37 (flat_map vote p.votes) bytes
@@ -46,7 +46,7 @@ NodeSlicesLie (kinds.Decided d) bytes = LiesAt 25 (flat_map command d.commands) 
 NodeSlicesLie (kinds.Part p) bytes = LiesAt 34 p.bytes bytes
 NodeSlicesLie _ bytes = Unit {0}
 
--- the slices that a view returns are at their places: votes, commands, a snapshot's bytes, a client's request
-abbrev pub LieAtTheirPlaces : Content → List ℕ → Type 0
-LieAtTheirPlaces (content.Request r) bytes = LiesAt 16 (request r) bytes
-LieAtTheirPlaces (content.Node node m) bytes = NodeSlicesLie m bytes
+-- the slices that a view returns are at their offsets: votes, commands, a snapshot's bytes, a client's request
+abbrev pub LieAtTheirOffsets : Content → List ℕ → Type 0
+LieAtTheirOffsets (content.Request r) bytes = LiesAt 16 (request r) bytes
+LieAtTheirOffsets (content.Node node m) bytes = NodeSlicesLie m bytes

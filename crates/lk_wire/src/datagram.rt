@@ -1,7 +1,7 @@
 ghost use Rattle.std.specs.Prelude.{◌≡◌, IfOk, IsOkAnd};
 ghost use Rattle.lk_messages.specs.declared.message.Message.{Message};
 ghost use Rattle.lk_messages.specs.Grammar.{Spells};
-ghost use Rattle.lk_wire.specs.Shown.{shown, LieAtTheirPlaces};
+ghost use Rattle.lk_wire.specs.Shown.{shown, LieAtTheirOffsets};
 
 use crate::fault::Bad;
 use crate::viewing::message::MessageRef;
@@ -50,8 +50,8 @@ impl<'a> Datagram<'a> {
         ensures found { IfOk result (λ m. Spells (shown m.now) self.now) }
         // If the bytes spell a message, it is returned.
         ensures only { (m : Message) → Spells m self.now → IsOkAnd result (λ r. shown r.now ≡ m) }
-        // Each slice is at its place in the bytes.
-        ensures places { IfOk result (λ m. LieAtTheirPlaces (shown m.now).content self.now) }
+        // Each slice is at its offset in the bytes.
+        ensures offsets { IfOk result (λ m. LieAtTheirOffsets (shown m.now).content self.now) }
     {
         match &self.viewed {
             Ok(message) => Ok(message),

@@ -8,9 +8,10 @@ ghost use Rattle.lk_messages.specs.Grammar.{Spells};
 ghost use Rattle.lk_codec.specs.Parser.{Finds, made};
 ghost use Rattle.lk_messages.specs.Reading.{read_prepare, read_promise, read_proposal, read_nack, read_decided};
 ghost use Rattle.lk_messages.specs.Reading.{read_want, read_part, read_answered, read_elsewhere, read_passed};
-ghost use Rattle.lk_messages.specs.Reading.{read_lead, node_of, read_asked, content_of, read_header, read_message};
+ghost use Rattle.lk_messages.specs.Reading.{read_lead, read_node_message, read_asked, content_of};
+ghost use Rattle.lk_messages.specs.Reading.{read_header, read_message};
 ghost use Rattle.lk_messages.specs.Reading.{all_of};
-ghost use Rattle.lk_wire.specs.Shown.{shown_node, shown_content, shown, LieAtTheirPlaces};
+ghost use Rattle.lk_wire.specs.Shown.{shown_node, shown_content, shown, LieAtTheirOffsets};
 
 pub(crate) mod command;
 pub(crate) mod decided;
@@ -178,9 +179,9 @@ fn read_lead(bytes: &[u8]) -> Option<(NodeMessageRef<'_>, &[u8])>
 }
 
 // Reads the fields of a node's message of this kind. `None` also for a kind that no node sends.
-#[tactic(auto, unfolding(lk_messages::specs::Reading::node_of, lk_messages::specs::Reading::small_of))]
-fn node_of(kind: u8, bytes: &[u8]) -> Option<(NodeMessageRef<'_>, &[u8])>
-    ensures { Finds (λ x. (shown_node x.0, x.1.now)) result (node_of kind bytes.now) }
+#[tactic(auto, unfolding(lk_messages::specs::Reading::read_node_message, lk_messages::specs::Reading::small_of))]
+fn read_node_message(kind: u8, bytes: &[u8]) -> Option<(NodeMessageRef<'_>, &[u8])>
+    ensures { Finds (λ x. (shown_node x.0, x.1.now)) result (read_node_message kind bytes.now) }
 {
     match kind {
         1 => read_prepare(bytes),
@@ -237,7 +238,7 @@ fn content_of(kind: u8, sender: u32, bytes: &[u8]) -> Option<(ContentRef<'_>, &[
         return read_asked(sender, bytes);
     }
     let node = NodeNo::of(sender)?;
-    let Some((message, rest)) = node_of(kind, bytes) else {
+    let Some((message, rest)) = read_node_message(kind, bytes) else {
         return None;
     };
     Some((ContentRef::Node(node, message), rest))
@@ -265,8 +266,8 @@ pub fn view(bytes: &[u8]) -> Result<MessageRef<'_>, Bad>
     ensures found { IfOk result (λ m. Spells (shown m) bytes.now) }
     // If the bytes spell a message, it is returned.
     ensures only { (m : Message) → Spells m bytes.now → IsOkAnd result (λ r. shown r ≡ m) }
-    // Each slice is at its place in the bytes.
-    ensures places { IfOk result (λ m. LieAtTheirPlaces (shown m).content bytes.now) }
+    // Each slice is at its offset in the bytes.
+    ensures offsets { IfOk result (λ m. LieAtTheirOffsets (shown m).content bytes.now) }
 {
     let Some(message) = all_of(bytes) else {
         return Err(Bad);

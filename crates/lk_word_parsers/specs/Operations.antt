@@ -47,18 +47,18 @@ abbrev pub AsksInHex : List ℕ → Op → Type 0
 AsksInHex digits o = (bytes : List ℕ) × (decode_of digits ≡ Ok bytes) × IsPayload bytes × (o ≡ Table bytes)
 
 -- the operation of the words after a verb
-abbrev pub Asks : Verb → List ℕ → Op → Type 0
-Asks verb.Acquire = AsksOfName 1
-Asks verb.Release = AsksOfFence 2
-Asks verb.Ask = AsksOfName 3
-Asks verb.Check = AsksOfFence 4
-Asks verb.Share = AsksOfName 5
-Asks verb.Break = AsksOfFence 6
-Asks verb.Join = AsksToJoin
-Asks verb.Leave = AsksToLeave
-Asks verb.Raise = AsksToRaise
-Asks verb.Raw = AsksInHex
+abbrev pub SpellsOperation : Verb → List ℕ → Op → Type 0
+SpellsOperation verb.Acquire = AsksOfName 1
+SpellsOperation verb.Release = AsksOfFence 2
+SpellsOperation verb.Ask = AsksOfName 3
+SpellsOperation verb.Check = AsksOfFence 4
+SpellsOperation verb.Share = AsksOfName 5
+SpellsOperation verb.Break = AsksOfFence 6
+SpellsOperation verb.Join = AsksToJoin
+SpellsOperation verb.Leave = AsksToLeave
+SpellsOperation verb.Raise = AsksToRaise
+SpellsOperation verb.Raw = AsksInHex
 
 -- the text is that of an operation: a verb, a space, and words of that verb
 abbrev pub SpellsOp : List ℕ → Op → Type 0
-SpellsOp text o = (v : Verb) × (words : List ℕ) × (text ≡ word_of v ++ 32 ∷ words) × Asks v words o
+SpellsOp text o = (v : Verb) × (words : List ℕ) × (text ≡ word_of v ++ 32 ∷ words) × SpellsOperation v words o

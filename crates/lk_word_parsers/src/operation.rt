@@ -5,7 +5,7 @@ ghost use Rattle.std.specs.Fmt.{decimal};
 ghost use Rattle.lk_types.specs.Ranges.{IsNode, IsPort};
 ghost use Rattle.lk_types.specs.declared.command.Op.{Op as OpValue};
 ghost use Rattle.lk_word_parsers.specs.Operations.{IsNameWord, body, AsksOfName, AsksOfFence, AsksToJoin, AsksToLeave};
-ghost use Rattle.lk_word_parsers.specs.Operations.{AsksToRaise, AsksInHex, Asks, SpellsOp};
+ghost use Rattle.lk_word_parsers.specs.Operations.{AsksToRaise, AsksInHex, SpellsOperation, SpellsOp};
 
 use crate::number::read_number;
 use crate::verb::Verb;
@@ -131,8 +131,8 @@ fn read_hex(digits: &[u8]) -> Option<Op>
 
 // Reads the words after a verb. `None` if they do not fit that verb.
 fn op_of(verb: Verb, words: &[u8]) -> Option<Op>
-    ensures some { IfSome result (Asks verb words.now) }
-    ensures none { IsNone result → (o : OpValue) → Asks verb words.now o → ⊥ }
+    ensures some { IfSome result (SpellsOperation verb words.now) }
+    ensures none { IsNone result → (o : OpValue) → SpellsOperation verb words.now o → ⊥ }
 {
     match verb {
         Verb::Acquire => read_name_op(1, words),

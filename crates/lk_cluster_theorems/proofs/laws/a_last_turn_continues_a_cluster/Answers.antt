@@ -4,6 +4,6 @@ use Rattle.lk_cluster_theorems.proofs.Keeping.{forges_nothing}
 use Rattle.lk_cluster_theorems.proofs.laws.a_last_turn_continues_a_cluster.Goals as goal
 
 pub returns : goal.returns
-returns g c genesis cluster all place n server at after =
+returns g c genesis cluster all index n server at after =
     last_turn_continues ForgesNothing g.D.LogDisk.is_metered g.S.DatagramSocket.is_observable forges_nothing
-    genesis cluster all place n server after at
+    genesis cluster all index n server after at

@@ -7,7 +7,7 @@ use Rattle.lk_cluster_theorems.proofs.Serving.{broken_service_continues}
 use Rattle.lk_cluster_theorems.proofs.laws.a_sealed_service_that_breaks_off_continues_a_cluster.Goals as goal
 
 pub returns : goal.returns
-returns g c honest genesis cluster all place n device at disks same most seals served key only
+returns g c honest genesis cluster all index n device at disks same most seals served key only
     last_only left same_left =
     let tells = g.S.DatagramSocket.is_observable in
     let b = served.breaks in
@@ -15,7 +15,7 @@ returns g c honest genesis cluster all place n device at disks same most seals s
     let still = still_sealed _ tells seals served.begun b.turns.states b.last b.turns.chain served.sealed.are in
     broken_service_continues IsSealed g.D.LogDisk.is_metered tells
     (seals_forge_nothing c.is_told_by_a_node.ensures) g.D.LogDisk.is_honest _ (λ old o letters new says. says honest)
-    honest genesis cluster all place n most device at disks
+    honest genesis cluster all index n most device at disks
     same seals served (all_sealed _ tells seals n key cluster.genesis cluster.sent served.begun b.turns.states b.last
     b.turns.chain served.sealed.are only)
     (frames_sealed seals key cluster.genesis since b.last still b.ends.frames b.ends.came b.ends.opened last_only) left

@@ -11,13 +11,13 @@ use Rattle.lk_log.proofs.Metering.{put_unsynced, put_synced, refused}
 use Rattle.lk_log.specs.declared.fault.StoreFault.TheVariants.{NoMemory}
 
 -- nothing was written
-pub returns-in_err-bytes-clause-any : goal.returns-in_err-bytes-clause-any
-returns-in_err-bytes-clause-any g c honest ks ls two holds =
+pub returns-in_err-bytes-clause-every_image : goal.returns-in_err-bytes-clause-every_image
+returns-in_err-bytes-clause-every_image g c honest ks ls two holds =
     keeps_at c.args.live _ _ ks ls (plain c.args.entries.now) holds
 
 -- a beginning was added
-pub returns-in_err-append_some-clause-any : goal.returns-in_err-append_some-clause-any
-returns-in_err-append_some-clause-any g c honest ks ls two holds =
+pub returns-in_err-append_some-clause-every_image : goal.returns-in_err-append_some-clause-every_image
+returns-in_err-append_some-clause-every_image g c honest ks ls two holds =
     let old = g.D.LogDisk.disk c.args.device.now in
     let new = g.D.LogDisk.disk c.append_some.new.device in
     stands_at c.args.live (new c.args.live) (new (other c.args.live)) ks _
@@ -33,8 +33,8 @@ returns-then-not-sync-clause-added g c honest unasked ks ls two holds =
     (new (other c.args.live)) ks ls c.args.entries.now c.deref.result.now (c.deref.ensures ∙ c.in_ok-bytes.ensures)
     two holds c.entries_facts.ensures (c.in_ok-append_some.ensures.ok honest) (c.append_some.ensures.beside honest)
 
-pub returns-then-not-sync-clause-any : goal.returns-then-not-sync-clause-any
-returns-then-not-sync-clause-any g c honest ks ls two holds =
+pub returns-then-not-sync-clause-every_image : goal.returns-then-not-sync-clause-every_image
+returns-then-not-sync-clause-every_image g c honest ks ls two holds =
     let old = g.D.LogDisk.disk c.args.device.now in
     let new = g.D.LogDisk.disk c.append_some.new.device in
     stands_at c.args.live (new c.args.live) (new (other c.args.live)) ks _
@@ -43,8 +43,8 @@ returns-then-not-sync-clause-any g c honest ks ls two holds =
     (new (other c.args.live)) ks ls c.args.entries.now c.deref.result.now (c.deref.ensures ∙ c.in_ok-bytes.ensures)
     two holds c.entries_facts.ensures (c.in_ok-append_some.ensures.ok honest) (c.append_some.ensures.beside honest)))
 
-pub returns-in_err-sync-clause-any : goal.returns-in_err-sync-clause-any
-returns-in_err-sync-clause-any g c honest ks ls two holds =
+pub returns-in_err-sync-clause-every_image : goal.returns-in_err-sync-clause-every_image
+returns-in_err-sync-clause-every_image g c honest ks ls two holds =
     let old = g.D.LogDisk.disk c.args.device.now in
     let mid = g.D.LogDisk.disk c.append_some.new.device in
     let new = g.D.LogDisk.disk c.sync.new.self in
@@ -67,8 +67,8 @@ returns-clause-synced g c honest asked ks ls two holds =
     two holds c.entries_facts.ensures (c.in_ok-append_some.ensures.ok honest) (c.append_some.ensures.beside honest))
     (c.in_ok-sync.ensures.ok honest) (c.sync.ensures.beside honest)
 
-pub returns-clause-any : goal.returns-clause-any
-returns-clause-any g c honest ks ls two holds =
+pub returns-clause-every_image : goal.returns-clause-every_image
+returns-clause-every_image g c honest ks ls two holds =
     let old = g.D.LogDisk.disk c.args.device.now in
     let mid = g.D.LogDisk.disk c.append_some.new.device in
     let new = g.D.LogDisk.disk c.sync.new.self in

@@ -7,19 +7,19 @@ use Rattle.lk_log.proofs.Room.{written_room, within_still, within_side, cut_shor
 use Rattle.lk_log.proofs.rebasing.switch_files.Goals as goal
 use Rattle.lk_disk.proofs.Devices.{passes_on, call_passes}
 
-pub returns-in_err-write_over-clause-any : goal.returns-in_err-write_over-clause-any
-returns-in_err-write_over-clause-any g c honest b ks ls holds less two fits piece =
+pub returns-in_err-write_over-clause-every_image : goal.returns-in_err-write_over-clause-every_image
+returns-in_err-write_over-clause-every_image g c honest b ks ls holds less two fits piece =
     let old = g.D.LogDisk.disk c.args.device.now in
     let new = g.D.LogDisk.disk c.write_over.new.device in
     let side = c.other-side.ensures in
     let over = subst (λ (k : Side). IsWrittenOver (old k) c.args.bytes.now (new k)) side
-    (c.write_over.ensures.any honest) in
+    (c.write_over.ensures.every_image honest) in
     over_keeps old new c.args.live b ks ls holds less two fits
     (subst (λ (l : List ℕ). IsWrittenOver (old (other c.args.live)) l (new (other c.args.live))) piece over)
     (beside_live new old c.args.live c.other-side.result side (c.write_over.ensures.beside honest))
 
-pub returns-in_err-cut-clause-any : goal.returns-in_err-cut-clause-any
-returns-in_err-cut-clause-any g c honest b ks ls holds less two fits piece =
+pub returns-in_err-cut-clause-every_image : goal.returns-in_err-cut-clause-every_image
+returns-in_err-cut-clause-every_image g c honest b ks ls holds less two fits piece =
     let old = g.D.LogDisk.disk c.args.device.now in
     let mid = g.D.LogDisk.disk c.write_over.new.device in
     let new = g.D.LogDisk.disk c.cut.new.self in
@@ -46,8 +46,8 @@ returns-clause-holds g c honest b two fits piece =
     (c.cut.ensures.beside honest ∙ written ∙ (λ i. record { synced = piece i; unsynced = [] }))
     (c.in_ok-cut.ensures.ok honest)
 
-pub returns-clause-any : goal.returns-clause-any
-returns-clause-any g c honest b ks ls holds less two fits piece =
+pub returns-clause-every_image : goal.returns-clause-every_image
+returns-clause-every_image g c honest b ks ls holds less two fits piece =
     let old = g.D.LogDisk.disk c.args.device.now in
     let mid = g.D.LogDisk.disk c.write_over.new.device in
     let new = g.D.LogDisk.disk c.cut.new.self in
@@ -62,7 +62,7 @@ returns-clause-any g c honest b ks ls holds less two fits piece =
 pub returns-in_err-write_over-clause-room : goal.returns-in_err-write_over-clause-room
 returns-in_err-write_over-clause-room g c honest few =
     written_room c.other-side.result (g.D.LogDisk.disk c.args.device.now)
-    (g.D.LogDisk.disk c.write_over.new.device) c.args.bytes.now few (c.write_over.ensures.any honest)
+    (g.D.LogDisk.disk c.write_over.new.device) c.args.bytes.now few (c.write_over.ensures.every_image honest)
     (c.write_over.ensures.beside honest)
 
 pub returns-in_err-cut-clause-room : goal.returns-in_err-cut-clause-room
@@ -71,7 +71,7 @@ returns-in_err-cut-clause-room g c honest few =
     let mid = g.D.LogDisk.disk c.write_over.new.device in
     let new = g.D.LogDisk.disk c.cut.new.self in
     within_still 49152 old mid new
-    (written_room c.other-side.result old mid c.args.bytes.now few (c.write_over.ensures.any honest)
+    (written_room c.other-side.result old mid c.args.bytes.now few (c.write_over.ensures.every_image honest)
     (c.write_over.ensures.beside honest))
     (within_side 0 c.args.live mid new
     (omega (arith, cut_short_room 0 (mid c.args.live) (new c.args.live) (c.in_err-cut.ensures.err honest)))
@@ -83,7 +83,7 @@ returns-clause-room g c honest few =
     let mid = g.D.LogDisk.disk c.write_over.new.device in
     let new = g.D.LogDisk.disk c.cut.new.self in
     within_still 49152 old mid new
-    (written_room c.other-side.result old mid c.args.bytes.now few (c.write_over.ensures.any honest)
+    (written_room c.other-side.result old mid c.args.bytes.now few (c.write_over.ensures.every_image honest)
     (c.write_over.ensures.beside honest))
     (within_side 0 c.args.live mid new
     (omega (arith, cut_room 0 (mid c.args.live) (new c.args.live) (c.in_ok-cut.ensures.ok honest)))

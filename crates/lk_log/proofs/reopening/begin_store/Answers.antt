@@ -39,7 +39,7 @@ returns-in_err-write_over-clause-stays g c honest empty =
     begins old new c.args.header.now c.args.zero.now empty
     (first_fits c.args.header.now c.args.zero.now c.first_base.ensures.header c.requires.some c.requires.room)
     (c.write_over.ensures.beside honest)
-    (subst (λ (l : List ℕ). IsWrittenOver (old A) l (new A)) piece (c.write_over.ensures.any honest))
+    (subst (λ (l : List ℕ). IsWrittenOver (old A) l (new A)) piece (c.write_over.ensures.every_image honest))
 
 pub returns-clause-stays : goal.returns-clause-stays
 returns-clause-stays g c honest empty =
@@ -50,7 +50,7 @@ returns-clause-stays g c honest empty =
     begins old new c.args.header.now c.args.zero.now empty
     (first_fits c.args.header.now c.args.zero.now c.first_base.ensures.header c.requires.some c.requires.room)
     (c.write_over.ensures.beside honest)
-    (subst (λ (l : List ℕ). IsWrittenOver (old A) l (new A)) piece (c.write_over.ensures.any honest))
+    (subst (λ (l : List ℕ). IsWrittenOver (old A) l (new A)) piece (c.write_over.ensures.every_image honest))
 
 pub returns-clause-opens : goal.returns-clause-opens
 returns-clause-opens g c honest empty =
@@ -95,7 +95,7 @@ returns-in_err-write_over-clause-room g c honest =
     c.requires.some c.requires.room in
     within_side max_base A old new
     (begun_room base (old A) (new A) fits
-    (subst (λ (l : List ℕ). IsWrittenOver (old A) l (new A)) piece (c.write_over.ensures.any honest)))
+    (subst (λ (l : List ℕ). IsWrittenOver (old A) l (new A)) piece (c.write_over.ensures.every_image honest)))
     (c.write_over.ensures.beside honest)
 
 pub returns-clause-room : goal.returns-clause-room
@@ -109,7 +109,7 @@ returns-clause-room g c honest =
     c.requires.some c.requires.room in
     within_side max_base A old new
     (begun_room base (old A) (new A) fits
-    (subst (λ (l : List ℕ). IsWrittenOver (old A) l (new A)) piece (c.write_over.ensures.any honest)))
+    (subst (λ (l : List ℕ). IsWrittenOver (old A) l (new A)) piece (c.write_over.ensures.every_image honest)))
     (c.write_over.ensures.beside honest)
 
 -- ---- which calls were made

@@ -30,7 +30,7 @@ returns-clause-done g c honest =
     c.rebase.new.self) (sym c.set_snapshot.ensures)
     (files_switched m c.args.node.now c.args.store.now c.rebase.new.self may c.standing-packed.ensures.near
     (λ ks ls holds. subst (λ (s : StandingValue). KeepsOrIs (disks c.rebase.new.self) ks ls
-    (next_base c.args.store.now s)) is (c.rebase.ensures.any honest ks ls holds)) g.D.LogDisk.is_metered
+    (next_base c.args.store.now s)) is (c.rebase.ensures.every_image honest ks ls holds)) g.D.LogDisk.is_metered
     c.in_ok-rebase.ensures.file.0
     (λ ks ls holds. subst (λ (s : StandingValue). HoldsEntries c.rebase.new.self
     (Base (next_base c.args.store.now s) ∷ []) []) is (c.in_ok-rebase.ensures.base honest ks ls holds))
@@ -50,8 +50,8 @@ returns-clause-becomes g c =
       store_alive = c.in_ok-rebase.ensures.failing;
     }
 
-pub returns-clause-wakes : goal.returns-clause-wakes
-returns-clause-wakes g c = ap (λ (k : NodeValue). k.halted) c.set_snapshot.ensures
+pub returns-clause-halted : goal.returns-clause-halted
+returns-clause-halted g c = ap (λ (k : NodeValue). k.halted) c.set_snapshot.ensures
 
 -- ---- at every exit
 
@@ -77,7 +77,7 @@ returns-in_err-rebase-clause-disks g c honest =
     let may = subst MayBegin is fits in
     stays_safe m c.args.node.now c.args.store.now c.rebase.new.self may c.standing-packed.ensures.near
     (λ ks ls holds. subst (λ (s : StandingValue). KeepsOrIs (disks c.rebase.new.self) ks ls
-    (next_base c.args.store.now s)) is (c.rebase.ensures.any honest ks ls holds)) (c.rebase.ensures.room honest)
+    (next_base c.args.store.now s)) is (c.rebase.ensures.every_image honest ks ls holds)) (c.rebase.ensures.room honest)
 
 pub returns-clause-disks : goal.returns-clause-disks
 returns-clause-disks g c honest =
@@ -87,27 +87,28 @@ returns-clause-disks g c honest =
     let may = subst MayBegin is fits in
     stays_safe m c.args.node.now c.args.store.now c.rebase.new.self may c.standing-packed.ensures.near
     (λ ks ls holds. subst (λ (s : StandingValue). KeepsOrIs (disks c.rebase.new.self) ks ls
-    (next_base c.args.store.now s)) is (c.rebase.ensures.any honest ks ls holds)) (c.rebase.ensures.room honest)
+    (next_base c.args.store.now s)) is (c.rebase.ensures.every_image honest ks ls holds)) (c.rebase.ensures.room honest)
 
-pub returns-then-generation-ge-MAX_COUNT-clause-any : goal.returns-then-generation-ge-MAX_COUNT-clause-any
-returns-then-generation-ge-MAX_COUNT-clause-any g c honest ks ls holds image left =
+pub returns-then-generation-ge-MAX_COUNT-clause-every_image
+    : goal.returns-then-generation-ge-MAX_COUNT-clause-every_image
+returns-then-generation-ge-MAX_COUNT-clause-every_image g c honest ks ls holds image left =
     inl (holds_keeps c.args.store.now ks ls holds image left)
 
-pub returns-in_err-standing-clause-any : goal.returns-in_err-standing-clause-any
-returns-in_err-standing-clause-any g c honest ks ls holds image left =
+pub returns-in_err-standing-clause-every_image : goal.returns-in_err-standing-clause-every_image
+returns-in_err-standing-clause-every_image g c honest ks ls holds image left =
     inl (holds_keeps c.args.store.now ks ls holds image left)
 
-pub returns-in_err-rebase-clause-any : goal.returns-in_err-rebase-clause-any
-returns-in_err-rebase-clause-any g c honest ks ls holds =
+pub returns-in_err-rebase-clause-every_image : goal.returns-in_err-rebase-clause-every_image
+returns-in_err-rebase-clause-every_image g c honest ks ls holds =
     let is : c.in_ok-standing.standing ≡ standing_of c.args.node.now = search rules in
     subst (λ (s : StandingValue). KeepsOrIs (disks c.rebase.new.self) ks ls (next_base c.args.store.now s)) is
-    (c.rebase.ensures.any honest ks ls holds)
+    (c.rebase.ensures.every_image honest ks ls holds)
 
-pub returns-clause-any : goal.returns-clause-any
-returns-clause-any g c honest ks ls holds =
+pub returns-clause-every_image : goal.returns-clause-every_image
+returns-clause-every_image g c honest ks ls holds =
     let is : c.in_ok-standing.standing ≡ standing_of c.args.node.now = search rules in
     subst (λ (s : StandingValue). KeepsOrIs (disks c.rebase.new.self) ks ls (next_base c.args.store.now s)) is
-    (c.rebase.ensures.any honest ks ls holds)
+    (c.rebase.ensures.every_image honest ks ls holds)
 
 -- ---- where it was refused
 

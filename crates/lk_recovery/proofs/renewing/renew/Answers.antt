@@ -4,7 +4,7 @@ use Rattle.std.specs.Prelude.{if◌then◌else◌}
 use Rattle.std.proofs.lemmas.Bool.{ne_eqb}
 use Rattle.lk_log.specs.Causes.{rebase_calls}
 use Rattle.lk_recovery.proofs.Calling.{refused_by}
-use Rattle.lk_disk.specs.Meters.{Passes, start}
+use Rattle.lk_disk.specs.Meters.{CallsSucceed, start}
 use Rattle.lk_log.proofs.Room.{within_same}
 use Rattle.lk_log.specs.StoreValue.{disks}
 use Rattle.lk_state.specs.Meanings.{Meaning}
@@ -46,7 +46,7 @@ returns-then-format-eq2-clause-safe g c honest = record {
 pub returns-then-format-eq2-clause-metered : goal.returns-then-format-eq2-clause-metered
 returns-then-format-eq2-clause-metered g c metered honest =
     let is : c.args.store.now.format ≡ 2 = omega (arith, c.if-format-eq2.true, c.format.ensures) in
-    subst (λ (f : ℕ). Passes c.args.store.now.meter c.args.store.now.meter (renew_calls f)) (sym is) start
+    subst (λ (f : ℕ). CallsSucceed c.args.store.now.meter c.args.store.now.meter (renew_calls f)) (sym is) start
 
 -- ---- one of format 1
 
@@ -83,7 +83,8 @@ pub returns-clause-metered : goal.returns-clause-metered
 returns-clause-metered g c metered honest =
     let other : eqb c.args.store.now.format 2 ≡ false =
     ne_eqb c.args.store.now.format 2 (λ two. omega (arith, two, c.if-format-eq2.false, c.format.ensures)) in
-    subst (λ (b : Bool). Passes c.args.store.now.meter c.write_base.new.store.meter (if b then 0 else rebase_calls))
+    subst (λ (b : Bool). CallsSucceed c.args.store.now.meter c.write_base.new.store.meter
+    (if b then 0 else rebase_calls))
     (sym other) ((c.in_ok-write_base.ensures.done honest).calls metered)
 
 pub returns-in_err-write_base-clause-metered : goal.returns-in_err-write_base-clause-metered
@@ -100,4 +101,5 @@ returns-in_err-write_base-clause-refused g c =
     })
 
 pub returns-in_err-write_base-clause-left : goal.returns-in_err-write_base-clause-left
-returns-in_err-write_base-clause-left g c honest ks ls holds = on_err _ _ (c.write_base.ensures.any honest ks ls holds)
+returns-in_err-write_base-clause-left g c honest ks ls holds = on_err _ _
+    (c.write_base.ensures.every_image honest ks ls holds)

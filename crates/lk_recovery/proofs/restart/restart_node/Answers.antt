@@ -1,6 +1,6 @@
 use Rattle.std.proofs.Common.{◌≡◌, List, ℕ, [], inl, inr, Err, ◌∙◌, ap, subst, sym, refl, arith}
 use Rattle.lk_types.specs.Geneses.{IsGenesis}
-use Rattle.lk_disk.specs.Meters.{Passes, start}
+use Rattle.lk_disk.specs.Meters.{CallsSucceed, start}
 use Rattle.lk_node_interface.specs.Faults.{fault_number, RefusedAfter, IsNumberOfRevival}
 use Rattle.lk_store_format.specs.Values.{HeaderValue}
 use Rattle.lk_log.specs.Images.{seen}
@@ -169,7 +169,11 @@ returns-in-Ok-reopen-clause-metered g c metered honest =
     let old = g.D.LogDisk.meter c.args.device in
     let new = g.D.LogDisk.meter c.into_disks.result in
     let o = c.in-Ok-reopen.ensures.metered metered honest in
-    let left : (k : ℕ) × Passes old new k = (o.0, subst (λ z. Passes old z o.0) (sym c.into_disks.ensures.meter) o.2) in
+    let left : (k : ℕ) × CallsSucceed old new k = (
+      o.0,
+      subst (λ z. CallsSucceed old z o.0)
+          (sym c.into_disks.ensures.meter) o.2,
+    ) in
     elim c.in-Err-restored.ensures.only [
       | inl e ↦ subst (λ f. RefusedAfter (fault_number f) old new) (sym e) left
       | inr e ↦ subst (λ f. RefusedAfter (fault_number f) old new) (sym e) left

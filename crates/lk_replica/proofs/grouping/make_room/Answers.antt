@@ -60,11 +60,11 @@ returns-clause-fits g c honest h n f =
     let m : Meaning = g.M.Machine.meaning in
     let mine = same_group_fits m c.args.store.now c.is_rebase_due.new.store
     (c.is_rebase_due.ensures.same honest) h n c.args.node.now c.args.needs_sync f in
-    let mid = settled_fits m h n c.args.node.now c.is_rebase_due.new.store c.sync_if_waiting.new.store
-    c.args.needs_sync (c.in_ok-sync_if_waiting.ensures.settles honest) mine in
+    let mid = settled_fits m h n c.args.node.now c.is_rebase_due.new.store c.sync_or_flush.new.store
+    c.args.needs_sync (c.in_ok-sync_or_flush.ensures.syncs_all honest) mine in
     (begin_fits m h n c.write_base.new.node c.write_base.new.store
     (goes_fits m h n c.write_base.new.node c.write_base.new.store f.lawful
-    ((c.write_base.ensures.disks honest).fits h n (before_fits m h n c.args.node.now c.sync_if_waiting.new.store mid))
+    ((c.write_base.ensures.disks honest).fits h n (before_fits m h n c.args.node.now c.sync_or_flush.new.store mid))
     ((c.in_ok-write_base.ensures.done honest).goes h n mid))).fits
 
 pub returns-clause-stays : goal.returns-clause-stays
@@ -72,11 +72,11 @@ returns-clause-stays g c honest h n s =
     let m : Meaning = g.M.Machine.meaning in
     let mine = same_group_fits m c.args.store.now c.is_rebase_due.new.store
     (c.is_rebase_due.ensures.same honest) h n c.args.node.now c.args.needs_sync s.fits in
-    let mid = settled_fits m h n c.args.node.now c.is_rebase_due.new.store c.sync_if_waiting.new.store
-    c.args.needs_sync (c.in_ok-sync_if_waiting.ensures.settles honest) mine in
+    let mid = settled_fits m h n c.args.node.now c.is_rebase_due.new.store c.sync_or_flush.new.store
+    c.args.needs_sync (c.in_ok-sync_or_flush.ensures.syncs_all honest) mine in
     begin_fits m h n c.write_base.new.node c.write_base.new.store
     (goes_fits m h n c.write_base.new.node c.write_base.new.store s.fits.lawful
-    ((c.write_base.ensures.disks honest).fits h n (before_fits m h n c.args.node.now c.sync_if_waiting.new.store mid))
+    ((c.write_base.ensures.disks honest).fits h n (before_fits m h n c.args.node.now c.sync_or_flush.new.store mid))
     ((c.in_ok-write_base.ensures.done honest).goes h n mid))
 
 pub returns-clause-ends : goal.returns-clause-ends
@@ -84,34 +84,34 @@ returns-clause-ends g c honest h n s =
     let m : Meaning = g.M.Machine.meaning in
     let mine = same_group_fits m c.args.store.now c.is_rebase_due.new.store
     (c.is_rebase_due.ensures.same honest) h n c.args.node.now c.args.needs_sync s.fits in
-    let mid = settled_fits m h n c.args.node.now c.is_rebase_due.new.store c.sync_if_waiting.new.store
-    c.args.needs_sync (c.in_ok-sync_if_waiting.ensures.settles honest) mine in
-    (c.write_base.ensures.disks honest).fits h n (before_fits m h n c.args.node.now c.sync_if_waiting.new.store mid)
+    let mid = settled_fits m h n c.args.node.now c.is_rebase_due.new.store c.sync_or_flush.new.store
+    c.args.needs_sync (c.in_ok-sync_or_flush.ensures.syncs_all honest) mine in
+    (c.write_base.ensures.disks honest).fits h n (before_fits m h n c.args.node.now c.sync_or_flush.new.store mid)
 
 pub returns-in_err-write_base-clause-ends : goal.returns-in_err-write_base-clause-ends
 returns-in_err-write_base-clause-ends g c honest h n s =
     let m : Meaning = g.M.Machine.meaning in
     let mine = same_group_fits m c.args.store.now c.is_rebase_due.new.store
     (c.is_rebase_due.ensures.same honest) h n c.args.node.now c.args.needs_sync s.fits in
-    let mid = settled_fits m h n c.args.node.now c.is_rebase_due.new.store c.sync_if_waiting.new.store
-    c.args.needs_sync (c.in_ok-sync_if_waiting.ensures.settles honest) mine in
-    (c.write_base.ensures.disks honest).fits h n (before_fits m h n c.args.node.now c.sync_if_waiting.new.store mid)
+    let mid = settled_fits m h n c.args.node.now c.is_rebase_due.new.store c.sync_or_flush.new.store
+    c.args.needs_sync (c.in_ok-sync_or_flush.ensures.syncs_all honest) mine in
+    (c.write_base.ensures.disks honest).fits h n (before_fits m h n c.args.node.now c.sync_or_flush.new.store mid)
 
-pub returns-in_err-sync_if_waiting-clause-ends : goal.returns-in_err-sync_if_waiting-clause-ends
-returns-in_err-sync_if_waiting-clause-ends g c honest h n s =
+pub returns-in_err-sync_or_flush-clause-ends : goal.returns-in_err-sync_or_flush-clause-ends
+returns-in_err-sync_or_flush-clause-ends g c honest h n s =
     let m : Meaning = g.M.Machine.meaning in
     let mine = same_group_stays m c.args.store.now c.is_rebase_due.new.store
     (c.is_rebase_due.ensures.same honest) h n c.args.node.now c.args.needs_sync s in
     let k = mine.fits.shown.keeps in
-    settle_leaves m h n c.args.node.now c.is_rebase_due.new.store c.sync_if_waiting.new.store c.args.needs_sync mine
-    (c.sync_if_waiting.ensures.any honest k.entries (plain k.loose) k.holds)
+    settle_leaves m h n c.args.node.now c.is_rebase_due.new.store c.sync_or_flush.new.store c.args.needs_sync mine
+    (c.sync_or_flush.ensures.every_image honest k.entries (plain k.loose) k.holds)
 
 pub returns-clause-recalls : goal.returns-clause-recalls
 returns-clause-recalls g c honest genesis n r =
     let mine = same_recalls g.M.Machine.meaning c.args.store.now c.is_rebase_due.new.store
     (c.is_rebase_due.ensures.same honest) c.args.node.now c.args.needs_sync genesis n r in
-    let mid = settled_keeps _ c.is_rebase_due.new.store c.sync_if_waiting.new.store c.args.needs_sync
-    _ (c.in_ok-sync_if_waiting.ensures.settles honest) mine.keeps in
+    let mid = settled_keeps _ c.is_rebase_due.new.store c.sync_or_flush.new.store c.args.needs_sync
+    _ (c.in_ok-sync_or_flush.ensures.syncs_all honest) mine.keeps in
     begun _ c.write_base.new.store genesis n
     ((c.in_ok-write_base.ensures.done honest).remembers genesis n (record { whose = r.whose; keeps = mid }))
 
@@ -120,11 +120,11 @@ returns-clause-still g c honest genesis n x r every =
     let m : Meaning = g.M.Machine.meaning in
     let mine = same_recalls m c.args.store.now c.is_rebase_due.new.store
     (c.is_rebase_due.ensures.same honest) c.args.node.now c.args.needs_sync genesis n r in
-    let mid = settled_keeps _ c.is_rebase_due.new.store c.sync_if_waiting.new.store c.args.needs_sync
-    _ (c.in_ok-sync_if_waiting.ensures.settles honest) mine.keeps in
+    let mid = settled_keeps _ c.is_rebase_due.new.store c.sync_or_flush.new.store c.args.needs_sync
+    _ (c.in_ok-sync_or_flush.ensures.syncs_all honest) mine.keeps in
     (c.write_base.ensures.disks honest).covers genesis n x mid
-    (settled_covers m genesis n c.args.node.now c.is_rebase_due.new.store c.sync_if_waiting.new.store c.args.needs_sync
-    (c.in_ok-sync_if_waiting.ensures.settles honest) mine x
+    (settled_covers m genesis n c.args.node.now c.is_rebase_due.new.store c.sync_or_flush.new.store c.args.needs_sync
+    (c.in_ok-sync_or_flush.ensures.syncs_all honest) mine x
     (same_group_covers m c.args.store.now c.is_rebase_due.new.store
     (c.is_rebase_due.ensures.same honest) genesis n x c.args.needs_sync every))
 
@@ -133,11 +133,11 @@ returns-clause-covers g c honest genesis n x r every =
     let m : Meaning = g.M.Machine.meaning in
     let mine = same_recalls m c.args.store.now c.is_rebase_due.new.store
     (c.is_rebase_due.ensures.same honest) c.args.node.now c.args.needs_sync genesis n r in
-    let mid = settled_keeps _ c.is_rebase_due.new.store c.sync_if_waiting.new.store c.args.needs_sync
-    _ (c.in_ok-sync_if_waiting.ensures.settles honest) mine.keeps in
+    let mid = settled_keeps _ c.is_rebase_due.new.store c.sync_or_flush.new.store c.args.needs_sync
+    _ (c.in_ok-sync_or_flush.ensures.syncs_all honest) mine.keeps in
     (c.write_base.ensures.disks honest).covers genesis n x mid
-    (settle_covers m genesis n c.args.node.now c.is_rebase_due.new.store c.sync_if_waiting.new.store c.args.needs_sync
-    mine (c.sync_if_waiting.ensures.any honest mine.keeps.entries (plain mine.keeps.loose) mine.keeps.holds) x
+    (settle_covers m genesis n c.args.node.now c.is_rebase_due.new.store c.sync_or_flush.new.store c.args.needs_sync
+    mine (c.sync_or_flush.ensures.every_image honest mine.keeps.entries (plain mine.keeps.loose) mine.keeps.holds) x
     (same_group_covers m c.args.store.now c.is_rebase_due.new.store
     (c.is_rebase_due.ensures.same honest) genesis n x false every))
 
@@ -146,21 +146,21 @@ returns-in_err-write_base-clause-covers g c honest genesis n x r every =
     let m : Meaning = g.M.Machine.meaning in
     let mine = same_recalls m c.args.store.now c.is_rebase_due.new.store
     (c.is_rebase_due.ensures.same honest) c.args.node.now c.args.needs_sync genesis n r in
-    let mid = settled_keeps _ c.is_rebase_due.new.store c.sync_if_waiting.new.store c.args.needs_sync
-    _ (c.in_ok-sync_if_waiting.ensures.settles honest) mine.keeps in
+    let mid = settled_keeps _ c.is_rebase_due.new.store c.sync_or_flush.new.store c.args.needs_sync
+    _ (c.in_ok-sync_or_flush.ensures.syncs_all honest) mine.keeps in
     (c.write_base.ensures.disks honest).covers genesis n x mid
-    (settle_covers m genesis n c.args.node.now c.is_rebase_due.new.store c.sync_if_waiting.new.store c.args.needs_sync
-    mine (c.sync_if_waiting.ensures.any honest mine.keeps.entries (plain mine.keeps.loose) mine.keeps.holds) x
+    (settle_covers m genesis n c.args.node.now c.is_rebase_due.new.store c.sync_or_flush.new.store c.args.needs_sync
+    mine (c.sync_or_flush.ensures.every_image honest mine.keeps.entries (plain mine.keeps.loose) mine.keeps.holds) x
     (same_group_covers m c.args.store.now c.is_rebase_due.new.store
     (c.is_rebase_due.ensures.same honest) genesis n x false every))
 
-pub returns-in_err-sync_if_waiting-clause-covers : goal.returns-in_err-sync_if_waiting-clause-covers
-returns-in_err-sync_if_waiting-clause-covers g c honest genesis n x r every =
+pub returns-in_err-sync_or_flush-clause-covers : goal.returns-in_err-sync_or_flush-clause-covers
+returns-in_err-sync_or_flush-clause-covers g c honest genesis n x r every =
     let m : Meaning = g.M.Machine.meaning in
     let mine = same_recalls m c.args.store.now c.is_rebase_due.new.store
     (c.is_rebase_due.ensures.same honest) c.args.node.now c.args.needs_sync genesis n r in
-    settle_covers m genesis n c.args.node.now c.is_rebase_due.new.store c.sync_if_waiting.new.store c.args.needs_sync
-    mine (c.sync_if_waiting.ensures.any honest mine.keeps.entries (plain mine.keeps.loose) mine.keeps.holds) x
+    settle_covers m genesis n c.args.node.now c.is_rebase_due.new.store c.sync_or_flush.new.store c.args.needs_sync
+    mine (c.sync_or_flush.ensures.every_image honest mine.keeps.entries (plain mine.keeps.loose) mine.keeps.holds) x
     (same_group_covers m c.args.store.now c.is_rebase_due.new.store
     (c.is_rebase_due.ensures.same honest) genesis n x false every)
 
@@ -174,29 +174,29 @@ pub returns-then-not-due-clause-room : goal.returns-then-not-due-clause-room
 returns-then-not-due-clause-room g c honest =
     same_room g.M.Machine.meaning c.args.store.now c.is_rebase_due.new.store (c.is_rebase_due.ensures.same honest)
 
-pub returns-in_err-sync_if_waiting-clause-room : goal.returns-in_err-sync_if_waiting-clause-room
-returns-in_err-sync_if_waiting-clause-room g c honest =
-    within_first 49152 (disks c.args.store.now) (disks c.is_rebase_due.new.store) (disks c.sync_if_waiting.new.store)
+pub returns-in_err-sync_or_flush-clause-room : goal.returns-in_err-sync_or_flush-clause-room
+returns-in_err-sync_or_flush-clause-room g c honest =
+    within_first 49152 (disks c.args.store.now) (disks c.is_rebase_due.new.store) (disks c.sync_or_flush.new.store)
     (same_room g.M.Machine.meaning c.args.store.now c.is_rebase_due.new.store (c.is_rebase_due.ensures.same honest))
-    (within_more 49152 (disks c.is_rebase_due.new.store) (disks c.sync_if_waiting.new.store)
-    (c.sync_if_waiting.ensures.room honest))
+    (within_more 49152 (disks c.is_rebase_due.new.store) (disks c.sync_or_flush.new.store)
+    (c.sync_or_flush.ensures.room honest))
 
 pub returns-in_err-write_base-clause-room : goal.returns-in_err-write_base-clause-room
 returns-in_err-write_base-clause-room g c honest =
-    within_first 49152 (disks c.args.store.now) (disks c.sync_if_waiting.new.store) (disks c.write_base.new.store)
-    (within_first 49152 (disks c.args.store.now) (disks c.is_rebase_due.new.store) (disks c.sync_if_waiting.new.store)
+    within_first 49152 (disks c.args.store.now) (disks c.sync_or_flush.new.store) (disks c.write_base.new.store)
+    (within_first 49152 (disks c.args.store.now) (disks c.is_rebase_due.new.store) (disks c.sync_or_flush.new.store)
     (same_room g.M.Machine.meaning c.args.store.now c.is_rebase_due.new.store (c.is_rebase_due.ensures.same honest))
-    (within_more 49152 (disks c.is_rebase_due.new.store) (disks c.sync_if_waiting.new.store)
-    (c.sync_if_waiting.ensures.room honest)))
+    (within_more 49152 (disks c.is_rebase_due.new.store) (disks c.sync_or_flush.new.store)
+    (c.sync_or_flush.ensures.room honest)))
     (c.write_base.ensures.disks honest).room
 
 pub returns-clause-room : goal.returns-clause-room
 returns-clause-room g c honest =
-    within_first 49152 (disks c.args.store.now) (disks c.sync_if_waiting.new.store) (disks c.write_base.new.store)
-    (within_first 49152 (disks c.args.store.now) (disks c.is_rebase_due.new.store) (disks c.sync_if_waiting.new.store)
+    within_first 49152 (disks c.args.store.now) (disks c.sync_or_flush.new.store) (disks c.write_base.new.store)
+    (within_first 49152 (disks c.args.store.now) (disks c.is_rebase_due.new.store) (disks c.sync_or_flush.new.store)
     (same_room g.M.Machine.meaning c.args.store.now c.is_rebase_due.new.store (c.is_rebase_due.ensures.same honest))
-    (within_more 49152 (disks c.is_rebase_due.new.store) (disks c.sync_if_waiting.new.store)
-    (c.sync_if_waiting.ensures.room honest)))
+    (within_more 49152 (disks c.is_rebase_due.new.store) (disks c.sync_or_flush.new.store)
+    (c.sync_or_flush.ensures.room honest)))
     (c.write_base.ensures.disks honest).room
 
 -- ---- what it has done
@@ -212,11 +212,11 @@ returns-then-not-due-clause-exact g c honest =
 pub returns-clause-exact : goal.returns-clause-exact
 returns-clause-exact g c honest =
     room_made g.M.Machine.meaning _ c.args.node.now c.write_base.new.node c.args.store.now c.is_rebase_due.new.store
-    c.sync_if_waiting.new.store c.write_base.new.store c.args.needs_sync
+    c.sync_or_flush.new.store c.write_base.new.store c.args.needs_sync
     ((c.in_ok-due.ensures.value honest).0 (search rules)) (c.is_rebase_due.ensures.same honest)
-    (c.in_ok-sync_if_waiting.ensures.settles honest) c.sync_if_waiting.ensures.file
+    (c.in_ok-sync_or_flush.ensures.syncs_all honest) c.sync_or_flush.ensures.file
     (c.in_ok-write_base.ensures.done honest).rebases
-    (λ metered. c.in_ok-due.ensures.metered metered) (λ metered. c.in_ok-sync_if_waiting.ensures.metered metered)
+    (λ metered. c.in_ok-due.ensures.metered metered) (λ metered. c.in_ok-sync_or_flush.ensures.metered metered)
     (c.in_ok-write_base.ensures.done honest).calls
 
 pub returns-then-not-due-clause-alive : goal.returns-then-not-due-clause-alive
@@ -233,7 +233,7 @@ returns-clause-alive g c = record {
   further = omega (
     arith,
     c.is_rebase_due.ensures.file.1,
-    c.sync_if_waiting.ensures.file.1,
+    c.sync_or_flush.ensures.file.1,
     c.in_ok-write_base.ensures.becomes.generation,
   );
   runs = c.in_ok-write_base.ensures.becomes.runs;
@@ -257,10 +257,10 @@ returns-in_err-due-clause-refused g c =
       awake = λ wakes other. wakes;
     })
 
-pub returns-in_err-sync_if_waiting-clause-refused : goal.returns-in_err-sync_if_waiting-clause-refused
-returns-in_err-sync_if_waiting-clause-refused g c =
-    let was = c.in_err-sync_if_waiting.ensures.refused in
-    err_as _ _ _ c.from_residual-in_err-sync_if_waiting.ensures.1 (record {
+pub returns-in_err-sync_or_flush-clause-refused : goal.returns-in_err-sync_or_flush-clause-refused
+returns-in_err-sync_or_flush-clause-refused g c =
+    let was = c.in_err-sync_or_flush.ensures.refused in
+    err_as _ _ _ c.from_residual-in_err-sync_or_flush.ensures.1 (record {
       told = store_told _ was.of_store;
       only = store_only _ was.of_store;
       calls = λ metered honest. refused_on 0 (c.in_ok-due.ensures.metered metered) _ _ (was.calls metered honest);
@@ -268,7 +268,7 @@ returns-in_err-sync_if_waiting-clause-refused g c =
           (omega (arith, further, c.is_rebase_due.ensures.file.1));
       second = λ honest is alive less. absurd
           (was.earlier is c.in_ok-due.ensures.alive (omega (arith, less, c.is_rebase_due.ensures.file.1)));
-      file = λ honest. kept_then c.args.store.now c.is_rebase_due.new.store c.sync_if_waiting.new.store
+      file = λ honest. kept_then c.args.store.now c.is_rebase_due.new.store c.sync_or_flush.new.store
           c.is_rebase_due.ensures.file was.file;
       stays = λ honest. spared_all _ _ tt;
       halts = λ is. absurd (store_awake _ was.of_store is);
@@ -283,17 +283,17 @@ returns-in_err-write_base-clause-refused g c =
       only = store_only _ was.of_store;
       calls = λ metered honest. refused_on 0
           (c.in_ok-due.ensures.metered metered)
-          _ _ (refused_on _ (c.in_ok-sync_if_waiting.ensures.metered metered) _ _ (was.calls metered honest));
-      earlier = λ is alive further. was.earlier is (c.in_ok-sync_if_waiting.ensures.alive c.in_ok-due.ensures.alive)
-          (omega (arith, further, c.is_rebase_due.ensures.file.1, c.sync_if_waiting.ensures.file.1));
+          _ _ (refused_on _ (c.in_ok-sync_or_flush.ensures.metered metered) _ _ (was.calls metered honest));
+      earlier = λ is alive further. was.earlier is (c.in_ok-sync_or_flush.ensures.alive c.in_ok-due.ensures.alive)
+          (omega (arith, further, c.is_rebase_due.ensures.file.1, c.sync_or_flush.ensures.file.1));
       second = λ honest is alive less. absurd
-          (was.earlier is (c.in_ok-sync_if_waiting.ensures.alive c.in_ok-due.ensures.alive)
-          (omega (arith, less, c.is_rebase_due.ensures.file.1, c.sync_if_waiting.ensures.file.1)));
+          (was.earlier is (c.in_ok-sync_or_flush.ensures.alive c.in_ok-due.ensures.alive)
+          (omega (arith, less, c.is_rebase_due.ensures.file.1, c.sync_or_flush.ensures.file.1)));
       file = λ honest.
-          kept_then c.args.store.now c.sync_if_waiting.new.store c.write_base.new.store
-          (kept_then c.args.store.now c.is_rebase_due.new.store c.sync_if_waiting.new.store
-          c.is_rebase_due.ensures.file c.sync_if_waiting.ensures.file) was.file;
+          kept_then c.args.store.now c.sync_or_flush.new.store c.write_base.new.store
+          (kept_then c.args.store.now c.is_rebase_due.new.store c.sync_or_flush.new.store
+          c.is_rebase_due.ensures.file c.sync_or_flush.ensures.file) was.file;
       stays = λ honest. spared_all _ _ tt;
       halts = λ is. absurd (store_awake _ was.of_store is);
-      awake = λ wakes other. c.write_base.ensures.wakes ∙ wakes;
+      awake = λ wakes other. c.write_base.ensures.halted ∙ wakes;
     })

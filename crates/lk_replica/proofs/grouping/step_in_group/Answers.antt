@@ -4,7 +4,7 @@ use Rattle.lk_log.proofs.Room.{refused_room, within_first}
 use Rattle.lk_node_interface.specs.Letters.{batch_of}
 use Rattle.lk_node.specs.Histories.{Genesis}
 use Rattle.lk_node.specs.Leavings.{AllCover}
-use Rattle.lk_replica.specs.Groups.{GroupValue, MakesRoom, as_sent, RemembersInGroup, GroupFits, GroupLeavesFit}
+use Rattle.lk_replica.specs.Groups.{GroupValue, MakesRoom, as_released, RemembersInGroup, GroupFits, GroupLeavesFit}
 use Rattle.lk_replica.specs.Groups.{GroupStays}
 use Rattle.lk_disk.proofs.Devices.{passes_on}
 use Rattle.lk_node_interface.specs.declared.fault.ReplicaFault.TheVariants as fault
@@ -59,17 +59,17 @@ returns-clause-keeps g c honest =
       said = λ genesis n r was.
           says_more m genesis n before c.add.new.self c.args.store.now c.step_to_file.new.store
           (λ x every. subst (λ (y : GroupValue). AllCover m genesis n
-          (disks (as_sent y.needs_sync c.step_to_file.new.store)) x) (sym is)
+          (disks (as_released y.needs_sync c.step_to_file.new.store)) x) (sym is)
           (step.still genesis n x (room.recalls honest genesis n (mine genesis n r))
           (room.still honest genesis n x (mine genesis n r)
-          (subst (λ (w : Bool). AllCover m genesis n (disks (as_sent w c.args.store.now)) x) w every))))
+          (subst (λ (w : Bool). AllCover m genesis n (disks (as_released w c.args.store.now)) x) w every))))
           (λ x. record {
             notes = o.notes;
             letters = o.letters;
             noted = ap (λ (x : GroupValue). x.notes) is;
             said = ap (λ (x : GroupValue). x.letters) is;
             are = λ d listed spelled. subst
-                (λ (y : GroupValue). AllCover m genesis n (disks (as_sent y.needs_sync c.step_to_file.new.store)) x)
+                (λ (y : GroupValue). AllCover m genesis n (disks (as_released y.needs_sync c.step_to_file.new.store)) x)
                 (sym is)
                 (step.syncs genesis n x (room.recalls honest genesis n (mine genesis n r)) d listed spelled);
           })
@@ -220,7 +220,7 @@ returns-in_err-outbox-clause-refused g c =
       file = λ honest. tt;
       stays = λ honest. spared_all _ _ tt;
       halts = was.halts;
-      awake = λ wakes other. was.awake (c.make_room.ensures.wakes ∙ wakes) other;
+      awake = λ wakes other. was.awake (c.make_room.ensures.halted ∙ wakes) other;
     })
 
 pub returns-in_err-add-clause-refused : goal.returns-in_err-add-clause-refused

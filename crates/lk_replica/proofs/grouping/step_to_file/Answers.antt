@@ -46,7 +46,7 @@ returns-in_err-write_to_file-clause-disks g c honest =
           of_either b.safe
           (λ same. subst (λ (x : StoreValue). DisksFit m h n (disks x)) (sym same)
           (settle_leaves m h n c.args.node.now c.args.store.now b.mid c.args.needs_sync s
-          (b.any _ _ s.fits.shown.keeps.holds)))
+          (b.every_image _ _ s.fits.shown.keeps.holds)))
           (λ both. both.1.fits h n
           (stepped_fits m h n c.args.node.now c.step.new.self b.mid c.args.input out
           (settled_fits m h n c.args.node.now c.args.store.now b.mid c.args.needs_sync both.0 s.fits) heard
@@ -55,21 +55,21 @@ returns-in_err-write_to_file-clause-disks g c honest =
           c.args.input out s heard
           c.in_ok-outbox.ensures.safe (step_told _ _ c.args.node.now _ c.step.new.self out
           c.in_ok-outbox.ensures.steps not_so)
-          ((left.put not_so).any _ _ s.fits.shown.keeps.holds));
+          ((left.put not_so).every_image _ _ s.fits.shown.keeps.holds));
       covers = λ genesis n x r every. by_kind out.rebase
           (λ is. let b = left.based is in
-          let settled = settle_covers m genesis n c.args.node.now c.args.store.now b.mid c.args.needs_sync r
-          (b.any _ _ r.keeps.holds) x every in
+          let is_synced = settle_covers m genesis n c.args.node.now c.args.store.now b.mid c.args.needs_sync r
+          (b.every_image _ _ r.keeps.holds) x every in
           of_either b.safe
-          (λ same. subst (λ (y : StoreValue). AllCover m genesis n (disks y) x) (sym same) settled)
+          (λ same. subst (λ (y : StoreValue). AllCover m genesis n (disks y) x) (sym same) is_synced)
           (λ both. both.1.covers genesis n x
           (still_keeps m _ genesis n c.args.node.now c.step.new.self b.mid r.whose
           (settled_keeps _ c.args.store.now b.mid c.args.needs_sync _ both.0 r.keeps) out
           c.in_ok-outbox.ensures.safe is)
-          settled))
+          is_synced))
           (λ not_so. gather_still_covers m genesis n c.args.node.now c.args.store.now after c.args.needs_sync
           out.entries r
-          ((left.put not_so).any _ _ r.keeps.holds) x every);
+          ((left.put not_so).every_image _ _ r.keeps.holds) x every);
       room = λ small. by_kind out.rebase
           (λ is. refused_room (disks c.args.store.now) (disks after) (left.based is).room)
           (λ not_so. behind_room (disks c.args.store.now) c.args.store.now after
@@ -96,7 +96,7 @@ returns-clause-disks g c honest =
           of_either b.safe
           (λ same. subst (λ (x : StoreValue). DisksFit m h n (disks x)) (sym same)
           (settle_leaves m h n c.args.node.now c.args.store.now b.mid c.args.needs_sync s
-          (b.any _ _ s.fits.shown.keeps.holds)))
+          (b.every_image _ _ s.fits.shown.keeps.holds)))
           (λ both. both.1.fits h n
           (stepped_fits m h n c.args.node.now c.step.new.self b.mid c.args.input out
           (settled_fits m h n c.args.node.now c.args.store.now b.mid c.args.needs_sync both.0 s.fits) heard
@@ -105,21 +105,21 @@ returns-clause-disks g c honest =
           c.args.input out s heard
           c.in_ok-outbox.ensures.safe (step_told _ _ c.args.node.now _ c.step.new.self out
           c.in_ok-outbox.ensures.steps not_so)
-          ((left.put not_so).any _ _ s.fits.shown.keeps.holds));
+          ((left.put not_so).every_image _ _ s.fits.shown.keeps.holds));
       covers = λ genesis n x r every. by_kind out.rebase
           (λ is. let b = left.based is in
-          let settled = settle_covers m genesis n c.args.node.now c.args.store.now b.mid c.args.needs_sync r
-          (b.any _ _ r.keeps.holds) x every in
+          let is_synced = settle_covers m genesis n c.args.node.now c.args.store.now b.mid c.args.needs_sync r
+          (b.every_image _ _ r.keeps.holds) x every in
           of_either b.safe
-          (λ same. subst (λ (y : StoreValue). AllCover m genesis n (disks y) x) (sym same) settled)
+          (λ same. subst (λ (y : StoreValue). AllCover m genesis n (disks y) x) (sym same) is_synced)
           (λ both. both.1.covers genesis n x
           (still_keeps m _ genesis n c.args.node.now c.step.new.self b.mid r.whose
           (settled_keeps _ c.args.store.now b.mid c.args.needs_sync _ both.0 r.keeps) out
           c.in_ok-outbox.ensures.safe is)
-          settled))
+          is_synced))
           (λ not_so. gather_still_covers m genesis n c.args.node.now c.args.store.now after c.args.needs_sync
           out.entries r
-          ((left.put not_so).any _ _ r.keeps.holds) x every);
+          ((left.put not_so).every_image _ _ r.keeps.holds) x every);
       room = λ small. by_kind out.rebase
           (λ is. refused_room (disks c.args.store.now) (disks after) (left.based is).room)
           (λ not_so. behind_room (disks c.args.store.now) c.args.store.now after
@@ -145,7 +145,7 @@ returns-clause-keeps g c honest =
     record {
       goes = λ h n f heard sent among. by_kind out.rebase
           (λ is. let s = done.switches is in
-          let mid = settled_fits m h n c.args.node.now c.args.store.now s.mid c.args.needs_sync s.settles f in
+          let mid = settled_fits m h n c.args.node.now c.args.store.now s.mid c.args.needs_sync s.syncs_all f in
           subst (λ (k : NodeValue). GroupLeavesFit m h n k after (needs_sync_after c.args.needs_sync out) out.notes
           (batch_of n sent)) (sym (on.stands is).0.becomes)
           (based_goes m h n c.args.node.now c.step.new.self s.mid after c.args.needs_sync c.args.input out mid heard
@@ -161,7 +161,7 @@ returns-clause-keeps g c honest =
           (done.puts not_so _ _ f.shown.keeps.holds) sent among));
       stays = λ h n s heard. by_kind out.rebase
           (λ is. let w = done.switches is in
-          let mid = settled_fits m h n c.args.node.now c.args.store.now w.mid c.args.needs_sync w.settles s.fits in
+          let mid = settled_fits m h n c.args.node.now c.args.store.now w.mid c.args.needs_sync w.syncs_all s.fits in
           subst (λ (k : NodeValue). GroupStays m h n k after (needs_sync_after c.args.needs_sync out))
           (sym (on.stands is).0.becomes)
           (based_stays m h n c.args.node.now c.step.new.self w.mid after c.args.needs_sync c.args.input out mid heard
@@ -173,13 +173,14 @@ returns-clause-keeps g c honest =
           (group_stays m h n c.args.node.now c.step.new.self c.args.store.now after c.args.needs_sync c.args.input
           out s heard c.in_ok-outbox.ensures.safe
           (step_told _ _ c.args.node.now _ c.step.new.self out c.in_ok-outbox.ensures.steps not_so) not_so
-          ((left.put not_so).any _ _ s.fits.shown.keeps.holds) (done.puts not_so _ _ s.fits.shown.keeps.holds)));
+          ((left.put not_so).every_image _ _ s.fits.shown.keeps.holds)
+          (done.puts not_so _ _ s.fits.shown.keeps.holds)));
       recalls = λ genesis n r. by_kind out.rebase
           (λ is. let s = done.switches is in
           begin_recalls _ after genesis n c.args.needs_sync out is
           (s.switches.remembers genesis n
           (still_remembers m _ genesis n c.args.node.now c.step.new.self s.mid r.whose
-          (settled_keeps _ c.args.store.now s.mid c.args.needs_sync _ s.settles r.keeps) out
+          (settled_keeps _ c.args.store.now s.mid c.args.needs_sync _ s.syncs_all r.keeps) out
           c.in_ok-outbox.ensures.safe is)))
           (λ not_so. subst (λ (k : NodeValue). RemembersInGroup k after (needs_sync_after c.args.needs_sync out)
           genesis n)
@@ -191,10 +192,10 @@ returns-clause-keeps g c honest =
           based_cover m genesis n after c.args.needs_sync out x is
           (s.switches.syncs genesis n x
           (still_keeps m _ genesis n c.args.node.now c.step.new.self s.mid r.whose
-          (settled_keeps _ c.args.store.now s.mid c.args.needs_sync _ s.settles r.keeps) out
+          (settled_keeps _ c.args.store.now s.mid c.args.needs_sync _ s.syncs_all r.keeps) out
           c.in_ok-outbox.ensures.safe is)
           (sent_is_covered m _ genesis n c.args.node.now c.step.new.self s.mid r.whose
-          (settled_keeps _ c.args.store.now s.mid c.args.needs_sync _ s.settles r.keeps) out
+          (settled_keeps _ c.args.store.now s.mid c.args.needs_sync _ s.syncs_all r.keeps) out
           c.in_ok-outbox.ensures.safe is x d
           listed said)))
           (λ not_so. gather_syncs m genesis n c.args.node.now c.step.new.self c.args.store.now after c.args.needs_sync
@@ -205,10 +206,10 @@ returns-clause-keeps g c honest =
           based_cover m genesis n after c.args.needs_sync out x is
           (s.safe.covers genesis n x
           (still_keeps m _ genesis n c.args.node.now c.step.new.self s.mid r.whose
-          (settled_keeps _ c.args.store.now s.mid c.args.needs_sync _ s.settles r.keeps) out
+          (settled_keeps _ c.args.store.now s.mid c.args.needs_sync _ s.syncs_all r.keeps) out
           c.in_ok-outbox.ensures.safe
           is)
-          (settled_covers m genesis n c.args.node.now c.args.store.now s.mid c.args.needs_sync s.settles r x every)))
+          (settled_covers m genesis n c.args.node.now c.args.store.now s.mid c.args.needs_sync s.syncs_all r x every)))
           (λ not_so. gather_covers m genesis n c.args.node.now c.step.new.self c.args.store.now after c.args.needs_sync
           _ out r
           c.in_ok-outbox.ensures.safe not_so (done.puts not_so _ _ r.keeps.holds) x every);
@@ -240,7 +241,7 @@ returns-clause-exact g c honest =
 
 pub returns-clause-alive : goal.returns-clause-alive
 returns-clause-alive g c =
-    (c.in_ok-write_to_file.ensures.goes.store_alive, c.write_to_file.ensures.wakes ∙ c.in_ok-outbox.ensures.awake)
+    (c.in_ok-write_to_file.ensures.goes.store_alive, c.write_to_file.ensures.halted ∙ c.in_ok-outbox.ensures.awake)
 
 -- ---- what a refusal leaves
 
@@ -270,5 +271,5 @@ returns-in_err-write_to_file-clause-refused g c =
       file = λ honest. was.file;
       stays = λ honest. spared_all _ _ tt;
       halts = λ is. absurd (store_awake _ was.of_store is);
-      awake = λ wakes other. c.write_to_file.ensures.wakes ∙ c.in_ok-outbox.ensures.awake;
+      awake = λ wakes other. c.write_to_file.ensures.halted ∙ c.in_ok-outbox.ensures.awake;
     })

@@ -30,19 +30,19 @@ returns-then-outbox-clause-done g c honest =
     let is : c.args.outbox.now.rebase ≡ true = sym (ap (λ (o : OutboxValue). o.rebase) c.outbox.view_is)
     ∙ c.if-outbox.true in
     let done = c.in_ok-write_base.ensures.done honest in
-    let settles = c.in_ok-sync_if_waiting.ensures.settles honest in
+    let syncs_all = c.in_ok-sync_or_flush.ensures.syncs_all honest in
     record {
       switches = λ yes. record {
-        mid = c.sync_if_waiting.new.store;
-        settles = settles;
+        mid = c.sync_or_flush.new.store;
+        syncs_all = syncs_all;
         switches = done;
         safe = c.write_base.ensures.disks honest;
-        rebases = settled_rebases c.args.node.now c.write_base.new.node c.args.store.now c.sync_if_waiting.new.store
-            c.write_base.new.store c.args.needs_sync settles c.sync_if_waiting.ensures.file done.rebases;
+        rebases = settled_rebases c.args.node.now c.write_base.new.node c.args.store.now c.sync_or_flush.new.store
+            c.write_base.new.store c.args.needs_sync syncs_all c.sync_or_flush.ensures.file done.rebases;
       };
       puts = λ no. absurd (let both : true ≡ false = sym is ∙ no in cc both);
       calls = λ metered. gathered_base _ _ _ c.args.needs_sync c.args.outbox.now is
-          (c.in_ok-sync_if_waiting.ensures.metered metered) (done.calls metered);
+          (c.in_ok-sync_or_flush.ensures.metered metered) (done.calls metered);
     }
 
 pub returns-clause-goes : goal.returns-clause-goes
@@ -67,7 +67,7 @@ returns-then-outbox-clause-goes g c =
           becomes = base.becomes;
           begins = base.begins;
           runs = base.runs;
-          generation = omega (arith, base.generation, c.sync_if_waiting.ensures.file.1);
+          generation = omega (arith, base.generation, c.sync_or_flush.ensures.file.1);
           format = base.format;
           store_alive = base.store_alive;
         },
@@ -85,8 +85,8 @@ returns-clause-disks g c honest =
     record {
       based = λ yes. absurd (let both : false ≡ true = sym not_so ∙ yes in cc both);
       put = λ no. record {
-        any = λ ks ls holds. subst (λ (es : List Entry). KeepsAtLeast c.put.new.self ks (ls ++ plain es)) is
-            (c.put.ensures.any honest ks ls holds);
+        every_image = λ ks ls holds. subst (λ (es : List Entry). KeepsAtLeast c.put.new.self ks (ls ++ plain es)) is
+            (c.put.ensures.every_image honest ks ls holds);
         live = c.put.ensures.file.0;
         grows = subst (λ (es : List Entry). length (contents c.put.new.self.live_disk)
             ≤ length (contents c.args.store.now.live_disk) + 102 * length es) is (c.put.ensures.grows honest);
@@ -103,8 +103,8 @@ returns-in_err-put-clause-disks g c honest =
     record {
       based = λ yes. absurd (let both : false ≡ true = sym not_so ∙ yes in cc both);
       put = λ no. record {
-        any = λ ks ls holds. subst (λ (es : List Entry). KeepsAtLeast c.put.new.self ks (ls ++ plain es)) is
-            (c.put.ensures.any honest ks ls holds);
+        every_image = λ ks ls holds. subst (λ (es : List Entry). KeepsAtLeast c.put.new.self ks (ls ++ plain es)) is
+            (c.put.ensures.every_image honest ks ls holds);
         live = c.put.ensures.file.0;
         grows = subst (λ (es : List Entry). length (contents c.put.new.self.live_disk)
             ≤ length (contents c.args.store.now.live_disk) + 102 * length es) is (c.put.ensures.grows honest);
@@ -112,16 +112,16 @@ returns-in_err-put-clause-disks g c honest =
       };
     }
 
-pub returns-in_err-sync_if_waiting-clause-disks : goal.returns-in_err-sync_if_waiting-clause-disks
-returns-in_err-sync_if_waiting-clause-disks g c honest =
+pub returns-in_err-sync_or_flush-clause-disks : goal.returns-in_err-sync_or_flush-clause-disks
+returns-in_err-sync_or_flush-clause-disks g c honest =
     let is : c.args.outbox.now.rebase ≡ true = sym (ap (λ (o : OutboxValue). o.rebase) c.outbox.view_is)
     ∙ c.if-outbox.true in
     record {
       based = λ yes. record {
-        room = within_more 49152 (disks c.args.store.now) (disks c.sync_if_waiting.new.store)
-            (c.sync_if_waiting.ensures.room honest);
-        mid = c.sync_if_waiting.new.store;
-        any = c.sync_if_waiting.ensures.any honest;
+        room = within_more 49152 (disks c.args.store.now) (disks c.sync_or_flush.new.store)
+            (c.sync_or_flush.ensures.room honest);
+        mid = c.sync_or_flush.new.store;
+        every_image = c.sync_or_flush.ensures.every_image honest;
         safe = inl refl;
       };
       put = λ no. absurd (let both : true ≡ false = sym is ∙ no in cc both);
@@ -133,13 +133,13 @@ returns-in_err-write_base-clause-disks g c honest =
     ∙ c.if-outbox.true in
     record {
       based = λ yes. record {
-        room = within_first 49152 (disks c.args.store.now) (disks c.sync_if_waiting.new.store)
+        room = within_first 49152 (disks c.args.store.now) (disks c.sync_or_flush.new.store)
             (disks c.write_base.new.store)
-            (within_more 49152 (disks c.args.store.now) (disks c.sync_if_waiting.new.store)
-            (c.sync_if_waiting.ensures.room honest)) (c.write_base.ensures.disks honest).room;
-        mid = c.sync_if_waiting.new.store;
-        any = c.sync_if_waiting.ensures.any honest;
-        safe = inr (c.in_ok-sync_if_waiting.ensures.settles honest, c.write_base.ensures.disks honest);
+            (within_more 49152 (disks c.args.store.now) (disks c.sync_or_flush.new.store)
+            (c.sync_or_flush.ensures.room honest)) (c.write_base.ensures.disks honest).room;
+        mid = c.sync_or_flush.new.store;
+        every_image = c.sync_or_flush.ensures.every_image honest;
+        safe = inr (c.in_ok-sync_or_flush.ensures.syncs_all honest, c.write_base.ensures.disks honest);
       };
       put = λ no. absurd (let both : true ≡ false = sym is ∙ no in cc both);
     }
@@ -150,13 +150,13 @@ returns-then-outbox-clause-disks g c honest =
     ∙ c.if-outbox.true in
     record {
       based = λ yes. record {
-        room = within_first 49152 (disks c.args.store.now) (disks c.sync_if_waiting.new.store)
+        room = within_first 49152 (disks c.args.store.now) (disks c.sync_or_flush.new.store)
             (disks c.write_base.new.store)
-            (within_more 49152 (disks c.args.store.now) (disks c.sync_if_waiting.new.store)
-            (c.sync_if_waiting.ensures.room honest)) (c.write_base.ensures.disks honest).room;
-        mid = c.sync_if_waiting.new.store;
-        any = c.sync_if_waiting.ensures.any honest;
-        safe = inr (c.in_ok-sync_if_waiting.ensures.settles honest, c.write_base.ensures.disks honest);
+            (within_more 49152 (disks c.args.store.now) (disks c.sync_or_flush.new.store)
+            (c.sync_or_flush.ensures.room honest)) (c.write_base.ensures.disks honest).room;
+        mid = c.sync_or_flush.new.store;
+        every_image = c.sync_or_flush.ensures.every_image honest;
+        safe = inr (c.in_ok-sync_or_flush.ensures.syncs_all honest, c.write_base.ensures.disks honest);
       };
       put = λ no. absurd (let both : true ≡ false = sym is ∙ no in cc both);
     }
@@ -171,9 +171,9 @@ returns-in_err-put-clause-refused g c =
       file = c.put.ensures.file;
     })
 
-pub returns-in_err-sync_if_waiting-clause-refused : goal.returns-in_err-sync_if_waiting-clause-refused
-returns-in_err-sync_if_waiting-clause-refused g c =
-    let was = c.in_err-sync_if_waiting.ensures.refused in
+pub returns-in_err-sync_or_flush-clause-refused : goal.returns-in_err-sync_or_flush-clause-refused
+returns-in_err-sync_or_flush-clause-refused g c =
+    let was = c.in_err-sync_or_flush.ensures.refused in
     err_as _ _ _ c.from_residual.ensures.1 (record {
       of_store = was.of_store;
       calls = was.calls;
@@ -186,10 +186,10 @@ returns-in_err-write_base-clause-refused g c =
     let was = c.in_err-write_base.ensures.refused.why in
     err_as _ _ _ c.from_residual-in_err-write_base.ensures.1 (record {
       of_store = was.of_store;
-      calls = λ metered honest. refused_on _ (c.in_ok-sync_if_waiting.ensures.metered metered)
+      calls = λ metered honest. refused_on _ (c.in_ok-sync_or_flush.ensures.metered metered)
           _ _ (was.calls metered honest);
-      earlier = λ is alive less. was.earlier is (c.in_ok-sync_if_waiting.ensures.alive alive)
-          (omega (arith, less, c.sync_if_waiting.ensures.file.1));
-      file = kept_then c.args.store.now c.sync_if_waiting.new.store c.write_base.new.store
-          c.sync_if_waiting.ensures.file was.file;
+      earlier = λ is alive less. was.earlier is (c.in_ok-sync_or_flush.ensures.alive alive)
+          (omega (arith, less, c.sync_or_flush.ensures.file.1));
+      file = kept_then c.args.store.now c.sync_or_flush.new.store c.write_base.new.store
+          c.sync_or_flush.ensures.file was.file;
     })

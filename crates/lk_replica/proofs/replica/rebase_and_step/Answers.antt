@@ -103,7 +103,7 @@ returns-in_err-rebase_if_due-clause-refused g c =
       file = λ honest. inl was.file;
       stays = λ honest. spared_more _ _ _ (λ same. inl same) (was.stays honest);
       halts = λ is. absurd (store_awake _ was.of_store is);
-      awake = λ wakes other. c.rebase_if_due.ensures.wakes ∙ wakes;
+      awake = λ wakes other. c.rebase_if_due.ensures.halted ∙ wakes;
     })
 
 pub returns-in_err-outbox-clause-refused : goal.returns-in_err-outbox-clause-refused
@@ -127,5 +127,5 @@ returns-in_err-outbox-clause-refused g c =
           spared_more _ _ _ (left_after c.args.node.now c.rebase_if_due.new.node c.args.store.now
           c.rebase_if_due.new.store c.step_to_disk.new.store (before.done honest).rebases) (was.stays honest);
       halts = was.halts;
-      awake = λ wakes other. was.awake (c.rebase_if_due.ensures.wakes ∙ wakes) other;
+      awake = λ wakes other. was.awake (c.rebase_if_due.ensures.halted ∙ wakes) other;
     })

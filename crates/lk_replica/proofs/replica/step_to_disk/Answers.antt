@@ -42,7 +42,7 @@ returns-clause-goes g c honest h n f heard sent among =
     (put_leaves m h n c.args.node.now c.step.new.self c.args.store.now after c.args.input
     out f heard c.in_ok-outbox.ensures.safe
     (step_told _ _ c.args.node.now _ c.step.new.self out c.in_ok-outbox.ensures.steps not_so)
-    (((c.write_to_disk.ensures.disks honest).put not_so).any _ _ f.shown.keeps.holds)) sent among))
+    (((c.write_to_disk.ensures.disks honest).put not_so).every_image _ _ f.shown.keeps.holds)) sent among))
 
 pub returns-clause-syncs : goal.returns-clause-syncs
 returns-clause-syncs g c honest genesis n x shown d listed said =
@@ -87,7 +87,7 @@ returns-clause-alive g c =
     let on = c.in_ok-write_to_disk.ensures.goes in
     record {
       store_alive = on.store_alive;
-      awake = c.write_to_disk.ensures.wakes ∙ c.in_ok-outbox.ensures.awake;
+      awake = c.write_to_disk.ensures.halted ∙ c.in_ok-outbox.ensures.awake;
       runs = λ none. by_kind out.rebase (λ is. (on.stands is).0.runs (c.in_ok-outbox.ensures.runs none))
           (λ not_so. subst NothingToRun (sym (on.rests not_so)) (c.in_ok-outbox.ensures.runs none));
       remembers = λ honest genesis n shown.
@@ -134,13 +134,13 @@ returns-in_err-write_to_disk-clause-disks g c honest =
           (λ not_so. put_leaves m h n c.args.node.now c.step.new.self c.args.store.now after c.args.input out f heard
           c.in_ok-outbox.ensures.safe
           (step_told _ _ c.args.node.now _ c.step.new.self out c.in_ok-outbox.ensures.steps not_so)
-          ((left.put not_so).any _ _ f.shown.keeps.holds));
+          ((left.put not_so).every_image _ _ f.shown.keeps.holds));
       covers = λ genesis n x shown every. by_kind out.rebase
           (λ is. (left.based is).covers genesis n x
           (still_keeps m _ genesis n c.args.node.now c.step.new.self c.args.store.now shown.whose shown.keeps out
           c.in_ok-outbox.ensures.safe is) every)
           (λ not_so. step_covers m genesis n c.args.node.now c.step.new.self c.args.store.now after
-          _ out shown c.in_ok-outbox.ensures.safe ((left.put not_so).any _ _ shown.keeps.holds) x every);
+          _ out shown c.in_ok-outbox.ensures.safe ((left.put not_so).every_image _ _ shown.keeps.holds) x every);
       room = λ small. by_kind out.rebase
           (λ is. refused_room (disks c.args.store.now) (disks after) (left.based is).room)
           (λ not_so. behind_room (disks c.args.store.now) c.args.store.now after
@@ -169,13 +169,13 @@ returns-clause-disks g c honest =
           (λ not_so. put_leaves m h n c.args.node.now c.step.new.self c.args.store.now after c.args.input out f heard
           c.in_ok-outbox.ensures.safe
           (step_told _ _ c.args.node.now _ c.step.new.self out c.in_ok-outbox.ensures.steps not_so)
-          ((left.put not_so).any _ _ f.shown.keeps.holds));
+          ((left.put not_so).every_image _ _ f.shown.keeps.holds));
       covers = λ genesis n x shown every. by_kind out.rebase
           (λ is. (left.based is).covers genesis n x
           (still_keeps m _ genesis n c.args.node.now c.step.new.self c.args.store.now shown.whose shown.keeps out
           c.in_ok-outbox.ensures.safe is) every)
           (λ not_so. step_covers m genesis n c.args.node.now c.step.new.self c.args.store.now after
-          _ out shown c.in_ok-outbox.ensures.safe ((left.put not_so).any _ _ shown.keeps.holds) x every);
+          _ out shown c.in_ok-outbox.ensures.safe ((left.put not_so).every_image _ _ shown.keeps.holds) x every);
       room = λ small. by_kind out.rebase
           (λ is. refused_room (disks c.args.store.now) (disks after) (left.based is).room)
           (λ not_so. behind_room (disks c.args.store.now) c.args.store.now after
@@ -216,5 +216,5 @@ returns-in_err-write_to_disk-clause-refused g c =
       file = λ honest. was.file;
       stays = was.stays;
       halts = λ is. absurd (store_awake _ was.of_store is);
-      awake = λ wakes other. c.write_to_disk.ensures.wakes ∙ c.in_ok-outbox.ensures.awake;
+      awake = λ wakes other. c.write_to_disk.ensures.halted ∙ c.in_ok-outbox.ensures.awake;
     })

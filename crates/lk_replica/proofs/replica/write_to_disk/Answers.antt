@@ -66,8 +66,8 @@ returns-in_err-put-clause-disks g c honest =
     record {
       based = λ yes. absurd (let both : false ≡ true = sym not_so ∙ yes in cc both);
       put = λ no. record {
-        any = λ ks ls holds. subst (λ (es : List Entry). KeepsAtLeast c.put.new.self ks (ls ++ plain es)) is
-            (c.put.ensures.any honest ks ls holds);
+        every_image = λ ks ls holds. subst (λ (es : List Entry). KeepsAtLeast c.put.new.self ks (ls ++ plain es)) is
+            (c.put.ensures.every_image honest ks ls holds);
         live = c.put.ensures.file.0;
         grows = subst (λ (es : List Entry). length (contents c.put.new.self.live_disk)
             ≤ length (contents c.args.store.now.live_disk) + 102 * length es) is (c.put.ensures.grows honest);
@@ -84,8 +84,8 @@ returns-clause-disks g c honest =
     record {
       based = λ yes. absurd (let both : false ≡ true = sym not_so ∙ yes in cc both);
       put = λ no. record {
-        any = λ ks ls holds. subst (λ (es : List Entry). KeepsAtLeast c.put.new.self ks (ls ++ plain es)) is
-            (c.put.ensures.any honest ks ls holds);
+        every_image = λ ks ls holds. subst (λ (es : List Entry). KeepsAtLeast c.put.new.self ks (ls ++ plain es)) is
+            (c.put.ensures.every_image honest ks ls holds);
         live = c.put.ensures.file.0;
         grows = subst (λ (es : List Entry). length (contents c.put.new.self.live_disk)
             ≤ length (contents c.args.store.now.live_disk) + 102 * length es) is (c.put.ensures.grows honest);

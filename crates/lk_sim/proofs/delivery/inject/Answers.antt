@@ -1,7 +1,7 @@
 use Rattle.std.proofs.Common.{◌≡◌, ℕ, rules, List, Some, refl, inl, inr, ap, subst}
 use Rattle.lk_sim.specs.Events.{IsGiven, IsHalted, IsNotInjected, LeftBy}
 use Rattle.lk_node_interface.specs.declared.note.Note.{Note}
-use Rattle.lk_sim.specs.Heard.{Asks}
+use Rattle.lk_sim.specs.Heard.{IsRequestIn}
 use Rattle.lk_sim.specs.Refusals.{HasRoom}
 use Rattle.lk_sim.specs.Scenes.{Scene}
 use Rattle.lk_sim_nodes.specs.Seats.{IsUpAt}
@@ -30,8 +30,8 @@ returns-in_err-make_room-clause-err g c =
     let l = c.args.bytes.now in
     let u : IsUpAt p.seats.items c.in_ok-i.i n = search rules in
     let room : HasRoom p.sent.items = search rules in
-    let a : Asks l c.in_ok-asked.asked =
-    subst (λ (b : List ℕ). Asks b c.in_ok-asked.asked) c.of-viewed.ensures c.in_ok-asked.ensures.ok in
+    let a : IsRequestIn l c.in_ok-asked.asked =
+    subst (λ (b : List ℕ). IsRequestIn b c.in_ok-asked.asked) c.of-viewed.ensures c.in_ok-asked.ensures.ok in
     let m = c.in_err-make_room.ensures.memory in
     let new : Scene g.row.R.Denot = record (scene_of p) { trace = c.make_room.new.trace.items } in
     let same : new ≡ scene_of p = ap (λ (t : List Note). record (scene_of p) { trace = t }) c.make_room.ensures.same in
@@ -40,7 +40,7 @@ returns-in_err-make_room-clause-err g c =
     (inr (
       refl,
       (((u.1, (c.in_ok-i.i, u.0, u.2, u.3, u.4)), room), asked_unforged l c.in_ok-asked.asked a),
-      inl (same, (m.0, subst (Asks l) m.1 a)),
+      inl (same, (m.0, subst (IsRequestIn l) m.1 a)),
     ))
 
 pub returns-in_err-give-clause-err : goal.returns-in_err-give-clause-err
@@ -51,8 +51,8 @@ returns-in_err-give-clause-err g c =
     let u : IsUpAt p.seats.items c.in_ok-i.i n = search rules in
     let room : HasRoom p.sent.items = search rules in
     let new : Scene g.row.R.Denot = scene_of c.give.new.parts in
-    let a : Asks l c.in_ok-asked.asked =
-    subst (λ (b : List ℕ). Asks b c.in_ok-asked.asked) c.of-viewed.ensures c.in_ok-asked.ensures.ok in
+    let a : IsRequestIn l c.in_ok-asked.asked =
+    subst (λ (b : List ℕ). IsRequestIn b c.in_ok-asked.asked) c.of-viewed.ensures c.in_ok-asked.ensures.ok in
     let of_it = subst (λ (b : List ℕ). IsHalted (LeftBy g.R.MemoryReplica.behaves (Some b))
     (record (scene_of p) { trace = c.make_room.new.trace.items }) new n) c.of-viewed.ensures
     (c.in_err-give.ensures.halted n u) in
@@ -67,8 +67,8 @@ returns-clause-ok g c =
     let p = c.args.parts.now in
     let u : IsUpAt p.seats.items c.in_ok-i.i c.args.number = search rules in
     let room : HasRoom p.sent.items = search rules in
-    let a : Asks c.args.bytes.now c.in_ok-asked.asked =
-    subst (λ (b : List ℕ). Asks b c.in_ok-asked.asked) c.of-viewed.ensures c.in_ok-asked.ensures.ok in
+    let a : IsRequestIn c.args.bytes.now c.in_ok-asked.asked =
+    subst (λ (b : List ℕ). IsRequestIn b c.in_ok-asked.asked) c.of-viewed.ensures c.in_ok-asked.ensures.ok in
     let of_it = subst (λ (b : List ℕ). IsGiven g.R.MemoryReplica.behaves
     (record (scene_of p) { trace = c.make_room.new.trace.items }) (scene_of c.give.new.parts) c.args.number (Some b)
     (asked_note c.in_ok-asked.asked)) c.of-viewed.ensures (c.in_ok-give.ensures.given c.args.number u) in (

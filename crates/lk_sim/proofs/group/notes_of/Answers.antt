@@ -6,7 +6,7 @@ use Rattle.lk_node.specs.Histories.{Datagram}
 use Rattle.lk_replica.specs.Together.{parts_of}
 use Rattle.lk_replica.specs.declared.taken.Step.{Step}
 use Rattle.lk_sim.specs.Groups.{AreNotesOf}
-use Rattle.lk_sim_nodes.specs.Told.{Tells}
+use Rattle.lk_sim_nodes.specs.Told.{NotesReplies}
 use Rattle.lk_sim.proofs.GivenTogether.{take_min, drop_min}
 use Rattle.lk_sim.proofs.group.notes_of.Goals as goal
 
@@ -23,7 +23,7 @@ steps-preserved c more tells =
     let those : AreNotesOf (parts_of (c.in-Some.step ∷ c.next.new.self.rest.items) rest) ((own ++ told.0) ++ more) = (
       told.0,
       more,
-      subst (λ (l : List Datagram). Tells l told.0) front told.2,
+      subst (λ (l : List Datagram). NotesReplies l told.0) front told.2,
       refl,
       subst (λ (l : List Datagram). AreNotesOf (parts_of c.next.new.self.rest.items l) more) back tells,
     ) in

@@ -1,6 +1,6 @@
 use Rattle.std.proofs.Common.{rules, ◌≡◌, length, take, slice_get, Some, refl, sym, subst, add-one}
 use Rattle.std.proofs.lemmas.Option.{slice_get_read}
-use Rattle.lk_sim.specs.Runs.{Passes}
+use Rattle.lk_sim.specs.Runs.{AreExecuted}
 use Rattle.lk_sim.specs.Worlds.{scene_of}
 use Rattle.lk_sim.proofs.Running.{passes_next}
 use Rattle.lk_sim.proofs.happening.happen_all.Goals as goal
@@ -24,7 +24,7 @@ events-preserved g c =
     slice_get_read c.args.events.now (length c.args.events.now) i c.index-events-i.result refl
     (search rules) (search rules) in (
       c.happen.ensures.holds,
-      subst (λ k. Passes g.R.MemoryReplica.behaves (take k c.args.events.now) (scene_of c.args.parts.now)
+      subst (λ k. AreExecuted g.R.MemoryReplica.behaves (take k c.args.events.now) (scene_of c.args.parts.now)
           (scene_of c.happen.new.parts)) (sym (add-one i))
           (passes_next g.R.MemoryReplica.behaves c.args.events.now i c.index-events-i.result
           (scene_of c.args.parts.now) (scene_of c.events.parts)
@@ -36,7 +36,7 @@ returns-clause-runs g c =
     let all : c.events.i ≡ length c.args.events.now = search rules in
     record {
       last = scene_of c.events.parts;
-      passes = subst (λ k. Passes g.R.MemoryReplica.behaves (take k c.args.events.now) (scene_of c.args.parts.now)
+      passes = subst (λ k. AreExecuted g.R.MemoryReplica.behaves (take k c.args.events.now) (scene_of c.args.parts.now)
           (scene_of c.events.parts)) all c.events.invariant.1;
       stops = (refl, refl);
     }

@@ -6,5 +6,5 @@ use Rattle.lk_transport.proofs.addresses.address_in.Goals as goal
 pub returns-in-Some : goal.returns-in-Some
 returns-in-Some c = grind (arith, common_steps)
 
-pub loop-place-preserved : goal.loop-place-preserved
-loop-place-preserved c = grind (arith, common_steps)
+pub loop-entry-preserved : goal.loop-entry-preserved
+loop-entry-preserved c = grind (arith, common_steps)

@@ -11,7 +11,7 @@ use Rattle.lk_leader.proofs.term.Term.record_accepted.Goals as goal
 pub returns-in_default-clause-proposed : goal.returns-in_default-clause-proposed
 returns-in_default-clause-proposed c =
     λ p found is. absurd (not-found c.args.position c.args.self.now.proposals p
-    (sym c.place_of.ensures ∙ c.in_default.is) found)
+    (sym c.index_of.ensures ∙ c.in_default.is) found)
 
 pub invariant_of-self : goal.invariant_of-self
 invariant_of-self c =
@@ -21,7 +21,7 @@ invariant_of-self c =
     let same : xs ≡ c.args.self.now.proposals = ap (λ (t : TermValue). t.proposals) c.self.view_is in
     let place : position (λ (q : ProposalValue). eqb q.position c.args.position) xs ≡ Some k =
     ap (position (λ (q : ProposalValue). eqb q.position c.args.position)) same
-    ∙ sym c.place_of.ensures ∙ c.in-Some.is in
+    ∙ sym c.index_of.ensures ∙ c.in-Some.is in
     let found = position-Some (λ (q : ProposalValue). eqb q.position c.args.position) xs k d place in
     let item : get_or c.deref_mut.result.now k d ≡ get_or xs k d =
     ap (λ (l : List ProposalValue). get_or l k d) c.deref_mut.ensures.value in
@@ -39,7 +39,7 @@ returns-clause-proposed c = λ p at is.
     let k : ℕ = c.in-Some.index in
     let d : ProposalValue = c.index-deref_mut-index.result in
     let same : xs ≡ ps = ap (λ (t : TermValue). t.proposals) c.self.view_is in
-    let place : position (λ (q : ProposalValue). eqb q.position c.args.position) ps ≡ Some k = sym c.place_of.ensures
+    let place : position (λ (q : ProposalValue). eqb q.position c.args.position) ps ≡ Some k = sym c.index_of.ensures
     ∙ c.in-Some.is in
     let found = position-Some (λ (q : ProposalValue). eqb q.position c.args.position) ps k d place in
     let item : get_or c.deref_mut.result.now k d ≡ get_or ps k d =
@@ -71,7 +71,7 @@ returns-clause-other c = λ no.
     let k : ℕ = c.in-Some.index in
     let d : ProposalValue = c.index-deref_mut-index.result in
     let same : xs ≡ ps = ap (λ (t : TermValue). t.proposals) c.self.view_is in
-    let place : position (λ (q : ProposalValue). eqb q.position c.args.position) ps ≡ Some k = sym c.place_of.ensures
+    let place : position (λ (q : ProposalValue). eqb q.position c.args.position) ps ≡ Some k = sym c.index_of.ensures
     ∙ c.in-Some.is in
     let found = position-Some (λ (q : ProposalValue). eqb q.position c.args.position) ps k d place in
     let item : get_or c.deref_mut.result.now k d ≡ get_or ps k d =

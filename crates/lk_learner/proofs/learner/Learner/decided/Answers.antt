@@ -17,7 +17,7 @@ insert-requires g c =
     let new : IsLearner (keeping (i, v) l) = keeping_fits i v l learner wanted in
     let same : c.self.inside.pairs.items ≡ l.pairs = ap (λ (x : LearnerValue). x.pairs) c.self.view_is in
     let few = room (executed l) (alpha l) (i, v) l.pairs learner.window.1 new.kept in
-    let within = c.place_of-place.ensures.within in
+    let within = c.index_of-index.ensures.within in
     (lit< tt, (omega (arith, within, ap length c.as_slice.ensures.value), omega (arith, few, ap length same)))
 
 pub returns-clause-kept : goal.returns-clause-kept
@@ -25,7 +25,7 @@ returns-clause-kept g c = λ t.
     let i : ℕ = c.args.position in
     let p : Pair = (i, c.args.command.now) in
     let ps : List Pair = c.self.inside.pairs.items in
-    let place : c.place_of-place.result ≡ before i ps = c.place_of-place.ensures.place
+    let place : c.index_of-index.result ≡ before i ps = c.index_of-index.ensures.index
     ∙ ap (before i) c.as_slice.ensures.value in
     let pair : c.new.result ≡ p = c.new.ensures ∙ ap (λ (v : Command). (i, v)) c.copy.ensures in
     let items : c.insert.new.self.items ≡ with_pair p ps = c.insert.ensures.items
@@ -45,7 +45,7 @@ invariant_of-self g c =
     let i : ℕ = c.args.position in
     let p : Pair = (i, c.args.command.now) in
     let ps : List Pair = c.self.inside.pairs.items in
-    let place : c.place_of-place.result ≡ before i ps = c.place_of-place.ensures.place
+    let place : c.index_of-index.result ≡ before i ps = c.index_of-index.ensures.index
     ∙ ap (before i) c.as_slice.ensures.value in
     let pair : c.new.result ≡ p = c.new.ensures ∙ ap (λ (v : Command). (i, v)) c.copy.ensures in
     let items : c.insert.new.self.items ≡ with_pair p ps = c.insert.ensures.items

@@ -14,9 +14,9 @@ put_in client at new old cs e same place is =
 pub invariant_of-result : goal.invariant_of-result
 invariant_of-result c =
     let same : c.unwrap-clients.result.items ≡ c.args.self.now = grind (arith, common_steps) in
-    let place : c.place_of-at.result ≡ before c.args.client c.args.self.now = c.place_of-at.ensures.place
+    let place : c.index_of-at.result ≡ before c.args.client c.args.self.now = c.index_of-at.ensures.index
     ∙ ap (before c.args.client) c.as_slice-2.ensures.value in
-    subst AreSharers (sym (put_in c.args.client c.place_of-at.result c.insert.new.self.items
+    subst AreSharers (sym (put_in c.args.client c.index_of-at.result c.insert.new.self.items
     c.unwrap-clients.result.items c.args.self.now c.insert.ensures.items same place
     (inserted c.args.client c.args.self.now c.requires.new)))
     (with_client-fits c.args.client c.args.self.now c.get.ensures.in_range c.requires.room c.as_slice.ensures.fits)
@@ -24,7 +24,7 @@ invariant_of-result c =
 pub returns : goal.returns
 returns c =
     let same : c.unwrap-clients.result.items ≡ c.args.self.now = grind (arith, common_steps) in
-    let place : c.place_of-at.result ≡ before c.args.client c.args.self.now = c.place_of-at.ensures.place
+    let place : c.index_of-at.result ≡ before c.args.client c.args.self.now = c.index_of-at.ensures.index
     ∙ ap (before c.args.client) c.as_slice-2.ensures.value in
-    put_in c.args.client c.place_of-at.result c.insert.new.self.items c.unwrap-clients.result.items c.args.self.now
+    put_in c.args.client c.index_of-at.result c.insert.new.self.items c.unwrap-clients.result.items c.args.self.now
     c.insert.ensures.items same place (inserted c.args.client c.args.self.now c.requires.new)

@@ -1,6 +1,6 @@
 use Rattle.std.proofs.Common.{◌≡◌, true, false, ap, sym, ◌∙◌, subst}
 use Rattle.lk_disk.specs.Disk.{other}
-use Rattle.lk_disk.specs.Meters.{Passes, start}
+use Rattle.lk_disk.specs.Meters.{CallsSucceed, start}
 use Rattle.lk_disk.specs.declared.meter.Meter.{Meter}
 use Rattle.lk_log.specs.StoreValue.{StoreValue}
 use Rattle.lk_log.proofs.store.Store.flush.Goals as goal
@@ -30,6 +30,7 @@ returns-in_err-flush-clause-metered g c metered =
 
 pub returns-clause-metered : goal.returns-clause-metered
 returns-clause-metered g c metered =
-    subst (λ (m : Meter). Passes m (g.D.LogDisk.meter c.flush.new.self) 0)
+    subst (λ (m : Meter). CallsSucceed m (g.D.LogDisk.meter c.flush.new.self) 0)
     (ap (λ (s : StoreValue). s.meter) c.self.view_is)
-    (subst (λ (m : Meter). Passes (g.D.LogDisk.meter c.self.inside.device) m 0) (sym c.flush.ensures.uncounted) start)
+    (subst (λ (m : Meter). CallsSucceed (g.D.LogDisk.meter c.self.inside.device) m 0)
+    (sym c.flush.ensures.uncounted) start)

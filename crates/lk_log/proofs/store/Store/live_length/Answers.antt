@@ -1,5 +1,5 @@
 use Rattle.std.proofs.Common.{subst, rules}
-use Rattle.lk_disk.specs.Meters.{Passes, start}
+use Rattle.lk_disk.specs.Meters.{CallsSucceed, start}
 use Rattle.lk_disk.proofs.Devices.{read_passes, read_breaks}
 use Rattle.lk_log.specs.Causes.{IsMetered}
 use Rattle.lk_log.specs.StoreValue.{StoreValue}
@@ -18,7 +18,7 @@ returns-in_err-length-clause-metered g c metered =
 
 pub returns-clause-metered : goal.returns-clause-metered
 returns-clause-metered g c metered =
-    subst (λ (s : StoreValue). Passes s.meter (g.D.LogDisk.meter c.length.new.self) 0) c.self.view_is
+    subst (λ (s : StoreValue). CallsSucceed s.meter (g.D.LogDisk.meter c.length.new.self) 0) c.self.view_is
     (read_passes _ _ (c.in_ok-length.ensures.metered metered))
 
 pub returns-clause-value : goal.returns-clause-value

@@ -5,8 +5,8 @@ use Rattle.lk_log.proofs.store.Store.put.Goals as goal
 use Rattle.lk_disk.specs.Meters.{start}
 
 -- nothing was written
-pub returns-then-self-clause-any : goal.returns-then-self-clause-any
-returns-then-self-clause-any g c honest ks ls holds =
+pub returns-then-self-clause-every_image : goal.returns-then-self-clause-every_image
+returns-then-self-clause-every_image g c honest ks ls holds =
     keeps_at c.args.self.now.live c.args.self.now.live_disk c.args.self.now.other_disk ks ls
     (plain c.args.entries.now) holds.on
 

@@ -14,8 +14,8 @@ use Rattle.lk_log.specs.Causes.{IsMetered, rebase_calls}
 use Rattle.lk_log.proofs.Metering.{refused}
 use Rattle.lk_log.specs.declared.fault.StoreFault.TheVariants.{NoMemory}
 
-pub returns-then-self-clause-any : goal.returns-then-self-clause-any
-returns-then-self-clause-any g c honest ks ls holds =
+pub returns-then-self-clause-every_image : goal.returns-then-self-clause-every_image
+returns-then-self-clause-every_image g c honest ks ls holds =
     keeps_still c.args.self.now.live c.args.self.now.live_disk c.args.self.now.other_disk ks ls
     (next_base c.args.self.now c.args.standing.now) holds.on
 
@@ -30,15 +30,15 @@ spelled_parts-requires g c =
     base_fits b refl (omega arith, omega (arith, c.if-self-ge-MAX_COUNT.false)) c.facts.ensures
     c.facts-2.ensures.promised c.facts-2.ensures.position c.facts-2.ensures.votes c.facts-2.ensures.pairs c.requires
 
-pub returns-in_err-bytes-clause-any : goal.returns-in_err-bytes-clause-any
-returns-in_err-bytes-clause-any g c honest ks ls holds =
+pub returns-in_err-bytes-clause-every_image : goal.returns-in_err-bytes-clause-every_image
+returns-in_err-bytes-clause-every_image g c honest ks ls holds =
     let mine = subst (λ (s : StoreValue). HoldsEntries s ks ls) (sym c.self.view_is) holds in
     keeps_still c.self.inside.live (g.D.LogDisk.disk c.self.inside.device c.self.inside.live)
     (g.D.LogDisk.disk c.self.inside.device (other c.self.inside.live)) ks ls
     (next_base c.args.self.now c.args.standing.now) mine.on
 
-pub returns-in_err-switch_files-clause-any : goal.returns-in_err-switch_files-clause-any
-returns-in_err-switch_files-clause-any g c honest ks ls holds =
+pub returns-in_err-switch_files-clause-every_image : goal.returns-in_err-switch_files-clause-every_image
+returns-in_err-switch_files-clause-every_image g c honest ks ls holds =
     let mine = subst (λ (s : StoreValue). HoldsEntries s ks ls) (sym c.self.view_is) holds in
     let new = g.D.LogDisk.disk c.switch_files.new.device in
     let b : BaseValue = record {
@@ -54,7 +54,7 @@ returns-in_err-switch_files-clause-any g c honest ks ls holds =
     (pick c.self.inside.live (new c.self.inside.live) (new (other c.self.inside.live))) ks ls
     (next_base s c.args.standing.now)) c.self.view_is
     (keeps_pick c.self.inside.live new ks ls b
-    (c.switch_files.ensures.any honest b ks ls mine.on (omega (arith, mine.generation_is)) refl fits
+    (c.switch_files.ensures.every_image honest b ks ls mine.on (omega (arith, mine.generation_is)) refl fits
     (c.deref.ensures ∙ c.in_ok-bytes.ensures)))
 
 pub returns-clause-base : goal.returns-clause-base
@@ -90,8 +90,8 @@ returns-clause-base g c honest ks ls holds =
       header_is = refl;
     })
 
-pub returns-clause-any : goal.returns-clause-any
-returns-clause-any g c honest ks ls holds =
+pub returns-clause-every_image : goal.returns-clause-every_image
+returns-clause-every_image g c honest ks ls holds =
     let mine = subst (λ (s : StoreValue). HoldsEntries s ks ls) (sym c.self.view_is) holds in
     let new = g.D.LogDisk.disk c.switch_files.new.device in
     let b : BaseValue = record {
@@ -107,7 +107,7 @@ returns-clause-any g c honest ks ls holds =
     (pick c.other-self-inside.result (new c.other-self-inside.result) (new (other c.other-self-inside.result))) ks ls
     (next_base s c.args.standing.now)) c.self.view_is
     (keeps_pick c.other-self-inside.result new ks ls b
-    (c.switch_files.ensures.any honest b ks ls mine.on (omega (arith, mine.generation_is)) refl fits
+    (c.switch_files.ensures.every_image honest b ks ls mine.on (omega (arith, mine.generation_is)) refl fits
     (c.deref.ensures ∙ c.in_ok-bytes.ensures)))
 
 pub returns-then-self-clause-room : goal.returns-then-self-clause-room

@@ -8,21 +8,21 @@ use Rattle.lk_log.specs.Causes.{IsMetered}
 use Rattle.lk_log.specs.StoreValue.{StoreValue}
 use Rattle.lk_log.specs.Stores.{HoldsEntries}
 use Rattle.lk_log.specs.declared.fault.StoreFault.TheVariants.{Device}
-use Rattle.lk_disk.specs.Meters.{Passes}
+use Rattle.lk_disk.specs.Meters.{CallsSucceed}
 use Rattle.lk_log.proofs.ImageLaws.{generation-append}
 use Rattle.lk_log.proofs.Metering.{refused}
 use Rattle.lk_log.proofs.Steps.{stands_at, grows_holds, grows_synced, holds_same, holds_sync}
 use Rattle.lk_log.proofs.StoreLaws.{header_more, holds_keeps}
 use Rattle.lk_log.proofs.store.Store.sync.Goals as goal
 
-pub returns-then-self-clause-any : goal.returns-then-self-clause-any
-returns-then-self-clause-any g c honest ks ls holds = holds_keeps c.args.self.now ks ls holds
+pub returns-then-self-clause-every_image : goal.returns-then-self-clause-every_image
+returns-then-self-clause-every_image g c honest ks ls holds = holds_keeps c.args.self.now ks ls holds
 
 pub returns-then-self-clause-metered : goal.returns-then-self-clause-metered
 returns-then-self-clause-metered g c metered = (0, start)
 
-pub returns-in_err-sync-clause-any : goal.returns-in_err-sync-clause-any
-returns-in_err-sync-clause-any g c honest ks ls holds =
+pub returns-in_err-sync-clause-every_image : goal.returns-in_err-sync-clause-every_image
+returns-in_err-sync-clause-every_image g c honest ks ls holds =
     let mine = subst (λ (s : StoreValue). HoldsEntries s ks ls) (sym c.self.view_is) holds in
     let old = g.D.LogDisk.disk c.self.inside.device in
     let new = g.D.LogDisk.disk c.sync.new.self in
@@ -53,8 +53,8 @@ returns-clause-synced g c honest ks ls holds =
       header_is = header_more ks ls c.self.inside.header mine.header_is;
     }
 
-pub returns-clause-any : goal.returns-clause-any
-returns-clause-any g c honest ks ls holds =
+pub returns-clause-every_image : goal.returns-clause-every_image
+returns-clause-every_image g c honest ks ls holds =
     let mine = subst (λ (s : StoreValue). HoldsEntries s ks ls) (sym c.self.view_is) holds in
     let old = g.D.LogDisk.disk c.self.inside.device in
     let new = g.D.LogDisk.disk c.sync.new.self in
@@ -65,5 +65,5 @@ returns-clause-any g c honest ks ls holds =
 
 pub returns-clause-metered : goal.returns-clause-metered
 returns-clause-metered g c metered =
-    subst (λ (s : StoreValue). Passes s.meter (g.D.LogDisk.meter c.sync.new.self) 1) c.self.view_is
+    subst (λ (s : StoreValue). CallsSucceed s.meter (g.D.LogDisk.meter c.sync.new.self) 1) c.self.view_is
     (call_passes _ _ (c.in_ok-sync.ensures.metered metered))

@@ -3,5 +3,5 @@ use Rattle.std.proofs.Common.{◌≡◌, drop}
 use Rattle.lk_members.specs.Ports.{port_of}
 use Rattle.lk_members.proofs.window.Window.port_of.Given as goal
 
-abbrev pub invariant-loop-place : goal.invariant-loop-place
-invariant-loop-place l = port_of l.node (drop l.place-index l.places) ≡ port_of l.node l.places
+abbrev pub invariant-loop-each : goal.invariant-loop-each
+invariant-loop-each l = port_of l.node (drop l.each-index l.sets) ≡ port_of l.node l.sets

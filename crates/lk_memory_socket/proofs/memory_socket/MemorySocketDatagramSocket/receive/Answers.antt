@@ -11,5 +11,5 @@ returns-clause-some c telling =
     let few : n ≡ min (length told.bytes.items) 8229 = c.cut_length-length.ensures ∙ ap (λ (k : ℕ). min k 8229) long in
     let copied = c.copy_from_slice.ensures.after ∙ ap (λ (bs : List ℕ). take n bs) c.deref.ensures.value in
     ap coming_in c.in-Some.ensures.items
-    ∙ ap (λ (bs : List ℕ). (told.place, bs) ∷ coming_in c.pop_front.new.self.items)
+    ∙ ap (λ (bs : List ℕ). (told.address, bs) ∷ coming_in c.pop_front.new.self.items)
     (sym (heard_so told.bytes.items c.copy_from_slice.new.self (drop n c.args.buffer.now) n few copied))

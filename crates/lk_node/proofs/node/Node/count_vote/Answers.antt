@@ -2,7 +2,7 @@ use Rattle.std.proofs.Common.{◌≡◌, ◌∙◌, Some, List, ap, sym, subst}
 use Rattle.std.specs.Prelude.{is_some}
 use Rattle.lk_types.specs.declared.member.Member.{Member}
 use Rattle.lk_state.specs.States.{WholeValue}
-use Rattle.lk_node.specs.Deciding.{IsOnlyHeard, HearsVote}
+use Rattle.lk_node.specs.Deciding.{IsOnlyHeard, HandlesVote}
 use Rattle.lk_node.specs.NodeValue.{NodeValue}
 use Rattle.lk_node.proofs.DecidingLaws.{with_leader, only_heard, heard_and_decided, still_promised}
 use Rattle.lk_node.proofs.node.Node.count_vote.Goals as goal
@@ -43,9 +43,10 @@ returns g c =
     } in
     let same : c.roster-roster.result.now ≡ was.learner.whole.roster = c.roster-roster.ensures
     ∙ ap (λ (w : WholeValue). w.roster) c.whole.ensures in
-    subst (λ (k : NodeValue). HearsVote c.args.from c.args.vote.now k (with_leader was c.accepted-chosen.new.self)
+    subst (λ (k : NodeValue). HandlesVote c.args.from c.args.vote.now k (with_leader was c.accepted-chosen.new.self)
     (Some c.copy.result)) c.self.view_is
-    (subst (λ (s : List Member). HearsVote c.args.from c.args.vote.now was (with_leader was c.accepted-chosen.new.self)
+    (subst (λ (s : List Member). HandlesVote c.args.from c.args.vote.now was
+    (with_leader was c.accepted-chosen.new.self)
     (Some s)) (sym c.copy.ensures)
     (heard_and_decided c.args.from c.args.vote.now was c.accepted-chosen.new.self c.accepted-chosen.result
     c.in-Some.members.now c.roster-roster.result.now same

@@ -3,7 +3,7 @@ use Rattle.lk_acceptor.specs.States.{IsOrdered}
 use Rattle.lk_acceptor.specs.AcceptorValue.{AcceptorValue}
 use Rattle.lk_node.specs.NodeValue.{NodeValue}
 use Rattle.lk_node.proofs.AcceptorLaws.{accept_goes_on}
-use Rattle.lk_node.proofs.LevelLaws.{seen_goes_on}
+use Rattle.lk_node.proofs.GapLaws.{seen_goes_on}
 use Rattle.lk_node.proofs.node.Node.handle_accept.Goals as goal
 
 pub returns-clause-safe : goal.returns-clause-safe

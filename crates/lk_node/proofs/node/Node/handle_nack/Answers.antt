@@ -1,5 +1,5 @@
 use Rattle.std.proofs.Common.{rules}
-use Rattle.lk_node.proofs.LevelLaws.{nack_goes_on}
+use Rattle.lk_node.proofs.GapLaws.{nack_goes_on}
 use Rattle.lk_node.proofs.node.Node.handle_nack.Goals as goal
 
 pub returns-clause-safe : goal.returns-clause-safe

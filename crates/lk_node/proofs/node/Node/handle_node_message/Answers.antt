@@ -6,9 +6,9 @@ use Rattle.lk_agreement_laws.specs.Datagrams.{HasSent}
 use Rattle.lk_state.specs.Meanings.{Meaning}
 use Rattle.lk_types.specs.declared.vote.Vote.{Vote}
 use Rattle.lk_node_interface.specs.Outboxes.{nothing}
-use Rattle.lk_node.specs.Deciding.{HearsAccepted}
+use Rattle.lk_node.specs.Deciding.{HandlesAccepted}
 use Rattle.lk_node.specs.Serving.{ActsSafely}
-use Rattle.lk_node.specs.Steps.{HearsNode}
+use Rattle.lk_node.specs.Steps.{HandlesNode}
 use Rattle.lk_node.proofs.node.Node.handle_node_message.Goals as goal
 
 pub returns-in-Decided-clause-safe : goal.returns-in-Decided-clause-safe
@@ -30,10 +30,11 @@ returns-in-Accepted-clause-exact g c =
     let m : Meaning = g.M.Machine.meaning in
     let vote : Vote = c.in-Accepted.vote in
     let heard : IfOk c.handle_accepted.result
-    (λ o. HearsAccepted m c.args.from vote c.args.self.now c.handle_accepted.new.self o) =
+    (λ o. HandlesAccepted m c.args.from vote c.args.self.now c.handle_accepted.new.self o) =
     subst (λ (v : Vote). IfOk c.handle_accepted.result
-    (λ o. HearsAccepted m c.args.from v c.args.self.now c.handle_accepted.new.self o)) c.vote-in-Accepted.ensures.value
+    (λ o. HandlesAccepted m c.args.from v c.args.self.now c.handle_accepted.new.self o))
+    c.vote-in-Accepted.ensures.value
     c.handle_accepted.ensures.exact in
     subst (λ (x : NodeMessageRef). IfOk c.handle_accepted.result
-    (λ o. HearsNode m g.M.Machine.IsText c.args.self.now c.args.from (shown_node x) c.handle_accepted.new.self o))
+    (λ o. HandlesNode m g.M.Machine.IsText c.args.self.now c.args.from (shown_node x) c.handle_accepted.new.self o))
     (sym c.in-Accepted.is) heard

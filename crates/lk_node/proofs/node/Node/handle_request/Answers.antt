@@ -1,7 +1,7 @@
 -- One tactic for each goal that a wrong body breaks.
 use Rattle.std.proofs.Common.{rules}
 use Rattle.std.proofs.lemmas.Result.{IfOk-weaker}
-use Rattle.lk_node.specs.Asking.{HearsRequest}
+use Rattle.lk_node.specs.Asking.{HandlesRequest}
 use Rattle.lk_node.proofs.AskingLaws.{request_goes_on}
 use Rattle.lk_node.proofs.node.Node.handle_request.Goals as goal
 
@@ -16,5 +16,5 @@ returns-in_default-clause-safe g c =
 
 pub returns-clause-safe : goal.returns-clause-safe
 returns-clause-safe g c =
-    let heard : HearsRequest c.args.self.now c.args.request.now c.args.self.now c.in_ok-out.out = search rules in
+    let heard : HandlesRequest c.args.self.now c.args.request.now c.args.self.now c.in_ok-out.out = search rules in
     request_goes_on _ c.args.self.now c.args.self.now c.args.request.now c.in_ok-out.out heard

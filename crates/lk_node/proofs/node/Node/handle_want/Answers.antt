@@ -1,5 +1,5 @@
 use Rattle.std.proofs.lemmas.Result.{IfOk-weaker}
-use Rattle.lk_node.proofs.LevelLaws.{want_goes_on}
+use Rattle.lk_node.proofs.GapLaws.{want_goes_on}
 use Rattle.lk_node.proofs.node.Node.handle_want.Goals as goal
 
 pub returns-clause-safe : goal.returns-clause-safe

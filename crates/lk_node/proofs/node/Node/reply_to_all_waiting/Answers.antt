@@ -3,13 +3,13 @@ use Rattle.std.specs.Prelude.{slice_get}
 use Rattle.lk_state.specs.States.{WholeValue}
 use Rattle.lk_state.specs.declared.session.Session.{Session}
 use Rattle.lk_learner.specs.Learners.{LearnerValue}
-use Rattle.lk_node.specs.Installing.{none_settled, one_settled}
+use Rattle.lk_node.specs.Installing.{none_ended, one_ended}
 use Rattle.lk_node.specs.NodeValue.{NodeValue}
 use Rattle.lk_node.proofs.LearnerLaws.{element}
 use Rattle.lk_node.proofs.node.Node.reply_to_all_waiting.Goals as goal
 
 pub sessions-init : goal.sessions-init
-sessions-init g c = (refl, none_settled)
+sessions-init g c = (refl, none_ended)
 
 pub sessions-preserved : goal.sessions-preserved
 sessions-preserved g c =
@@ -26,5 +26,5 @@ sessions-preserved g c =
     element c.sessions-in-sessions.result.now ss at.index c.index-sessions-index.result same
     (omega (arith, c.sessions-test.true, ap length before, ap length same)) c.index-sessions-index.is in (
       ap (λ (node : NodeValue). node.learner) c.in_ok-reply_to_waiting.ensures.becomes ∙ at.invariant.0,
-      one_settled c.index-sessions-index.result at.invariant.1 here c.in_ok-reply_to_waiting.ensures,
+      one_ended c.index-sessions-index.result at.invariant.1 here c.in_ok-reply_to_waiting.ensures,
     )

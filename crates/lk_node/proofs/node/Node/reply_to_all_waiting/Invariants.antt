@@ -1,9 +1,9 @@
 -- The sessions so far are settled.
 use Rattle.std.proofs.Common.{◌≡◌}
-use Rattle.lk_node.specs.Installing.{SettlesFirst}
+use Rattle.lk_node.specs.Installing.{EndsFirstWaits}
 use Rattle.lk_node.proofs.node.Node.reply_to_all_waiting.Given as goal
 
 abbrev pub invariant-sessions : goal.invariant-sessions
 invariant-sessions g l =
     (l.self.learner ≡ l.fn.self.learner)
-    × SettlesFirst l.fn.self.learner.whole.sessions l.fn.self l.fn.out l.index l.self l.out
+    × EndsFirstWaits l.fn.self.learner.whole.sessions l.fn.self l.fn.out l.index l.self l.out

@@ -4,8 +4,8 @@ use Rattle.lk_pacing.proofs.tick_timer.TickTimer.has_passed.Goals as goal
 
 pub returns-in-Ok : goal.returns-in-Ok
 returns-in-Ok g c =
-    let e = c.passes_at.ensures in (
+    let e = c.elapses_at.ensures in (
       Some c.in-Ok.now,
-      passes_by c.in-Ok.now c.args.self.now.began c.passes_at.new.self.began c.passes_at.result
+      passes_by c.in-Ok.now c.args.self.now.began c.elapses_at.new.self.began c.elapses_at.result
           e.passed e.again e.goes_on,
     )

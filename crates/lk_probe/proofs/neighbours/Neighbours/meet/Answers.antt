@@ -13,8 +13,8 @@ returns-then-at-lt-ROOM-clause-strangers c =
     let read : c.index-self-at.result ≡ slice_index_or es c.entry_for-at.result c.index-self-at.result = search rules in
     let is : slice_get es c.entry_for-at.result ≡ Some c.index-self-at.result =
     read_there es c.entry_for-at.result c.index-self-at.result c.index-self-at.result within read in
-    let met : c.having_met.result ≡ having_met c.args.place c.args.binds c.index-self-at.result = search rules in
+    let met : c.having_met.result ≡ having_met c.args.address c.args.binds c.index-self-at.result = search rules in
     let same : es ≡ c.args.self.now = search rules in
     ap (λ (n : Neighbour). is_stranger (slice_set es c.entry_for-at.result (Some n))) met
-    ∙ met_strangers es c.entry_for-at.result c.index-self-at.result c.args.place c.args.binds is
+    ∙ met_strangers es c.entry_for-at.result c.index-self-at.result c.args.address c.args.binds is
     ∙ ap is_stranger same

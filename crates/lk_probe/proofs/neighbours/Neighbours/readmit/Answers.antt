@@ -13,7 +13,7 @@ returns-in_default c =
     let read : slice_index_or es at c.result-1.given.0 ≡ None = search rules in
     let is : slice_get es at ≡ Some None = read_there es at None c.result-1.given.0 within (sym read) in
     let same : es ≡ c.args.self.now = search rules in
-    let there : at ≡ entry_for c.args.place c.args.self.now = search rules in
+    let there : at ≡ entry_for c.args.address c.args.self.now = search rules in
     record {
       known = λ n e. absurd (cc (is, e, same, there));
       unknown = λ f. refl;

@@ -69,7 +69,7 @@ pub returns-clause-refused : goal.returns-clause-refused
 returns-clause-refused g c =
     let m : Meaning = g.M.Machine.meaning in
     refused m c.args.self.now c.compact.new.self c.compact.result c.compact.ensures.cause c.compact.ensures.refused
-    c.compact.ensures.wakes c.compact.ensures.last
+    c.compact.ensures.halted c.compact.ensures.last
 
 pub returns-clause-told : goal.returns-clause-told
 returns-clause-told g c = told c.args.self.now c.compact.new.self c.compact.result c.compact.ensures.refused

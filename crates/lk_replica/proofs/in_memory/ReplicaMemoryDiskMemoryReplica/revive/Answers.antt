@@ -4,7 +4,7 @@ use Rattle.lk_store_format.specs.Values.{HeaderValue}
 use Rattle.lk_log.specs.Rooms.{StaysWithin}
 use Rattle.lk_disk.specs.Disk.{Disk}
 use Rattle.lk_memory_disk.specs.Memory.{Memory, disk_of}
-use Rattle.lk_disk.specs.Meters.{Passes}
+use Rattle.lk_disk.specs.Meters.{CallsSucceed}
 use Rattle.lk_disk.specs.declared.device.Side.{Side}
 use Rattle.lk_disk.specs.declared.meter.Meter.{Meter}
 use Rattle.lk_state.specs.Meanings.{Meaning}
@@ -48,7 +48,7 @@ not_revived m IsText device whose (Err e) number left X Y cause calls refused =
 
 -- so many calls of its device have passed
 passed : {A E : Type 0} (d : Side → Disk) (l : Meter) (now : A → Meter) (Y : E → Type 0) (r : Result A E)
-    → MatchResult r (λ x. CallsOfRevival d l (now x)) Y → IfOk r (λ x. (k : ℕ) × Passes l (now x) k)
+    → MatchResult r (λ x. CallsOfRevival d l (now x)) Y → IfOk r (λ x. (k : ℕ) × CallsSucceed l (now x) k)
 passed d l now Y (Ok x) c = (c.0 + c.1, c.4)
 passed d l now Y (Err e) c = tt
 

@@ -7,7 +7,7 @@ use Rattle.lk_log.specs.StoreValue.{disks}
 use Rattle.lk_log.specs.Rooms.{StaysWithin}
 use Rattle.lk_log.proofs.Room.{within_first, within_still}
 use Rattle.lk_memory_disk.specs.Memory.{disk_of}
-use Rattle.lk_disk.specs.Meters.{Passes}
+use Rattle.lk_disk.specs.Meters.{CallsSucceed}
 use Rattle.lk_disk.proofs.Devices.{passes_on}
 use Rattle.lk_disk.specs.declared.meter.Meter.{Meter}
 use Rattle.lk_node_interface.specs.Letters.{batch_of, LetterValue}
@@ -16,7 +16,7 @@ use Rattle.lk_node.specs.Calls.{heard_by, InputFits, NodeFits}
 use Rattle.lk_node.specs.Keeping.{ReplicaHolds}
 use Rattle.lk_node.specs.Leavings.{DisksFit, AllCover}
 use Rattle.lk_node_interface.specs.Faults.{fault_number, RefusedAfter, IsNumberOfCalls}
-use Rattle.lk_replica.specs.Groups.{GroupValue, IsSettled, LeavesInGroup, gather_calls, settle_calls}
+use Rattle.lk_replica.specs.Groups.{GroupValue, IsGroupSynced, LeavesInGroup, gather_calls, sync_calls}
 use Rattle.lk_replica.specs.ReplicaValue.{ReplicaValue, device_of}
 use Rattle.lk_replica.specs.Together.{IsTogetherRefused}
 use Rattle.lk_replica.specs.declared.taken.Step.{Step}
@@ -28,7 +28,7 @@ use Rattle.lk_replica.proofs.TakenTogether.{taken_in_all, gone_in_all, covered_i
 use Rattle.lk_replica.proofs.in_memory.ReplicaMemoryDiskMemoryReplica.take_all.Goals as goal
 
 -- a refusal for memory comes after calls that have passed
-not_by_the_device : (number : ℕ) (m n : Meter) → number ≡ 8 → (k : ℕ) × Passes m n k → RefusedAfter number m n
+not_by_the_device : (number : ℕ) (m n : Meter) → number ≡ 8 → (k : ℕ) × CallsSucceed m n k → RefusedAfter number m n
 not_by_the_device number m n is passes = subst (λ (k : ℕ). RefusedAfter k m n) (sym is) passes
 
 -- ---- the loop
@@ -161,7 +161,7 @@ returns-in_err-keep-clause-calls_err g c =
     _ _ c.from_residual-in_err-keep.ensures.1
     (not_by_the_device _ own.store.meter c.keep.new.self.store.meter c.in_err-keep.ensures.refused.no_memory (
       s.calls + made,
-      subst (λ (r : ReplicaValue). Passes own.store.meter r.store.meter (s.calls + made))
+      subst (λ (r : ReplicaValue). CallsSucceed own.store.meter r.store.meter (s.calls + made))
           (sym c.in_err-keep.ensures.refused.ends) passes,
     ))
 
@@ -280,8 +280,8 @@ returns-in-Err-clause-room g c =
 pub returns-in-Err-clause-calls_err : goal.returns-in-Err-clause-calls_err
 returns-in-Err-clause-calls_err g c =
     let s = c.inputs.invariant in (
-      s.calls + settle_calls c.needs_sync.result,
-      passes_on s.calls s.passes (settle_calls c.needs_sync.result) ((c.in_ok-sync_group.ensures.exact tt).calls tt),
+      s.calls + sync_calls c.needs_sync.result,
+      passes_on s.calls s.passes (sync_calls c.needs_sync.result) ((c.in_ok-sync_group.ensures.exact tt).calls tt),
     )
 
 pub returns-in-Err-clause-refused : goal.returns-in-Err-clause-refused
@@ -289,11 +289,11 @@ returns-in-Err-clause-refused g c =
     let m = g.M.Machine.meaning in
     let new = c.sync_group.new.self in
     let all = c.args.inputs.items in
-    let settled = subst (λ (w : Bool). IsSettled ⊤ c.inputs.self w new) c.needs_sync.ensures
+    let is_synced = subst (λ (w : Bool). IsGroupSynced ⊤ c.inputs.self w new) c.needs_sync.ensures
     (c.in_ok-sync_group.ensures.exact tt) in (
       inr (inr (inr (inr refl))),
       refused_in_all m g.M.Machine.IsText c.args.self.now all c.inputs.self new _ _ _ _ c.inputs.invariant
-          (inr (inr (record { not_sent = refl; settled = settled }))),
+          (inr (inr (record { not_sent = refl; is_synced = is_synced }))),
     )
 
 -- ---- all is sent
@@ -333,8 +333,8 @@ returns-in-Ok-clause-room g c =
 pub returns-in-Ok-clause-calls : goal.returns-in-Ok-clause-calls
 returns-in-Ok-clause-calls g c =
     let s = c.inputs.invariant in (
-      s.calls + settle_calls c.needs_sync.result,
-      passes_on s.calls s.passes (settle_calls c.needs_sync.result) ((c.in_ok-sync_group.ensures.exact tt).calls tt),
+      s.calls + sync_calls c.needs_sync.result,
+      passes_on s.calls s.passes (sync_calls c.needs_sync.result) ((c.in_ok-sync_group.ensures.exact tt).calls tt),
     )
 
 pub returns-in-Ok-clause-syncs : goal.returns-in-Ok-clause-syncs
@@ -343,12 +343,12 @@ returns-in-Ok-clause-syncs g c genesis n held x shown =
     let own = c.args.self.now in
     let new = c.sync_group.new.self in
     let r = remembered m genesis n held own.node own.store shown in
-    let settled = subst (λ (w : Bool). IsSettled ⊤ c.inputs.self w new) c.needs_sync.ensures
+    let is_synced = subst (λ (w : Bool). IsGroupSynced ⊤ c.inputs.self w new) c.needs_sync.ensures
     (c.in_ok-sync_group.ensures.exact tt) in
     let batch : c.in-Ok.sent.items ≡ batch_of own.node.header.node c.inputs.group.letters = c.in-Ok.ensures.ok
     ∙ (λ i. batch_of (c.number-node.ensures i) (c.into_letters.ensures i)) in
     λ d listed spelled. on_device (λ z. AllCover m genesis n z x) new.store
-    (covered_in_all m g.M.Machine.IsText own c.args.inputs.items c.inputs.self new _ _ _ _ c.inputs.invariant settled
+    (covered_in_all m g.M.Machine.IsText own c.args.inputs.items c.inputs.self new _ _ _ _ c.inputs.invariant is_synced
     batch genesis n x r d listed spelled)
 
 pub returns-in-Ok-clause-goes : goal.returns-in-Ok-clause-goes
@@ -360,11 +360,11 @@ returns-in-Ok-clause-goes g c genesis n held shown =
     let none : c.inputs.input-iterator.rest.items ≡ [] =
     nil_from_length c.inputs.input-iterator.rest.items
     (sym c.inputs.input-iterator.rest.ok.0 ∙ c.in-None.ensures.steps.0) in
-    let settled = subst (λ (w : Bool). IsSettled ⊤ c.inputs.self w new) c.needs_sync.ensures
+    let is_synced = subst (λ (w : Bool). IsGroupSynced ⊤ c.inputs.self w new) c.needs_sync.ensures
     (c.in_ok-sync_group.ensures.exact tt) in
     let batch : c.in-Ok.sent.items ≡ batch_of own.node.header.node c.inputs.group.letters = c.in-Ok.ensures.ok
     ∙ (λ i. batch_of (c.number-node.ensures i) (c.into_letters.ensures i)) in
-    gone_in_all m g.M.Machine.IsText own c.args.inputs.items c.inputs.self new _ _ _ _ c.inputs.invariant none settled
+    gone_in_all m g.M.Machine.IsText own c.args.inputs.items c.inputs.self new _ _ _ _ c.inputs.invariant none is_synced
     (c.sync_group.ensures.disks tt).room batch genesis n r
 
 pub returns-in-Ok-clause-exact : goal.returns-in-Ok-clause-exact
@@ -375,9 +375,10 @@ returns-in-Ok-clause-exact g c =
     let none : c.inputs.input-iterator.rest.items ≡ [] =
     nil_from_length c.inputs.input-iterator.rest.items
     (sym c.inputs.input-iterator.rest.ok.0 ∙ c.in-None.ensures.steps.0) in
-    let settled = subst (λ (w : Bool). IsSettled ⊤ c.inputs.self w new) c.needs_sync.ensures
+    let is_synced = subst (λ (w : Bool). IsGroupSynced ⊤ c.inputs.self w new) c.needs_sync.ensures
     (c.in_ok-sync_group.ensures.exact tt) in
     let batch : c.in-Ok.sent.items ≡ batch_of own.node.header.node c.inputs.group.letters = c.in-Ok.ensures.ok
     ∙ (λ i. batch_of (c.number-node.ensures i) (c.into_letters.ensures i)) in
-    taken_in_all m g.M.Machine.IsText own c.args.inputs.items c.inputs.self new _ _ _ _ c.inputs.invariant none settled
+    taken_in_all m g.M.Machine.IsText own c.args.inputs.items c.inputs.self new _ _ _ _ c.inputs.invariant none
+    is_synced
     c.in_ok-sync_group.ensures.alive batch

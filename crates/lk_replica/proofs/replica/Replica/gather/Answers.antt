@@ -7,7 +7,8 @@ use Rattle.lk_log.proofs.Room.{within_same}
 use Rattle.lk_node_interface.specs.Letters.{batch_of}
 use Rattle.lk_node.specs.Calls.{InputFits, NodeFits}
 use Rattle.lk_node.specs.Keeping.{ReplicaHolds}
-use Rattle.lk_replica.specs.Groups.{IsGathered, IsRefusedInGroup, KeepsGroup, LeavesInGroup, as_sent, RemembersInGroup}
+use Rattle.lk_replica.specs.Groups.{IsGathered, IsRefusedInGroup, KeepsGroup, LeavesInGroup}
+use Rattle.lk_replica.specs.Groups.{as_released, RemembersInGroup}
 use Rattle.lk_replica.specs.ReplicaValue.{ReplicaValue}
 use Rattle.lk_recovery.specs.Rooms.{GrowsFromBase}
 use Rattle.lk_recovery.proofs.Recoveries.{grown_none}
@@ -25,8 +26,9 @@ returns-clause-goes g c honest =
       noted = a.noted;
       said = a.said;
       are = λ genesis k r h n f heard sent among.
-          let mine = subst (λ (k : ReplicaValue). NodeFits m h n (ReplicaHolds m k.node (as_sent w k.store) h.genesis n)
-          (disks (as_sent w k.store))) (sym c.self.view_is) f in
+          let mine = subst (λ (k : ReplicaValue). NodeFits m h n (ReplicaHolds m k.node
+          (as_released w k.store) h.genesis n)
+          (disks (as_released w k.store))) (sym c.self.view_is) f in
           let was = subst (λ (x : ReplicaValue). RemembersInGroup x.node x.store w genesis k) (sym c.self.view_is) r in
           goes_as_sent m h n c.step_in_group.new.node c.step_in_group.new.store c.step_in_group.new.group.needs_sync
           a.notes (batch_of n sent)

@@ -2,14 +2,15 @@ use Rattle.std.proofs.Common.{subst, Bool, List}
 use Rattle.std.specs.Prelude.{⊤}
 use Rattle.lk_log.specs.StoreValue.{disks}
 use Rattle.lk_node_interface.specs.Letters.{LetterValue}
-use Rattle.lk_replica.specs.Groups.{IsSettled, LeavesInGroup}
+use Rattle.lk_replica.specs.Groups.{IsGroupSynced, LeavesInGroup}
 use Rattle.lk_replica.specs.Posts.{CarriesAll}
 use Rattle.lk_replica.proofs.Grouped.{settled_node_fits, settled_covers}
 use Rattle.lk_replica.proofs.replica.Replica.release.Goals as goal
 
 pub returns-clause-exact : goal.returns-clause-exact
 returns-clause-exact g c honest =
-    subst (λ (w : Bool). IsSettled g.D.LogDisk.is_metered c.args.self.now w c.sync_group.new.self) c.needs_sync.ensures
+    subst (λ (w : Bool). IsGroupSynced g.D.LogDisk.is_metered c.args.self.now w c.sync_group.new.self)
+    c.needs_sync.ensures
     (c.in_ok-sync_group.ensures.exact honest)
 
 pub returns-clause-fits : goal.returns-clause-fits
@@ -20,7 +21,7 @@ returns-clause-fits g c honest genesis k r h n f =
 pub returns-clause-syncs : goal.returns-clause-syncs
 returns-clause-syncs g c honest genesis n x r every d listed said =
     settled_covers g.M.Machine.meaning genesis n c.args.self.now.node c.args.self.now.store c.sync_group.new.self.store
-    c.args.group.now.needs_sync (returns-clause-exact g c honest).settles r x (every x d listed said)
+    c.args.group.now.needs_sync (returns-clause-exact g c honest).syncs_all r x (every x d listed said)
 
 pub returns-clause-gives : goal.returns-clause-gives
 returns-clause-gives g c =

@@ -77,7 +77,7 @@ returns-in-Ok-renew-clause-ready g c = record {
   format = c.in-Ok-renew.ensures.ready.format;
   alive = refl;
   store_alive = c.in-Ok-renew.ensures.ready.alive c.in-Ok.ensures.ready.store_alive;
-  awake = c.renew.ensures.wakes ∙ c.in-Ok.ensures.ready.awake;
+  awake = c.renew.ensures.halted ∙ c.in-Ok.ensures.ready.awake;
   runs = c.in-Ok-renew.ensures.ready.runs c.in-Ok.ensures.ready.runs;
 }
 

@@ -4,7 +4,7 @@ use Rattle.lk_disk.specs.Meters.{start}
 use Rattle.lk_log.specs.StoreValue.{disks}
 use Rattle.lk_log.proofs.Room.{within_same}
 use Rattle.lk_node_interface.specs.Faults.{fault_number}
-use Rattle.lk_replica.specs.Groups.{IsRefusedInGroup, IsSettled, LeavesInGroup}
+use Rattle.lk_replica.specs.Groups.{IsRefusedInGroup, IsGroupSynced, LeavesInGroup}
 use Rattle.lk_replica.specs.ReplicaValue.{ReplicaValue}
 use Rattle.lk_replica.proofs.Grouped.{ended_in_group, group_refused}
 use Rattle.lk_replica.proofs.Refusals.{store_told, store_only, store_awake}
@@ -12,18 +12,18 @@ use Rattle.lk_recovery.proofs.Recoveries.{spared_all}
 use Rattle.lk_replica.proofs.replica.Replica.sync_group.Goals as goal
 
 pub invariant_of-self-2 : goal.invariant_of-self-2
-invariant_of-self-2 g c = (λ lives. c.self.invariant.0 c.if-self.false, c.sync_if_waiting.ensures.format)
+invariant_of-self-2 g c = (λ lives. c.self.invariant.0 c.if-self.false, c.sync_or_flush.ensures.format)
 
 pub returns-clause-exact : goal.returns-clause-exact
 returns-clause-exact g c honest =
-    let done = c.in_ok-sync_if_waiting.ensures in
+    let done = c.in_ok-sync_or_flush.ensures in
     let metered = g.D.LogDisk.is_metered in
-    subst (λ (r : ReplicaValue). IsSettled metered r c.args.needs_sync
-    (record { node = c.self.inside.node; store = c.sync_if_waiting.new.store; failed = false })) c.self.view_is
+    subst (λ (r : ReplicaValue). IsGroupSynced metered r c.args.needs_sync
+    (record { node = c.self.inside.node; store = c.sync_or_flush.new.store; failed = false })) c.self.view_is
     (record {
       lived = c.if-self.false;
       node = refl;
-      settles = done.settles honest;
+      syncs_all = done.syncs_all honest;
       calls = λ metered. done.metered metered;
       store_alive = λ alive. done.alive alive;
     })
@@ -35,23 +35,23 @@ returns-then-self-clause-disks g c honest = record {
   room = within_same 0 (disks c.args.self.now.store) (disks c.args.self.now.store) (λ s. refl);
 }
 
-pub returns-in_err-sync_if_waiting-clause-disks : goal.returns-in_err-sync_if_waiting-clause-disks
-returns-in_err-sync_if_waiting-clause-disks g c honest =
+pub returns-in_err-sync_or_flush-clause-disks : goal.returns-in_err-sync_or_flush-clause-disks
+returns-in_err-sync_or_flush-clause-disks g c honest =
     subst (λ (r : ReplicaValue). LeavesInGroup g.M.Machine.meaning (λ h. ⊤) 0 r.node r.store c.args.needs_sync
-    (disks c.sync_if_waiting.new.store)) c.self.view_is
+    (disks c.sync_or_flush.new.store)) c.self.view_is
     (ended_in_group g.M.Machine.meaning
     (record { node = c.self.inside.node; store = c.self.inside.store; failed = c.self.inside.failed })
-    c.args.needs_sync c.sync_if_waiting.new.store (c.sync_if_waiting.ensures.any honest)
-    (c.sync_if_waiting.ensures.room honest))
+    c.args.needs_sync c.sync_or_flush.new.store (c.sync_or_flush.ensures.every_image honest)
+    (c.sync_or_flush.ensures.room honest))
 
 pub returns-clause-disks : goal.returns-clause-disks
 returns-clause-disks g c honest =
     subst (λ (r : ReplicaValue). LeavesInGroup g.M.Machine.meaning (λ h. ⊤) 0 r.node r.store c.args.needs_sync
-    (disks c.sync_if_waiting.new.store)) c.self.view_is
+    (disks c.sync_or_flush.new.store)) c.self.view_is
     (ended_in_group g.M.Machine.meaning
     (record { node = c.self.inside.node; store = c.self.inside.store; failed = c.self.inside.failed })
-    c.args.needs_sync c.sync_if_waiting.new.store (c.sync_if_waiting.ensures.any honest)
-    (c.sync_if_waiting.ensures.room honest))
+    c.args.needs_sync c.sync_or_flush.new.store (c.sync_or_flush.ensures.every_image honest)
+    (c.sync_or_flush.ensures.room honest))
 
 pub returns-then-self-clause-refused : goal.returns-then-self-clause-refused
 returns-then-self-clause-refused g c = record {
@@ -70,17 +70,17 @@ returns-then-self-clause-refused g c = record {
   awake = λ was other. was;
 }
 
-pub returns-in_err-sync_if_waiting-clause-refused : goal.returns-in_err-sync_if_waiting-clause-refused
-returns-in_err-sync_if_waiting-clause-refused g c =
-    let was = c.in_err-sync_if_waiting.ensures.refused in
+pub returns-in_err-sync_or_flush-clause-refused : goal.returns-in_err-sync_or_flush-clause-refused
+returns-in_err-sync_or_flush-clause-refused g c =
+    let was = c.in_err-sync_or_flush.ensures.refused in
     subst (λ (r : ReplicaValue). IfErr c.from_residual.result
     (λ e. IsRefusedInGroup g.D.LogDisk.is_honest g.D.LogDisk.is_metered r
-    (record { node = c.self.inside.node; store = c.sync_if_waiting.new.store; failed = true }) (fault_number e)))
+    (record { node = c.self.inside.node; store = c.sync_or_flush.new.store; failed = true }) (fault_number e)))
     c.self.view_is
     (group_refused g.D.LogDisk.is_honest g.D.LogDisk.is_metered
     _ _ (record { node = c.self.inside.node; store = c.self.inside.store; failed = c.self.inside.failed })
-    c.self.inside.node c.sync_if_waiting.new.store c.from_residual.ensures.1 c.if-self.false
-    c.in_err-sync_if_waiting.ensures.cause
+    c.self.inside.node c.sync_or_flush.new.store c.from_residual.ensures.1 c.if-self.false
+    c.in_err-sync_or_flush.ensures.cause
     (record {
       told = store_told _ was.of_store;
       only = store_only _ was.of_store;

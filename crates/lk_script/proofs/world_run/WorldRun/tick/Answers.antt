@@ -1,5 +1,5 @@
 use Rattle.std.proofs.Common.{rules, arith, ◌≡◌, replicate, subst}
-use Rattle.lk_sim.specs.Runs.{Passes}
+use Rattle.lk_sim.specs.Runs.{AreExecuted}
 use Rattle.lk_sim.specs.declared.event.Event.TheVariants.{Tick}
 use Rattle.lk_script.proofs.Following.{one_more, cut_short, done}
 use Rattle.lk_script.proofs.world_run.WorldRun.tick.Goals as goal
@@ -28,7 +28,7 @@ returns-clause-follows g c =
     let all : c.ticks.counter ≡ c.args.times = search rules in (
       c.args.times,
       done g.R.MemoryReplica.behaves (Tick c.args.node) c.args.times c.args.self.now.world c.ticks.self.world
-          (subst (λ n. Passes g.R.MemoryReplica.behaves
+          (subst (λ n. AreExecuted g.R.MemoryReplica.behaves
           (replicate n (Tick c.args.node)) c.args.self.now.world c.ticks.self.world) all c.ticks.invariant.1),
       omega (arith, c.ticks.invariant.0, all),
     )

@@ -10,7 +10,7 @@ returns c =
     let client : ℕ = c.args.client in
     let l : List Session = c.self.inside.list.items in
     c.own_at.ensures
-    ∙ ap (λ (n : ℕ). own client (slice_get c.as_slice-sessions.result.now n)) c.place_of.ensures.place
+    ∙ ap (λ (n : ℕ). own client (slice_get c.as_slice-sessions.result.now n)) c.index_of.ensures.index
     ∙ ap (λ (m : List Session). own client (slice_get m (before client m))) c.as_slice-sessions.ensures.value
     ∙ sym (session_of-before client 0 l c.self.invariant.1)
     ∙ ap (session_of client) c.self.view_is

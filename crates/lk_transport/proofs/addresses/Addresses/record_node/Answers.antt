@@ -3,5 +3,5 @@ use Rattle.std.proofs.Common.{arith}
 use Rattle.std.proofs.lemmas.Grind.{common_steps}
 use Rattle.lk_transport.proofs.addresses.Addresses.record_node.Goals as goal
 
-pub returns-clause-places : goal.returns-clause-places
-returns-clause-places c = grind (arith, common_steps)
+pub returns-clause-moves : goal.returns-clause-moves
+returns-clause-moves c = grind (arith, common_steps)

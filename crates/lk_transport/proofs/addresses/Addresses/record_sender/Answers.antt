@@ -3,13 +3,13 @@ use Rattle.lk_types.specs.declared.command.Request.{Request}
 use Rattle.lk_wire.specs.Shown.{shown, shown_content, shown_node}
 use Rattle.lk_messages.specs.declared.message.Message.{Message}
 use Rattle.lk_wire.specs.declared.viewing.message.ContentRef.{ContentRef}
-use Rattle.lk_transport.specs.Posts.{HearsClient, HearsNode, HearsContent, is_binding}
+use Rattle.lk_transport.specs.Posts.{RecordsClient, RecordsNode, RecordsContentSender, is_binding}
 use Rattle.lk_transport.proofs.addresses.Addresses.record_sender.Goals as goal
 
 pub returns-in-Request-clause-heard : goal.returns-in-Request-clause-heard
 returns-in-Request-clause-heard c =
     let same : c.in-Ok.message.now.cluster ≡ c.args.cluster = search rules in
-    let met : HearsClient c.request-client.result.client c.args.from c.args.self.now c.record_client.new.self =
+    let met : RecordsClient c.request-client.result.client c.args.from c.args.self.now c.record_client.new.self =
     record {
       own = c.record_client.ensures.own;
       others = c.record_client.ensures.others;
@@ -17,16 +17,17 @@ returns-in-Request-clause-heard c =
       neighbours = c.record_client.ensures.neighbours;
       network = c.record_client.ensures.network;
     } in
-    let client : HearsClient c.in-Request.request.client c.args.from c.args.self.now c.record_client.new.self =
-    subst (λ (r : Request). HearsClient r.client c.args.from c.args.self.now c.record_client.new.self)
+    let client : RecordsClient c.in-Request.request.client c.args.from c.args.self.now c.record_client.new.self =
+    subst (λ (r : Request). RecordsClient r.client c.args.from c.args.self.now c.record_client.new.self)
     c.request-client.ensures.value met in
-    let heard : HearsContent
+    let heard : RecordsContentSender
     (shown_content c.in-Ok.message.now.content) c.args.from c.args.self.now c.record_client.new.self =
-    subst (λ (x : ContentRef). HearsContent (shown_content x) c.args.from c.args.self.now c.record_client.new.self)
+    subst (λ (x : ContentRef). RecordsContentSender
+    (shown_content x) c.args.from c.args.self.now c.record_client.new.self)
     (sym c.in-Request.is) client in
     record {
       message = λ m s is. subst
-          (λ (n : Message). HearsContent n.content c.args.from c.args.self.now c.record_client.new.self)
+          (λ (n : Message). RecordsContentSender n.content c.args.from c.args.self.now c.record_client.new.self)
           (c.in-Ok.ensures.only m s) heard;
       other = λ none. absurd (none (shown c.in-Ok.message.now) c.in-Ok.ensures.found same);
     }
@@ -34,25 +35,26 @@ returns-in-Request-clause-heard c =
 pub returns-in-Node-clause-heard : goal.returns-in-Node-clause-heard
 returns-in-Node-clause-heard c =
     let same : c.in-Ok.message.now.cluster ≡ c.args.cluster = search rules in
-    let bound : HearsNode c.in-Node.node c.args.from c.is_binding.result c.args.self.now c.record_node.new.self =
+    let bound : RecordsNode c.in-Node.node c.args.from c.is_binding.result c.args.self.now c.record_node.new.self =
     record {
       own = c.record_node.ensures.own;
-      places = c.record_node.ensures.places;
+      moves = c.record_node.ensures.moves;
       clients = c.record_node.ensures.clients;
       meets = c.record_node.ensures.meets;
       network = c.record_node.ensures.network;
     } in
-    let met : HearsNode c.in-Node.node c.args.from
+    let met : RecordsNode c.in-Node.node c.args.from
     (is_binding (shown_node c.in-Node.said)) c.args.self.now c.record_node.new.self =
-    subst (λ (b : Bool). HearsNode c.in-Node.node c.args.from b c.args.self.now c.record_node.new.self)
+    subst (λ (b : Bool). RecordsNode c.in-Node.node c.args.from b c.args.self.now c.record_node.new.self)
     c.is_binding.ensures bound in
-    let heard : HearsContent
+    let heard : RecordsContentSender
     (shown_content c.in-Ok.message.now.content) c.args.from c.args.self.now c.record_node.new.self =
-    subst (λ (x : ContentRef). HearsContent (shown_content x) c.args.from c.args.self.now c.record_node.new.self)
+    subst (λ (x : ContentRef). RecordsContentSender
+    (shown_content x) c.args.from c.args.self.now c.record_node.new.self)
     (sym c.in-Node.is) met in
     record {
       message = λ m s is. subst
-          (λ (n : Message). HearsContent n.content c.args.from c.args.self.now c.record_node.new.self)
+          (λ (n : Message). RecordsContentSender n.content c.args.from c.args.self.now c.record_node.new.self)
           (c.in-Ok.ensures.only m s) heard;
       other = λ none. absurd (none (shown c.in-Ok.message.now) c.in-Ok.ensures.found same);
     }

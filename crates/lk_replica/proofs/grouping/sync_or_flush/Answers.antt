@@ -1,21 +1,21 @@
 use Rattle.lk_log.proofs.StoreLaws.{same_keeps, same_within}
 use Rattle.lk_replica.proofs.Grouped.{settled_still, settled_none, settled_once}
 use Rattle.lk_recovery.proofs.Recoveries.{err_as, refused_after, sync_refused, sync_spares, sync_not_failed}
-use Rattle.lk_replica.proofs.grouping.sync_if_waiting.Goals as goal
+use Rattle.lk_replica.proofs.grouping.sync_or_flush.Goals as goal
 
 -- ---- nothing waits for a sync
 
-pub returns-then-not-needs_sync-clause-settles : goal.returns-then-not-needs_sync-clause-settles
-returns-then-not-needs_sync-clause-settles g c honest =
+pub returns-then-not-needs_sync-clause-syncs_all : goal.returns-then-not-needs_sync-clause-syncs_all
+returns-then-not-needs_sync-clause-syncs_all g c honest =
     settled_still c.args.store.now c.flush.new.self c.args.needs_sync (cc c.if-not-needs_sync.true)
     (c.in_ok-flush.ensures.ok honest)
 
-pub returns-in_err-flush-clause-any : goal.returns-in_err-flush-clause-any
-returns-in_err-flush-clause-any g c honest ks ls holds =
+pub returns-in_err-flush-clause-every_image : goal.returns-in_err-flush-clause-every_image
+returns-in_err-flush-clause-every_image g c honest ks ls holds =
     same_keeps c.args.store.now c.flush.new.self (c.flush.ensures.disks honest) c.flush.ensures.file.0 ks ls holds
 
-pub returns-then-not-needs_sync-clause-any : goal.returns-then-not-needs_sync-clause-any
-returns-then-not-needs_sync-clause-any g c honest ks ls holds =
+pub returns-then-not-needs_sync-clause-every_image : goal.returns-then-not-needs_sync-clause-every_image
+returns-then-not-needs_sync-clause-every_image g c honest ks ls holds =
     same_keeps c.args.store.now c.flush.new.self (c.flush.ensures.disks honest) c.flush.ensures.file.0 ks ls holds
 
 pub returns-in_err-flush-clause-room : goal.returns-in_err-flush-clause-room

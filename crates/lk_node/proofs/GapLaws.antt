@@ -21,8 +21,8 @@ use Rattle.lk_node_interface.specs.Letters.{LetterValue}
 use Rattle.lk_node_interface.specs.Outboxes.{OutboxValue, nothing, with_letter}
 use Rattle.lk_node_interface.specs.Saying.{saying}
 use Rattle.lk_node_interface.specs.declared.to.To.{To}
-use Rattle.lk_node.specs.CatchingUp.{sending_parts, FeedsParts, Feeds, AsksOn, Levels, HearsNack, following}
-use Rattle.lk_node.specs.CatchingUp.{AsksWhereMore, refusal, HearsLead}
+use Rattle.lk_node.specs.CatchingUp.{sending_parts, FeedsParts, Feeds, AsksOn, ClosesGap, HandlesNack, following}
+use Rattle.lk_node.specs.CatchingUp.{AsksWhereMore, refusal, HandlesLead}
 use Rattle.lk_node.specs.Histories.{History, Command, text}
 use Rattle.lk_node.specs.NodeValue.{NodeValue}
 use Rattle.lk_node.specs.Replying.{SaysAlone}
@@ -149,7 +149,7 @@ asks_goes_on m Heard node other out (inl more) =
 asks_goes_on m Heard node other out (inr none) = idles m Heard node out none.1
 
 levels_goes_on : (m : Meaning) (Heard : History → Type 0) (node : NodeValue) (other theirs : ℕ) (out : OutboxValue)
-    → Levels node other theirs out → ActsSafely m Heard node node nothing out
+    → ClosesGap node other theirs out → ActsSafely m Heard node node nothing out
 levels_goes_on m Heard node other theirs out (inl more) = asks_goes_on m Heard node other out more.1
 levels_goes_on m Heard node other theirs out (inr (inl fewer)) =
     feeds_goes_on m Heard node other (theirs + 1) 0 out fewer.1
@@ -162,7 +162,7 @@ pub want_goes_on : (m : Meaning) (old : NodeValue) (from first offset : ℕ) (ou
 want_goes_on m old from first offset out k = feeds_goes_on m (λ h. Unit {0}) old from first offset out k
 
 pub nack_goes_on : (m : Meaning) (old new : NodeValue) (from : ℕ) (nack : Nack) (out : OutboxValue)
-    → HearsNack old from nack new out → ActsSafely m (λ h. Unit {0}) old new nothing out
+    → HandlesNack old from nack new out → ActsSafely m (λ h. Unit {0}) old new nothing out
 nack_goes_on m old new from nack out k =
     let Heard : History → Type 0 = λ h. Unit {0} in
     let once : NodeValue = seeing nack.ballot old in
@@ -173,7 +173,7 @@ nack_goes_on m old new from nack out k =
     (seeing_goes_on m Heard nack.promised once out)))
 
 pub lead_goes_on : (m : Meaning) (old new : NodeValue) (from : ℕ) (b : BallotValue) (theirs : ℕ) (out : OutboxValue)
-    → HearsLead old from b theirs new out → ActsSafely m (λ h. Unit {0}) old new nothing out
+    → HandlesLead old from b theirs new out → ActsSafely m (λ h. Unit {0}) old new nothing out
 lead_goes_on m old new from b theirs out (inl refused) =
     let Heard : History → Type 0 = λ h. Unit {0} in
     subst (λ (node : NodeValue). ActsSafely m Heard old node nothing out) (sym refused.1)

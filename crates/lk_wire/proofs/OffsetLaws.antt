@@ -8,7 +8,7 @@ use Rattle.lk_messages.specs.declared.message.Content.TheVariants as content
 use Rattle.lk_messages.specs.declared.message.Message.{Message}
 use Rattle.lk_codec.specs.Fields.{two, four, eight, ballot}
 use Rattle.lk_messages.specs.Grammar.{fields, header, kind, sender, Spells}
-use Rattle.lk_wire.specs.Shown.{LieAtTheirPlaces}
+use Rattle.lk_wire.specs.Shown.{LieAtTheirOffsets}
 use Rattle.lk_codec.proofs.Spellings.{length-two, length-four, length-eight}
 use Rattle.lk_messages.proofs.Spellings.{length-ballot}
 
@@ -22,7 +22,7 @@ length-header : (k cluster from : ℕ) → length (header k cluster from) ≡ 16
 length-header k cluster from = simp (length-append, length-four, length-eight)
 
 -- of whatever has a header of sixteen bytes
-lie : (c : Content) (h : List ℕ) → length h ≡ 16 → LieAtTheirPlaces c (h ++ fields c)
+lie : (c : Content) (h : List ℕ) → length h ≡ 16 → LieAtTheirOffsets c (h ++ fields c)
 lie (content.Request r) h e = past h _ _ 16 0 e refl
 lie (content.Node node (kinds.Promise p)) h e =
     past h _ _ 16 21 e (past (ballot p.ballot) _ _ 12 9 (length-ballot p.ballot)
@@ -48,9 +48,9 @@ lie (content.Node node (kinds.Elsewhere f)) h e = tt
 lie (content.Node node (kinds.Passed p)) h e = tt
 lie (content.Node node (kinds.Lead b executed)) h e = tt
 
--- each slice lies at its place in whatever spells the message
-pub lie_at_their_places : (m : Message) (bytes : List ℕ) → Spells m bytes → LieAtTheirPlaces m.content bytes
-lie_at_their_places m bytes s =
-    subst (λ (b : List ℕ). LieAtTheirPlaces m.content b) (sym s.1)
+-- each slice lies at its offset in whatever spells the message
+pub lie_at_their_offsets : (m : Message) (bytes : List ℕ) → Spells m bytes → LieAtTheirOffsets m.content bytes
+lie_at_their_offsets m bytes s =
+    subst (λ (b : List ℕ). LieAtTheirOffsets m.content b) (sym s.1)
     (lie m.content (header (kind m.content) m.cluster (sender m.content))
     (length-header (kind m.content) m.cluster (sender m.content)))

@@ -2,7 +2,7 @@ use Rattle.std.proofs.Common.{◌≡◌, ◌≤◌, ◌∙◌, ℕ, None, List, 
 use Rattle.lk_learner.specs.Learners.{LearnerValue, IsLearner, executed, alpha}
 use Rattle.lk_learner.specs.Installing.{pairs_above, installed}
 use Rattle.lk_learner.proofs.LearnerLaws.{installed_fits}
-use Rattle.lk_learner.proofs.learner.Learner.stand_on.Goals as goal
+use Rattle.lk_learner.proofs.learner.Learner.adopt_snapshot.Goals as goal
 
 pub invariant_of-self : goal.invariant_of-self
 invariant_of-self g c =

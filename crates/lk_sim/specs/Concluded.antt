@@ -10,7 +10,7 @@ use Rattle.lk_replica.specs.Together.{parts_of}
 use Rattle.lk_replica.specs.declared.taken.Step.{Step}
 use Rattle.lk_sim_nodes.specs.Outcomes.{Rests}
 use Rattle.lk_sim_nodes.specs.Seats.{SeatFits, At, stopped_on, device_in}
-use Rattle.lk_sim_nodes.specs.Told.{Tells}
+use Rattle.lk_sim_nodes.specs.Told.{NotesReplies}
 use Rattle.lk_sim_nodes.specs.declared.end.End.{End}
 use Rattle.lk_sim_nodes.specs.declared.seat.Seat.{Seat}
 use Rattle.lk_sim_nodes.specs.declared.seat.Life.TheVariants.{Down}
@@ -22,17 +22,17 @@ use Rattle.lk_sim.specs.Scenes.{Scene}
 pub record HasAdded {R : Type 0} (old new : Scene R) (asked mine : List Note) (batch : List Datagram)
     (how : Option End) : Type 0 where
   pub told : List Note
-  pub tells : Tells batch told
+  pub tells : NotesReplies batch told
   pub seats : new.seats ≡ old.seats
   pub adds : Adds old new ((asked ++ mine) ++ told) batch
   pub ended : new.ended ≡ how
 
 -- the result was added, and the node at this place has stopped if it has reached an armed stop
-pub record HasSettled {R : Type 0} (Shows : R → Genesis → ℕ → Holding → Type 0) (b : Behaviour R) (m : Meaning)
+pub record HasConcluded {R : Type 0} (Shows : R → Genesis → ℕ → Holding → Type 0) (b : Behaviour R) (m : Meaning)
     (old : Scene R) (i : ℕ) (new : Scene R) (asked mine : List Note) (batch : List Datagram) (how : Option End)
     (stop : Option ℕ) : Type 0 where
   pub told : List Note
-  pub tells : Tells batch told
+  pub tells : NotesReplies batch told
   pub seat : Seat R
   pub next : Seat R
   pub at : At old.seats i seat
@@ -54,7 +54,7 @@ pub record HasAddedSteps {R : Type 0} (old new : Scene R) (steps : List Step) (b
   pub ended : new.ended ≡ how
 
 -- the results were added, and the node at this place has stopped if it has reached an armed stop
-pub record HasSettledSteps {R : Type 0} (Shows : R → Genesis → ℕ → Holding → Type 0) (b : Behaviour R) (m : Meaning)
+pub record HasConcludedSteps {R : Type 0} (Shows : R → Genesis → ℕ → Holding → Type 0) (b : Behaviour R) (m : Meaning)
     (old : Scene R) (i : ℕ) (new : Scene R) (steps : List Step) (batch : List Datagram) (how : Option End)
     (stop : Option ℕ) : Type 0 where
   pub notes : List Note

@@ -6,30 +6,30 @@ from .seals import lines
 from .wire import MAX_NODE, MAX_PORT, ranged
 
 LOOPBACK = "127.0.0.1"
-Place = int | tuple[str, int]  # a port of 127.0.0.1, or an address and a port
+Endpoint = int | tuple[str, int]  # a port of 127.0.0.1, or an address and a port
 
 
-def place_of(given: Place) -> Place:
-    """A place that a caller gives, if it is one."""
+def endpoint_of(given: Endpoint) -> Endpoint:
+    """An endpoint that a caller gives, if it is one."""
     if not isinstance(given, tuple):
         return ranged(given, 1, MAX_PORT, "port")
     address, port = given
-    return placed(str(ipaddress.ip_address(address)), ranged(port, 1, MAX_PORT, "port"))
+    return endpoint_at(str(ipaddress.ip_address(address)), ranged(port, 1, MAX_PORT, "port"))
 
 
-def placed(address: str, port: int) -> Place:
-    """The place of a port at an address."""
+def endpoint_at(address: str, port: int) -> Endpoint:
+    """The endpoint of a port at an address."""
     return port if address == LOOPBACK else (address, port)
 
 
-def address_of(place: Place) -> tuple[str, int]:
-    """The address and the port of a place."""
-    return place if isinstance(place, tuple) else (LOOPBACK, place)
+def address_of(endpoint: Endpoint) -> tuple[str, int]:
+    """The address and the port of an endpoint."""
+    return endpoint if isinstance(endpoint, tuple) else (LOOPBACK, endpoint)
 
 
-def own_address(places: list[Place]) -> str:
+def own_address(endpoints: list[Endpoint]) -> str:
     """Where a client that asks these listens: on loopback if they all are 127.0.0.1, else anywhere in their family."""
-    addresses = [address_of(place)[0] for place in places]
+    addresses = [address_of(endpoint)[0] for endpoint in endpoints]
     if set(addresses) == {LOOPBACK}:
         return LOOPBACK
     return "::" if ":" in addresses[0] else "0.0.0.0"
