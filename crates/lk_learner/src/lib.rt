@@ -1,6 +1,6 @@
 //! The learner's part of a node: the decided commands that it has heard of, their execution in order, and what it
 //! serves to a node that is behind: commands, or its snapshot in parts, which the other gathers and installs. It has
-//! no access to a disk or socket; `execute_next`, `serve`, `parts`, `add_part` and `install` take memory.
+//! no access to a disk or socket. A call that takes memory returns `NoMemory` if it gets none, and changes nothing.
 #![tactic(auto)]
 
 mod gathered;

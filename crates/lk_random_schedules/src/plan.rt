@@ -1,3 +1,5 @@
+//! What a random schedule is drawn from.
+
 /// A random schedule to run: its seed, how many events it draws, and whether it also draws groups.
 #[derive(Clone, Copy)]
 pub struct Plan {

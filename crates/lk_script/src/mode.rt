@@ -1,3 +1,5 @@
+//! The modes of a script: a lock table, or a world of replicas.
+
 use crate::table_server::TableServer;
 use crate::world_run::WorldRun;
 use lk_replica::MemoryReplica;
