@@ -243,7 +243,8 @@ pub fn exchange<S: DatagramSocket>(
     }
 }
 
-// Writes an answer's text or `passed LAST` as a line. Returns whether the reply is one of these.
+// Writes a reply that tells what became of the request: an answer's text, or `passed LAST`, as a line. Returns whether
+// it is such a reply; an Elsewhere is not.
 fn write_told<W: Write>(reply: &Reply, out: &mut W) -> io::Result<bool>
     ensures told { IfOk result (λ is_told. is_told ≡ true ↔ IsTold reply.now) }
 {

@@ -71,8 +71,8 @@ fn world_mode<M: MemoryReplica>(alloc: Global, genesis: Genesis) -> Mode<M>
     Mode::World(WorldRun::new(alloc, genesis))
 }
 
-// Sets up the mode that the first line asks for. It is not inlined, as a server is large: in `take_line` each line
-// would pay for the space of a new one.
+// Sets up the mode that the first line asks for: table mode if it is a cluster, or else (`NotUnderstood`) world mode by
+// a genesis. It is not inlined, as a server is large: in `take_line` each line would pay for the space of a new one.
 #[inline(never)]
 fn begin_mode<M: MemoryReplica>(alloc: Global, line: &[u8]) -> Result<Mode<M>, LineFault>
     ensures ok { IfOk result (λ m. (after : Script M) × Takes M.behaves begun line.now [] after × Fits after m) }

@@ -121,7 +121,7 @@ fn request(words: &[u8]) -> Option<Request>
     Some(Request { client, number, op })
 }
 
-// Reads the words of `client N C NUMBER OP`.
+// Reads the words of `client N C NUMBER OP`: client C asks node N.
 fn read_ask(words: &[u8]) -> Option<Instruction>
     ensures some { IfSome result (AsksOfClient words.now) }
     ensures none { IsNone result → (o : InstructionValue) → AsksOfClient words.now o → ⊥ }

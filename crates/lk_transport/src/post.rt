@@ -166,7 +166,7 @@ impl<S: DatagramSocket + Drop> SocketPost<S> {
         }
     }
 
-    /// Records the source of a datagram of the cluster, as `Addresses::record_sender` does.
+    /// Records the source of a datagram of the cluster, as `Addresses::record_sender` does. Returns what came, to log.
     pub fn record_sender(
         &mut self,
         cluster: u64,

@@ -102,7 +102,7 @@ impl LocalSocket {
         LocalSocket::open_at(rt, local(port))
     }
 
-    /// Opens a socket at an address. Returns the system's error.
+    /// Opens a socket at an address, whose receives wait for 100 ms at most. Returns the system's error.
     pub fn open_at<R: Net>(rt: &R, address: SocketAddr) -> io::Result<LocalSocket> {
         let socket = UdpSocket::bind(rt, address)?;
         let wait = Duration::from_millis(WAIT);
