@@ -1,4 +1,4 @@
-//! What a random schedule is drawn from.
+//! The plan of a random schedule.
 
 /// A random schedule to run: its seed, how many events it draws, and whether it also draws groups.
 #[derive(Clone, Copy)]
