@@ -8,7 +8,7 @@ use Rattle.lk_types.specs.Ballots.{IsBelow, IsAtMost, is_below}
 use Rattle.lk_types.specs.declared.vote.Vote.{Vote}
 use Rattle.lk_types.proofs.Values.{test_of_below}
 use Rattle.lk_types.specs.Votes.{are_votes_above}
-use Rattle.lk_agreement_laws.specs.Acceptors.{AcceptorState, TakesVote, TakesSnapshot}
+use Rattle.lk_agreement_laws.specs.Acceptors.{AcceptorState, AddsVote, ForgetsVotes}
 use Rattle.lk_agreement_laws.specs.Changes.{with_promise}
 use Rattle.lk_agreement_laws.proofs.Histories.{at_most_trans, below_at_most, below_self, cons_cases, contains_more}
 use Rattle.lk_agreement_laws.proofs.Histories.{filter_from, filtered_takes_snapshot, only}
@@ -154,7 +154,7 @@ is_new s x k most agree y listed at =
     ]
 
 pub takes_vote : (s : AcceptorState) (x : Vote) → IsOrdered s → IsAtMost s.promised x.ballot
-    → ((v : Vote) → Contains s.votes v → Agrees v x) → TakesVote s x (with_vote s x)
+    → ((v : Vote) → Contains s.votes v → Agrees v x) → AddsVote s x (with_vote s x)
 takes_vote s x k most agree = record {
   promised = refl;
   snapshot = refl;
@@ -163,5 +163,5 @@ takes_vote s x k most agree = record {
   only = λ y h. elim (from_with x s.votes y h) [ inl e ↦ inl (sym e) | inr c ↦ inr c ];
 }
 
-pub takes_snapshot : (s : AcceptorState) (i : ℕ) → s.snapshot_position ≤ i → TakesSnapshot s i (without_votes_to s i)
+pub takes_snapshot : (s : AcceptorState) (i : ℕ) → s.snapshot_position ≤ i → ForgetsVotes s i (without_votes_to s i)
 takes_snapshot s i later = filtered_takes_snapshot s (without_votes_to s i) i later refl refl refl

@@ -5,7 +5,7 @@ ghost use Rattle.lk_types.specs.Ballots.{IsBelow};
 ghost use Rattle.lk_types.specs.declared.entry.Entry.TheVariants as entry;
 ghost use Rattle.lk_types.specs.declared.vote.Vote.{Vote};
 ghost use Rattle.lk_types.specs.Votes.{are_votes_above};
-ghost use Rattle.lk_agreement_laws.specs.Acceptors.{AcceptorState, Covers, TakesVote, TakesSnapshot};
+ghost use Rattle.lk_agreement_laws.specs.Acceptors.{AcceptorState, Covers, AddsVote, ForgetsVotes};
 ghost use Rattle.lk_agreement_laws.specs.Changes.{with_promise};
 ghost use Rattle.lk_agreement_laws.specs.Datagrams.{Genesis, Datagram};
 ghost use Rattle.lk_agreement_laws.specs.Nodes.{PaxosState, MaySend};
@@ -17,9 +17,9 @@ ghost use Rattle.lk_acceptor.specs.declared.response.Response.{Response};
 /// Keeping a granted vote, and forgetting votes that a snapshot replaces, are changes that the protocol permits.
 pub fn votes_are_taken_over()
     ensures vote { (a : AcceptorValue) (e : ℕ) (x : Vote) → IsOrdered a.state → GrantsAccept a e x
-        → TakesVote a.state x (with_vote a.state x) }
+        → AddsVote a.state x (with_vote a.state x) }
     ensures snapshot { (s : AcceptorState) (i : ℕ) → s.snapshot_position ≤ i
-        → TakesSnapshot s i (without_votes_to s i) }
+        → ForgetsVotes s i (without_votes_to s i) }
 {}
 
 /// A node whose acceptor is in the state after the call may send the reply, in every history.

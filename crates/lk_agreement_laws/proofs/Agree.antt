@@ -7,7 +7,7 @@ use Rattle.lk_members.specs.Rosters.{Genesis, roster_of, members}
 use Rattle.lk_members.specs.Majorities.{IsMajority}
 use Rattle.lk_agreement_laws.specs.Ballots.{BallotValue, IsBelow, IsAtMost}
 use Rattle.lk_agreement_laws.specs.Datagrams.{Vote, Datagram, Accept, Accepted, HasSent, WasSent}
-use Rattle.lk_agreement_laws.specs.Chosen.{Command, command_at, IsAcceptedIn, Chosen, ChosenAt, IsBeginning}
+use Rattle.lk_agreement_laws.specs.Chosen.{Command, command_at, IsAcceptedIn, Chosen, ChosenAt, IsPrefix}
 use Rattle.lk_agreement_laws.specs.Soundness.{ReceivedPromise, Justified, Sound}
 use Rattle.lk_members.proofs.Memberships.{majorities_meet}
 use Rattle.lk_agreement_laws.proofs.Lists.{entry_at, take_next}
@@ -158,7 +158,7 @@ module _ (genesis : Genesis) (sent : List Datagram) (sound : Sound genesis sent)
   pub one_chosen : (i : ℕ) (v w : Command) → ChosenAt genesis sent i v → ChosenAt genesis sent i w → v ≡ w
   one_chosen i v w p q = value_at i (agree_up_to (i - genesis.alpha)) v w p q
 
-  begins : (L K : List Command) → Chosen genesis sent L → Chosen genesis sent K → length L ≤ length K → IsBeginning L K
+  begins : (L K : List Command) → Chosen genesis sent L → Chosen genesis sent K → length L ≤ length K → IsPrefix L K
   begins L K l k le =
       let same = (agree_up_to (length L)).agree L K l k (omega arith) le in (
         drop (length L) K,
@@ -168,7 +168,7 @@ module _ (genesis : Genesis) (sent : List Datagram) (sound : Sound genesis sent)
 
   -- of two chosen lists one is a beginning of the other
   pub chosen_agree : (L K : List Command) → Chosen genesis sent L → Chosen genesis sent K
-      → IsBeginning L K ⊎ IsBeginning K L
+      → IsPrefix L K ⊎ IsPrefix K L
   chosen_agree L K l k =
       elim (cases_lt (length L) (length K))
       [ inl lt ↦ inl (begins L K l k (omega arith)) | inr ge ↦ inr (begins K L k l ge) ]

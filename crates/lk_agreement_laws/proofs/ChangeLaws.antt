@@ -10,8 +10,8 @@ use Rattle.lk_agreement_laws.specs.Datagrams.{Genesis, Vote, NodeMessage, Datagr
 use Rattle.lk_agreement_laws.specs.Datagrams.{HasSent, WasSent}
 use Rattle.lk_agreement_laws.specs.Chosen.{Command, Chosen, ChosenAt}
 use Rattle.lk_agreement_laws.specs.Soundness.{ReceivedPromise, WasPromised, IsReported, Justified, Sound}
-use Rattle.lk_agreement_laws.specs.Acceptors.{AcceptorState, CoversVote, Covers, CoversSent, AreProposed, TakesVote}
-use Rattle.lk_agreement_laws.specs.Acceptors.{TakesSnapshot}
+use Rattle.lk_agreement_laws.specs.Acceptors.{AcceptorState, CoversVote, Covers, CoversSent, AreProposed, AddsVote}
+use Rattle.lk_agreement_laws.specs.Acceptors.{ForgetsVotes}
 use Rattle.lk_agreement_laws.specs.Nodes.{Pair, Acceptance, Term, new_term, PaxosState, TermFits, Stems, PaxosFits}
 use Rattle.lk_agreement_laws.specs.Changes.{MayPropose, with_promise, holding_acceptor, in_term, with_report}
 use Rattle.lk_agreement_laws.specs.Changes.{with_proposal}
@@ -62,7 +62,7 @@ promise_ahead : (s : AcceptorState) (b : BallotValue) → IsAtMost s.promised b 
 promise_ahead s b le =
     record { promised = le; snapshot = omega arith; votes = λ x h. inr (x, h, refl, inr (refl, refl)) }
 
-snapshot_ahead : (old new : AcceptorState) (i : ℕ) → TakesSnapshot old i new → Advances old new
+snapshot_ahead : (old new : AcceptorState) (i : ℕ) → ForgetsVotes old i new → Advances old new
 snapshot_ahead old new i t = record {
   promised = inr (sym t.promised);
   snapshot = omega (arith, t.snapshot, t.later);
@@ -88,7 +88,7 @@ module _ (genesis : Genesis) (sent : List Datagram) (sound : Sound genesis sent)
       inr (sym e, sound.one_value x.ballot x.position x.command y.command now mine)
 
   vote_ahead : (old new : AcceptorState) (x : Vote) → IsAtMost old.promised x.ballot → AreProposed genesis sent old
-      → WasSent genesis sent (Accept x) → TakesVote old x new → Advances old new
+      → WasSent genesis sent (Accept x) → AddsVote old x new → Advances old new
   vote_ahead old new x le proposed was t = record {
     promised = subst (λ b. IsAtMost old.promised b) (sym t.promised) le;
     snapshot = omega (arith, t.snapshot);
@@ -100,7 +100,7 @@ module _ (genesis : Genesis) (sent : List Datagram) (sound : Sound genesis sent)
   }
 
   vote_proposed : (old new : AcceptorState) (x : Vote) → IsAtMost old.promised x.ballot → AreProposed genesis sent old
-      → WasSent genesis sent (Accept x) → TakesVote old x new → AreProposed genesis sent new
+      → WasSent genesis sent (Accept x) → AddsVote old x new → AreProposed genesis sent new
   vote_proposed old new x le proposed was t y h =
       subst (λ b. WasSent genesis sent (Accept y) × IsAtMost y.ballot b) (sym t.promised) (elim (t.only y h) [
         | inl e ↦

@@ -7,19 +7,20 @@ use Rattle.lk_types.specs.declared.command.Command.TheVariants.{Noop, Request}
 use Rattle.lk_messages.specs.Grammar.{IsNodeMessage, IsMessage, spelling}
 use Rattle.lk_messages.specs.Values.{PromiseValue}
 use Rattle.lk_members.specs.Rosters.{members, roster_of}
-use Rattle.lk_members.specs.Effects.{placed, effects}
+use Rattle.lk_members.specs.Effects.{positioned, effects}
 use Rattle.lk_agreement_laws.specs.declared.party.Party.TheVariants as party
 use Rattle.lk_agreement_laws.specs.Ballots.{BallotValue}
 use Rattle.lk_agreement_laws.specs.Datagrams.{Genesis, Vote, NodeMessage, Datagram, said_by, Promise, Accept, Accepted}
 use Rattle.lk_agreement_laws.specs.Datagrams.{HasSent, WasSent}
 use Rattle.lk_agreement_laws.specs.Chosen.{Command, IsAcceptedIn, Chosen, ChosenAt}
 use Rattle.lk_agreement_laws.specs.Soundness.{ReceivedPromise, IsReported, IsReporter}
-use Rattle.lk_agreement_laws.specs.Acceptors.{AcceptorState, TakesVote}
-use Rattle.lk_agreement_laws.specs.Nodes.{Pair, Term, new_term, PaxosState, MayPromise, MaySend, MayPost, MayPostAll}
+use Rattle.lk_agreement_laws.specs.Acceptors.{AcceptorState, AddsVote}
+use Rattle.lk_agreement_laws.specs.Nodes.{Pair, Term, new_term, PaxosState, MayPromise, MaySend, MaySendDatagram}
+use Rattle.lk_agreement_laws.specs.Nodes.{MaySendDatagrams}
 use Rattle.lk_agreement_laws.specs.Changes.{MayPropose, AreAmong, promises, accepts, begins, hears, proposes, learns}
 use Rattle.lk_agreement_laws.specs.Changes.{executes}
 use Rattle.lk_agreement_laws.specs.Worlds.{PaxosWorld, start, with_sent, with_paxos, sends, changes}
-use Rattle.lk_agreement_laws.specs.Worlds.{Reaches, begin, next}
+use Rattle.lk_agreement_laws.specs.Worlds.{IsReachable, begin, next}
 use Rattle.lk_agreement_laws.specs.Worlds.{MembersChange}
 use Rattle.lk_agreement_laws.proofs.Lists.{cons_cases, only}
 
@@ -106,9 +107,9 @@ was_said : (sent : List Datagram) (n : ℕ) (m : NodeMessage) → IsMessage (sai
 was_said sent n m fits h = record { sender = n; has_sent = has_said sent n m fits h }
 
 post : (sent : List Datagram) (n : ℕ) (w : PaxosState) (m : NodeMessage) → IsMessage (said_by alone n m)
-    → MaySend alone sent w m → MayPostAll alone sent n w (say n m ∷ [])
+    → MaySend alone sent w m → MaySendDatagrams alone sent n w (say n m ∷ [])
 post sent n w m fits may d h =
-    subst (λ x. MayPost alone sent n w x) (only (say n m) d h)
+    subst (λ x. MaySendDatagram alone sent n w x) (only (say n m) d h)
     (record { message = m; from = refl; spelled = (fits, refl); may = may })
 
 -- ---- why it may be sent
@@ -121,7 +122,7 @@ promise_of first h =
     record { promised = refl; above = omega arith; all = λ x c. absurd (omega (arith, c.1)); only = λ x c. c }
 
 takes : (old : AcceptorState) (x : Vote)
-    → TakesVote old x (record {
+    → AddsVote old x (record {
       promised = x.ballot;
       votes = old.votes ++ x ∷ [];
       snapshot_position = old.snapshot_position;
@@ -145,7 +146,7 @@ abbrev one_heard : Term
 one_heard = record { ballot = ballot; reports = report 1 1 ∷ []; proposals = []; accepted = [] }
 
 first_choice : MayPropose alone [] one_heard 1 join
-unfolding members roster_of effects placed
+unfolding members roster_of effects positioned
 first_choice = record {
   new = λ w h. omega (arith, h.1);
   reaches = omega arith;
@@ -183,7 +184,7 @@ second_proposed =
     record { ballot = ballot; reports = both_reports; proposals = (1, join) ∷ (2, Noop) ∷ []; accepted = [] }
 
 second_choice : MayPropose alone (join ∷ []) both_heard 2 Noop
-unfolding members roster_of effects placed
+unfolding members roster_of effects positioned
 second_choice = record {
   new = λ w h. elsewhere w (only (1, join) (2, w) h);
   reaches = omega arith;
@@ -211,7 +212,7 @@ nothing_chosen sent (suc k) v at = absurd cc
 
 first_accepted : (sent : List Datagram) (L : List Command) → Contains sent (say 1 (Accepted first_vote))
     → IsAcceptedIn alone sent (members alone L 1) ballot 1 join
-unfolding members roster_of effects placed
+unfolding members roster_of effects positioned
 first_accepted sent L h = record {
   nodes = 1 ∷ [];
   majority = record { within = refl; more_than_half = omega arith };
@@ -281,20 +282,20 @@ two_state votes = record { acceptor = standing_of votes; done = []; pairs = []; 
 abbrev w1 : PaxosWorld
 w1 = with_paxos start 1 (one_state [] [] [] (new_term ballot))
 
-reach1 : Reaches alone w1
+reach1 : IsReachable alone w1
 reach1 = next begin (changes 1 (one_state [] [] [] (new_term ballot)) (begins ballot refl (inl 0-of-1)))
 
 abbrev w2 : PaxosWorld
 w2 = with_sent w1 (say 1 (Promise (promise_from 1)) ∷ [])
 
-reach2 : Reaches alone w2
+reach2 : IsReachable alone w2
 reach2 = next reach1 (sends 1 (say 1 (Promise (promise_from 1)) ∷ [])
     (post w1.sent 1 (w1.states 1) (Promise (promise_from 1)) one_promises promise_1))
 
 abbrev w3 : PaxosWorld
 w3 = with_paxos w2 1 (one_state [] [] [] one_heard)
 
-reach3 : Reaches alone w3
+reach3 : IsReachable alone w3
 reach3 = next reach2 (changes 1 (one_state [] [] [] one_heard)
     (hears (new_term ballot) (report 1 1) refl
     (has_said w2.sent 1 (Promise (promise_from 1)) one_promises (0, 0-of-1, refl))))
@@ -302,13 +303,13 @@ reach3 = next reach2 (changes 1 (one_state [] [] [] one_heard)
 abbrev w4 : PaxosWorld
 w4 = with_paxos w3 1 (one_state [] [] [] first_proposed)
 
-reach4 : Reaches alone w4
+reach4 : IsReachable alone w4
 reach4 = next reach3 (changes 1 (one_state [] [] [] first_proposed) (proposes one_heard 1 join refl first_choice))
 
 abbrev w5 : PaxosWorld
 w5 = with_sent w4 (say 1 (Accept first_vote) ∷ [])
 
-reach5 : Reaches alone w5
+reach5 : IsReachable alone w5
 reach5 = next reach4 (sends 1 (say 1 (Accept first_vote) ∷ [])
     (post w4.sent 1 (w4.states 1) (Accept first_vote) one_proposes_first
     (first_proposed, refl, refl, (0, 0-of-1, refl))))
@@ -316,7 +317,7 @@ reach5 = next reach4 (sends 1 (say 1 (Accept first_vote) ∷ [])
 abbrev w6 : PaxosWorld
 w6 = with_paxos w5 1 (one_state (first_vote ∷ []) [] [] first_proposed)
 
-reach6 : Reaches alone w6
+reach6 : IsReachable alone w6
 reach6 = next reach5 (changes 1 (one_state (first_vote ∷ []) [] [] first_proposed)
     (accepts first_vote (standing_of (first_vote ∷ [])) (inr refl)
     (was_said w5.sent 1 (Accept first_vote) one_proposes_first (1, 1-of-2, refl)) (takes (standing_of []) first_vote)))
@@ -324,14 +325,14 @@ reach6 = next reach5 (changes 1 (one_state (first_vote ∷ []) [] [] first_propo
 abbrev w7 : PaxosWorld
 w7 = with_sent w6 (say 1 (Accepted first_vote) ∷ [])
 
-reach7 : Reaches alone w7
+reach7 : IsReachable alone w7
 reach7 = next reach6 (sends 1 (say 1 (Accepted first_vote) ∷ [])
     (post w6.sent 1 (w6.states 1) (Accepted first_vote) one_votes_first (refl, (0, 0-of-1, refl))))
 
 abbrev w8 : PaxosWorld
 w8 = with_paxos w7 1 (one_state (first_vote ∷ []) [] ((1, join) ∷ []) first_proposed)
 
-reach8 : Reaches alone w8
+reach8 : IsReachable alone w8
 reach8 =
     next reach7 (changes 1 (one_state (first_vote ∷ []) [] ((1, join) ∷ []) first_proposed)
     (learns 1 join first_chosen))
@@ -339,27 +340,27 @@ reach8 =
 abbrev w9 : PaxosWorld
 w9 = with_paxos w8 1 (one_state (first_vote ∷ []) (join ∷ []) [] first_proposed)
 
-reach9 : Reaches alone w9
+reach9 : IsReachable alone w9
 reach9 = next reach8 (changes 1 (one_state (first_vote ∷ []) (join ∷ []) [] first_proposed)
     (executes join [] (0, 0-of-1, refl) (no_pairs ((1, join) ∷ []))))
 
 abbrev w10 : PaxosWorld
 w10 = with_paxos w9 2 (two_state [])
 
-reach10 : Reaches alone w10
+reach10 : IsReachable alone w10
 reach10 = next reach9 (changes 2 (two_state []) (promises ballot (inl (inl 0-of-1))))
 
 abbrev w11 : PaxosWorld
 w11 = with_sent w10 (say 2 (Promise (promise_from 2)) ∷ [])
 
-reach11 : Reaches alone w11
+reach11 : IsReachable alone w11
 reach11 = next reach10 (sends 2 (say 2 (Promise (promise_from 2)) ∷ [])
     (post w10.sent 2 (w10.states 2) (Promise (promise_from 2)) two_promises promise_2))
 
 abbrev w12 : PaxosWorld
 w12 = with_paxos w11 1 (one_state (first_vote ∷ []) (join ∷ []) [] both_heard)
 
-reach12 : Reaches alone w12
+reach12 : IsReachable alone w12
 reach12 = next reach11 (changes 1 (one_state (first_vote ∷ []) (join ∷ []) [] both_heard)
     (hears first_proposed (report 2 2) refl
     (has_said w11.sent 2 (Promise (promise_from 2)) two_promises (3, 3-of-4, refl))))
@@ -367,14 +368,14 @@ reach12 = next reach11 (changes 1 (one_state (first_vote ∷ []) (join ∷ []) [
 abbrev w13 : PaxosWorld
 w13 = with_paxos w12 1 (one_state (first_vote ∷ []) (join ∷ []) [] second_proposed)
 
-reach13 : Reaches alone w13
+reach13 : IsReachable alone w13
 reach13 = next reach12 (changes 1 (one_state (first_vote ∷ []) (join ∷ []) [] second_proposed)
     (proposes both_heard 2 Noop refl second_choice))
 
 abbrev w14 : PaxosWorld
 w14 = with_sent w13 (say 1 (Accept second_vote) ∷ [])
 
-reach14 : Reaches alone w14
+reach14 : IsReachable alone w14
 reach14 = next reach13 (sends 1 (say 1 (Accept second_vote) ∷ [])
     (post w13.sent 1 (w13.states 1) (Accept second_vote) one_proposes_second
     (second_proposed, refl, refl, (1, 1-of-2, refl))))
@@ -382,7 +383,7 @@ reach14 = next reach13 (sends 1 (say 1 (Accept second_vote) ∷ [])
 abbrev w15 : PaxosWorld
 w15 = with_paxos w14 1 (one_state (first_vote ∷ second_vote ∷ []) (join ∷ []) [] second_proposed)
 
-reach15 : Reaches alone w15
+reach15 : IsReachable alone w15
 reach15 = next reach14 (changes 1 (one_state (first_vote ∷ second_vote ∷ []) (join ∷ []) [] second_proposed)
     (accepts second_vote (standing_of (first_vote ∷ second_vote ∷ [])) (inr refl)
     (was_said w14.sent 1 (Accept second_vote) one_proposes_second (4, 4-of-5, refl))
@@ -391,14 +392,14 @@ reach15 = next reach14 (changes 1 (one_state (first_vote ∷ second_vote ∷ [])
 abbrev w16 : PaxosWorld
 w16 = with_sent w15 (say 1 (Accepted second_vote) ∷ [])
 
-reach16 : Reaches alone w16
+reach16 : IsReachable alone w16
 reach16 = next reach15 (sends 1 (say 1 (Accepted second_vote) ∷ [])
     (post w15.sent 1 (w15.states 1) (Accepted second_vote) one_votes_second (refl, (1, 1-of-2, refl))))
 
 abbrev w17 : PaxosWorld
 w17 = with_paxos w16 2 (two_state (second_vote ∷ []))
 
-reach17 : Reaches alone w17
+reach17 : IsReachable alone w17
 reach17 = next reach16 (changes 2 (two_state (second_vote ∷ []))
     (accepts second_vote (standing_of (second_vote ∷ [])) (inr refl)
     (was_said w16.sent 1 (Accept second_vote) one_proposes_second (4, 4-of-6, refl))
@@ -407,7 +408,7 @@ reach17 = next reach16 (changes 2 (two_state (second_vote ∷ []))
 abbrev w18 : PaxosWorld
 w18 = with_sent w17 (say 2 (Accepted second_vote) ∷ [])
 
-reach18 : Reaches alone w18
+reach18 : IsReachable alone w18
 reach18 = next reach17 (sends 2 (say 2 (Accepted second_vote) ∷ [])
     (post w17.sent 2 (w17.states 2) (Accepted second_vote) two_votes_second (refl, (0, 0-of-1, refl))))
 
@@ -415,7 +416,7 @@ abbrev pub last : PaxosWorld
 last = w18
 
 second_accepted : IsAcceptedIn alone all_sent (members alone two_commands 2) ballot 2 Noop
-unfolding members roster_of effects placed
+unfolding members roster_of effects positioned
 second_accepted = record {
   nodes = 1 ∷ 2 ∷ [];
   majority = record { within = refl; more_than_half = omega arith };
@@ -436,5 +437,5 @@ two_chosen (suc (suc zero)) v at = let same : Noop ≡ v = cc at in
 two_chosen (suc (suc (suc k))) v at = absurd (cc at)
 
 pub change : MembersChange alone last two_commands
-unfolding members roster_of effects placed
+unfolding members roster_of effects positioned
 change = record { reached = reach18; chosen = two_chosen; two = refl; one_member = refl; both = refl }

@@ -10,6 +10,6 @@ pub use Rattle.lk_agreement_laws.proofs.VoteLists.{pushed_takes_vote, filtered_t
 pub use Rattle.lk_agreement_laws.proofs.ChangeLaws.{change_fits, changes_fit, restart_fits, accepted_is_chosen}
 pub use Rattle.lk_agreement_laws.proofs.Runs.{start_fits, covers_both, batch_fits, covers_elsewhere, asked_fits}
 pub use Rattle.lk_agreement_laws.proofs.Runs.{with_paxos_fits, kept_by_majority}
-pub use Rattle.lk_agreement_laws.proofs.Slices.{same_length_same, slices_join, whole_slice, still_slice}
+pub use Rattle.lk_agreement_laws.proofs.Slices.{same_length_same, slices_concatenate, whole_slice, still_slice}
 pub use Rattle.lk_agreement_laws.proofs.Slices.{beginning_slice}
 pub use Rattle.lk_agreement_laws.proofs.Lists.{cons_cases, contains_more, filter_from, filter_passes_at, only}

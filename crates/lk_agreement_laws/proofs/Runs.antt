@@ -10,11 +10,11 @@ use Rattle.lk_agreement_laws.specs.Datagrams.{WasSent}
 use Rattle.lk_agreement_laws.specs.Chosen.{Command, command_at, IsAcceptedIn, Chosen}
 use Rattle.lk_agreement_laws.specs.Soundness.{Sound}
 use Rattle.lk_agreement_laws.specs.Acceptors.{AcceptorState, Covers, CoversSent}
-use Rattle.lk_agreement_laws.specs.Nodes.{PaxosState, fresh, Stems, PaxosFits, MaySend, MayPostAll}
+use Rattle.lk_agreement_laws.specs.Nodes.{PaxosState, fresh, Stems, PaxosFits, MaySend, MaySendDatagrams}
 use Rattle.lk_agreement_laws.specs.Changes.{Becomes}
 use Rattle.lk_agreement_laws.specs.Worlds.{PaxosWorld, start, with_sent, with_paxos}
 use Rattle.lk_agreement_laws.specs.Worlds.{IsClientRequest, Happens, sends, asks}
-use Rattle.lk_agreement_laws.specs.Worlds.{changes, Reaches, begin, next, WorldFits, HoldsCommand, IsKept}
+use Rattle.lk_agreement_laws.specs.Worlds.{changes, IsReachable, begin, next, WorldFits, HoldsCommand, IsKept}
 use Rattle.lk_agreement_laws.proofs.Lists.{entry_at, only}
 use Rattle.lk_agreement_laws.proofs.Agree.{vote, command_within, entry_chosen, one_chosen, later_value_in}
 use Rattle.lk_agreement_laws.proofs.Signed.{said_alike, asked_is_no_saying, sent_cases}
@@ -68,7 +68,7 @@ covers_both genesis sent batch n s before now m h =
 
 -- a batch that a node may send
 module _ (genesis : Genesis) (w : PaxosWorld) (n : ℕ) (batch : List Datagram)
-    (may : MayPostAll genesis w.sent n (w.states n) batch) where
+    (may : MaySendDatagrams genesis w.sent n (w.states n) batch) where
   batch_says : (k : ℕ) (m : NodeMessage) (d : Datagram) → Contains batch d → Spells (said_by genesis k m) d.bytes
       → (n ≡ k) × MaySend genesis w.sent (w.states k) m
   batch_says k m d h s =
@@ -143,7 +143,7 @@ happens_fits genesis w w' f (asks d a) = asked_fits genesis w d f a
 happens_fits genesis w w' f (changes n new c) =
     with_paxos_fits genesis w n new f (change_fits genesis w.sent f.sound n (w.states n) new (f.states n) c)
 
-pub reaches_fits : (genesis : Genesis) (w : PaxosWorld) → Reaches genesis w → WorldFits genesis w
+pub reaches_fits : (genesis : Genesis) (w : PaxosWorld) → IsReachable genesis w → WorldFits genesis w
 reaches_fits genesis w begin = start_fits genesis
 reaches_fits genesis w' (next {w = w} r h) = happens_fits genesis w w' (reaches_fits genesis w r) h
 

@@ -4,13 +4,13 @@ use Rattle.std.proofs.Common.{◌≤◌, arith, append-nil, length-append, take_
 use Rattle.std.proofs.lemmas.List.{length-take}
 use Rattle.std.proofs.Math.Seq.{take-add}
 use Rattle.lk_agreement_laws.specs.Datagrams.{Genesis, Datagram}
-use Rattle.lk_agreement_laws.specs.Chosen.{Command, Chosen, IsBeginning}
+use Rattle.lk_agreement_laws.specs.Chosen.{Command, Chosen, IsPrefix}
 use Rattle.lk_agreement_laws.specs.Soundness.{Sound}
 use Rattle.lk_agreement_laws.specs.Snapshots.{IsSlice}
 use Rattle.lk_agreement_laws.proofs.Agree.{chosen_agree}
 use Rattle.lk_agreement_laws.proofs.Grow.{still_chosen, chosen_take}
 
-same_length : (L K : List Command) → IsBeginning L K → length L ≡ length K → L ≡ K
+same_length : (L K : List Command) → IsPrefix L K → length L ≡ length K → L ≡ K
 same_length L K b e = sym (append-nil L)
     ∙ ap (λ r. L ++ r) (sym (none b.0 (omega (arith, ap length (sym b.1) ∙ length-append L b.0)))) ∙ b.1
   where
@@ -26,12 +26,12 @@ same_length_same genesis sent sound L K l k e =
     [ inl b ↦ same_length L K b e | inr b ↦ sym (same_length K L b (sym e)) ]
 
 -- a slice goes on what was gathered
-pub slices_join : (genesis : Genesis) (sent : List Datagram) → Sound genesis sent
+pub slices_concatenate : (genesis : Genesis) (sent : List Datagram) → Sound genesis sent
     → (text : List Command → List ℕ) (position total : ℕ) (gathered bytes : List ℕ)
     → IsSlice genesis sent text position total 0 gathered
     → IsSlice genesis sent text position total (length gathered) bytes
     → IsSlice genesis sent text position total 0 (gathered ++ bytes)
-slices_join genesis sent sound text position total gathered bytes p q =
+slices_concatenate genesis sent sound text position total gathered bytes p q =
     let same : q.under ≡ p.under =
     same_length_same genesis sent sound q.under p.under q.chosen p.chosen (q.position_is ∙ sym p.position_is) in
     let next : bytes ≡ take (length bytes) (drop (length gathered) (text p.under)) =

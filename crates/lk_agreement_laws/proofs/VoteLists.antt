@@ -5,7 +5,7 @@ use Rattle.std.proofs.lemmas.Bool.{cases_lt}
 use Rattle.std.proofs.lemmas.List.Elements.{Contains-push, Contains-push_cases, Contains-append_left}
 use Rattle.lk_messages.specs.Values.{PromiseValue}
 use Rattle.lk_agreement_laws.specs.Datagrams.{Vote}
-use Rattle.lk_agreement_laws.specs.Acceptors.{AcceptorState, TakesVote, TakesSnapshot}
+use Rattle.lk_agreement_laws.specs.Acceptors.{AcceptorState, AddsVote, ForgetsVotes}
 use Rattle.lk_agreement_laws.specs.Nodes.{MayPromise}
 use Rattle.lk_agreement_laws.proofs.Lists.{filter_has, filter_from}
 
@@ -17,7 +17,7 @@ from xs ys x e h = subst (λ l. Contains l x) e h
 
 pub pushed_takes_vote : (old new : AcceptorState) (x : Vote) → new.promised ≡ x.ballot
     → new.snapshot_position ≡ old.snapshot_position
-    → new.votes ≡ filter (λ y. not (y.position == x.position)) old.votes ++ x ∷ [] → TakesVote old x new
+    → new.votes ≡ filter (λ y. not (y.position == x.position)) old.votes ++ x ∷ [] → AddsVote old x new
 pushed_takes_vote old new x promised snapshot votes = record {
   promised = promised;
   snapshot = snapshot;
@@ -35,7 +35,7 @@ pushed_takes_vote old new x promised snapshot votes = record {
 
 pub filtered_takes_snapshot : (old new : AcceptorState) (i : ℕ) → old.snapshot_position ≤ i
     → new.promised ≡ old.promised → new.snapshot_position ≡ i
-    → new.votes ≡ filter (λ y. nat_lt i y.position) old.votes → TakesSnapshot old i new
+    → new.votes ≡ filter (λ y. nat_lt i y.position) old.votes → ForgetsVotes old i new
 filtered_takes_snapshot old new i later promised snapshot votes = record {
   promised = promised;
   snapshot = snapshot;

@@ -35,7 +35,7 @@ AreProposed genesis sent s =
     (x : Vote) → Contains s.votes x → WasSent genesis sent (Accept x) × IsAtMost x.ballot s.promised
 
 -- the acceptor accepts a vote: its ballot is the promised one, and only votes for its position may go
-pub record TakesVote (old : AcceptorState) (x : Vote) (new : AcceptorState) : Type 0 where
+pub record AddsVote (old : AcceptorState) (x : Vote) (new : AcceptorState) : Type 0 where
   pub promised : new.promised ≡ x.ballot
   pub snapshot : new.snapshot_position ≡ old.snapshot_position
   pub kept : Contains new.votes x
@@ -43,7 +43,7 @@ pub record TakesVote (old : AcceptorState) (x : Vote) (new : AcceptorState) : Ty
   pub only : (y : Vote) → Contains new.votes y → (y ≡ x) ⊎ Contains old.votes y
 
 -- a snapshot at the position replaces the votes up to there
-pub record TakesSnapshot (old : AcceptorState) (i : ℕ) (new : AcceptorState) : Type 0 where
+pub record ForgetsVotes (old : AcceptorState) (i : ℕ) (new : AcceptorState) : Type 0 where
   pub promised : new.promised ≡ old.promised
   pub snapshot : new.snapshot_position ≡ i
   pub later : old.snapshot_position ≤ i

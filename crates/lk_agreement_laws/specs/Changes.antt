@@ -6,7 +6,7 @@ use Rattle.lk_agreement_laws.specs.Ballots.{BallotValue, IsBelow, IsAtMost}
 use Rattle.lk_agreement_laws.specs.Datagrams.{Genesis, Vote, Datagram, Accept, Accepted, HasSent, WasSent}
 use Rattle.lk_agreement_laws.specs.Chosen.{Command, Chosen, ChosenAt}
 use Rattle.lk_agreement_laws.specs.Soundness.{ReceivedPromise, WasPromised, IsReported, IsReporter}
-use Rattle.lk_agreement_laws.specs.Acceptors.{AcceptorState, CoversSent, TakesVote, TakesSnapshot}
+use Rattle.lk_agreement_laws.specs.Acceptors.{AcceptorState, CoversSent, AddsVote, ForgetsVotes}
 use Rattle.lk_agreement_laws.specs.Nodes.{Pair, Acceptance, Term, new_term, PaxosState, Stems}
 
 -- why a term may propose the command at the position: it has proposed nothing there, a majority of the members that the
@@ -57,10 +57,10 @@ pub data Changes (genesis : Genesis) (sent : List Datagram) (n : ℕ) : PaxosSta
       → Changes genesis sent n old (holding_acceptor old (with_promise old.acceptor b))
   -- it votes for what was proposed, in a ballot that is not below the promised one
   accepts : {old : PaxosState} (x : Vote) (s : AcceptorState) → IsAtMost old.acceptor.promised x.ballot
-      → WasSent genesis sent (Accept x) → TakesVote old.acceptor x s
+      → WasSent genesis sent (Accept x) → AddsVote old.acceptor x s
       → Changes genesis sent n old (holding_acceptor old s)
   -- it writes a snapshot of what it has executed
-  packs : {old : PaxosState} (i : ℕ) (s : AcceptorState) → i ≤ length old.done → TakesSnapshot old.acceptor i s
+  packs : {old : PaxosState} (i : ℕ) (s : AcceptorState) → i ≤ length old.done → ForgetsVotes old.acceptor i s
       → Changes genesis sent n old (holding_acceptor old s)
   -- it begins a ballot of its own, above all that it promised
   begins : {old : PaxosState} (b : BallotValue) → b.node ≡ n → IsBelow old.acceptor.promised b

@@ -41,5 +41,5 @@ AreChosenFrom genesis sent first commands =
     (k : ℕ) (v : Command) → slice_get commands k ≡ Some v → ChosenAt genesis sent (first + k) v
 
 -- one list is a prefix of the other
-abbrev pub IsBeginning : List Command → List Command → Type 0
-IsBeginning L K = (rest : List Command) × (L ++ rest ≡ K)
+abbrev pub IsPrefix : List Command → List Command → Type 0
+IsPrefix L K = (rest : List Command) × (L ++ rest ≡ K)

@@ -96,12 +96,13 @@ MaySend genesis sent w (Decided d) = AreChosenFrom genesis sent d.first d.comman
 MaySend genesis sent w _ = Unit {0}
 
 -- the datagram is the node's, and spells such a message
-pub record MayPost (genesis : Genesis) (sent : List Datagram) (n : ℕ) (w : PaxosState) (d : Datagram) : Type 0 where
+pub record MaySendDatagram (genesis : Genesis) (sent : List Datagram) (n : ℕ) (w : PaxosState) (d : Datagram)
+    : Type 0 where
   pub message : NodeMessage
   pub from : d.from ≡ party.Node n
   pub spelled : Spells (said_by genesis n message) d.bytes
   pub may : MaySend genesis sent w message
 
 -- each of them is
-abbrev pub MayPostAll : Genesis → List Datagram → ℕ → PaxosState → List Datagram → Type 0
-MayPostAll genesis sent n w batch = (d : Datagram) → Contains batch d → MayPost genesis sent n w d
+abbrev pub MaySendDatagrams : Genesis → List Datagram → ℕ → PaxosState → List Datagram → Type 0
+MaySendDatagrams genesis sent n w batch = (d : Datagram) → Contains batch d → MaySendDatagram genesis sent n w d

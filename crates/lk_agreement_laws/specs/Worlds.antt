@@ -10,7 +10,7 @@ use Rattle.lk_agreement_laws.specs.Ballots.{BallotValue}
 use Rattle.lk_agreement_laws.specs.Datagrams.{Genesis, Vote, Datagram, Accepted, HasSent}
 use Rattle.lk_agreement_laws.specs.Chosen.{Command, command_at, Chosen}
 use Rattle.lk_agreement_laws.specs.Soundness.{Sound}
-use Rattle.lk_agreement_laws.specs.Nodes.{PaxosState, fresh, PaxosFits, MayPostAll}
+use Rattle.lk_agreement_laws.specs.Nodes.{PaxosState, fresh, PaxosFits, MaySendDatagrams}
 use Rattle.lk_agreement_laws.specs.Changes.{Changes}
 
 pub record PaxosWorld : Type 0 where
@@ -40,7 +40,7 @@ pub record IsClientRequest (d : Datagram) : Type 0 where
 -- a node sends some datagrams, each of which it may send; a client asks; or a node changes. Who hears what was sent,
 -- how often and when, is part of the changes
 pub data Happens (genesis : Genesis) : PaxosWorld → PaxosWorld → Type 0 where
-  sends : {w : PaxosWorld} (n : ℕ) (batch : List Datagram) → MayPostAll genesis w.sent n (w.states n) batch
+  sends : {w : PaxosWorld} (n : ℕ) (batch : List Datagram) → MaySendDatagrams genesis w.sent n (w.states n) batch
       → Happens genesis w (with_sent w batch)
   asks : {w : PaxosWorld} (d : Datagram) → IsClientRequest d
       → Happens genesis w (with_sent w (d ∷ []))
@@ -48,9 +48,9 @@ pub data Happens (genesis : Genesis) : PaxosWorld → PaxosWorld → Type 0 wher
       → Happens genesis w (with_paxos w n new)
 
 -- the reachable worlds
-pub data Reaches (genesis : Genesis) : PaxosWorld → Type 0 where
-  begin : Reaches genesis start
-  next : {w w' : PaxosWorld} → Reaches genesis w → Happens genesis w w' → Reaches genesis w'
+pub data IsReachable (genesis : Genesis) : PaxosWorld → Type 0 where
+  begin : IsReachable genesis start
+  next : {w w' : PaxosWorld} → IsReachable genesis w → Happens genesis w w' → IsReachable genesis w'
 
 -- what holds of each of them: the history is sound, and each node fits it
 pub record WorldFits (genesis : Genesis) (w : PaxosWorld) : Type 0 where
@@ -77,7 +77,7 @@ pub record IsKept (genesis : Genesis) (sent : List Datagram) (L : List Command) 
 -- there are such worlds, and members change in them: a reachable world, and a list of two commands that is chosen in
 -- it. Node 1 alone decides the first, which makes node 2 a member; both decide the second
 pub record MembersChange (genesis : Genesis) (w : PaxosWorld) (L : List Command) : Type 0 where
-  pub reached : Reaches genesis w
+  pub reached : IsReachable genesis w
   pub chosen : Chosen genesis w.sent L
   pub two : length L ≡ 2
   pub one_member : members genesis L 1 ≡ record { node = 1; port = 7001 } ∷ []

@@ -10,20 +10,21 @@ ghost use Rattle.lk_types.specs.Ranges.{IsCount};
 ghost use Rattle.lk_types.specs.Commands.{IsCommand};
 ghost use Rattle.lk_agreement_laws.specs.Ballots.{BallotValue};
 ghost use Rattle.lk_agreement_laws.specs.Datagrams.{Genesis, Vote, Datagram, NodeMessage, Accepted, said_by, HasSent};
-ghost use Rattle.lk_agreement_laws.specs.Chosen.{Command, command_at, Chosen, ChosenAt, IsBeginning};
+ghost use Rattle.lk_agreement_laws.specs.Chosen.{Command, command_at, Chosen, ChosenAt, IsPrefix};
 ghost use Rattle.lk_agreement_laws.specs.Soundness.{Sound};
-ghost use Rattle.lk_agreement_laws.specs.Acceptors.{AcceptorState, CoversSent, TakesVote, TakesSnapshot};
-ghost use Rattle.lk_agreement_laws.specs.Nodes.{Term, PaxosState, Stems, PaxosFits, MayPromise, MayPostAll};
+ghost use Rattle.lk_agreement_laws.specs.Acceptors.{AcceptorState, CoversSent, AddsVote, ForgetsVotes};
+ghost use Rattle.lk_agreement_laws.specs.Nodes.{Term, PaxosState, Stems, PaxosFits, MayPromise, MaySendDatagrams};
 ghost use Rattle.lk_agreement_laws.specs.Changes.{in_term, Changes, Becomes};
 ghost use Rattle.lk_agreement_laws.specs.Snapshots.{IsSlice};
-ghost use Rattle.lk_agreement_laws.specs.Worlds.{PaxosWorld, start, with_sent, with_paxos, IsClientRequest, Reaches};
+ghost use Rattle.lk_agreement_laws.specs.Worlds.{PaxosWorld, start, with_sent, with_paxos, IsClientRequest};
+ghost use Rattle.lk_agreement_laws.specs.Worlds.{IsReachable};
 ghost use Rattle.lk_agreement_laws.specs.Worlds.{WorldFits};
 ghost use Rattle.lk_agreement_laws.specs.Worlds.{IsKept, MembersChange};
 
 /// Of two chosen lists of a sound history one is a prefix of the other, and they name the same members.
 pub fn chosen_lists_agree()
     ensures lists { (genesis : Genesis) (sent : List Datagram) (L K : List Command) → Sound genesis sent
-        → Chosen genesis sent L → Chosen genesis sent K → IsBeginning L K ⊎ IsBeginning K L }
+        → Chosen genesis sent L → Chosen genesis sent K → IsPrefix L K ⊎ IsPrefix K L }
     ensures members { (genesis : Genesis) (sent : List Datagram) (L K : List Command) (i : ℕ) → Sound genesis sent
         → Chosen genesis sent L → Chosen genesis sent K → i ≤ length L + genesis.alpha → i ≤ length K + genesis.alpha
         → members genesis L i ≡ members genesis K i }
@@ -108,7 +109,7 @@ pub fn changes_keep_the_world()
 /// node fitting.
 pub fn sends_keep_the_world()
     ensures node { (genesis : Genesis) (w : PaxosWorld) (n : ℕ) (batch : List Datagram) → WorldFits genesis w
-        → MayPostAll genesis w.sent n (w.states n) batch → WorldFits genesis (with_sent w batch) }
+        → MaySendDatagrams genesis w.sent n (w.states n) batch → WorldFits genesis (with_sent w batch) }
     ensures client { (genesis : Genesis) (w : PaxosWorld) (d : Datagram) → WorldFits genesis w
         → IsClientRequest d → WorldFits genesis (with_sent w (d ∷ [])) }
 {}
@@ -116,23 +117,23 @@ pub fn sends_keep_the_world()
 /// A restart from any image that covers what its node has sent and stems from what was sent leaves the history sound
 /// and every node fitting.
 pub fn restarts_keep_the_world()
-    ensures { (genesis : Genesis) (w : PaxosWorld) (n : ℕ) (image : PaxosState) → WorldFits genesis w
-        → CoversSent genesis w.sent n image.acceptor → Stems genesis w.sent image → image.term ≡ None
-        → WorldFits genesis (with_paxos w n image) }
+    ensures { (genesis : Genesis) (w : PaxosWorld) (n : ℕ) (recovered : PaxosState) → WorldFits genesis w
+        → CoversSent genesis w.sent n recovered.acceptor → Stems genesis w.sent recovered → recovered.term ≡ None
+        → WorldFits genesis (with_paxos w n recovered) }
 {}
 
 /// An image that covers what its node has sent, and what it sends next, covers both together. So if each call syncs
 /// before it sends, every image still covers its node's messages. What other nodes send changes nothing for an image
 /// (`others`), and what an image holds still stems from what was sent.
 pub fn images_go_on_covering()
-    ensures own { (genesis : Genesis) (sent batch : List Datagram) (n : ℕ) (image : PaxosState)
-        → CoversSent genesis sent n image.acceptor → CoversSent genesis batch n image.acceptor
-        → CoversSent genesis (sent ++ batch) n image.acceptor }
-    ensures others { (genesis : Genesis) (w : PaxosWorld) (n k : ℕ) (batch : List Datagram) (image : PaxosState)
-        → MayPostAll genesis w.sent n (w.states n) batch → (n ≡ k → ⊥)
-        → CoversSent genesis w.sent k image.acceptor → CoversSent genesis (w.sent ++ batch) k image.acceptor }
-    ensures stems { (genesis : Genesis) (sent new : List Datagram) (image : PaxosState)
-        → Stems genesis sent image → Stems genesis (sent ++ new) image }
+    ensures sender { (genesis : Genesis) (sent batch : List Datagram) (n : ℕ) (recovered : PaxosState)
+        → CoversSent genesis sent n recovered.acceptor → CoversSent genesis batch n recovered.acceptor
+        → CoversSent genesis (sent ++ batch) n recovered.acceptor }
+    ensures others { (genesis : Genesis) (w : PaxosWorld) (n k : ℕ) (batch : List Datagram) (recovered : PaxosState)
+        → MaySendDatagrams genesis w.sent n (w.states n) batch → (n ≡ k → ⊥)
+        → CoversSent genesis w.sent k recovered.acceptor → CoversSent genesis (w.sent ++ batch) k recovered.acceptor }
+    ensures stems { (genesis : Genesis) (sent new : List Datagram) (recovered : PaxosState)
+        → Stems genesis sent recovered → Stems genesis (sent ++ new) recovered }
 {}
 
 /// The simple ways to keep votes in a list are permitted: a vote replaces any other for its position, a snapshot
@@ -140,17 +141,17 @@ pub fn images_go_on_covering()
 pub fn votes_may_be_kept_in_a_list()
     ensures vote { (old new : AcceptorState) (x : Vote) → new.promised ≡ x.ballot
         → new.snapshot_position ≡ old.snapshot_position
-        → new.votes ≡ filter (λ y. not (y.position == x.position)) old.votes ++ x ∷ [] → TakesVote old x new }
+        → new.votes ≡ filter (λ y. not (y.position == x.position)) old.votes ++ x ∷ [] → AddsVote old x new }
     ensures snapshot { (old new : AcceptorState) (i : ℕ) → old.snapshot_position ≤ i → new.promised ≡ old.promised
         → new.snapshot_position ≡ i
-        → new.votes ≡ filter (λ y. nat_lt i y.position) old.votes → TakesSnapshot old i new }
+        → new.votes ≡ filter (λ y. nat_lt i y.position) old.votes → ForgetsVotes old i new }
     ensures promise { (s : AcceptorState) (p : PromiseValue) → s.promised ≡ p.ballot → s.snapshot_position < p.first
         → p.votes ≡ filter (λ y. nat_le p.first y.position) s.votes → MayPromise s p }
 {}
 
 /// Slices of snapshots of one position, from whichever nodes, join into one text, which when complete is that of a
 /// chosen list. Slices of the text of a prefix of a chosen list are such.
-pub fn slices_join()
+pub fn slices_concatenate()
     ensures join { (genesis : Genesis) (sent : List Datagram) (text : List Command → List ℕ) (position total : ℕ)
         (gathered bytes : List ℕ)
         → Sound genesis sent → IsSlice genesis sent text position total 0 gathered
@@ -174,26 +175,26 @@ pub fn slices_join()
 /// What `Reaches` permits in any order: nodes send what they may, clients ask, and nodes change. A node may stop at any
 /// time and restart from any image that covers what it has sent and stems from what was sent, and its term may end.
 pub fn worlds_come_about()
-    ensures begins { (genesis : Genesis) → Reaches genesis start }
-    ensures sends { (genesis : Genesis) (w : PaxosWorld) (n : ℕ) (batch : List Datagram) → Reaches genesis w
-        → MayPostAll genesis w.sent n (w.states n) batch → Reaches genesis (with_sent w batch) }
-    ensures asks { (genesis : Genesis) (w : PaxosWorld) (d : Datagram) → Reaches genesis w
-        → IsClientRequest d → Reaches genesis (with_sent w (d ∷ [])) }
-    ensures changes { (genesis : Genesis) (w : PaxosWorld) (n : ℕ) (new : PaxosState) → Reaches genesis w
-        → Changes genesis w.sent n (w.states n) new → Reaches genesis (with_paxos w n new) }
-    ensures restarts { (genesis : Genesis) (w : PaxosWorld) (n : ℕ) (image : PaxosState) → Reaches genesis w
-        → CoversSent genesis w.sent n image.acceptor → Stems genesis w.sent image → image.term ≡ None
-        → Reaches genesis (with_paxos w n image) }
-    ensures leaves { (genesis : Genesis) (w : PaxosWorld) (n : ℕ) → Reaches genesis w
-        → Reaches genesis (with_paxos w n (in_term (w.states n) None)) }
+    ensures begins { (genesis : Genesis) → IsReachable genesis start }
+    ensures sends { (genesis : Genesis) (w : PaxosWorld) (n : ℕ) (batch : List Datagram) → IsReachable genesis w
+        → MaySendDatagrams genesis w.sent n (w.states n) batch → IsReachable genesis (with_sent w batch) }
+    ensures asks { (genesis : Genesis) (w : PaxosWorld) (d : Datagram) → IsReachable genesis w
+        → IsClientRequest d → IsReachable genesis (with_sent w (d ∷ [])) }
+    ensures changes { (genesis : Genesis) (w : PaxosWorld) (n : ℕ) (new : PaxosState) → IsReachable genesis w
+        → Changes genesis w.sent n (w.states n) new → IsReachable genesis (with_paxos w n new) }
+    ensures restarts { (genesis : Genesis) (w : PaxosWorld) (n : ℕ) (recovered : PaxosState) → IsReachable genesis w
+        → CoversSent genesis w.sent n recovered.acceptor → Stems genesis w.sent recovered → recovered.term ≡ None
+        → IsReachable genesis (with_paxos w n recovered) }
+    ensures leaves { (genesis : Genesis) (w : PaxosWorld) (n : ℕ) → IsReachable genesis w
+        → IsReachable genesis (with_paxos w n (in_term (w.states n) None)) }
 {}
 
 /// In every reachable world chosen lists agree, and a majority keeps each command of a chosen list.
 pub fn every_world_agrees()
-    ensures fits { (genesis : Genesis) (w : PaxosWorld) → Reaches genesis w → WorldFits genesis w }
-    ensures agree { (genesis : Genesis) (w : PaxosWorld) (L K : List Command) → Reaches genesis w
-        → Chosen genesis w.sent L → Chosen genesis w.sent K → IsBeginning L K ⊎ IsBeginning K L }
-    ensures kept { (genesis : Genesis) (w : PaxosWorld) (L : List Command) (i : ℕ) (v : Command) → Reaches genesis w
+    ensures fits { (genesis : Genesis) (w : PaxosWorld) → IsReachable genesis w → WorldFits genesis w }
+    ensures agree { (genesis : Genesis) (w : PaxosWorld) (L K : List Command) → IsReachable genesis w
+        → Chosen genesis w.sent L → Chosen genesis w.sent K → IsPrefix L K ⊎ IsPrefix K L }
+    ensures kept { (genesis : Genesis) (w : PaxosWorld) (L : List Command) (i : ℕ) (v : Command) → IsReachable genesis w
         → Chosen genesis w.sent L → command_at L i ≡ Some v
         → IsKept genesis w.sent L i v (λ n state. state ≡ w.states n) }
 {}
@@ -202,7 +203,7 @@ pub fn every_world_agrees()
 /// a chosen list, which makes node 2 a member, and both decide the second.
 pub fn members_change_in_some_world()
     ensures some { (genesis : Genesis) × (w : PaxosWorld) × (L : List Command) × MembersChange genesis w L }
-    ensures plain { (genesis : Genesis) × (w : PaxosWorld) × (L : List Command) × Reaches genesis w
+    ensures plain { (genesis : Genesis) × (w : PaxosWorld) × (L : List Command) × IsReachable genesis w
         × Chosen genesis w.sent L × (length L ≡ 2)
         × (members genesis L 1 ≡ record { node = 1; port = 7001 } ∷ [])
         × (members genesis L 2 ≡ record { node = 1; port = 7001 } ∷ record { node = 2; port = 7002 } ∷ []) }

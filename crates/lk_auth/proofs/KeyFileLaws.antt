@@ -4,7 +4,7 @@ use Rattle.std.proofs.Common.{ap, ◌∙◌, append_assoc}
 use Rattle.std.proofs.lemmas.List.{append-nil}
 use Rattle.std.specs.Io.KnownBytes.{Appends, Keeps}
 use Rattle.std.specs.List.{list_any}
-use Rattle.lk_auth.specs.KeyFiles.{IsLine, in_first, lines, keys_in, joined, one_or_two, key_file}
+use Rattle.lk_auth.specs.KeyFiles.{IsLine, in_first, lines, keys_in, with_others, one_or_two, key_file}
 use Rattle.lk_auth.specs.Seals.{key_list}
 use Rattle.lk_auth.specs.declared.keys.Keys.{Keys}
 use Rattle.lk_auth.specs.declared.keys.Keys.TheVariants.{NoKey, One, Two}
@@ -37,43 +37,43 @@ lines_end (b ∷ line) free = rw (no_feed b line free) (ap (in_first b) (lines_e
 
 -- the keys so far, and those of the lines that are left, are those of the file
 abbrev pub ReadSoFar : List ℕ → List (List ℕ) → List ℕ → Type 0
-ReadSoFar text keys rest = key_file text ≡ one_or_two (joined keys (keys_in (lines rest)))
+ReadSoFar text keys rest = key_file text ≡ one_or_two (with_others keys (keys_in (lines rest)))
 
 -- a further line, and what stands after it
 one_line : (text : List ℕ) (keys : List (List ℕ)) (rest line behind : List ℕ) → IsLine line
     → rest ≡ line ++ 10 ∷ behind → ReadSoFar text keys rest
-    → key_file text ≡ one_or_two (joined keys (keys_in (line ∷ lines behind)))
+    → key_file text ≡ one_or_two (with_others keys (keys_in (line ∷ lines behind)))
 one_line text keys rest line behind free e so_far =
-    so_far ∙ ap (λ (ls : List (List ℕ)). one_or_two (joined keys (keys_in ls)))
+    so_far ∙ ap (λ (ls : List (List ℕ)). one_or_two (with_others keys (keys_in ls)))
     (ap lines e ∙ lines_more line behind free)
 
 pub line_read : (text : List ℕ) (keys more : List (List ℕ)) (rest line behind : List ℕ) → IsLine line
     → rest ≡ line ++ 10 ∷ behind
-    → ((after : List (List ℕ)) → joined keys (keys_in (line ∷ after)) ≡ joined more (keys_in after))
+    → ((after : List (List ℕ)) → with_others keys (keys_in (line ∷ after)) ≡ with_others more (keys_in after))
     → ReadSoFar text keys rest → ReadSoFar text more behind
 line_read text keys more rest line behind free e read so_far =
     one_line text keys rest line behind free e so_far ∙ ap one_or_two (read (lines behind))
 
 pub line_refused : (text : List ℕ) (keys : List (List ℕ)) (rest line behind : List ℕ) → IsLine line
     → rest ≡ line ++ 10 ∷ behind
-    → ((after : List (List ℕ)) → one_or_two (joined keys (keys_in (line ∷ after))) ≡ None)
+    → ((after : List (List ℕ)) → one_or_two (with_others keys (keys_in (line ∷ after))) ≡ None)
     → ReadSoFar text keys rest → key_file text ≡ None
 line_refused text keys rest line behind free e refused so_far =
     one_line text keys rest line behind free e so_far ∙ refused (lines behind)
 
 -- the last line
 last_line : (text : List ℕ) (keys : List (List ℕ)) (rest : List ℕ) → IsLine rest → ReadSoFar text keys rest
-    → key_file text ≡ one_or_two (joined keys (keys_in (rest ∷ [])))
+    → key_file text ≡ one_or_two (with_others keys (keys_in (rest ∷ [])))
 last_line text keys rest free so_far =
-    so_far ∙ ap (λ (ls : List (List ℕ)). one_or_two (joined keys (keys_in ls))) (lines_end rest free)
+    so_far ∙ ap (λ (ls : List (List ℕ)). one_or_two (with_others keys (keys_in ls))) (lines_end rest free)
 
 pub last_read : (text : List ℕ) (keys more : List (List ℕ)) (rest : List ℕ) → IsLine rest
-    → ((after : List (List ℕ)) → joined keys (keys_in (rest ∷ after)) ≡ joined more (keys_in after))
+    → ((after : List (List ℕ)) → with_others keys (keys_in (rest ∷ after)) ≡ with_others more (keys_in after))
     → ReadSoFar text keys rest → key_file text ≡ one_or_two (Some (more ++ []))
 last_read text keys more rest free read so_far = last_line text keys rest free so_far ∙ ap one_or_two (read [])
 
 pub last_refused : (text : List ℕ) (keys : List (List ℕ)) (rest : List ℕ) → IsLine rest
-    → ((after : List (List ℕ)) → one_or_two (joined keys (keys_in (rest ∷ after))) ≡ None)
+    → ((after : List (List ℕ)) → one_or_two (with_others keys (keys_in (rest ∷ after))) ≡ None)
     → ReadSoFar text keys rest → key_file text ≡ None
 last_refused text keys rest free refused so_far = last_line text keys rest free so_far ∙ refused []
 

@@ -55,6 +55,6 @@ abbrev pub key_lines : List (List ℕ) → List ℕ
 key_lines keys = flat_map (λ key. encode_lower key ++ 10 ∷ []) keys
 
 -- keys, and then others if they are there
-abbrev pub joined : List (List ℕ) → Option (List (List ℕ)) → Option (List (List ℕ))
-joined keys None = None
-joined keys (Some others) = Some (keys ++ others)
+abbrev pub with_others : List (List ℕ) → Option (List (List ℕ)) → Option (List (List ℕ))
+with_others keys None = None
+with_others keys (Some others) = Some (keys ++ others)

@@ -3,7 +3,8 @@
 ghost use Rattle.std.specs.Prelude.{◌≡◌, ◌∷◌, ◌++◌, [], List, ℕ, Some, None, IfSome, IsNone, OnOk};
 ghost use Rattle.std.specs.Io.KnownBytes.{Appends};
 ghost use Rattle.hex.specs.Hex.{encode_lower};
-ghost use Rattle.lk_auth.specs.KeyFiles.{IsLine, is_idle, key_in, keys_in, one_or_two, joined, key_file, key_lines};
+ghost use Rattle.lk_auth.specs.KeyFiles.{IsLine, is_idle, key_in, keys_in, one_or_two, with_others, key_file};
+ghost use Rattle.lk_auth.specs.KeyFiles.{key_lines};
 ghost use Rattle.lk_auth.specs.Seals.{key_list};
 
 use crate::key::{KEY, Key};
@@ -68,9 +69,9 @@ impl Keys {
     fn with_line(self, line: &[u8]) -> Option<Keys>
         ensures some { IfSome result
             (λ keys. (after : List (List ℕ))
-            → joined (key_list self) (keys_in (line.now ∷ after)) ≡ joined (key_list keys) (keys_in after)) }
+            → with_others (key_list self) (keys_in (line.now ∷ after)) ≡ with_others (key_list keys) (keys_in after)) }
         ensures none { IsNone result → (after : List (List ℕ))
-            → one_or_two (joined (key_list self) (keys_in (line.now ∷ after))) ≡ None }
+            → one_or_two (with_others (key_list self) (keys_in (line.now ∷ after))) ≡ None }
     {
         if is_idle(line) {
             return Some(self);

@@ -76,13 +76,13 @@ ended_by (Reply (Passed last)) = Some (Passed last)
 ended_by Nothing = None
 ended_by Other = None
 
--- the bytes were sent once, to that place, or a send failed, which is counted, and nothing was sent
+-- the bytes were sent once, to that endpoint, or a send failed, which is counted, and nothing was sent
 abbrev pub SendsOnce : Endpoint → List ℕ → List (SocketAddr × List ℕ) → ℕ → List (SocketAddr × List ℕ) → ℕ → Type 0
 SendsOnce endpoint bytes old failures new failures_new =
     ((to : SocketAddr) × IsAt endpoint to × (new ≡ old ++ (to, bytes) ∷ []) × (failures_new ≡ failures))
     ⊎ ((new ≡ old) × (failures_new ≡ one_more failures))
 
--- the bytes were sent to each of these places in turn, as above, and nothing else was sent
+-- the bytes were sent to each of these endpoints in turn, as above, and nothing else was sent
 abbrev pub SendsEach : List Endpoint → List ℕ → List (SocketAddr × List ℕ) → ℕ → List (SocketAddr × List ℕ) → ℕ → Type 0
 SendsEach [] bytes old failures new failures_new = (new ≡ old) × (failures_new ≡ failures)
 SendsEach (endpoint ∷ endpoints) bytes old failures new failures_new =
@@ -90,10 +90,10 @@ SendsEach (endpoint ∷ endpoints) bytes old failures new failures_new =
     × SendsEach endpoints bytes mid failures_mid new failures_new
 
 -- the reply is an Answer or a Passed, which tells the fate of the request
-abbrev pub IsTold : ReplyValue → Type 0
-IsTold (Answer a) = Unit {0}
-IsTold (Passed last) = Unit {0}
-IsTold (Elsewhere m) = ⊥
+abbrev pub IsFinal : ReplyValue → Type 0
+IsFinal (Answer a) = Unit {0}
+IsFinal (Passed last) = Unit {0}
+IsFinal (Elsewhere m) = ⊥
 
 -- a client that has sent its request: its socket, and how many Elsewhere replies it has followed
 pub record Asker (S : Type 0) : Type 0 where

@@ -3,7 +3,7 @@
 ghost use Rattle.std.specs.Prelude.{◌≡◌, ◌≤◌, ◌⊎◌, ◌↔◌, true, Some, IfOk, IfErr, OnErr, IfSome, IsSomeAnd};
 ghost use Rattle.lk_messages.specs.Grammar.{Spells};
 ghost use Rattle.lk_transport.specs.ReceiveBuffers.{next_of};
-ghost use Rattle.lk_client.specs.Questions.{asking, IsAsked, HearsNext, SendsOnce, Receives, Tries, Exchanges, IsTold};
+ghost use Rattle.lk_client.specs.Questions.{asking, IsAsked, HearsNext, SendsOnce, Receives, Tries, Exchanges, IsFinal};
 ghost use Rattle.lk_client.specs.Rules.{SendsOnly, AsksInTurn, Comes};
 ghost use Rattle.lk_client.specs.declared.reply.Reply.{Reply as ReplyValue};
 
@@ -123,7 +123,7 @@ fn send<S: DatagramSocket>(socket: &mut S, host: IpAddr, port: Port, bytes: &[u8
 
 // Receives once, and returns an Answer or a Passed. For an Elsewhere it resends the bytes to the member named there, if
 // fewer than 20 were followed, and counts it in `followed`.
-fn take_next<S: DatagramSocket>(
+fn receive_next<S: DatagramSocket>(
     buffer: &mut ReceiveBuffer,
     socket: &mut S,
     question: &Question,
@@ -134,7 +134,7 @@ fn take_next<S: DatagramSocket>(
     ensures heard { S.is_observable → Receives S.sent S.failures (next_of S.incoming) question.now bytes.now result
         (record { socket = socket.old; followed = followed.old })
         (record { socket = socket.new; followed = followed.new }) }
-    ensures told { IfSome result IsTold }
+    ensures told { IfSome result IsFinal }
     ensures most { followed.old ≤ 20 → followed.new ≤ 20 }
 {
     match next_reply(buffer, socket, question) {
@@ -169,12 +169,12 @@ fn ask_port<S: DatagramSocket>(
         → Tries S.sent S.failures (next_of S.incoming) question.now patience port bytes.now result
         (record { socket = socket.old; followed = followed.old })
         (record { socket = socket.new; followed = followed.new }) }
-    ensures told { IfSome result IsTold }
+    ensures told { IfSome result IsFinal }
     ensures most { followed.new ≤ 20 }
 {
     send(socket, question.destination.address, port, bytes);
     'receives: for _ in 0..patience {
-        let reply = take_next(buffer, socket, question, bytes, followed);
+        let reply = receive_next(buffer, socket, question, bytes, followed);
         if reply.is_some() {
             return reply;
         }
@@ -196,7 +196,7 @@ fn exchange_in_turn<S: DatagramSocket>(
     ensures tries { S.is_observable
         → IfOk result (λ told. Exchanges S.sent S.failures
         (next_of S.incoming) question.now patience ports.now told socket.old socket.new) }
-    ensures told { IfOk result (λ reply. IfSome reply IsTold) }
+    ensures told { IfOk result (λ reply. IfSome reply IsFinal) }
     ensures unchanged { OnErr result (socket.new ≡ socket.old) }
     ensures only { IfErr result (λ f. f ≡ ServiceFault.NoMemory) }
 {
@@ -233,7 +233,7 @@ pub fn exchange<S: DatagramSocket>(
     ensures rule { S.is_observable
         → IfOk result (λ told. AsksInTurn S.sent S.failures
         (next_of S.incoming) question.now ports.now told socket.old socket.new) }
-    ensures told { IfOk result (λ reply. IfSome reply IsTold) }
+    ensures told { IfOk result (λ reply. IfSome reply IsFinal) }
     ensures unchanged { OnErr result (socket.new ≡ socket.old) }
     ensures only { IfErr result (λ f. f ≡ ServiceFault.NoMemory) }
 {
@@ -246,7 +246,7 @@ pub fn exchange<S: DatagramSocket>(
 // Writes a reply that tells what became of the request: an answer's text, or `passed LAST`, as a line. Returns whether
 // it is such a reply; an Elsewhere is not.
 fn write_told<W: Write>(reply: &Reply, out: &mut W) -> io::Result<bool>
-    ensures told { IfOk result (λ is_told. is_told ≡ true ↔ IsTold reply.now) }
+    ensures told { IfOk result (λ is_told. is_told ≡ true ↔ IsFinal reply.now) }
 {
     match reply {
         Reply::Answer(answer) => writeln!(out, "{answer}")?,
@@ -258,7 +258,7 @@ fn write_told<W: Write>(reply: &Reply, out: &mut W) -> io::Result<bool>
 
 /// Writes the reply: an answer's text, `passed LAST`, or `no answer`. Returns whether it was an answer or a Passed.
 pub fn write_reply<W: Write>(reply: Option<Reply>, out: &mut W) -> io::Result<bool>
-    ensures told { IfOk result (λ is_told. is_told ≡ true ↔ IsSomeAnd reply IsTold) }
+    ensures told { IfOk result (λ is_told. is_told ≡ true ↔ IsSomeAnd reply IsFinal) }
 {
     let is_told = match reply {
         Some(reply) => write_told(&reply, out)?,

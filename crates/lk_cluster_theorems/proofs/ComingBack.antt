@@ -12,7 +12,7 @@ use Rattle.lk_sim.specs.Traces.{happened}
 use Rattle.lk_sim_nodes.specs.declared.seat.Life.TheVariants.{Down}
 use Rattle.lk_sim.proofs.Networks.{holds_down}
 use Rattle.lk_guarantees.specs.ComingBack.{IsExcused}
-use Rattle.lk_cluster_theorems.specs.Clusters.{Cluster, Network, ServerStands, IsReachable, server_disks}
+use Rattle.lk_cluster_theorems.specs.Clusters.{Cluster, Network, ServerHolds, IsReachable, server_disks}
 use Rattle.lk_cluster_theorems.specs.Continuing.{node_of, HasNode}
 use Rattle.lk_cluster_theorems.proofs.Keeping.{Unforged, reachable_sound}
 use Rattle.lk_node_interface.specs.Faults.{IsNumberOfRevival}
@@ -35,7 +35,7 @@ pub comes_back : (May : Network) (Metered tells : Type 0) → Unforged May → (
 comes_back May Metered tells unforged Honest honest genesis cluster all index n device at disks
     same number left refused =
     let h = happened cluster.genesis cluster.sent cluster.trace in
-    let down = holds_down ServerStands server_disks table_meaning cluster
+    let down = holds_down ServerHolds server_disks table_meaning cluster
     (reachable_sound May Metered tells unforged genesis cluster all).holds index
     (node_of n (Down device)) at device refl in
     let fit : DisksFit table_meaning h n disks =

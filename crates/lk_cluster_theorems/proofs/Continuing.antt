@@ -24,7 +24,7 @@ use Rattle.lk_sim_nodes.specs.Seats.{At}
 use Rattle.lk_sim_nodes.specs.declared.seat.Life.{Life}
 use Rattle.lk_sim_nodes.specs.declared.seat.Life.TheVariants.{Up, Down}
 use Rattle.lk_sim.proofs.Networks.{at_set_here, set_twice}
-use Rattle.lk_cluster_theorems.specs.Clusters.{Node, Cluster, Network, Says, steps_of, IsBegun, server_disks, Starts}
+use Rattle.lk_cluster_theorems.specs.Clusters.{Node, Cluster, Network, Says, steps_of, HasStarted, server_disks, Starts}
 use Rattle.lk_cluster_theorems.specs.Clusters.{TakesTurn}
 use Rattle.lk_cluster_theorems.specs.Clusters.{Idles, EndsByTurn, Happens, HappenAll, IsReachable}
 use Rattle.lk_cluster_theorems.specs.Continuing.{node_of, HasNode, Continues, letters_of, MayAllCome}
@@ -72,18 +72,18 @@ module _ (May : Network) (Metered tells : Type 0) where
   pub start_comes : (genesis : Genesis) (old : Cluster) → IsReachable May Metered tells genesis old
       → (index n : ℕ) (device : Memory) → HasNode old index n (Down device) → (disks : Side → Disk)
       → ((s : Side) → disk_of device s ≡ disks s)
-      → (server : ServerValue ReplicaValue) → IsBegun old.genesis n disks server
+      → (server : ServerValue ReplicaValue) → HasStarted old.genesis n disks server
       → (trace : List Note) × IsReachable May Metered tells genesis (continued old index n (Up server) [] trace)
   start_comes genesis old all index n device at disks same server is =
       let path : disks ≡ disk_of device = λ i s. sym (same s) i in
-      let begun : IsBegun old.genesis n (disk_of device) server =
-      subst (λ (d : Side → Disk). IsBegun old.genesis n d server) path is in
+      let begun : HasStarted old.genesis n (disk_of device) server =
+      subst (λ (d : Side → Disk). HasStarted old.genesis n d server) path is in
       let new = continued old index n (Up server) [] begun.notes in
       let starts : Starts old new = record {
         restarts = record {
           seat = node_of n (Down device);
           next = node_of n (Up server);
-          turns = record { index = index; at = at; number = refl; seats = refl };
+          replaces = record { index = index; at = at; number = refl; seats = refl };
           device = device;
           down = refl;
           replica = server;
@@ -92,14 +92,14 @@ module _ (May : Network) (Metered tells : Type 0) where
           restarts = begun.restarts;
           adds = record { genesis = refl; sent = refl; trace = refl };
         };
-        own = begun.own;
+        own_letters = begun.own_letters;
         alive = begun.alive;
       } in (begun.notes, goes_on genesis old new all (inr (inl starts)))
 
   pub start_continues : (genesis : Genesis) (old : Cluster) → IsReachable May Metered tells genesis old
       → (index n : ℕ) (device : Memory) → HasNode old index n (Down device)
       → (disks : Side → Disk) → ((s : Side) → disk_of device s ≡ disks s) → (server : ServerValue ReplicaValue)
-      → IsBegun old.genesis n disks server → Continues May Metered tells genesis old index n (Up server) []
+      → HasStarted old.genesis n disks server → Continues May Metered tells genesis old index n (Up server) []
   start_continues genesis old all index n device at disks same server is =
       let t = start_comes genesis old all index n device at disks same server is in
       continues_with genesis old index n (Up server) [] t.0 t.1
@@ -114,7 +114,7 @@ module _ (May : Network) (Metered tells : Type 0) where
       let stays : Rests table_meaning old new = record {
         seat = node_of n (Down device);
         next = node_of n (Down left);
-        turns = record { index = index; at = at; number = refl; seats = refl };
+        replaces = record { index = index; at = at; number = refl; seats = refl };
         device = device;
         down = refl;
         left = left;
@@ -134,7 +134,7 @@ module _ (May : Network) (Metered tells : Type 0) where
       let stops : Stops server_disks old new = record {
         seat = node_of n (Up server);
         next = node_of n (Down left);
-        turns = record { index = index; at = at; number = refl; seats = refl };
+        replaces = record { index = index; at = at; number = refl; seats = refl };
         left = left;
         down = refl;
         was_up = λ q up s. subst
@@ -158,7 +158,7 @@ module _ (May : Network) (Metered tells : Type 0) where
       let idles : Idles tells old new = record {
         node = node_of n (Up server);
         next = node_of n (Up after);
-        turns = record { index = index; at = at; number = refl; seats = refl };
+        replaces = record { index = index; at = at; number = refl; seats = refl };
         server = server;
         was = refl;
         after = after;
@@ -192,7 +192,7 @@ module _ (May : Network) (Metered tells : Type 0) where
     turn_trace old w index n server after at came may turn =
         let node = node_of n (Up server) in
         let may_all = turn_takes May Metered tells unforged old old w n 64 server came turn.given turn.may
-        (w.own index node at server refl) may in
+        (w.own_letters index node at server refl) may in
         trace_group old.genesis n old.seats index node at after Metered turn.given server.replica turn.hands_on.letters
         after.replica old.sent old.trace may_all
         (with_replica old w index node at server after refl) turn.hands_on.says
@@ -205,7 +205,7 @@ module _ (May : Network) (Metered tells : Type 0) where
         let node = node_of n (Up server) in
         let may_all = ended_may old.genesis old.sent turn.given turn.first.whole turn.first.front
         (turn_takes May Metered tells unforged old old w n turn.count server came turn.first.whole turn.first.may
-        (w.own index node at server refl) may) in
+        (w.own_letters index node at server refl) may) in
         trace_group old.genesis n old.seats index node at after Metered turn.given server.replica turn.hands_on.letters
         after.replica old.sent old.trace may_all
         (with_replica old w index node at server after refl) turn.hands_on.says
@@ -222,7 +222,7 @@ module _ (May : Network) (Metered tells : Type 0) where
           record {
             node = node_of n (Up server);
             next = node_of n (Up after);
-            turns = record { index = index; at = at; number = refl; seats = refl };
+            replaces = record { index = index; at = at; number = refl; seats = refl };
             server = server;
             was = refl;
             after = after;
@@ -277,7 +277,7 @@ module _ (May : Network) (Metered tells : Type 0) where
         let ends : EndsByTurn May Metered tells old new = record {
           node = node_of n (Up server);
           next = node_of n (Down left);
-          turns = record { index = index; at = at; number = refl; seats = refl };
+          replaces = record { index = index; at = at; number = refl; seats = refl };
           server = server;
           was = refl;
           after = after;

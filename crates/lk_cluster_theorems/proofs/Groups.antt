@@ -30,7 +30,7 @@ use Rattle.lk_recovery.specs.Rooms.{max_after}
 use Rattle.lk_served_replica.specs.Sayings.{SaysByGroup, IsSilenced, SaysOf}
 use Rattle.lk_server.specs.Servers.{ServerValue}
 use Rattle.lk_sim.specs.Events.{ReplacesSeat}
-use Rattle.lk_sim.specs.Networks.{MayCome, AreAsking, MayHear, TellsOf, GoesBy, GoesOn}
+use Rattle.lk_sim.specs.Networks.{MayCome, AreAsking, MayHear, RecordsReplies, GoesBy, GoesOn}
 use Rattle.lk_sim_nodes.specs.Rooms.{AreShort}
 use Rattle.lk_sim.specs.Scenes.{Scene}
 use Rattle.lk_sim_nodes.specs.Seats.{At}
@@ -39,7 +39,7 @@ use Rattle.lk_sim.specs.Worlds.{WorldInvariant}
 use Rattle.lk_sim_nodes.specs.declared.seat.Life.{Life}
 use Rattle.lk_sim_nodes.specs.declared.seat.Life.TheVariants.{Up, Down}
 use Rattle.lk_sim.proofs.Networks.{step_holds, heard, asked_maybe, at_set_here, set_twice, went_down}
-use Rattle.lk_cluster_theorems.specs.Clusters.{Node, ServerStands, server_disks, JoinsByStep, Joins, steps_of}
+use Rattle.lk_cluster_theorems.specs.Clusters.{Node, ServerHolds, server_disks, TracesStep, TracesGroup, steps_of}
 use Rattle.lk_cluster_theorems.proofs.Mapped.{on_device}
 
 -- ---- what is given
@@ -81,7 +81,7 @@ hears_later genesis sent trace more (Some bytes) hears =
     record { said = hears.said; asked = λ r cluster spelled. asked_later trace more r (hears.asked r cluster spelled) }
 
 -- of a step that noted and said nothing only what it was asked joins the trace
-silent_here : (n : ℕ) (o : Option (List ℕ)) (here : List Note) (j : JoinsByStep n o ([], []) here)
+silent_here : (n : ℕ) (o : Option (List ℕ)) (here : List Note) (j : TracesStep n o ([], []) here)
     → here ≡ asked_note j.request
 silent_here n o here j =
     j.joins ∙ ap (λ (l : List Note). (asked_note j.request ++ []) ++ l) j.tells_of
@@ -89,7 +89,7 @@ silent_here n o here j =
 
 -- what is given may be heard, once all that it asks is noted
 pub all_hear : (genesis : Genesis) (n : ℕ) (sent : List Datagram) (trace : List Note) (is : List Input)
-    (more : List Note) → Joins n (map heard_by is) [] more → AllMay genesis sent (map heard_by is)
+    (more : List Note) → TracesGroup n (map heard_by is) [] more → AllMay genesis sent (map heard_by is)
     → AllByRecursion (InputFits (happened genesis sent (trace ++ more))) is
 all_hear genesis n sent trace [] more joins may = tt
 all_hear genesis n sent trace (i ∷ is) more joins may =
@@ -105,7 +105,7 @@ all_hear genesis n sent trace (i ∷ is) more joins may =
 
 -- what holds of a cluster makes its history lawful
 lawful : (genesis : Genesis) (seats : List Node) (sent : List Datagram) (trace : List Note)
-    → WorldInvariant ServerStands server_disks table_meaning genesis seats sent trace
+    → WorldInvariant ServerHolds server_disks table_meaning genesis seats sent trace
     → IsLawful table_meaning (happened genesis sent trace)
 lawful genesis seats sent trace w = record {
   sound = w.world.sound;
@@ -144,7 +144,7 @@ same_down d e p = cc p
 module _ (genesis : Genesis) (n : ℕ) (seats : List Node) (index : ℕ) (node : Node) (at : At seats index node)
     (s : ServerValue ReplicaValue) where
   abbrev HoldsAt : List Node → List Datagram → List Note → Type 0
-  HoldsAt nodes sent trace = WorldInvariant ServerStands server_disks table_meaning genesis nodes sent trace
+  HoldsAt nodes sent trace = WorldInvariant ServerHolds server_disks table_meaning genesis nodes sent trace
 
   abbrev seat : Life (ServerValue ReplicaValue) → Node
   seat life = record { number = n; life = life }
@@ -197,8 +197,8 @@ module _ (genesis : Genesis) (n : ℕ) (seats : List Node) (index : ℕ) (node :
   -- ---- a step
 
   goes_by : (r mid : ReplicaValue) (came : Option (List ℕ)) (request : Option RequestValue) (notes told : List Note)
-      (batch : List Datagram) → AreAsking came request → TellsOf batch told
-      → GoesBy ServerStands server_disks table_meaning n (serving r) came (serving mid) notes batch
+      (batch : List Datagram) → AreAsking came request → RecordsReplies batch told
+      → GoesBy ServerHolds server_disks table_meaning n (serving r) came (serving mid) notes batch
       → (sent : List Datagram) (trace : List Note) → MayCome genesis sent came → IsUpWith r sent trace
       → IsUpWith mid (sent ++ batch) (trace ++ ((asked_note request ++ notes) ++ told))
   goes_by r mid came request notes told batch asks tells goes sent trace may w =
@@ -212,10 +212,10 @@ module _ (genesis : Genesis) (n : ℕ) (seats : List Node) (index : ℕ) (node :
         trace = trace ++ ((asked_note request ++ notes) ++ told);
         ended = None;
       } in
-      let goes_on : GoesOn ServerStands server_disks table_meaning old new = record {
+      let goes_on : GoesOn ServerHolds server_disks table_meaning old new = record {
         seat = seat (Up (serving r));
         next = seat (Up (serving mid));
-        turns = turns (Up (serving r)) (Up (serving mid));
+        replaces = turns (Up (serving r)) (Up (serving mid));
         before = serving r;
         was = refl;
         after = serving mid;
@@ -231,7 +231,7 @@ module _ (genesis : Genesis) (n : ℕ) (seats : List Node) (index : ℕ) (node :
         tells = tells;
         adds = record { genesis = refl; sent = refl; trace = refl };
       } in
-      step_holds ServerStands server_disks table_meaning old new w (inr (inr (inr (inl goes_on))))
+      step_holds ServerHolds server_disks table_meaning old new w (inr (inr (inr (inl goes_on))))
 
   -- what a step of a group promises
   abbrev pub StepGoes : ReplicaValue → Input → ReplicaValue → StepSaid → Type 0
@@ -244,11 +244,11 @@ module _ (genesis : Genesis) (n : ℕ) (seats : List Node) (index : ℕ) (node :
       × StaysWithin max_after (disks r.store) (disks mid.store)
 
   pub step_on : (r mid : ReplicaValue) (i : Input) (step : StepSaid) → StepGoes r i mid step → (here : List Note)
-      → JoinsByStep n (heard_by i) step here → (sent : List Datagram) (trace : List Note)
+      → TracesStep n (heard_by i) step here → (sent : List Datagram) (trace : List Note)
       → MayCome genesis sent (heard_by i)
       → IsUpWith r sent trace → IsUpWith mid (sent ++ batch_of n step.1) (trace ++ here)
   step_on r mid i step goes here j sent trace may w =
-      let by : GoesBy ServerStands server_disks table_meaning n (serving r) (heard_by i) (serving mid) step.0
+      let by : GoesBy ServerHolds server_disks table_meaning n (serving r) (heard_by i) (serving mid) step.0
       (batch_of n step.1) = record {
         goes = λ h f hears. goes.0 h f (input_fits h i hears) step.1 (λ l c. c);
         short = λ before. never_longer (disks r.store) (disks mid.store) goes.1 before;
@@ -264,7 +264,7 @@ module _ (genesis : Genesis) (n : ℕ) (seats : List Node) (index : ℕ) (node :
       → StaysWithin max_after (disks r.store) (disks q.store) → (sent : List Datagram) (trace : List Note)
       → IsUpWith r sent trace → IsUpWith q sent trace
   settled r q fit stays sent trace w =
-      let by : GoesBy ServerStands server_disks table_meaning n (serving r) None (serving q) [] [] = record {
+      let by : GoesBy ServerHolds server_disks table_meaning n (serving r) None (serving q) [] [] = record {
         goes = λ h f hears. nothing_goes h n q (fit h f);
         short = λ before. never_longer (disks r.store) (disks q.store) stays before;
       } in
@@ -275,7 +275,7 @@ module _ (genesis : Genesis) (n : ℕ) (seats : List Node) (index : ℕ) (node :
 
   -- one that goes through
   goes_through : (is : List Input) (r q : ReplicaValue) (said : List StepSaid)
-      → GoesThrough table_meaning n r is q said → (more : List Note) → Joins n (map heard_by is) said more
+      → GoesThrough table_meaning n r is q said → (more : List Note) → TracesGroup n (map heard_by is) said more
       → (sent : List Datagram) (trace : List Note) → AllMay genesis sent (map heard_by is) → IsUpWith r sent trace
       → IsUpWith q (sent ++ batch_of n (letters_of said)) (trace ++ more)
   goes_through [] r q said goes more joins sent trace may w =
@@ -286,8 +286,8 @@ module _ (genesis : Genesis) (n : ℕ) (seats : List Node) (index : ℕ) (node :
   goes_through (i ∷ is) r q said goes more joins sent trace may w =
       let mid : ReplicaValue = goes.0 in
       let step : StepSaid = (goes.1, goes.2) in
-      let j : Joins n (heard_by i ∷ map heard_by is) (step ∷ goes.3) more =
-      subst (λ (l : List StepSaid). Joins n (heard_by i ∷ map heard_by is) l more) goes.4 joins in
+      let j : TracesGroup n (heard_by i ∷ map heard_by is) (step ∷ goes.3) more =
+      subst (λ (l : List StepSaid). TracesGroup n (heard_by i ∷ map heard_by is) l more) goes.4 joins in
       let first = step_on r mid i step (goes.5, goes.6) j.0 j.3 sent trace may.0 w in
       let rest = goes_through is mid q goes.3 goes.7 j.1 j.4 (sent ++ batch_of n step.1) (trace ++ j.0)
       (all_later genesis sent (batch_of n step.1) (map heard_by is) may.1) first in
@@ -299,13 +299,13 @@ module _ (genesis : Genesis) (n : ℕ) (seats : List Node) (index : ℕ) (node :
       (append_assoc trace j.0 j.1 ∙ ap (λ (l : List Note). trace ++ l) (sym j.2)) rest
 
   -- of one that was refused what was asked is
-  all_asked : (given : List (Option (List ℕ))) (more : List Note) → Joins n given [] more
+  all_asked : (given : List (Option (List ℕ))) (more : List Note) → TracesGroup n given [] more
       → (r : ReplicaValue) (sent : List Datagram) (trace : List Note) → IsUpWith r sent trace
       → IsUpWith r sent (trace ++ more)
   all_asked [] more joins r sent trace w =
       subst (λ (l : List Note). IsUpWith r sent l) (sym (ap (λ (l : List Note). trace ++ l) joins ∙ append-nil trace)) w
   all_asked (o ∷ given) more joins r sent trace w =
-      let asked = asked_maybe ServerStands server_disks table_meaning genesis
+      let asked = asked_maybe ServerHolds server_disks table_meaning genesis
       (seats_of (Up (serving r))) sent trace w joins.3.request in
       let first = subst (λ (l : List Note). IsUpWith r sent (trace ++ l))
       (sym (silent_here n o joins.0 joins.3)) asked in
@@ -320,7 +320,7 @@ module _ (genesis : Genesis) (n : ℕ) (seats : List Node) (index : ℕ) (node :
       → HoldsAt (seats_of (Down left)) sent trace
   goes_down r left sent trace fit short w =
       subst (λ (l : List Node). HoldsAt l sent trace) (set_twice seats index (seat (Up (serving r))) (seat (Down left)))
-      (went_down ServerStands server_disks table_meaning genesis (seats_of (Up (serving r))) sent trace w index
+      (went_down ServerHolds server_disks table_meaning genesis (seats_of (Up (serving r))) sent trace w index
       (seat (Up (serving r))) (seat (Down left)) (at_set_here seats index (seat (Up (serving r))) at.0) refl (record {
         up = λ p is. absurd (cc is);
         down = λ d is. subst (λ (z : Memory). DisksFit table_meaning (happened genesis sent trace) n (disk_of z))
@@ -337,9 +337,9 @@ module _ (genesis : Genesis) (n : ℕ) (seats : List Node) (index : ℕ) (node :
       (q : ReplicaValue) (says : SaysOf table_meaning IsTableText Metered r given letters q) (more : List Note)
       (sent : List Datagram) (trace : List Note) (may : AllMay genesis sent given) (w : IsUpWith r sent trace) where
     by_group : (group : SaysByGroup table_meaning IsTableText Metered r given letters q)
-        → Joins n given group.said more → Leaves (sent ++ batch_of n letters) (trace ++ more) q
+        → TracesGroup n given group.said more → Leaves (sent ++ batch_of n letters) (trace ++ more) q
     by_group group joins =
-        let j = subst (λ (g : List (Option (List ℕ))). Joins n g group.said more) (sym group.are_given) joins in
+        let j = subst (λ (g : List (Option (List ℕ))). TracesGroup n g group.said more) (sym group.are_given) joins in
         let m = subst (λ (g : List (Option (List ℕ))). AllMay genesis sent g) (sym group.are_given) may in
         let through = group.goes genesis n (remembers r sent trace w) n in
         let last = goes_through group.inputs r q group.said through more j sent trace m w in
@@ -349,10 +349,11 @@ module _ (genesis : Genesis) (n : ℕ) (seats : List Node) (index : ℕ) (node :
           down = λ is. absurd (let both : true ≡ false = sym is ∙ group.taken.alive in cc both);
         }
 
-    by_refusal : IsSilenced letters q → Joins n given [] more → Leaves (sent ++ batch_of n letters) (trace ++ more) q
+    by_refusal : IsSilenced letters q → TracesGroup n given [] more
+        → Leaves (sent ++ batch_of n letters) (trace ++ more) q
     by_refusal silent joins =
         let asked = all_asked given more joins r sent trace w in
-        let j = subst (λ (g : List (Option (List ℕ))). Joins n g [] more) (sym says.are_given) joins in
+        let j = subst (λ (g : List (Option (List ℕ))). TracesGroup n g [] more) (sym says.are_given) joins in
         let m = subst (λ (g : List (Option (List ℕ))). AllMay genesis sent g) (sym says.are_given) may in
         let hears = all_hear genesis n sent trace says.inputs more j m in
         let left = says.leaves.ends (happened genesis sent (trace ++ more)) n
@@ -368,10 +369,10 @@ module _ (genesis : Genesis) (n : ℕ) (seats : List Node) (index : ℕ) (node :
         }
 
     by_comes : (comes : SaysByGroup table_meaning IsTableText Metered r given letters q ⊎ IsSilenced letters q)
-        → Joins n given (steps_of Metered comes) more → Leaves (sent ++ batch_of n letters) (trace ++ more) q
+        → TracesGroup n given (steps_of Metered comes) more → Leaves (sent ++ batch_of n letters) (trace ++ more) q
     by_comes (inl group) joins = by_group group joins
     by_comes (inr silent) joins = by_refusal silent joins
 
-    pub group_leaves : Joins n given (steps_of Metered says.comes) more
+    pub group_leaves : TracesGroup n given (steps_of Metered says.comes) more
         → Leaves (sent ++ batch_of n letters) (trace ++ more) q
     group_leaves joins = by_comes says.comes joins

@@ -36,7 +36,7 @@ use Rattle.lk_sim.specs.Traces.{happened}
 use Rattle.lk_sim.specs.Worlds.{WorldInvariant}
 use Rattle.lk_sim_nodes.specs.declared.seat.Life.TheVariants.{Up, Down}
 use Rattle.lk_sim.proofs.Networks.{step_holds, at_set, at_set_here, at_push, nothing_holds, set_twice, went_down}
-use Rattle.lk_cluster_theorems.specs.Clusters.{Node, Cluster, Network, ForgesNothing, ServerStands, server_disks, Says}
+use Rattle.lk_cluster_theorems.specs.Clusters.{Node, Cluster, Network, ForgesNothing, ServerHolds, server_disks, Says}
 use Rattle.lk_cluster_theorems.specs.Clusters.{Starts}
 use Rattle.lk_cluster_theorems.specs.Clusters.{TakesTurn, Idles, EndsByTurn, Happens, HappenAll, IsReachable}
 use Rattle.lk_cluster_theorems.proofs.Groups.{AllMay, group_leaves}
@@ -52,32 +52,36 @@ in_map f (y ∷ xs) x c = elim (cons_cases y xs x c) [
 ]
 
 -- letters that were taken, and the others, stood there
-in_front : (k : ℕ) (own : List LetterValue) (l : LetterValue) → Contains (take k own) l → Contains own l
-in_front zero own l c = absurd (omega (arith, c.1))
+in_front : (k : ℕ) (own_letters : List LetterValue) (l : LetterValue) → Contains (take k own_letters) l
+    → Contains own_letters l
+in_front zero own_letters l c = absurd (omega (arith, c.1))
 in_front (suc k) [] l c = c
-in_front (suc k) (x ∷ own) l c = elim (cons_cases x (take k own) l c) [
+in_front (suc k) (x ∷ own_letters) l c = elim (cons_cases x (take k own_letters) l c) [
   | inl here ↦ (0, omega arith, here)
-  | inr later ↦ contains_more x own l (in_front k own l later)
+  | inr later ↦ contains_more x own_letters l (in_front k own_letters l later)
 ]
 
-in_rest : (k : ℕ) (own : List LetterValue) (l : LetterValue) → Contains (drop k own) l → Contains own l
-in_rest zero own l c = c
+in_rest : (k : ℕ) (own_letters : List LetterValue) (l : LetterValue) → Contains (drop k own_letters) l
+    → Contains own_letters l
+in_rest zero own_letters l c = c
 in_rest (suc k) [] l c = c
-in_rest (suc k) (x ∷ own) l c = contains_more x own l (in_rest k own l c)
+in_rest (suc k) (x ∷ own_letters) l c = contains_more x own_letters l (in_rest k own_letters l c)
 
 kept_one : (tells : Type 0) (node : ℕ) (book : AddressBook) (old new : SendState) (x : LetterValue) (is_sent : Bool)
-    → Becomes tells node book old x is_sent new → (l : LetterValue) → Contains new.own l → Contains old.own l ⊎ (x ≡ l)
+    → Becomes tells node book old x is_sent new → (l : LetterValue) → Contains new.own_letters l
+    → Contains old.own_letters l ⊎ (x ≡ l)
 kept_one tells node book old new x true (inl keeps) l c =
-    Contains-push_cases old.own x l (subst (λ (ls : List LetterValue). Contains ls l) keeps.own c)
+    Contains-push_cases old.own_letters x l (subst (λ (ls : List LetterValue). Contains ls l) keeps.own_letters c)
 kept_one tells node book old new x true (inr sends) l c =
-    inl (subst (λ (ls : List LetterValue). Contains ls l) sends.own c)
-kept_one tells node book old new x false loses l c = inl (subst (λ (ls : List LetterValue). Contains ls l) loses.own c)
+    inl (subst (λ (ls : List LetterValue). Contains ls l) sends.own_letters c)
+kept_one tells node book old new x false loses l c = inl (subst (λ
+    (ls : List LetterValue). Contains ls l) loses.own_letters c)
 
 -- what is kept stood there or was given
 kept_of : (tells : Type 0) (node : ℕ) (book : AddressBook) (old new : SendState) (letters : List LetterValue)
-    → CarriesAll (Becomes tells node book) old letters new → (l : LetterValue) → Contains new.own l
-    → Contains old.own l ⊎ Contains letters l
-kept_of tells node book old new [] all l c = inl (subst (λ (t : SendState). Contains t.own l) all c)
+    → CarriesAll (Becomes tells node book) old letters new → (l : LetterValue) → Contains new.own_letters l
+    → Contains old.own_letters l ⊎ Contains letters l
+kept_of tells node book old new [] all l c = inl (subst (λ (t : SendState). Contains t.own_letters l) all c)
 kept_of tells node book old new (x ∷ letters) all l c = elim (kept_of tells node book all.1 new letters all.3 l c) [
   | inl before ↦ elim (kept_one tells node book old all.1 x all.0 all.2 l before)
       [ inl old_one ↦ inl old_one | inr here ↦ inr (0, omega arith, here) ]
@@ -87,7 +91,7 @@ kept_of tells node book old new (x ∷ letters) all l c = elim (kept_of tells no
 -- a server that goes on, all of whose letters to itself were given to be sent
 pub record IsKept (sent : List Datagram) (n : ℕ) (q : ServerValue ReplicaValue) : Type 0 where
   pub alive : q.replica.failed ≡ false
-  pub own : (l : LetterValue) → Contains q.own l → Contains sent (datagram_of n l)
+  pub own_letters : (l : LetterValue) → Contains q.own_letters l → Contains sent (datagram_of n l)
 
 abbrev pub OwnOf : List Node → List Datagram → Type 0
 OwnOf seats sent =
@@ -95,7 +99,11 @@ OwnOf seats sent =
 
 own_later : (sent now : List Datagram) (n : ℕ) (q : ServerValue ReplicaValue)
     → ((d : Datagram) → Contains sent d → Contains now d) → IsKept sent n q → IsKept now n q
-own_later sent now n q among k = record { alive = k.alive; own = λ l c. among (datagram_of n l) (k.own l c) }
+own_later sent now n q among k = record {
+  alive = k.alive;
+  own_letters = λ l c. among (datagram_of n l)
+      (k.own_letters l c);
+}
 
 pub same_up : (p q : ServerValue ReplicaValue) → Up p ≡ Up q → p ≡ q
 same_up p q e = cc e
@@ -113,15 +121,16 @@ own_set seats index next sent now old among mine k s at q up = elim (at_set seat
 after_turn : (tells : Type 0) (Says : ReplicaValue → List (Option (List ℕ)) → List LetterValue → ReplicaValue → Type 0)
     (given : List (Option (List ℕ))) (count : ℕ) (sent : List Datagram) (n : ℕ)
     (server after : ServerValue ReplicaValue)
-    → IsKept sent n server → (h : DeliversLetters Says tells given (drop count server.own) server after)
+    → IsKept sent n server → (h : DeliversLetters Says tells given (drop count server.own_letters) server after)
     → after.replica.failed ≡ false → IsKept (sent ++ batch_of n h.letters) n after
 after_turn tells Says given count sent n server after kept h alive = record {
   alive = alive;
-  own = λ l c. elim (kept_of tells after.node after.addresses (send_state_at (drop count server.own) server)
-      (send_state_at after.own after) h.letters h.carried l c) [
+  own_letters = λ l c. elim (kept_of tells after.node after.addresses (send_state_at
+      (drop count server.own_letters) server)
+      (send_state_at after.own_letters after) h.letters h.carried l c) [
         | inl old ↦
             Contains-append_left sent (batch_of n h.letters) (datagram_of n l)
-            (kept.own l (in_rest count server.own l old))
+            (kept.own_letters l (in_rest count server.own_letters l old))
         | inr new ↦
             Contains-append_right sent (batch_of n h.letters) (datagram_of n l) (in_map (datagram_of n) h.letters l new)
       ];
@@ -172,25 +181,29 @@ module _ (genesis : Genesis) (sent : List Datagram) where
   came_may [] may = tt
   came_may (c ∷ came) may = (may.0, came_may came may.1)
 
-  datagrams_may : (own : List LetterValue) (came : List (SocketAddr × List ℕ))
-      → ((l : LetterValue) → Contains own l → MayCome genesis sent (Some l.bytes))
+  datagrams_may : (own_letters : List LetterValue) (came : List (SocketAddr × List ℕ))
+      → ((l : LetterValue) → Contains own_letters l → MayCome genesis sent (Some l.bytes))
       → AllByRecursion (λ (c : SocketAddr × List ℕ). MayCome genesis sent (Some c.1)) came
-      → AreFree (datagrams_in own came)
+      → AreFree (datagrams_in own_letters came)
   datagrams_may [] came mine may = came_may came may
-  datagrams_may (l ∷ own) came mine may =
-      (mine l (0, omega arith, refl), datagrams_may own came (λ x c. mine x (contains_more l own x c)) may)
+  datagrams_may (l ∷ own_letters) came mine may = (
+    mine l (0, omega arith, refl),
+    datagrams_may own_letters came (λ x c. mine x
+        (contains_more l own_letters x c)) may,
+  )
 
   front_may : (given rest : List (Option (List ℕ))) → AllMay genesis sent (given ++ rest) → AllMay genesis sent given
   front_may [] rest may = tt
   front_may (o ∷ given) rest may = (may.0, front_may given rest may.1)
 
-  pub given_may : (pace : Pace) (count received : ℕ) (own : List LetterValue) (came : List (SocketAddr × List ℕ))
-      (given : List (Option (List ℕ))) → Given pace received (datagrams_in (take count own) came) given
-      → ((l : LetterValue) → Contains own l → MayCome genesis sent (Some l.bytes))
+  pub given_may : (pace : Pace) (count received : ℕ) (own_letters : List LetterValue)
+      (came : List (SocketAddr × List ℕ)) (given : List (Option (List ℕ)))
+      → Given pace received (datagrams_in (take count own_letters) came) given
+      → ((l : LetterValue) → Contains own_letters l → MayCome genesis sent (Some l.bytes))
       → AllByRecursion (λ (c : SocketAddr × List ℕ). MayCome genesis sent (Some c.1)) came → AllMay genesis sent given
-  given_may pace count received own came given is mine may =
-      turn_may pace received (datagrams_in (take count own) came) given is
-      (datagrams_may (take count own) came (λ l c. mine l (in_front count own l c)) may)
+  given_may pace count received own_letters came given is mine may =
+      turn_may pace received (datagrams_in (take count own_letters) came) given is
+      (datagrams_may (take count own_letters) came (λ l c. mine l (in_front count own_letters l c)) may)
 
   pub ended_may : (given whole : List (Option (List ℕ))) → IsPrefix given whole → AllMay genesis sent whole
       → AllMay genesis sent given
@@ -200,14 +213,14 @@ module _ (genesis : Genesis) (sent : List Datagram) where
 -- ---- what holds of a cluster
 
 pub record IsSound (c : Cluster) : Type 0 where
-  pub holds : WorldInvariant ServerStands server_disks table_meaning c.genesis c.seats c.sent c.trace
-  pub own : OwnOf c.seats c.sent
+  pub holds : WorldInvariant ServerHolds server_disks table_meaning c.genesis c.seats c.sent c.trace
+  pub own_letters : OwnOf c.seats c.sent
 
 -- nothing has happened yet
 pub begun : (genesis : Genesis) → IsSound (nothing genesis)
 begun genesis = record {
-  holds = nothing_holds ServerStands server_disks table_meaning genesis;
-  own = λ k s at q up. absurd (omega (arith, at.0));
+  holds = nothing_holds ServerHolds server_disks table_meaning genesis;
+  own_letters = λ k s at q up. absurd (omega (arith, at.0));
 }
 
 -- what the network brings is not forged, where that holds
@@ -218,14 +231,14 @@ Unforged May = (c : Cluster) → IsSound c → (server : ServerValue ReplicaValu
 module _ (old : Cluster) (w : IsSound old) where
   -- a letter of the node to itself may come
   pub own_may : (n : ℕ) (server : ServerValue ReplicaValue) → IsKept old.sent n server → (l : LetterValue)
-      → Contains server.own l → MayCome old.genesis old.sent (Some l.bytes)
+      → Contains server.own_letters l → MayCome old.genesis old.sent (Some l.bytes)
   own_may n server k l c =
-      λ j x said. heard_was_sent old.genesis old.sent w.holds.world.sound (datagram_of n l) (k.own l c) j x said
+      λ j x said. heard_was_sent old.genesis old.sent w.holds.world.sound (datagram_of n l) (k.own_letters l c) j x said
 
   -- a server with another one's replica, in its place
   pub with_replica : (index : ℕ) (node : Node) → At old.seats index node
       → (server other : ServerValue ReplicaValue) → node.life ≡ Up server
-      → WorldInvariant ServerStands server_disks table_meaning old.genesis
+      → WorldInvariant ServerHolds server_disks table_meaning old.genesis
       (set old.seats index (record { number = node.number; life = Up (record other { replica = server.replica }) }))
       old.sent old.trace
   with_replica index node at server other was =
@@ -233,11 +246,11 @@ module _ (old : Cluster) (w : IsSound old) where
       let v = w.holds.states node.number in
       let q : ServerValue ReplicaValue = record other { replica = server.replica } in
       let f = (w.holds.seated index node at).up server was in
-      let fits : UpFits ServerStands server_disks table_meaning h v node.number q =
+      let fits : UpFits ServerHolds server_disks table_meaning h v node.number q =
       record { holding = f.holding; paxos = f.paxos; shown = f.shown; fits = f.fits; left = f.left; room = f.room } in
-      went_down ServerStands server_disks table_meaning old.genesis old.seats old.sent old.trace w.holds index node
+      went_down ServerHolds server_disks table_meaning old.genesis old.seats old.sent old.trace w.holds index node
       (record { number = node.number; life = Up q }) at refl (record {
-        up = λ p up. subst (λ (z : ServerValue ReplicaValue). UpFits ServerStands server_disks table_meaning h v
+        up = λ p up. subst (λ (z : ServerValue ReplicaValue). UpFits ServerHolds server_disks table_meaning h v
             node.number z) (same_up q p up) fits;
         down = λ d is. absurd (cc is);
         room = λ d is. absurd (cc is);
@@ -267,9 +280,9 @@ at_rest_by server after (inr a) = ap (λ (s : ServerValue ReplicaValue). at_rest
 
 module _ (May : Network) (Metered tells : Type 0) (unforged : Unforged May) where
   module _ (old new : Cluster) (w : IsSound old) where
-    by_step : Steps ServerStands server_disks table_meaning old new
-        → WorldInvariant ServerStands server_disks table_meaning new.genesis new.seats new.sent new.trace
-    by_step s = step_holds ServerStands server_disks table_meaning old new w.holds s
+    by_step : Steps ServerHolds server_disks table_meaning old new
+        → WorldInvariant ServerHolds server_disks table_meaning new.genesis new.seats new.sent new.trace
+    by_step s = step_holds ServerHolds server_disks table_meaning old new w.holds s
 
     among_more : (more : List Datagram) → new.sent ≡ old.sent ++ more → (d : Datagram)
         → Contains old.sent d → Contains new.sent d
@@ -280,7 +293,7 @@ module _ (May : Network) (Metered tells : Type 0) (unforged : Unforged May) wher
         → OwnOf new.seats new.sent
     own_moved s t turns more e mine =
         subst (λ (l : List Node). OwnOf l new.sent) (sym turns.seats)
-        (own_set old.seats turns.index t old.sent new.sent w.own (among_more more e) mine)
+        (own_set old.seats turns.index t old.sent new.sent w.own_letters (among_more more e) mine)
 
     no_up : (t : Node) (d : Memory) → t.life ≡ Down d → (q : ServerValue ReplicaValue) → t.life ≡ Up q
         → IsKept new.sent t.number q
@@ -289,9 +302,10 @@ module _ (May : Network) (Metered tells : Type 0) (unforged : Unforged May) wher
     appears : Appears old new → IsSound new
     appears a = record {
       holds = by_step (inl a);
-      own = subst (λ (l : List Node). OwnOf l new.sent) (sym a.seats)
+      own_letters = subst (λ (l : List Node). OwnOf l new.sent) (sym a.seats)
           (λ k s at q up. elim (at_push old.seats a.seat k s at) [
-            | inl before ↦ own_later old.sent new.sent s.number q (among_more [] a.adds.sent) (w.own k s before q up)
+            | inl before ↦ own_later old.sent new.sent s.number q (among_more [] a.adds.sent)
+                (w.own_letters k s before q up)
             | inr here ↦ absurd (let same : Up q ≡ Down a.device = sym up
                 ∙ ap (λ (z : Node). z.life) (sym here.1) ∙ a.down in cc same)
           ]);
@@ -302,66 +316,71 @@ module _ (May : Network) (Metered tells : Type 0) (unforged : Unforged May) wher
         let r = a.restarts in
         record {
           holds = by_step (inr (inl r));
-          own = own_moved r.seat r.next r.turns [] r.adds.sent (λ q up.
+          own_letters = own_moved r.seat r.next r.replaces [] r.adds.sent (λ q up.
               subst (λ (z : ServerValue ReplicaValue). IsKept new.sent r.next.number z)
               (same_up r.replica q (sym r.up ∙ up))
               (record {
                 alive = a.alive;
-                own = λ l c. absurd (omega (arith, (subst (λ (ls : List LetterValue). Contains ls l) a.own c).1));
+                own_letters = λ l c. absurd (omega (
+                  arith,
+                  (subst (λ
+                      (ls : List LetterValue). Contains ls l) a.own_letters c).1,
+                ));
               }));
         }
 
     rests : Rests table_meaning old new → IsSound new
     rests a = record {
       holds = by_step (inr (inr (inl a)));
-      own = own_moved a.seat a.next a.turns [] a.adds.sent (no_up a.next a.left a.still);
+      own_letters = own_moved a.seat a.next a.replaces [] a.adds.sent (no_up a.next a.left a.still);
     }
 
     stops : Stops server_disks old new → IsSound new
     stops a = record {
       holds = by_step (inr (inr (inr (inr (inr a)))));
-      own = own_moved a.seat a.next a.turns [] a.adds.sent (no_up a.next a.left a.down);
+      own_letters = own_moved a.seat a.next a.replaces [] a.adds.sent (no_up a.next a.left a.down);
     }
 
     moved : (seats : List Node) (notes : List Note) (batch : List Datagram) → new.seats ≡ seats
         → Adds old new notes batch
-        → WorldInvariant ServerStands server_disks table_meaning old.genesis seats (old.sent ++ batch) (old.trace
+        → WorldInvariant ServerHolds server_disks table_meaning old.genesis seats (old.sent ++ batch) (old.trace
         ++ notes)
-        → WorldInvariant ServerStands server_disks table_meaning new.genesis new.seats new.sent new.trace
+        → WorldInvariant ServerHolds server_disks table_meaning new.genesis new.seats new.sent new.trace
     moved seats notes batch same a h =
-        subst (λ g. WorldInvariant ServerStands server_disks table_meaning g new.seats new.sent new.trace)
+        subst (λ g. WorldInvariant ServerHolds server_disks table_meaning g new.seats new.sent new.trace)
         (sym a.genesis)
-        (subst (λ z. WorldInvariant ServerStands server_disks table_meaning old.genesis z new.sent new.trace) (sym same)
-        (subst₂ (λ x y. WorldInvariant ServerStands server_disks table_meaning old.genesis seats x y)
+        (subst (λ z. WorldInvariant ServerHolds server_disks table_meaning old.genesis z new.sent new.trace) (sym same)
+        (subst₂ (λ x y. WorldInvariant ServerHolds server_disks table_meaning old.genesis seats x y)
         (sym a.sent) (sym a.trace) h))
 
     -- what a server takes in a turn of what waits and comes
     pub turn_takes : (n count : ℕ) (server : ServerValue ReplicaValue) (came : List (SocketAddr × List ℕ))
         (given : List (Option (List ℕ)))
-        → Given server.pace server.received (datagrams_in (take count server.own) came) given
+        → Given server.pace server.received (datagrams_in (take count server.own_letters) came) given
         → IsKept old.sent n server → May old.genesis old.sent server came → AllMay old.genesis old.sent given
     turn_takes n count server came given is kept may =
-        given_may old.genesis old.sent server.pace count server.received server.own came given is
+        given_may old.genesis old.sent server.pace count server.received server.own_letters came given is
         (own_may old w n server kept) (unforged old w server came may)
 
     takes_turn : TakesTurn May Metered tells old new → IsSound new
     takes_turn a =
         let n : ℕ = a.node.number in
-        let kept = w.own a.turns.index a.node a.turns.at a.server a.was in
+        let kept = w.own_letters a.replaces.index a.node a.replaces.at a.server a.was in
         let letters : List LetterValue = a.turn.hands_on.letters in
-        let left = group_leaves old.genesis n old.seats a.turns.index a.node a.turns.at a.after Metered a.turn.given
+        let left = group_leaves old.genesis n old.seats a.replaces.index a.node a.replaces.at a.after Metered
+        a.turn.given
         a.server.replica letters a.after.replica a.turn.hands_on.says a.trace old.sent old.trace
         (turn_takes n 64 a.server a.came a.turn.given a.turn.may kept a.may)
-        (with_replica old w a.turns.index a.node a.turns.at a.server a.after a.was) a.joins in
+        (with_replica old w a.replaces.index a.node a.replaces.at a.server a.after a.was) a.joins in
         record {
-          holds = moved (set old.seats a.turns.index a.next) a.trace (batch_of n letters) a.turns.seats a.adds
-              (subst (λ (z : Node). WorldInvariant ServerStands server_disks table_meaning old.genesis
-              (set old.seats a.turns.index z) (old.sent ++ batch_of n letters) (old.trace ++ a.trace))
-              (λ i. record { number = sym a.turns.number i; life = sym a.up i }) (left.up a.alive));
-          own = own_moved a.node a.next a.turns (batch_of n letters) a.adds.sent (λ q up.
+          holds = moved (set old.seats a.replaces.index a.next) a.trace (batch_of n letters) a.replaces.seats a.adds
+              (subst (λ (z : Node). WorldInvariant ServerHolds server_disks table_meaning old.genesis
+              (set old.seats a.replaces.index z) (old.sent ++ batch_of n letters) (old.trace ++ a.trace))
+              (λ i. record { number = sym a.replaces.number i; life = sym a.up i }) (left.up a.alive));
+          own_letters = own_moved a.node a.next a.replaces (batch_of n letters) a.adds.sent (λ q up.
               subst (λ (z : ServerValue ReplicaValue). IsKept new.sent a.next.number z)
               (same_up a.after q (sym a.up ∙ up))
-              (subst₂ (λ (l : List Datagram) (k : ℕ). IsKept l k a.after) (sym a.adds.sent) (sym a.turns.number)
+              (subst₂ (λ (l : List Datagram) (k : ℕ). IsKept l k a.after) (sym a.adds.sent) (sym a.replaces.number)
               (after_turn tells (Says Metered) a.turn.given 64 old.sent n a.server a.after kept
               a.turn.hands_on a.alive)));
         }
@@ -371,30 +390,30 @@ module _ (May : Network) (Metered tells : Type 0) (unforged : Unforged May) wher
     idles a =
         let replica : a.after.replica ≡ a.server.replica =
         ap (λ (s : ServerValue ReplicaValue). s.replica) (at_rest_by a.server a.after a.idle) in
-        let waits : a.after.own ≡ a.server.own =
-        ap (λ (s : ServerValue ReplicaValue). s.own) (at_rest_by a.server a.after a.idle) in
+        let waits : a.after.own_letters ≡ a.server.own_letters =
+        ap (λ (s : ServerValue ReplicaValue). s.own_letters) (at_rest_by a.server a.after a.idle) in
         let mine : record a.after { replica = a.server.replica } ≡ a.after =
         λ i. record a.after { replica = sym replica i } in
-        let kept = w.own a.turns.index a.node a.turns.at a.server a.was in
+        let kept = w.own_letters a.replaces.index a.node a.replaces.at a.server a.was in
         let still : IsKept (old.sent ++ []) a.node.number a.after = record {
           alive = ap (λ (r : ReplicaValue). r.failed) replica ∙ kept.alive;
-          own = λ l c. Contains-append_left old.sent [] (datagram_of a.node.number l)
-              (kept.own l (subst (λ (ls : List LetterValue). Contains ls l) waits c));
+          own_letters = λ l c. Contains-append_left old.sent [] (datagram_of a.node.number l)
+              (kept.own_letters l (subst (λ (ls : List LetterValue). Contains ls l) waits c));
         } in
         record {
-          holds = moved (set old.seats a.turns.index a.next) [] [] a.turns.seats a.adds
-              (subst₂ (λ (x : List Datagram) (y : List Note). WorldInvariant ServerStands server_disks table_meaning
+          holds = moved (set old.seats a.replaces.index a.next) [] [] a.replaces.seats a.adds
+              (subst₂ (λ (x : List Datagram) (y : List Note). WorldInvariant ServerHolds server_disks table_meaning
               old.genesis
-              (set old.seats a.turns.index a.next) x y) (sym (append-nil old.sent)) (sym (append-nil old.trace))
-              (subst (λ (z : Node). WorldInvariant ServerStands server_disks table_meaning old.genesis
-              (set old.seats a.turns.index z) old.sent old.trace)
-              (λ i. record { number = sym a.turns.number i; life = (ap Up mine ∙ sym a.up) i })
-              (with_replica old w a.turns.index a.node a.turns.at a.server a.after a.was)));
-          own = own_moved a.node a.next a.turns [] a.adds.sent (λ q up.
+              (set old.seats a.replaces.index a.next) x y) (sym (append-nil old.sent)) (sym (append-nil old.trace))
+              (subst (λ (z : Node). WorldInvariant ServerHolds server_disks table_meaning old.genesis
+              (set old.seats a.replaces.index z) old.sent old.trace)
+              (λ i. record { number = sym a.replaces.number i; life = (ap Up mine ∙ sym a.up) i })
+              (with_replica old w a.replaces.index a.node a.replaces.at a.server a.after a.was)));
+          own_letters = own_moved a.node a.next a.replaces [] a.adds.sent (λ q up.
               subst (λ (z : ServerValue ReplicaValue). IsKept new.sent a.next.number z)
               (same_up a.after q (sym a.up ∙ up))
               (subst₂ (λ (l : List Datagram) (k : ℕ). IsKept l k a.after) (sym a.adds.sent)
-              (sym a.turns.number) still));
+              (sym a.replaces.number) still));
         }
 
     -- other devices with the same disks
@@ -405,26 +424,27 @@ module _ (May : Network) (Metered tells : Type 0) (unforged : Unforged May) wher
     ends_by_turn : EndsByTurn May Metered tells old new → IsSound new
     ends_by_turn a =
         let n : ℕ = a.node.number in
-        let kept = w.own a.turns.index a.node a.turns.at a.server a.was in
+        let kept = w.own_letters a.replaces.index a.node a.replaces.at a.server a.was in
         let batch : List Datagram = batch_of n a.turn.hands_on.letters in
         let may = ended_may old.genesis old.sent a.turn.given a.turn.first.whole a.turn.first.front
         (turn_takes n a.turn.count a.server a.came a.turn.first.whole a.turn.first.may kept a.may) in
         let device : Memory = device_of a.after.replica.store in
         let seat : Node = record { number = n; life = Down device } in
         let next : Node = record { number = n; life = Down a.left } in
-        let left = group_leaves old.genesis n old.seats a.turns.index a.node a.turns.at a.after Metered a.turn.given
+        let left = group_leaves old.genesis n old.seats a.replaces.index a.node a.replaces.at a.after Metered
+        a.turn.given
         a.server.replica a.turn.hands_on.letters a.after.replica a.turn.hands_on.says a.trace old.sent old.trace may
-        (with_replica old w a.turns.index a.node a.turns.at a.server a.after a.was) a.joins in
+        (with_replica old w a.replaces.index a.node a.replaces.at a.server a.after a.was) a.joins in
         let first : Cluster = record {
           genesis = old.genesis;
-          seats = set old.seats a.turns.index seat;
+          seats = set old.seats a.replaces.index seat;
           sent = old.sent ++ batch;
           trace = old.trace ++ a.trace;
           ended = None;
         } in
         let last : Cluster = record {
           genesis = old.genesis;
-          seats = set old.seats a.turns.index next;
+          seats = set old.seats a.replaces.index next;
           sent = old.sent ++ batch;
           trace = old.trace ++ a.trace;
           ended = None;
@@ -433,11 +453,11 @@ module _ (May : Network) (Metered tells : Type 0) (unforged : Unforged May) wher
         let rests : Rests table_meaning first last = record {
           seat = seat;
           next = next;
-          turns = record {
-            index = a.turns.index;
-            at = at_set_here old.seats a.turns.index seat a.turns.at.0;
+          replaces = record {
+            index = a.replaces.index;
+            at = at_set_here old.seats a.replaces.index seat a.replaces.at.0;
             number = refl;
-            seats = sym (set_twice old.seats a.turns.index seat next);
+            seats = sym (set_twice old.seats a.replaces.index seat next);
           };
           device = device;
           down = refl;
@@ -453,14 +473,14 @@ module _ (May : Network) (Metered tells : Type 0) (unforged : Unforged May) wher
             trace = sym (append-nil (old.trace ++ a.trace));
           };
         } in
-        let then_holds = step_holds ServerStands server_disks table_meaning first last (left.down a.ended)
+        let then_holds = step_holds ServerHolds server_disks table_meaning first last (left.down a.ended)
         (inr (inr (inl rests))) in
         record {
-          holds = moved (set old.seats a.turns.index a.next) a.trace batch a.turns.seats a.adds
-              (subst (λ (z : Node). WorldInvariant ServerStands server_disks table_meaning old.genesis
-              (set old.seats a.turns.index z) (old.sent ++ batch) (old.trace ++ a.trace))
-              (λ i. record { number = sym a.turns.number i; life = sym a.down i }) then_holds);
-          own = own_moved a.node a.next a.turns batch a.adds.sent (no_up a.next a.left a.down);
+          holds = moved (set old.seats a.replaces.index a.next) a.trace batch a.replaces.seats a.adds
+              (subst (λ (z : Node). WorldInvariant ServerHolds server_disks table_meaning old.genesis
+              (set old.seats a.replaces.index z) (old.sent ++ batch) (old.trace ++ a.trace))
+              (λ i. record { number = sym a.replaces.number i; life = sym a.down i }) then_holds);
+          own_letters = own_moved a.node a.next a.replaces batch a.adds.sent (no_up a.next a.left a.down);
         }
 
     pub happens : Happens May Metered tells old new → IsSound new

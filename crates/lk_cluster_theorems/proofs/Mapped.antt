@@ -22,7 +22,7 @@ use Rattle.lk_sim.specs.Worlds.{WorldInvariant}
 use Rattle.lk_sim_nodes.specs.declared.seat.Life.{Life}
 use Rattle.lk_sim_nodes.specs.declared.seat.Life.TheVariants.{Up, Down}
 use Rattle.lk_sim_nodes.specs.declared.seat.Seat.{Seat}
-use Rattle.lk_cluster_theorems.specs.Clusters.{Node, seat_of, life_of, ServerStands, server_disks}
+use Rattle.lk_cluster_theorems.specs.Clusters.{Node, seat_of, life_of, ServerHolds, server_disks}
 
 -- ---- lists
 
@@ -56,7 +56,7 @@ abbrev pub replica_disks : ReplicaValue → Side → Disk
 replica_disks r = disk_of (device_of r.store)
 
 module _ (h : History) (v : PaxosState) where
-  up_fits : (n : ℕ) (q : ServerValue ReplicaValue) → UpFits ServerStands server_disks table_meaning h v n q
+  up_fits : (n : ℕ) (q : ServerValue ReplicaValue) → UpFits ServerHolds server_disks table_meaning h v n q
       → UpFits ReplicaStands replica_disks table_meaning h v n q.replica
   up_fits n q u = record {
     holding = u.holding;
@@ -71,7 +71,7 @@ module _ (h : History) (v : PaxosState) where
   same_up r q e = cc e
 
   fits_by : (t : Node) (life : Life (ServerValue ReplicaValue)) → t.life ≡ life
-      → SeatFits ServerStands server_disks table_meaning h v t
+      → SeatFits ServerHolds server_disks table_meaning h v t
       → SeatFits ReplicaStands replica_disks table_meaning h v (seat_of t)
   fits_by t (Up q) is f = record {
     up = λ r up. subst (λ z. UpFits ReplicaStands replica_disks table_meaning h v t.number z)
@@ -89,13 +89,13 @@ module _ (h : History) (v : PaxosState) where
           → ◌≡◌ {A = Life (ServerValue ReplicaValue)} (Down e) (Down d)
       same_down d e p = let same : e ≡ d = cc p in ap Down same
 
-  pub seat_fits : (t : Node) → SeatFits ServerStands server_disks table_meaning h v t
+  pub seat_fits : (t : Node) → SeatFits ServerHolds server_disks table_meaning h v t
       → SeatFits ReplicaStands replica_disks table_meaning h v (seat_of t)
   seat_fits t f = fits_by t t.life refl f
 
 -- so with all of it
 pub mapped : (genesis : Genesis) (seats : List Node) (sent : List Datagram) (trace : List Note)
-    → WorldInvariant ServerStands server_disks table_meaning genesis seats sent trace
+    → WorldInvariant ServerHolds server_disks table_meaning genesis seats sent trace
     → WorldInvariant ReplicaStands replica_disks table_meaning genesis (map seat_of seats) sent trace
 mapped genesis seats sent trace w = record {
   states = w.states;

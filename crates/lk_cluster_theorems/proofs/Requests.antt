@@ -16,7 +16,7 @@ use Rattle.lk_messages.proofs.Spellings.{one_message}
 use Rattle.lk_agreement_laws.proofs.Histories.{contains_more}
 use Rattle.lk_node_interface.specs.declared.note.Note.{Note}
 use Rattle.lk_node.specs.Histories.{Datagram, RequestValue}
-use Rattle.lk_sim.specs.Networks.{IsRequestIn, AreAsking, TellsOf}
+use Rattle.lk_sim.specs.Networks.{IsRequestIn, AreAsking, RecordsReplies}
 use Rattle.lk_sim_nodes.specs.Told.{told_by}
 
 -- ---- what can be decided
@@ -152,7 +152,7 @@ asks_something (Some bytes) = request_in bytes (whole read_behind (drop 4 bytes)
 -- where each of them reads there are notes of their answers and passes
 pub tells_something : (datagrams : List Datagram)
     → ((d : Datagram) → Contains datagrams d → (m : Message) × Spells m d.bytes)
-    → (told : List Note) × TellsOf datagrams told
+    → (told : List Note) × RecordsReplies datagrams told
 tells_something [] reads = ([], refl)
 tells_something (d ∷ datagrams) reads =
     let m = reads d (0, omega arith, refl) in

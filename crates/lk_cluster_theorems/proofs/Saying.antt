@@ -10,9 +10,10 @@ use Rattle.lk_server.specs.Servers.{ServerValue, DeliversLetters, HasReceived, T
 module _ {R : Type 0} (S T : R → List (Option (List ℕ)) → List LetterValue → R → Type 0)
     (so : (old : R) (given : List (Option (List ℕ))) (letters : List LetterValue) (new : R) → S old given letters new
     → T old given letters new) where
-  abbrev pub hands_so : (tells : Type 0) (given : List (Option (List ℕ))) (own : List LetterValue)
-      (old new : ServerValue R) → DeliversLetters S tells given own old new → DeliversLetters T tells given own old new
-  hands_so tells given own old new h =
+  abbrev pub hands_so : (tells : Type 0) (given : List (Option (List ℕ))) (own_letters : List LetterValue)
+      (old new : ServerValue R) → DeliversLetters S tells given own_letters old new
+      → DeliversLetters T tells given own_letters old new
+  hands_so tells given own_letters old new h =
       record {
         letters = h.letters;
         says = so old.replica given h.letters new.replica h.says;

@@ -16,7 +16,7 @@ use Rattle.lk_auth.specs.Seals.{key_list, heard}
 use Rattle.lk_auth.specs.declared.seals.Seals.{Seals}
 use Rattle.lk_transport.specs.Addresses.{Filter, filter_of}
 use Rattle.lk_transport.specs.Posts.{all_filtered, is_filtered_out}
-use Rattle.lk_server.specs.Premises.{IsToldByANode}
+use Rattle.lk_server.specs.Premises.{IsFromANode}
 use Rattle.lk_server.specs.Servers.{ServerValue}
 use Rattle.lk_transport.specs.Chains.{Chain}
 use Rattle.lk_node_process.specs.Turns.{TakesTurn as ServerTurn, letters_in}
@@ -32,7 +32,7 @@ no_request : (genesis : Genesis) (n : ℕ) (x : NodeMessage) (r : Request) → c
 no_request genesis n x r e = cc e
 
 -- what is taken of a frame
-pub taken_unforged : (c : Cluster) → IsSound c → (s : Seals) (frame : List ℕ) → IsToldByANode s frame
+pub taken_unforged : (c : Cluster) → IsSound c → (s : Seals) (frame : List ℕ) → IsFromANode s frame
     → OnlyNodesSeal c.sent s frame → MayCome c.genesis c.sent (Some (heard s frame))
 taken_unforged c w s frame (inl sealed) only n x spelled =
     let given = only (heard s frame) sealed in
@@ -41,7 +41,7 @@ taken_unforged c w s frame (inl sealed) only n x spelled =
 taken_unforged c w s frame (inr free) only n x spelled = let r = free (said_by c.genesis n x) spelled in
     absurd (no_request c.genesis n x r.0 r.1)
 
-module _ (told : (s : Seals) (frame : List ℕ) → key_list s.nodes ≢ [] → IsToldByANode s frame) where
+module _ (told : (s : Seals) (frame : List ℕ) → key_list s.nodes ≢ [] → IsFromANode s frame) where
   what_comes : (c : Cluster) → IsSound c → (s : Filter) → key_list s.seals.nodes ≢ []
       → (frames : List (SocketAddr × List ℕ)) → OnlyNodesSealWhatComes c.sent s.seals frames
       → AllByRecursion (λ (d : SocketAddr × List ℕ). MayCome c.genesis c.sent (Some d.1)) (all_filtered s frames)
@@ -103,7 +103,7 @@ module _ (May : Network) (Metered tells : Type 0) (unforged : Unforged May) wher
   takes_turn old new w a = record {
     node = a.node;
     next = a.next;
-    turns = a.turns;
+    replaces = a.replaces;
     server = a.server;
     was = a.was;
     after = a.after;
@@ -122,7 +122,7 @@ module _ (May : Network) (Metered tells : Type 0) (unforged : Unforged May) wher
   ends_by_turn old new w a = record {
     node = a.node;
     next = a.next;
-    turns = a.turns;
+    replaces = a.replaces;
     server = a.server;
     was = a.was;
     after = a.after;

@@ -21,7 +21,7 @@ use Rattle.lk_node_process.specs.Turns.{letters_in}
 use Rattle.lk_sim.specs.Networks.{RestsBy}
 use Rattle.lk_sim_nodes.specs.declared.seat.Life.TheVariants.{Up, Down}
 use Rattle.lk_sim.proofs.Networks.{at_set_here}
-use Rattle.lk_cluster_theorems.specs.Clusters.{Cluster, Network, Says, IsBegun, server_disks, IsReachable}
+use Rattle.lk_cluster_theorems.specs.Clusters.{Cluster, Network, Says, HasStarted, server_disks, IsReachable}
 use Rattle.lk_cluster_theorems.specs.Continuing.{node_of, HasNode, Continues, letters_of, MayAllCome}
 use Rattle.lk_cluster_theorems.proofs.Continuing.{continued, start_comes, refused_start_continues, turns_continue}
 use Rattle.lk_cluster_theorems.proofs.Continuing.{one_turn_continues, last_turn_continues, stop_continues}
@@ -32,7 +32,7 @@ use Rattle.lk_cluster_theorems.proofs.Saying.{last_so}
 
 -- a server that was taken up is one of the cluster
 begun_in : (Honest : Type 0) (genesis : Genesis) (n : ℕ) (old : Side → Disk) (s : ServerValue ReplicaValue) → Honest
-    → IsServerStarted table_meaning Honest old (header_of genesis n) s → IsBegun genesis n old s
+    → IsServerStarted table_meaning Honest old (header_of genesis n) s → HasStarted genesis n old s
 begun_in Honest genesis n old s honest begun =
     let up = begun.comes_up honest in
     record {
@@ -42,7 +42,7 @@ begun_in Honest genesis n old s honest begun =
         short =
             λ short. never_longer old (disks s.replica.store) (refused_room old (disks s.replica.store) up.room) short;
       };
-      own = begun.own;
+      own_letters = begun.own_letters;
       alive = begun.ready.alive;
     }
 

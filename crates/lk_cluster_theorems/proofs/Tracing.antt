@@ -13,11 +13,11 @@ use Rattle.lk_replica.specs.Groups.{StepSaid, GoesThrough}
 use Rattle.lk_replica.specs.ReplicaValue.{ReplicaValue}
 use Rattle.lk_served_replica.specs.Sayings.{SaysByGroup, IsSilenced, SaysOf}
 use Rattle.lk_server.specs.Servers.{ServerValue}
-use Rattle.lk_sim.specs.Networks.{MayCome, TellsOf}
+use Rattle.lk_sim.specs.Networks.{MayCome, RecordsReplies}
 use Rattle.lk_sim_nodes.specs.Seats.{At}
 use Rattle.lk_sim.specs.Traces.{asked_note, happened}
 use Rattle.lk_sim.proofs.Networks.{heard, asked_maybe}
-use Rattle.lk_cluster_theorems.specs.Clusters.{Node, ServerStands, server_disks, JoinsByStep, Joins, steps_of}
+use Rattle.lk_cluster_theorems.specs.Clusters.{Node, ServerHolds, server_disks, TracesStep, TracesGroup, steps_of}
 use Rattle.lk_cluster_theorems.proofs.Groups.{AllMay, all_later, input_fits, IsUpWith, StepGoes, fits, remembers}
 use Rattle.lk_cluster_theorems.proofs.Groups.{step_on}
 use Rattle.lk_cluster_theorems.proofs.Requests.{asks_something, tells_something}
@@ -25,11 +25,11 @@ use Rattle.lk_cluster_theorems.proofs.Requests.{asks_something, tells_something}
 module _ (genesis : Genesis) (n : ℕ) where
   -- this joins the trace by a group
   abbrev pub Traced : List (Option (List ℕ)) → List StepSaid → Type 0
-  Traced given said = (trace : List Note) × Joins n given said trace
+  Traced given said = (trace : List Note) × TracesGroup n given said trace
 
   -- a step, and those after it
   joined : (o : Option (List ℕ)) (given : List (Option (List ℕ))) (step : StepSaid) (said : List StepSaid)
-      (here : List Note) → JoinsByStep n o step here → Traced given said → Traced (o ∷ given) (step ∷ said)
+      (here : List Note) → TracesStep n o step here → Traced given said → Traced (o ∷ given) (step ∷ said)
   joined o given step said here j rest = (here ++ rest.0, (here, rest.0, refl, j, rest.1))
 
   -- of one that was refused
@@ -38,7 +38,7 @@ module _ (genesis : Genesis) (n : ℕ) where
   trace_refused (o ∷ given) =
       let asks = asks_something o in
       let rest = trace_refused given in
-      let j : JoinsByStep n o ([], []) ((asked_note asks.0 ++ []) ++ []) =
+      let j : TracesStep n o ([], []) ((asked_note asks.0 ++ []) ++ []) =
       record { request = asks.0; asks = asks.1; told = []; tells_of = refl; joins = refl } in
       (((asked_note asks.0 ++ []) ++ []) ++ rest.0, ((asked_note asks.0 ++ []) ++ [], rest.0, refl, j, rest.1))
 
@@ -47,18 +47,19 @@ module _ (genesis : Genesis) (n : ℕ) where
     step_tells : (r mid : ReplicaValue) (i : Input) (step : StepSaid)
         → StepGoes genesis n seats index node at s r i mid step → (sent : List Datagram) (trace : List Note)
         → MayCome genesis sent (heard_by i)
-        → IsUpWith genesis n seats index node at s r sent trace → (told : List Note) × TellsOf (batch_of n step.1) told
+        → IsUpWith genesis n seats index node at s r sent trace → (told : List Note)
+        × RecordsReplies (batch_of n step.1) told
     step_tells r mid i step goes sent trace may w =
         let asks = asks_something (heard_by i) in
-        let since = asked_maybe ServerStands server_disks table_meaning genesis _ sent trace w asks.0 in
+        let since = asked_maybe ServerHolds server_disks table_meaning genesis _ sent trace w asks.0 in
         let h = happened genesis sent (trace ++ asked_note asks.0) in
         let hears = heard genesis sent trace (heard_by i) asks.0 may asks.1 in
         let g = goes.0 h (fits genesis n seats index node at s r sent (trace ++ asked_note asks.0) since)
         (input_fits h i hears) step.1 (λ l c. c) in
         tells_something (batch_of n step.1) (λ d c. let p = g.may d c in (said_by genesis n p.message, p.spelled))
 
-    step_joins : (i : Input) (step : StepSaid) (told : (notes : List Note) × TellsOf (batch_of n step.1) notes)
-        → JoinsByStep n (heard_by i) step ((asked_note (asks_something (heard_by i)).0 ++ step.0) ++ told.0)
+    step_joins : (i : Input) (step : StepSaid) (told : (notes : List Note) × RecordsReplies (batch_of n step.1) notes)
+        → TracesStep n (heard_by i) step ((asked_note (asks_something (heard_by i)).0 ++ step.0) ++ told.0)
     step_joins i step told =
         record {
           request = (asks_something (heard_by i)).0;

@@ -26,7 +26,8 @@ use Rattle.lk_server.specs.Servers.{ServerValue, Turn, LastTurn, IsIdle}
 use Rattle.lk_probe.specs.declared.reported.Reported.{Reported}
 use Rattle.lk_transport.specs.declared.received_probe.ReceivedProbe.{ReceivedProbe}
 use Rattle.lk_sim.specs.Events.{ReplacesSeat, Adds}
-use Rattle.lk_sim.specs.Networks.{MayCome, AreAsking, TellsOf, RestartsBy, Appears, Restarts, Rests, Stops, nothing}
+use Rattle.lk_sim.specs.Networks.{MayCome, AreAsking, RecordsReplies, RestartsBy, Appears, Restarts, Rests, Stops}
+use Rattle.lk_sim.specs.Networks.{nothing}
 use Rattle.lk_sim.specs.Scenes.{Scene}
 use Rattle.lk_sim.specs.Traces.{asked_note}
 use Rattle.lk_sim_nodes.specs.declared.seat.Life.{Life}
@@ -54,17 +55,17 @@ abbrev pub scene_of : Cluster → Scene ReplicaValue
 scene_of c = record { genesis = c.genesis; seats = map seat_of c.seats; sent = c.sent; trace = c.trace; ended = None }
 
 -- what a server holds, and what its disks hold
-abbrev pub ServerStands : ServerValue ReplicaValue → Genesis → ℕ → Holding → Type 0
-ServerStands s genesis n x = ReplicaHolds table_meaning s.replica.node s.replica.store genesis n x
+abbrev pub ServerHolds : ServerValue ReplicaValue → Genesis → ℕ → Holding → Type 0
+ServerHolds s genesis n x = ReplicaHolds table_meaning s.replica.node s.replica.store genesis n x
 
 abbrev pub server_disks : ServerValue ReplicaValue → Side → Disk
 server_disks s = disks s.replica.store
 
 -- the server of that node has started from what these disks have, and no letter to itself is waiting
-pub record IsBegun (genesis : Genesis) (n : ℕ) (old : Side → Disk) (s : ServerValue ReplicaValue) : Type 0 where
+pub record HasStarted (genesis : Genesis) (n : ℕ) (old : Side → Disk) (s : ServerValue ReplicaValue) : Type 0 where
   pub notes : List Note
-  pub restarts : RestartsBy ServerStands server_disks table_meaning genesis n old s notes
-  pub own : s.own ≡ []
+  pub restarts : RestartsBy ServerHolds server_disks table_meaning genesis n old s notes
+  pub own_letters : s.own_letters ≡ []
   pub alive : s.replica.failed ≡ false
 
 -- ---- what a network may bring
@@ -100,26 +101,26 @@ next_step (step ∷ said) = step
 
 -- what a step of the node of that number, with this input, adds to the trace: the request in the input, its notes, and
 -- the answers and passes that it sends
-pub record JoinsByStep (n : ℕ) (o : Option (List ℕ)) (step : StepSaid) (trace : List Note) : Type 0 where
+pub record TracesStep (n : ℕ) (o : Option (List ℕ)) (step : StepSaid) (trace : List Note) : Type 0 where
   pub request : Option RequestValue
   pub asks : AreAsking o request
   pub told : List Note
-  pub tells_of : TellsOf (batch_of n step.1) told
+  pub tells_of : RecordsReplies (batch_of n step.1) told
   pub joins : trace ≡ (asked_note request ++ step.0) ++ told
 
 -- and what a group adds, one step after another
-abbrev pub Joins : ℕ → List (Option (List ℕ)) → List StepSaid → List Note → Type 0
-Joins n [] said trace = trace ≡ []
-Joins n (o ∷ given) said trace =
-    (here : List Note) × (rest : List Note) × (trace ≡ here ++ rest) × JoinsByStep n o (next_step said) here
-    × Joins n given (drop 1 said) rest
+abbrev pub TracesGroup : ℕ → List (Option (List ℕ)) → List StepSaid → List Note → Type 0
+TracesGroup n [] said trace = trace ≡ []
+TracesGroup n (o ∷ given) said trace =
+    (here : List Note) × (rest : List Note) × (trace ≡ here ++ rest) × TracesStep n o (next_step said) here
+    × TracesGroup n given (drop 1 said) rest
 
 -- ---- what happens
 
 -- a node that was down is up as a server with what its disks have, and no letter to itself is waiting
 pub record Starts (old new : Cluster) : Type 0 where
-  pub restarts : Restarts ServerStands server_disks table_meaning old new
-  pub own : restarts.replica.own ≡ []
+  pub restarts : Restarts ServerHolds server_disks table_meaning old new
+  pub own_letters : restarts.replica.own_letters ≡ []
   pub alive : restarts.replica.replica.failed ≡ false
 
 -- a node that is up takes an idle turn, or handles probes: its replica is given nothing, and nothing is given
@@ -129,7 +130,7 @@ pub record Starts (old new : Cluster) : Type 0 where
 pub record Idles (tells : Type 0) (old new : Cluster) : Type 0 where
   pub node : Node
   pub next : Node
-  pub turns : ReplacesSeat old.seats new.seats node next
+  pub replaces : ReplacesSeat old.seats new.seats node next
   pub server : ServerValue ReplicaValue
   pub was : node.life ≡ Up server
   pub after : ServerValue ReplicaValue
@@ -148,7 +149,7 @@ module _ (May : Network) (Metered tells : Type 0) where
   pub record TakesTurn (old new : Cluster) : Type 0 where
     pub node : Node
     pub next : Node
-    pub turns : ReplacesSeat old.seats new.seats node next
+    pub replaces : ReplacesSeat old.seats new.seats node next
     pub server : ServerValue ReplicaValue
     pub was : node.life ≡ Up server
     pub after : ServerValue ReplicaValue
@@ -158,14 +159,14 @@ module _ (May : Network) (Metered tells : Type 0) where
     pub turn : Turn (Says Metered) tells came server after
     pub alive : after.replica.failed ≡ false
     pub trace : List Note
-    pub joins : Joins node.number turn.given (steps_of Metered turn.hands_on.says.comes) trace
+    pub joins : TracesGroup node.number turn.given (steps_of Metered turn.hands_on.says.comes) trace
     pub adds : Adds old new trace (batch_of node.number turn.hands_on.letters)
 
   -- a turn ends a node, and it is down with the disks that its replica has left
   pub record EndsByTurn (old new : Cluster) : Type 0 where
     pub node : Node
     pub next : Node
-    pub turns : ReplacesSeat old.seats new.seats node next
+    pub replaces : ReplacesSeat old.seats new.seats node next
     pub server : ServerValue ReplicaValue
     pub was : node.life ≡ Up server
     pub after : ServerValue ReplicaValue
@@ -177,7 +178,7 @@ module _ (May : Network) (Metered tells : Type 0) where
     pub turn : LastTurn (Says Metered) tells came server after
     pub ended : after.replica.failed ≡ true
     pub trace : List Note
-    pub joins : Joins node.number turn.given (steps_of Metered turn.hands_on.says.comes) trace
+    pub joins : TracesGroup node.number turn.given (steps_of Metered turn.hands_on.says.comes) trace
     pub adds : Adds old new trace (batch_of node.number turn.hands_on.letters)
 
   -- a node appears, with empty disks; it starts, or does not; it takes a turn, or an idle one, or handles

@@ -26,10 +26,10 @@ ghost use Rattle.lk_sim.specs.Networks.{MayCome};
 ghost use Rattle.lk_sim_nodes.specs.declared.seat.Life.TheVariants.{Up, Down};
 ghost use Rattle.lk_guarantees.specs.ComingBack.{IsExcused};
 ghost use Rattle.lk_guarantees.specs.Converging.{Converges};
-ghost use Rattle.lk_guarantees.specs.ExactlyOnce.{AreServedOnce};
+ghost use Rattle.lk_guarantees.specs.ExactlyOnce.{AreExactlyOnce};
 ghost use Rattle.lk_guarantees.specs.Linear.{IsLinearizable};
 ghost use Rattle.lk_guarantees.specs.Guarantee.{MeetsGuarantee};
-ghost use Rattle.lk_cluster_theorems.specs.Clusters.{Node, Cluster, IsReachable, ForgesNothing, IsBegun, Says};
+ghost use Rattle.lk_cluster_theorems.specs.Clusters.{Node, Cluster, IsReachable, ForgesNothing, HasStarted, Says};
 ghost use Rattle.lk_cluster_theorems.specs.Clusters.{scene_of};
 ghost use Rattle.lk_cluster_theorems.specs.Clusters.{server_disks};
 ghost use Rattle.lk_cluster_theorems.specs.Continuing.{Continues, MayAllCome, letters_of};
@@ -73,7 +73,7 @@ pub fn a_cluster_is_linearizable<D: LogDisk, S: DatagramSocket>()
 pub fn a_cluster_serves_exactly_once<D: LogDisk, S: DatagramSocket>()
     ensures { (genesis : GenesisValue) (cluster : Cluster)
         → IsReachable ForgesNothing D.is_metered S.is_observable genesis cluster
-        → AreServedOnce cluster.genesis cluster.sent cluster.trace }
+        → AreExactlyOnce cluster.genesis cluster.sent cluster.trace }
 {
     a_cluster_meets_the_guarantee::<D, S>();
     operations_take_effect_exactly_once();
@@ -123,7 +123,8 @@ pub fn a_sealed_cluster_meets_the_guarantee<D: LogDisk, S: DatagramSocket>()
 /// reachable too.
 pub fn a_start_continues_a_cluster<D: LogDisk, S: DatagramSocket>()
     ensures { ForEachDown ForgesNothing D.is_metered S.is_observable
-        (λ genesis cluster index n disks. (server : ServerValue ReplicaValue) → IsBegun cluster.genesis n disks server
+        (λ genesis cluster index n disks. (server : ServerValue ReplicaValue)
+        → HasStarted cluster.genesis n disks server
         → Continues ForgesNothing D.is_metered S.is_observable genesis cluster index n (Up server) []) }
 {}
 

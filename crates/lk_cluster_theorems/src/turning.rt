@@ -4,7 +4,7 @@ ghost use Rattle.std.specs.Prelude.{◌≡◌, ℕ, List, IfOk, OnOk, OnErr};
 ghost use Rattle.std.specs.declared.net.socket_addr.SocketAddr.{SocketAddr as Address};
 ghost use Rattle.lk_types.specs.declared.genesis.Genesis.{Genesis as GenesisValue};
 ghost use Rattle.lk_node.specs.Leavings.{header_of};
-ghost use Rattle.lk_cluster_theorems.specs.Clusters.{IsBegun, Says};
+ghost use Rattle.lk_cluster_theorems.specs.Clusters.{HasStarted, Says};
 ghost use Rattle.lk_transport.specs.Addresses.{filter_of};
 ghost use Rattle.lk_transport.specs.Posts.{all_filtered};
 ghost use Rattle.lk_transport.specs.Kept.{KeepsOf};
@@ -58,7 +58,7 @@ pub fn start<D: LogDisk + Drop, S: DatagramSocket + Drop, L: Log>(
     log: &L,
 ) -> Result<Server<Replica<LockTable, D>, S>, ReviveFault<D>>
     ensures { D.is_honest → (genesis : GenesisValue) → header.now ≡ header_of genesis header.now.node
-        → IfOk result (IsBegun genesis header.now.node (D.disk resources.device)) }
+        → IfOk result (HasStarted genesis header.now.node (D.disk resources.device)) }
 {
     let server = revive::<LockTable, D, S, L>(alloc, header, resources, log)?;
     // The contract of this call shows that the server's `failed` is its replica's.

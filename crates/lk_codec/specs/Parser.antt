@@ -8,10 +8,10 @@ abbrev pub ◌>>=◌ : {A B : Type 0} → Option A → (A → Option B) → Opti
 (Some x) >>= f = f x
 None >>= f = None
 
--- a function returned, as `view` shows it, what the parser returns
+-- a function returned, in the form that `shown` gives it, what the parser returns
 abbrev pub Finds : {X Y : Type 0} → (X → Y) → Option X → Option Y → Type 0
-Finds view (Some x) read = read ≡ Some (view x)
-Finds view None read = read ≡ None
+Finds shown (Some x) read = read ≡ Some (shown x)
+Finds shown None read = read ≡ None
 
 abbrev pub read_byte : List ℕ → Option (ℕ × List ℕ)
 read_byte [] = None

@@ -60,7 +60,7 @@ IsAsker (Some word) client = IsSomeAnd client (Spells IsClient word)
 -- the plan asks these targets, as the words say
 pub record PlansFor (m : ArgMatches) (targets : List Target) (p : Plan) : Type 0 where
   pub cluster : Spells IsNumber (word_of m (codes "cluster")) p.inquiry.cluster
-  pub places : p.inquiry.targets.items ≡ targets
+  pub of_targets : p.inquiry.targets.items ≡ targets
   pub patience : IsPatienceOf (first_value (found_of m) (codes "wait")) p.inquiry.patience
   pub seconds : IsTimeOf (words_of m (codes "until")) p.seconds
   pub client : IsAsker (first_value (found_of m) (codes "client")) p.inquiry.client

@@ -49,7 +49,7 @@ fn add_ports<'a>(
 
 /// Returns the ports that `locks ask` tries in turn, each three times. Empty if only one port is given. The inner error
 /// is that of an invalid port, the outer one out of memory.
-pub fn turns_of<'a>(
+pub fn ports_of<'a>(
     alloc: Global,
     matches: &ArgMatches<'a>,
 ) -> Result<Result<Vec<Port>, ArgumentError<'a>>, AllocError> {

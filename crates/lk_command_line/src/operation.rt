@@ -47,7 +47,7 @@ pub fn invalid_operation<'a>(first: &'a str) -> ArgumentError<'a>
 }
 
 // Whether the second word of an operation with that first word is a name.
-fn takes_name(first: &str) -> bool {
+fn has_name(first: &str) -> bool {
     FORMS
         .iter()
         .any(|(word, _, names)| *names && *word == first)
@@ -57,7 +57,7 @@ fn takes_name(first: &str) -> bool {
 /// answers `bad`. A failed write is ignored.
 pub fn warn_of_name<E: Write>(words: &[&str], err: &mut E) {
     match words {
-        [first, name, ..] if takes_name(first) && Name::of(name.as_bytes()).is_none() => {
+        [first, name, ..] if has_name(first) && Name::of(name.as_bytes()).is_none() => {
             let _ = writeln!(err, "warning: '{name}' is not a name: {NAME}");
         }
         _ => {}

@@ -166,7 +166,7 @@ fn plan_of<'a>(matches: &ArgMatches<'a>, targets: Vec<Target>) -> Result<Plan, A
 
 // Returns the error of the first of these words that is neither `PORT` nor `NODE:PORT`. If there is none, there are too
 // many words.
-fn invalid_places<'a>(alloc: Global, words: &[&'a str]) -> Result<ArgumentError<'a>, ServiceFault>
+fn invalid_targets<'a>(alloc: Global, words: &[&'a str]) -> Result<ArgumentError<'a>, ServiceFault>
     ensures { IfOk result (λ e. e.argument.now ≡ codes "port") }
 {
     for word in words {
@@ -193,6 +193,6 @@ pub fn status_plan<'a>(
     let words = matches.get_strs("port").unwrap_or(&[]);
     match targets_of(alloc, words)? {
         Some(targets) => Ok(plan_of(matches, targets)),
-        None => Ok(Err(invalid_places(alloc, words)?)),
+        None => Ok(Err(invalid_targets(alloc, words)?)),
     }
 }

@@ -31,7 +31,13 @@ passes_on j before _ (read {n} {k} after passed) = read (passes_on j before k af
 -- a call that failed, after calls that passed
 pub breaks_on : {l m n : Meter} (j : ℕ) → CallsSucceed l m j → Breaks m n → Breaks l n
 breaks_on j before b =
-    record { passed = j + b.passed; last = b.last; passes = passes_on j before b.passed b.passes; broke = b.broke }
+    record {
+      count = j + b.count;
+      last = b.last;
+      calls_succeed = passes_on j before b.count b.calls_succeed;
+      broke =
+          b.broke;
+    }
 
 -- a changing call that passed
 pub call_passes : (m n : Meter) → (is_failing m ≡ false) × (n ≡ called m) → CallsSucceed m n 1
@@ -39,8 +45,8 @@ call_passes m n (passed, e) = subst (λ (x : Meter). CallsSucceed m x 1) (sym e)
 
 -- and one that failed
 pub call_breaks : (m n : Meter) → ((is_failing m ≡ true) × (n ≡ called m)) ⊎ (n ≡ starving m) → Breaks m n
-call_breaks m n (inl failed) = record { passed = 0; last = m; passes = start; broke = inl failed }
-call_breaks m n (inr starved) = record { passed = 0; last = m; passes = start; broke = inr (inl starved) }
+call_breaks m n (inl failed) = record { count = 0; last = m; calls_succeed = start; broke = inl failed }
+call_breaks m n (inr starved) = record { count = 0; last = m; calls_succeed = start; broke = inr (inl starved) }
 
 -- a reading call that passed
 pub read_passes : (m n : Meter) → (is_unread m ≡ false) × (n ≡ asked m) → CallsSucceed m n 0
@@ -48,4 +54,4 @@ read_passes m n (passed, e) = subst (λ (x : Meter). CallsSucceed m x 0) (sym e)
 
 -- and one that failed
 pub read_breaks : (m n : Meter) → (is_unread m ≡ true) × (n ≡ asked m) → Breaks m n
-read_breaks m n failed = record { passed = 0; last = m; passes = start; broke = inr (inr failed) }
+read_breaks m n failed = record { count = 0; last = m; calls_succeed = start; broke = inr (inr failed) }

@@ -51,20 +51,20 @@ abbrev pub HasFailed : FailStopFile → FailStopFile → Type 0
 HasFailed old new = (old.failed ≡ false) × (new.failures ≡ one_more old.failures)
 
 -- all calls of the file succeeded, and it goes on
-abbrev pub HasPassed : FailStopFile → FailStopFile → Type 0
-HasPassed old new = (old.failed ≡ false) × (new.failed ≡ false) × (new.failures ≡ old.failures)
+abbrev pub HasSucceeded : FailStopFile → FailStopFile → Type 0
+HasSucceeded old new = (old.failed ≡ false) × (new.failed ≡ false) × (new.failures ≡ old.failures)
 
 -- a call succeeded with all calls of the file; or it failed, since the file had failed before, or a call of it did now
 abbrev pub IsCaused : {T E : Type 0} → FailStopFile → FailStopFile → Result T E → Type 0
-IsCaused old new (Ok _) = HasPassed old new
+IsCaused old new (Ok _) = HasSucceeded old new
 IsCaused old new (Err _) = IsUntried old new ⊎ HasFailed old new
 
 -- the same of a cut to len bytes, which fails too if an honest file has fewer
 abbrev pub IsCutCaused : {T E : Type 0} → Type 0 → ℕ → FailStopFile → FailStopFile → Result T E → Type 0
-IsCutCaused is_honest len old new (Ok _) = HasPassed old new
+IsCutCaused is_honest len old new (Ok _) = HasSucceeded old new
 IsCutCaused is_honest len old new (Err _) =
     IsUntried old new ⊎ HasFailed old new
-    ⊎ (HasPassed old new × (is_honest → length (contents (left_of old.file)) < len))
+    ⊎ (HasSucceeded old new × (is_honest → length (contents (left_of old.file)) < len))
 
 -- what a contract sees of a device of two such files
 pub record FilePair : Type 0 where

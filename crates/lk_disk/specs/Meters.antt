@@ -13,15 +13,15 @@ fresh = record { trap = Off; fuse = None; unread = 0; calls = 0; sprung = false;
 
 -- ---- changing calls: an append, a sync, a cut
 
--- the fuse lets no more changing calls pass
+-- the fuse lets no more changing calls succeed
 abbrev pub is_blown : Option ℕ → Bool
 is_blown None = false
-is_blown (Some passes) = passes == 0
+is_blown (Some left) = left == 0
 
 -- the fuse after the next changing call
 abbrev pub fuse_after : Option ℕ → Option ℕ
 fuse_after None = None
-fuse_after (Some passes) = Some (passes - 1)
+fuse_after (Some left) = Some (left - 1)
 
 -- the fuse after the next changing call, which blows it if it is an armed stop
 abbrev pub fuse_at : Option ℕ → Option ℕ → Option ℕ
@@ -49,7 +49,7 @@ called m = record m {
 abbrev pub starving : Meter → Meter
 starving m = record (called m) { starved = true }
 
--- a changing call passed, or it failed: by the trap, the fuse, or an armed stop, or for want of memory
+-- a changing call succeeded, or it failed: by the trap, the fuse, or an armed stop, or for want of memory
 abbrev pub Calls : {T E : Type 0} → Meter → Meter → Result T E → Type 0
 Calls m n (Ok _) = (is_failing m ≡ false) × (n ≡ called m)
 Calls m n (Err _) = ((is_failing m ≡ true) × (n ≡ called m)) ⊎ (n ≡ starving m)
@@ -64,25 +64,25 @@ is_unread m = m.unread == 1
 abbrev pub asked : Meter → Meter
 asked m = record m { unread = m.unread - 1 }
 
--- a reading call within the disk passed, or it had to fail
+-- a reading call within the disk succeeded, or it had to fail
 abbrev pub Reads : {T E : Type 0} → Meter → Meter → Result T E → Type 0
 Reads m n (Ok _) = (is_unread m ≡ false) × (n ≡ asked m)
 Reads m n (Err _) = (is_unread m ≡ true) × (n ≡ asked m)
 
 -- ---- calls in a row
 
--- this many changing calls were made, besides reading ones, and all of them passed
+-- this many changing calls were made, besides reading ones, and all of them succeeded
 pub data CallsSucceed (m : Meter) : Meter → ℕ → Type 0 where
   start : CallsSucceed m m 0
   call : {n : Meter} {k : ℕ} → CallsSucceed m n k → is_failing n ≡ false → CallsSucceed m (called n) (k + 1)
   read : {n : Meter} {k : ℕ} → CallsSucceed m n k → is_unread n ≡ false → CallsSucceed m (asked n) k
 
--- such calls passed, and the next one failed: a changing one as it had to, or for want of memory, or a reading one as
--- it had to
+-- such calls succeeded, and the next one failed: a changing one as it had to, or for want of memory, or a reading one
+-- as it had to
 pub record Breaks (m n : Meter) : Type 0 where
-  pub passed : ℕ
+  pub count : ℕ
   pub last : Meter
-  pub passes : CallsSucceed m last passed
+  pub calls_succeed : CallsSucceed m last count
   pub broke : ((is_failing last ≡ true) × (n ≡ called last)) ⊎ (n ≡ starving last)
       ⊎ ((is_unread last ≡ true) × (n ≡ asked last))
 

@@ -108,7 +108,7 @@ impl<F: AppendFile + Drop> FailStopFile<F> {
 
     // Begins an append, flush, sync or cut. The file counts as failed until `end`, so an error in between leaves it
     // failed. Returns the length, if it is known.
-    fn begin_call(&mut self) -> Result<Option<usize>, FileFault>
+    fn check_call(&mut self) -> Result<Option<usize>, FileFault>
         ensures ok { OnOk result (IsFalse self.old.failed × (self.new ≡ record self.old { failed = true })) }
         ensures whole { F.is_honest → OnOk result (IsWhole self.new.file) }
         ensures known { F.is_honest → IfOk result (λ n. HasLength n (left_of self.new.file)) }
@@ -138,7 +138,7 @@ impl<F: AppendFile + Drop> FailStopFile<F> {
             → OnErr result (AppendsSome piece.now (left_of self.old.file) (left_of self.new.file)) }
         ensures cause { IsCaused self.old self.new result }
     {
-        let length = self.begin_call()?;
+        let length = self.check_call()?;
         self.file.append(piece)?;
         self.end(lengthened(length, piece.len()));
         Ok(())
@@ -149,7 +149,7 @@ impl<F: AppendFile + Drop> FailStopFile<F> {
         ensures unchanged { F.is_honest → self.new.file ≡ self.old.file }
         ensures cause { IsCaused self.old self.new result }
     {
-        let length = self.begin_call()?;
+        let length = self.check_call()?;
         self.file.flush()?;
         self.end(length);
         Ok(())
@@ -161,7 +161,7 @@ impl<F: AppendFile + Drop> FailStopFile<F> {
         ensures err { F.is_honest → OnErr result (left_of self.new.file ≡ left_of self.old.file) }
         ensures cause { IsCaused self.old self.new result }
     {
-        let length = self.begin_call()?;
+        let length = self.check_call()?;
         self.file.sync()?;
         self.end(length);
         Ok(())
@@ -180,7 +180,7 @@ impl<F: AppendFile + Drop> FailStopFile<F> {
         if self.length()? < len {
             return Err(FileFault);
         }
-        self.begin_call()?;
+        self.check_call()?;
         self.file.shorten(len)?;
         self.file.sync()?;
         self.end(Some(len));

@@ -22,7 +22,7 @@ use Rattle.lk_replica.specs.Taking.{ComesTo}
 use Rattle.lk_replica.specs.Together.{ComesToAll}
 use Rattle.lk_sim.specs.Events.{IsExecuted}
 use Rattle.lk_sim.specs.Events as doing
-use Rattle.lk_sim.specs.Packed.{LeavesPacked}
+use Rattle.lk_sim.specs.Packed.{LeavesPackedState}
 use Rattle.lk_sim.specs.Guarantees.{WorldGuarantee}
 use Rattle.lk_sim.specs.Guarantees as world
 use Rattle.lk_sim.specs.Runs.{Runs}
@@ -143,14 +143,14 @@ guaranteed w p = record {
 }
 
 pub compacts : (e : Event) (w : Scene ReplicaValue)
-    → LeavesPacked (λ r. r.node.learner.whole) (disks_by locks_behave) table_meaning e w → Compacts e w
+    → LeavesPackedState (λ r. r.node.learner.whole) (disks_by locks_behave) table_meaning e w → Compacts e w
 compacts (event.Start n) w k = tt
 compacts (event.Restart n) w k = tt
 compacts (event.Tick n) w k = tt
 compacts (event.Compact n) w k = λ e. compacted w n (k e)
 compacts (event.Client n r) w k = tt
 compacts (event.Deliver i) w k = tt
-compacts (event.Group n turns) w k = tt
+compacts (event.Group n group_inputs) w k = tt
 compacts (event.Inject n bytes) w k = tt
 compacts (event.Stop n x y) w k = tt
 compacts (event.FailAt n count) w k = tt

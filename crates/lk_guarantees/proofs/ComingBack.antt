@@ -61,7 +61,7 @@ not_unread m q unread =
 
 unbroken : (m n : Meter) → IsQuiet m → n.starved ≡ false → Breaks m n → ⊥
 unbroken m n q fed b =
-    let last : IsQuiet b.last = quiet_after m q b.passed b.passes in
+    let last : IsQuiet b.last = quiet_after m q b.count b.calls_succeed in
     elim b.broke [
       | inl failed ↦ not_failing b.last last failed.0
       | inr (inl starved) ↦ (let clash : true ≡ false = ap (λ (x : Meter). x.starved) (sym starved) ∙ fed in cc clash)

@@ -13,7 +13,7 @@ use Rattle.lk_sim.specs.Scenes.{Scene}
 use Rattle.lk_state.specs.declared.session.Session.{Session}
 use Rattle.lk_guarantees.specs.Converging.{Converges}
 use Rattle.lk_guarantees.specs.Disks.{kept_text}
-use Rattle.lk_guarantees.specs.Plain.{after, at, serve, IsAnswered, Kept, IsKeptOf}
+use Rattle.lk_guarantees.specs.Plain.{after, at, execute, GivesAnswer, Kept, IsKeptOf}
 use Rattle.lk_guarantees.specs.Guarantee.{IsChosen, IsPrefix, kept_by_replica, MeetsGuarantee}
 use Rattle.lk_guarantees.proofs.Once.{once}
 use Rattle.lk_guarantees.proofs.Placing.{placed}
@@ -94,8 +94,8 @@ same_sessions (x ∷ xs) (y ∷ ys) h g there back =
 
 module _ (genesis : Genesis) (L : List Command) where
   -- a number of a client has one answer
-  one_answer : (client number : ℕ) (a b : Answer) → IsAnswered genesis L client number a
-      → IsAnswered genesis L client number b → a ≡ b
+  one_answer : (client number : ℕ) (a b : Answer) → GivesAnswer genesis L client number a
+      → GivesAnswer genesis L client number b → a ≡ b
   one_answer client number a b x y =
       let p = placed genesis L client number a x in
       let q = placed genesis L client number b y in
@@ -105,11 +105,11 @@ module _ (genesis : Genesis) (L : List Command) where
       let one : Some (Request p.request) ≡ Some (Request q.request) = sym p.takes.0
       ∙ ap (λ (n : ℕ). at L n) same ∙ q.takes.0 in
       let equal : p.request ≡ q.request = cc one in
-      sym p.answered ∙ ap (λ (n : ℕ). (serve client p.request.op (after genesis (take (n - 1) L))).0) same
-      ∙ ap (λ (r : Asking). (serve client r.op (after genesis (take (q.position - 1) L))).0) equal ∙ q.answered
+      sym p.answered ∙ ap (λ (n : ℕ). (execute client p.request.op (after genesis (take (n - 1) L))).0) same
+      ∙ ap (λ (r : Asking). (execute client r.op (after genesis (take (q.position - 1) L))).0) equal ∙ q.answered
 
   -- it stands in the list
-  stands : (client number : ℕ) (a : Answer) → IsAnswered genesis L client number a
+  stands : (client number : ℕ) (a : Answer) → GivesAnswer genesis L client number a
       → (r : Asking) × Contains L (Request r) × (r.client ≡ client) × (r.number ≡ number)
   stands client number a x = (
     x.request,
@@ -135,9 +135,9 @@ module _ (genesis : Genesis) (L : List Command) where
       let most = y.last t.0 t.1 used.0 used.1 (sym t.2) in
       let least = x.last s c back.0 back.1 (back.2 ∙ of_client) in
       let of_number : t.0.number ≡ s.number = omega (arith, most, least, used.3, back.3) in
-      let there : IsAnswered genesis L s.client s.number t.0.answer =
-      subst (λ (n : ℕ). IsAnswered genesis L s.client n t.0.answer) of_number
-      (subst (λ (n : ℕ). IsAnswered genesis L n t.0.number t.0.answer) of_client (y.answers t.0 t.1)) in
+      let there : GivesAnswer genesis L s.client s.number t.0.answer =
+      subst (λ (n : ℕ). GivesAnswer genesis L s.client n t.0.answer) of_number
+      (subst (λ (n : ℕ). GivesAnswer genesis L n t.0.number t.0.answer) of_client (y.answers t.0 t.1)) in
       let of_answer : t.0.answer ≡ s.answer = one_answer s.client s.number t.0.answer s.answer there (x.answers s c) in
       let same : t.0 ≡ s = ap (λ (n : ℕ). session n t.0.number t.0.answer) of_client
       ∙ ap (λ (n : ℕ). session s.client n t.0.answer) of_number

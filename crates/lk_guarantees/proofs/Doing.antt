@@ -16,11 +16,12 @@ use Rattle.lk_node_interface.specs.declared.note.Note.{Note}
 use Rattle.lk_node_interface.specs.declared.note.Note.TheVariants as note
 use Rattle.lk_node.specs.Histories.{Datagram, RequestValue}
 use Rattle.lk_node.specs.Leavings.{header_of}
-use Rattle.lk_node.specs.Served.{IsOfNode}
+use Rattle.lk_node.specs.BorneOut.{IsOfNode}
 use Rattle.lk_replica.specs.Behaviours.{Behaviour}
 use Rattle.lk_replica.specs.ReplicaValue.{ReplicaValue, device_of}
 use Rattle.lk_replica.specs.Revived.{RevivesTo}
-use Rattle.lk_sim.specs.Events.{ReplacesSeat, AreOwn, AreAllOwn, Adds, IsGiven, IsGivenTogether, ComesUp, IsCompacted}
+use Rattle.lk_sim.specs.Events.{ReplacesSeat, AreOfNodes, AreAllOfNodes, Adds, IsGiven, IsGivenTogether, ComesUp}
+use Rattle.lk_sim.specs.Events.{IsCompacted}
 use Rattle.lk_sim.specs.Events.{HasEffect}
 use Rattle.lk_sim.specs.Events.{IsExecuted, IsHalted, LeftBy, LeftByGroup, LeftByRevival, LeftByCompacting, Wants}
 use Rattle.lk_sim.specs.Events.{IsRefused}
@@ -61,7 +62,7 @@ own_asks (note.Ran node i v) own = refl
 own_asks (note.Answered node client number a) own = refl
 own_asks (note.Told node client number last) own = refl
 
-own_ask : (xs : List Note) → AreOwn xs → requests xs ≡ []
+own_ask : (xs : List Note) → AreOfNodes xs → requests xs ≡ []
 own_ask [] own = refl
 own_ask (x ∷ xs) own =
     rw (own_asks x (own x (0, omega arith, refl))) (own_ask xs (λ y c. own y (suc c.0, omega (arith, c.1), c.2)))
@@ -91,7 +92,7 @@ tells_ask (d ∷ ds) told t = ap requests t.3 ∙ told_ask t.0.content t.1 ∙ t
 abbrev AsksThese : Scene ReplicaValue → Scene ReplicaValue → List Note → Type 0
 AsksThese old new asked = requests new.trace ≡ requests old.trace ++ requests asked
 
-adds_ask : (old new : Scene ReplicaValue) (asked notes told : List Note) (batch more : List Datagram) → AreOwn notes
+adds_ask : (old new : Scene ReplicaValue) (asked notes told : List Note) (batch more : List Datagram) → AreOfNodes notes
     → NotesReplies batch told → Adds old new ((asked ++ notes) ++ told) more → AsksThese old new asked
 adds_ask old new asked notes told batch more own tells adds =
     let parts : requests ((asked ++ notes) ++ told) ≡ requests asked =
@@ -115,13 +116,13 @@ module _ (b : Behaviour ReplicaValue) where
   given_asks : (old new : Scene ReplicaValue) (n : ℕ) (o : Option (List ℕ)) (asked : List Note)
       → IsGiven b old new n o asked → AsksThese old new asked
   given_asks old new n o asked k = elim k.comes_to [
-    | inl r ↦ adds_ask old new asked r.notes r.told r.batch r.batch r.own r.tells r.adds
+    | inl r ↦ adds_ask old new asked r.notes r.told r.batch r.batch r.of_nodes r.tells r.adds
     | inr (inl r) ↦
-        adds_ask old new asked r.notes r.told (take r.sends r.batch) (take r.sends r.batch) r.own r.tells r.adds
+        adds_ask old new asked r.notes r.told (take r.sends r.batch) (take r.sends r.batch) r.of_nodes r.tells r.adds
     | inr (inr f) ↦ adds_just old new asked [] f.adds
   ]
 
-  steps_ask : (said : List Said) (notes : List Note) → AreAllOwn said → AreNotesOf said notes → requests notes ≡ []
+  steps_ask : (said : List Said) (notes : List Note) → AreAllOfNodes said → AreNotesOf said notes → requests notes ≡ []
   steps_ask [] notes own tells = rw tells refl
   steps_ask (x ∷ said) notes own tells =
       ap requests tells.3 ∙ requests-append (x.0 ++ tells.0) tells.1
@@ -130,22 +131,22 @@ module _ (b : Behaviour ReplicaValue) where
       ∙ steps_ask said tells.1 own.1 tells.4
 
   steps_add : (old new : Scene ReplicaValue) (said : List Said) (notes : List Note) (batch : List Datagram)
-      → AreAllOwn said → AreNotesOf said notes → Adds old new notes batch → AsksThese old new []
+      → AreAllOfNodes said → AreNotesOf said notes → Adds old new notes batch → AsksThese old new []
   steps_add old new said notes batch own tells adds =
       ap requests adds.trace ∙ requests-append old.trace notes
       ∙ ap (λ (r : List RequestValue). requests old.trace ++ r) (steps_ask said notes own tells)
 
   -- a step that sends less is as much its own
-  cut_own : (k : ℕ) (said : List Said) → AreAllOwn said → AreAllOwn (cut_short k said)
+  cut_own : (k : ℕ) (said : List Said) → AreAllOfNodes said → AreAllOfNodes (cut_short k said)
   cut_own k [] own = tt
   cut_own k (x ∷ said) own = (own.0, cut_own (left_over k x.1) said own.1)
 
   together_asks : (old new : Scene ReplicaValue) (n : ℕ) (given : List (Option (List ℕ)))
       → IsGivenTogether b old new n given → AsksThese old new []
   together_asks old new n given k = elim k.comes_to [
-    | inl r ↦ steps_add old new r.said r.notes (sent_of r.said) r.own r.tells r.adds
+    | inl r ↦ steps_add old new r.said r.notes (sent_of r.said) r.of_nodes r.tells r.adds
     | inr (inl r) ↦ steps_add old new (cut_short r.sends r.said) r.notes (take r.sends (sent_of r.said))
-        (cut_own r.sends r.said r.own) r.tells r.adds
+        (cut_own r.sends r.said r.of_nodes) r.tells r.adds
     | inr (inr f) ↦ adds_just old new [] [] f.adds
   ]
 
@@ -153,7 +154,7 @@ module _ (b : Behaviour ReplicaValue) where
       → ComesUp b old new t d → AsksThese old new []
   comes_ask old new t d c = elim c [
     | inl r ↦ ap requests r.adds.trace ∙ requests-append old.trace r.notes
-        ∙ ap (λ (rs : List RequestValue). requests old.trace ++ rs) (own_ask r.notes r.own)
+        ∙ ap (λ (rs : List RequestValue). requests old.trace ++ rs) (own_ask r.notes r.of_nodes)
     | inr f ↦ adds_just old new [] [] f.adds
   ]
 
@@ -184,25 +185,28 @@ module _ (b : Behaviour ReplicaValue) where
       → (n : ℕ) × IsFor old.sent e n × ChangesOnly n old.seats new.seats
   brings_only old new (event.Start n) may k =
       (n, refl, inr (inr (none_started old.seats n may.0, (k.seat, k.number, k.seats))))
-  brings_only old new (event.Restart n) may k = (n, refl, turned old.seats new.seats n k.seat k.next k.turns k.number)
-  brings_only old new (event.Tick n) may k = (n, refl, turned old.seats new.seats n k.seat k.next k.turns k.number)
-  brings_only old new (event.Compact n) may k = (n, refl, turned old.seats new.seats n k.seat k.next k.turns k.number)
+  brings_only old new (event.Restart n) may k =
+      (n, refl, turned old.seats new.seats n k.seat k.next k.replaces k.number)
+  brings_only old new (event.Tick n) may k = (n, refl, turned old.seats new.seats n k.seat k.next k.replaces k.number)
+  brings_only old new (event.Compact n) may k =
+      (n, refl, turned old.seats new.seats n k.seat k.next k.replaces k.number)
   brings_only old new (event.Client n r) may k = (n, refl, inl k.seats)
   brings_only old new (event.Deliver i) may k =
       let g = k.given in (
         k.node,
         bound old.sent i k.datagram k.node k.stands k.bound,
-        turned old.seats new.seats k.node g.seat g.next g.turns g.number,
+        turned old.seats new.seats k.node g.seat g.next g.replaces g.number,
       )
-  brings_only old new (event.Group n turns) may k =
-      (n, refl, turned old.seats new.seats n k.seat k.next k.turns k.number)
+  brings_only old new (event.Group n group_inputs) may k =
+      (n, refl, turned old.seats new.seats n k.seat k.next k.replaces k.number)
   brings_only old new (event.Inject n bytes) may k = let g = k.given in
-      (n, refl, turned old.seats new.seats n g.seat g.next g.turns g.number)
-  brings_only old new (event.Stop n x y) may k = (n, refl, turned old.seats new.seats n k.seat k.next k.turns k.number)
+      (n, refl, turned old.seats new.seats n g.seat g.next g.replaces g.number)
+  brings_only old new (event.Stop n x y) may k =
+      (n, refl, turned old.seats new.seats n k.seat k.next k.replaces k.number)
   brings_only old new (event.FailAt n count) may k =
-      (n, refl, turned old.seats new.seats n k.seat k.next k.turns k.number)
+      (n, refl, turned old.seats new.seats n k.seat k.next k.replaces k.number)
   brings_only old new (event.Arm n count bytes) may k =
-      (n, refl, turned old.seats new.seats n k.seat k.next k.turns k.number)
+      (n, refl, turned old.seats new.seats n k.seat k.next k.replaces k.number)
 
   brings_sends : (old new : Scene ReplicaValue) (e : Event) → HasEffect b old e new → SendsAsAsked old e new
   brings_sends old new (event.Start n) k = tt
@@ -211,7 +215,7 @@ module _ (b : Behaviour ReplicaValue) where
   brings_sends old new (event.Compact n) k = tt
   brings_sends old new (event.Client n r) k = (k.datagram, k.from, k.to, k.spelled, k.adds.sent, k.seats)
   brings_sends old new (event.Deliver i) k = tt
-  brings_sends old new (event.Group n turns) k = tt
+  brings_sends old new (event.Group n group_inputs) k = tt
   brings_sends old new (event.Inject n bytes) k = tt
   brings_sends old new (event.Stop n x y) k = tt
   brings_sends old new (event.FailAt n count) k = tt
@@ -257,7 +261,8 @@ module _ (b : Behaviour ReplicaValue) where
   brings_adds old new (event.Client n r) k =
       record { notes = note.Asked r ∷ []; batch = k.datagram ∷ []; adds = k.adds }
   brings_adds old new (event.Deliver i) k = given_adds old new k.node (Some k.datagram.bytes) [] k.given
-  brings_adds old new (event.Group n turns) k = together_adds old new n (map (given_by old.sent) turns.items) k
+  brings_adds old new (event.Group n group_inputs) k = together_adds old new n (map
+      (given_by old.sent) group_inputs.items) k
   brings_adds old new (event.Inject n bytes) k = given_adds old new n (Some bytes.items) (asked_note k.request) k.given
   brings_adds old new (event.Stop n x y) k = record { notes = []; batch = []; adds = k.adds }
   brings_adds old new (event.FailAt n count) k = record { notes = []; batch = []; adds = k.adds }
@@ -280,8 +285,8 @@ module _ (b : Behaviour ReplicaValue) where
   brings_asks old new (event.Client n r) k =
       (r ∷ [], refl, adds_just old new (note.Asked r ∷ []) (k.datagram ∷ []) k.adds)
   brings_asks old new (event.Deliver i) k = ([], refl, given_asks b old new k.node (Some k.datagram.bytes) [] k.given)
-  brings_asks old new (event.Group n turns) k =
-      ([], refl, together_asks b old new n (map (given_by old.sent) turns.items) k)
+  brings_asks old new (event.Group n group_inputs) k =
+      ([], refl, together_asks b old new n (map (given_by old.sent) group_inputs.items) k)
   brings_asks old new (event.Inject n bytes) k = (
     requests (asked_note k.request),
     asked_in bytes.items k.request k.asks,
@@ -307,7 +312,7 @@ module _ (b : Behaviour ReplicaValue) where
   wants_add old new (event.Compact n) k = k.adds
   wants_add old new (event.Client n r) k = same_adds old new k
   wants_add old new (event.Deliver i) k = elim k [ inl same ↦ same_adds old new same | inr h ↦ h.4.adds ]
-  wants_add old new (event.Group n turns) k = elim k [ inl same ↦ same_adds old new same.0 | inr h ↦ h.adds ]
+  wants_add old new (event.Group n group_inputs) k = elim k [ inl same ↦ same_adds old new same.0 | inr h ↦ h.adds ]
   wants_add old new (event.Inject n bytes) k = elim k [ inl same ↦ same_adds old new same.0 | inr h ↦ h.adds ]
   wants_add old new (event.Stop n x y) k = absurd k
   wants_add old new (event.FailAt n count) k = absurd k
@@ -327,13 +332,13 @@ module _ (b : Behaviour ReplicaValue) where
       → IsHalted Left old new n → FallsDown n old.seats new.seats
   halted_falls Left old new n h =
       let device = stopped_on 0 0 h.device in (
-        h.turns.index,
+        h.replaces.index,
         h.seat,
         device,
-        stands_at old.seats new.seats h.seat h.next h.turns,
+        stands_at old.seats new.seats h.seat h.next h.replaces,
         h.number,
-        h.turns.seats ∙ ap (set old.seats h.turns.index)
-            (same_seat h.next n (Down device) (h.turns.number ∙ h.number) h.down),
+        h.replaces.seats ∙ ap (set old.seats h.replaces.index)
+            (same_seat h.next n (Down device) (h.replaces.number ∙ h.number) h.down),
       )
 
   wants_falls : (old new : Scene ReplicaValue) (e : Event) → Wants b old e new → MayFall old e new
@@ -347,9 +352,9 @@ module _ (b : Behaviour ReplicaValue) where
     | inl same ↦ inl (same_seats old new same)
     | inr h ↦ inr (h.0, bound old.sent i h.1 h.0 h.2 h.3, halted_falls (LeftBy b (Some h.1.bytes)) old new h.0 h.4)
   ]
-  wants_falls old new (event.Group n turns) k = elim k [
+  wants_falls old new (event.Group n group_inputs) k = elim k [
     | inl same ↦ inl (same_seats old new same.0)
-    | inr h ↦ inr (n, refl, halted_falls (LeftByGroup b (map (given_by old.sent) turns.items)) old new n h)
+    | inr h ↦ inr (n, refl, halted_falls (LeftByGroup b (map (given_by old.sent) group_inputs.items)) old new n h)
   ]
   wants_falls old new (event.Inject n bytes) k = elim k [
     | inl same ↦ inl (same_seats old new same.0)
@@ -393,13 +398,13 @@ module _ (b : Behaviour ReplicaValue) (memory_is : (r : ReplicaValue) → b.memo
       let down : k.next.life ≡ Down device = k.down
       ∙ ap (λ (m : Memory). Down (stopped_on x y m)) (memory_is k.replica) in
       record {
-        index = k.turns.index;
+        index = k.replaces.index;
         replica = k.replica;
-        was_up = stands_at old.seats new.seats k.seat k.next k.turns
+        was_up = stands_at old.seats new.seats k.seat k.next k.replaces
             ∙ ap Some (same_seat k.seat n (Up k.replica) k.number k.up);
         device = device;
-        is_down = k.turns.seats ∙ ap (set old.seats k.turns.index)
-            (same_seat k.next n (Down device) (k.turns.number ∙ k.number) down);
+        is_down = k.replaces.seats ∙ ap (set old.seats k.replaces.index)
+            (same_seat k.next n (Down device) (k.replaces.number ∙ k.number) down);
         disk_a = refl;
         disk_b = refl;
         untrapped = (refl, refl);
@@ -414,7 +419,7 @@ module _ (b : Behaviour ReplicaValue) (memory_is : (r : ReplicaValue) → b.memo
   stops old new (event.Compact n) k = tt
   stops old new (event.Client n r) k = tt
   stops old new (event.Deliver i) k = tt
-  stops old new (event.Group n turns) k = tt
+  stops old new (event.Group n group_inputs) k = tt
   stops old new (event.Inject n bytes) k = tt
   stops old new (event.Stop n x y) k = stopped old new n x y k
   stops old new (event.FailAt n count) k = tt
@@ -430,7 +435,7 @@ module _ (b : Behaviour ReplicaValue) (memory_is : (r : ReplicaValue) → b.memo
   silent old new (event.Compact n) k = adds_nothing old new (compacted_adds b old new n k)
   silent old new (event.Client n r) k = tt
   silent old new (event.Deliver i) k = tt
-  silent old new (event.Group n turns) k = tt
+  silent old new (event.Group n group_inputs) k = tt
   silent old new (event.Inject n bytes) k = tt
   silent old new (event.Stop n x y) k = tt
   silent old new (event.FailAt n count) k = adds_nothing old new k.adds
@@ -470,6 +475,6 @@ module _ (b : Behaviour ReplicaValue) (memory_is : (r : ReplicaValue) → b.memo
   runs old events how new r =
       record {
         last = r.last;
-        done = all_done (take how.done events) old r.last r.passes;
+        done = all_done (take how.done events) old r.last r.are_executed;
         ends = ends events how.done how.refused r.last new r.stops;
       }

@@ -10,7 +10,7 @@ use Rattle.lk_types.specs.declared.answer.Answer.TheVariants.{Raised, AlreadyRai
 use Rattle.lk_types.specs.declared.command.Op.{Op}
 use Rattle.lk_types.specs.declared.command.Op.TheVariants.{Table, Join, Leave, Raise}
 use Rattle.lk_types.specs.declared.genesis.Genesis.{Genesis}
-use Rattle.lk_members.specs.Effects.{Command, RequestValue, Noop, Request, is_older, in_effect, placed, effects}
+use Rattle.lk_members.specs.Effects.{Command, RequestValue, Noop, Request, is_older, in_effect, positioned, effects}
 use Rattle.lk_members.specs.Rosters.{PlainRoster, next_roster, roster_of, roster_answer, is_granted, is_granted_change}
 use Rattle.lk_members.specs.Rosters.{last_change}
 use Rattle.lk_members.specs.Windows.{RosterValue, roster_after}
@@ -20,7 +20,7 @@ use Rattle.lk_locks.specs.Lists.{table_after, table_of}
 use Rattle.lk_locks.specs.Bodies.{body_of}
 use Rattle.lk_locks.proofs.Tables.{table_of-push}
 use Rattle.lk_locks.specs.Plain.{Table as TableValue}
-use Rattle.lk_guarantees.specs.Plain.{Locks, State, table, raise, serve, join, leave, takes_effect, after_one, begin}
+use Rattle.lk_guarantees.specs.Plain.{Locks, State, table, raise, execute, join, leave, takes_effect, after_one, begin}
 use Rattle.lk_guarantees.specs.Plain.{after}
 use Rattle.lk_guarantees.proofs.Locking.{locks_agree, greatest_agrees, join_agrees, leave_agrees}
 
@@ -63,10 +63,10 @@ raise_locks s = raised_both s s.raised refl
 -- a request leaves the same roster and the same table, and is answered the same
 pub record Serves (client : ℕ) (op : Op) (s : State) : Type 0 where
   pub roster : next_roster (record { members = s.members; greatest = s.greatest }) op
-      ≡ record { members = (serve client op s).1.members; greatest = (serve client op s).1.greatest }
-  pub locks : table_after client op (table s) ≡ table (serve client op s).1
-  pub least : (serve client op s).1.least ≡ s.least
-  pub changed : (serve client op s).1.changed
+      ≡ record { members = (execute client op s).1.members; greatest = (execute client op s).1.greatest }
+  pub locks : table_after client op (table s) ≡ table (execute client op s).1
+  pub least : (execute client op s).1.least ≡ s.least
+  pub changed : (execute client op s).1.changed
       ≡ cond (is_granted (roster_answer (roster_in s) op)) (s.position + 1) s.changed
 
 serves : (client : ℕ) (op : Op) (s : State) → Serves client op s
@@ -211,7 +211,7 @@ step genesis L (Request q) s now = elim (cases_Bool (takes_effect s q)) [
 ]
 
 first : (genesis : Genesis) → Leaves genesis [] (after genesis [])
-unfolding roster_of table_of effects placed after last_change
+unfolding roster_of table_of effects positioned after last_change
 first genesis = record {
   least = λ r. sym (le-leb 0 r.number (omega arith));
   roster = ap (λ (n : ℕ). let x : PlainRoster = record { members = genesis.members; greatest = n } in x)

@@ -12,8 +12,9 @@ use Rattle.lk_agreement_laws.specs.Datagrams.{Datagram}
 use Rattle.lk_agreement_laws.proofs.Histories.{cons_cases}
 use Rattle.lk_node_interface.specs.declared.note.Note.{Note}
 use Rattle.lk_node_interface.specs.declared.note.Note.TheVariants as note
-use Rattle.lk_guarantees.specs.ExactlyOnce.{IsAskedBy, WasAnswered, AsksAfter, FollowsRule, IsServedOnce, AreServedOnce}
-use Rattle.lk_guarantees.specs.Plain.{after, serve, TakesEffectAt}
+use Rattle.lk_guarantees.specs.ExactlyOnce.{IsAskedBy, WasAnswered, AsksAfter, FollowsRule, IsExactlyOnce}
+use Rattle.lk_guarantees.specs.ExactlyOnce.{AreExactlyOnce}
+use Rattle.lk_guarantees.specs.Plain.{after, execute, TakesEffectAt}
 use Rattle.lk_guarantees.specs.Guarantee.{Explains, IsExplained, AreToldInTime}
 use Rattle.lk_guarantees.proofs.Once.{once, smaller_first}
 use Rattle.lk_guarantees.proofs.Placing.{placed}
@@ -95,13 +96,13 @@ module _ (genesis : Genesis) (L : List Command) (sent : List Datagram) (trace : 
 
   takes_effect : (r : Asking) (node : ℕ) (answer : Answer) → IsAskedBy trace client r
       → Contains trace (note.Answered node client r.number answer)
-      → (i : ℕ) × TakesEffectAt genesis L i r × ((serve client r.op (after genesis (take (i - 1) L))).0 ≡ answer)
+      → (i : ℕ) × TakesEffectAt genesis L i r × ((execute client r.op (after genesis (take (i - 1) L))).0 ≡ answer)
   takes_effect r node answer asks told =
       let p = placed genesis L client r.number answer (x.answered node client r.number answer told) in
       let same : p.request ≡ r =
       rule.one_operation p.request r (asked p.request p.position p.takes p.of_client) asks p.of_number in
       subst (λ (q : Asking). (i : ℕ) × TakesEffectAt genesis L i q
-      × ((serve client q.op (after genesis (take (i - 1) L))).0 ≡ answer)) same (p.position, p.takes, p.answered)
+      × ((execute client q.op (after genesis (take (i - 1) L))).0 ≡ answer)) same (p.position, p.takes, p.answered)
 
   in_order : (before : List Note) (q r : Asking) (i j : ℕ) → AsksAfter trace client before q r
       → TakesEffectAt genesis L i q → TakesEffectAt genesis L j r → i < j
@@ -224,7 +225,7 @@ module _ (genesis : Genesis) (L : List Command) (sent : List Datagram) (trace : 
       | inr none ↦ absurd (none r asks.0 asks.1 refl)
     ]
 
-  served : IsServedOnce genesis L trace client
+  served : IsExactlyOnce genesis L trace client
   served = record {
     takes_effect = takes_effect;
     once = λ r i j first second of_client. once genesis L i j r r first second refl refl;
@@ -234,6 +235,6 @@ module _ (genesis : Genesis) (L : List Command) (sent : List Datagram) (trace : 
   }
 
 pub served_once : (genesis : Genesis) (sent : List Datagram) (trace : List Note) → IsExplained genesis sent trace
-    → AreToldInTime trace → AreServedOnce genesis sent trace
+    → AreToldInTime trace → AreExactlyOnce genesis sent trace
 served_once genesis sent trace e in_time =
     (e.0, e.1, λ client rule. served genesis e.0 sent trace e.2 in_time client rule)

@@ -15,13 +15,13 @@ use Rattle.lk_agreement_laws.specs.Datagrams.{Datagram}
 use Rattle.lk_agreement_laws.proofs.Histories.{cons_cases, contains_more}
 use Rattle.lk_state.specs.Sessions.{session_of}
 use Rattle.lk_state.specs.declared.session.Session.{Session}
-use Rattle.lk_state.specs.States.{WholeValue, whole_after, SumsUp, last_served, sessions_of, text_of}
+use Rattle.lk_state.specs.States.{WholeValue, whole_after, SumsUp, last_session, sessions_of, text_of}
 use Rattle.lk_state.proofs.Wholes.{last_is_replied, last_is_greatest, none_is_unused, sessions_are_last}
-use Rattle.lk_state.proofs.Wholes.{last_served-session_of}
+use Rattle.lk_state.proofs.Wholes.{last_session-session_of}
 use Rattle.lk_locks.specs.Meaning.{table_meaning}
 use Rattle.lk_locks.specs.Packed.{table_text}
 use Rattle.lk_locks.proofs.Tables.{text_of-text}
-use Rattle.lk_node.specs.Served.{text, BearsOutPart}
+use Rattle.lk_node.specs.BorneOut.{text, BearsOutPart}
 use Rattle.lk_replica.specs.ReplicaValue.{ReplicaValue}
 use Rattle.lk_guarantees.specs.Disks.{IsSnapshot}
 use Rattle.lk_guarantees.specs.Plain.{Kept, IsKeptOf}
@@ -73,13 +73,13 @@ found client (t ∷ sessions) s e = elim (cases_Bool (eqb t.client client)) [
 ]
 
 client_kept : (genesis : Genesis) (L : List Command) (r : RequestValue) (o : Option Session)
-    → last_served table_meaning genesis L r.client ≡ o → Contains L (Request r)
+    → last_session table_meaning genesis L r.client ≡ o → Contains L (Request r)
     → (s : Session) × Contains (sessions_of table_meaning genesis L) s × (s.client ≡ r.client)
 client_kept genesis L r None e c =
     absurd (used_by_client L r.client r (none_is_unused table_meaning genesis L r.client e) c refl)
 client_kept genesis L r (Some s) e c =
     let here = found r.client (sessions_of table_meaning genesis L) s
-    (sym (last_served-session_of table_meaning genesis L r.client) ∙ e) in
+    (sym (last_session-session_of table_meaning genesis L r.client) ∙ e) in
     (s, here.0, here.1)
 
 -- ---- the whole
@@ -133,7 +133,7 @@ is_kept genesis L w fit sums =
     let sessions = sessions_of_whole genesis L w sums in
     let now = leaves genesis L in
     let last : (s : Session) → Contains w.sessions s
-    → last_served table_meaning genesis L s.client ≡ Some s =
+    → last_session table_meaning genesis L s.client ≡ Some s =
     λ s c. sessions_are_last table_meaning genesis L s (subst (λ (l : List Session). Contains l s) sessions c) in
     record {
       executed = executed_of genesis L w.roster roster;
@@ -147,7 +147,7 @@ is_kept genesis L w fit sums =
       last = λ s c q used same. at_most_all L s.client s.number q
           (last_is_greatest table_meaning genesis L s.client s (last s c)).greatest used same;
       clients = λ q used.
-          let k = client_kept genesis L q (last_served table_meaning genesis L q.client) refl used in
+          let k = client_kept genesis L q (last_session table_meaning genesis L q.client) refl used in
           (k.0, subst (λ (l : List Session). Contains l k.0) (sym sessions) k.1, k.2);
       rise = subst Rise (sym sessions) (sessions_rise table_meaning genesis L);
       locks = text_of_whole genesis L w sums ∙ text_of-text L fit ∙ ap table_text now.locks;

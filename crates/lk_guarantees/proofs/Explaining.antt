@@ -10,11 +10,11 @@ use Rattle.lk_types.specs.declared.command.Op.TheVariants.{Table, Join, Leave, R
 use Rattle.lk_types.specs.declared.genesis.Genesis.{Genesis}
 use Rattle.lk_members.specs.Effects.{Command, RequestValue, in_effect}
 use Rattle.lk_members.specs.Rosters.{PlainRoster, roster_of, join_answer, leave_answer}
-use Rattle.lk_members.proofs.Memberships.{placed_entries_stand, in_effect_after}
+use Rattle.lk_members.proofs.Memberships.{entries_follow_their_predecessors, in_effect_after}
 use Rattle.lk_state.specs.Meanings.{Running, Raising}
 use Rattle.lk_state.specs.States.{text_of, op_answer, session_in, reply}
 use Rattle.lk_state.specs.declared.session.Session.{Session}
-use Rattle.lk_state.proofs.Wholes.{replies_stand}
+use Rattle.lk_state.proofs.Wholes.{replies_come_from_entries}
 use Rattle.lk_agreement_laws.specs.Datagrams.{Datagram}
 use Rattle.lk_agreement_laws.specs.Chosen.{Chosen}
 use Rattle.lk_agreement_laws.proofs.Histories.{chosen_fits, contains_more}
@@ -22,7 +22,7 @@ use Rattle.lk_locks.specs.Bodies.{body_of}
 use Rattle.lk_locks.specs.Plain as plain
 use Rattle.lk_locks.specs.Meaning.{table_meaning}
 use Rattle.lk_locks.proofs.Tables.{answer-text_of}
-use Rattle.lk_guarantees.specs.Plain.{State, table, raise, serve, after, IsAnswered, at}
+use Rattle.lk_guarantees.specs.Plain.{State, table, raise, execute, after, GivesAnswer, at}
 use Rattle.lk_guarantees.proofs.Locking.{locks_agree, join_agrees, leave_agrees}
 use Rattle.lk_guarantees.proofs.Effects.{Leaves, leaves}
 use Rattle.lk_guarantees.proofs.Quorums.{at_is}
@@ -61,7 +61,7 @@ raise_agrees s = elim (cases_Bool s.raised) [ inl is ↦ rw is refl | inr not_ye
 
 op_answered : (genesis : Genesis) (L : List Command) (s : State) → Leaves genesis L s
     → AllByRecursion IsCommand L → (client : ℕ) (op : Op)
-    → op_answer table_meaning (roster_of genesis L) (text_of table_meaning L) client op ≡ (serve client op s).0
+    → op_answer table_meaning (roster_of genesis L) (text_of table_meaning L) client op ≡ (execute client op s).0
 op_answered genesis L s now all client (Table body) =
     answer-text_of L all client (Running body) ∙ ap (plain.answer client body) now.locks
     ∙ (locks_agree client s.raised (body_of body) s.locks).0
@@ -76,7 +76,7 @@ effective_answer : (genesis : Genesis) (before later : List Command) (entry : Co
     (o : Option RequestValue) → AllByRecursion IsCommand before → in_effect before entry ≡ o
     → session_in table_meaning (roster_of genesis before) (text_of table_meaning before) o
     ≡ Some (record { client = client; number = number; answer = a })
-    → IsAnswered genesis (before ++ (entry ∷ later)) client number a
+    → GivesAnswer genesis (before ++ (entry ∷ later)) client number a
 effective_answer genesis before later entry client number a None all effective e = absurd cc
 effective_answer genesis before later entry client number a (Some q) all effective e =
     let is = in_effect_after before entry q effective in
@@ -97,17 +97,17 @@ effective_answer genesis before later entry client number a (Some q) all effecti
       of_client = of_client;
       of_number = ap (λ (s : Session). s.number) same;
       takes = sym (now.least q) ∙ is.1;
-      answered = ap (λ (c : ℕ). (serve c q.op (after genesis before)).0) (sym of_client)
+      answered = ap (λ (c : ℕ). (execute c q.op (after genesis before)).0) (sym of_client)
           ∙ sym (op_answered genesis before (after genesis before) now all q.client q.op)
           ∙ ap (λ (s : Session). s.answer) same;
     }
 
 pub answered : (genesis : Genesis) (L : List Command) (client number : ℕ) (a : Answer) → AllByRecursion IsCommand L
-    → reply table_meaning genesis L client number ≡ Some a → IsAnswered genesis L client number a
+    → reply table_meaning genesis L client number ≡ Some a → GivesAnswer genesis L client number a
 answered genesis L client number a all e =
-    let p = replies_stand table_meaning genesis L client number a e in
-    let index = placed_entries_stand L p.0 p.1 in
+    let p = replies_come_from_entries table_meaning genesis L client number a e in
+    let index = entries_follow_their_predecessors L p.0 p.1 in
     let fits = all_front IsCommand p.0.before (p.0.entry ∷ index.0) (subst (AllByRecursion IsCommand) index.1 all) in
-    subst (λ (K : List Command). IsAnswered genesis K client number a) (sym index.1)
+    subst (λ (K : List Command). GivesAnswer genesis K client number a) (sym index.1)
     (effective_answer genesis p.0.before index.0 p.0.entry client number a
     (in_effect p.0.before p.0.entry) fits refl p.2)

@@ -69,20 +69,22 @@ module _ (old new : Scene ReplicaValue) where
         → IsGiven b old new n o asked → LeavesDown old e new
     given_down e n o asked for_it k = elim k.comes_to [
       | inl r ↦ none_ended e r.ended
-      | inr (inl r) ↦ told_of e n (Stopped k.next.number) (k.turns.number ∙ k.number) r.ended tt for_it
-          (sits k.seat k.next n _ k.turns k.number r.down)
+      | inr (inl r) ↦ told_of e n (Stopped k.next.number) (k.replaces.number ∙ k.number) r.ended tt for_it
+          (sits k.seat k.next n _ k.replaces k.number r.down)
       | inr (inr f) ↦
-          fell _ e n k.next asked f (k.turns.number ∙ k.number) for_it (sits k.seat k.next n _ k.turns k.number f.down)
+          fell _ e n k.next asked f (k.replaces.number ∙ k.number) for_it
+          (sits k.seat k.next n _ k.replaces k.number f.down)
     ]
 
     together_down : (e : Event) (n : ℕ) (given : List (Option (List ℕ))) → IsFor old.sent e n
         → IsGivenTogether b old new n given → LeavesDown old e new
     together_down e n given for_it k = elim k.comes_to [
       | inl r ↦ none_ended e r.ended
-      | inr (inl r) ↦ told_of e n (Stopped k.next.number) (k.turns.number ∙ k.number) r.ended tt for_it
-          (sits k.seat k.next n _ k.turns k.number r.down)
+      | inr (inl r) ↦ told_of e n (Stopped k.next.number) (k.replaces.number ∙ k.number) r.ended tt for_it
+          (sits k.seat k.next n _ k.replaces k.number r.down)
       | inr (inr f) ↦
-          fell _ e n k.next [] f (k.turns.number ∙ k.number) for_it (sits k.seat k.next n _ k.turns k.number f.down)
+          fell _ e n k.next [] f (k.replaces.number ∙ k.number) for_it
+          (sits k.seat k.next n _ k.replaces k.number f.down)
     ]
 
     pub leaves_down : (e : Event) → HasEffect b old e new → LeavesDown old e new
@@ -99,21 +101,21 @@ module _ (old new : Scene ReplicaValue) where
     ]
     leaves_down (event.Restart n) k = elim k.comes [
       | inl r ↦ none_ended (event.Restart n) r.ended
-      | inr f ↦ fell _ (event.Restart n) n k.next [] f (k.turns.number ∙ k.number) refl
-          (sits k.seat k.next n _ k.turns k.number f.down)
+      | inr f ↦ fell _ (event.Restart n) n k.next [] f (k.replaces.number ∙ k.number) refl
+          (sits k.seat k.next n _ k.replaces k.number f.down)
     ]
     leaves_down (event.Tick n) k = given_down (event.Tick n) n None [] refl k
     leaves_down (event.Compact n) k = elim k.comes_to [
       | inl r ↦ none_ended (event.Compact n) r.ended
-      | inr f ↦ fell _ (event.Compact n) n k.next [] f (k.turns.number ∙ k.number) refl
-          (sits k.seat k.next n _ k.turns k.number f.down)
+      | inr f ↦ fell _ (event.Compact n) n k.next [] f (k.replaces.number ∙ k.number) refl
+          (sits k.seat k.next n _ k.replaces k.number f.down)
     ]
     leaves_down (event.Client n q) k = none_ended (event.Client n q) k.ended
     leaves_down (event.Deliver i) k =
         given_down (event.Deliver i) k.node (Some k.datagram.bytes) []
         (is_for old.sent i k.datagram k.node k.stands k.bound) k.given
-    leaves_down (event.Group n turns) k =
-        together_down (event.Group n turns) n (map (given_by old.sent) turns.items) refl k
+    leaves_down (event.Group n group_inputs) k =
+        together_down (event.Group n group_inputs) n (map (given_by old.sent) group_inputs.items) refl k
     leaves_down (event.Inject n bytes) k =
         given_down (event.Inject n bytes) n (Some bytes.items) (asked_note k.request) refl k.given
     leaves_down (event.Stop n x y) k = none_ended (event.Stop n x y) k.ended

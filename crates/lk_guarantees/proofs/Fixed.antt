@@ -7,10 +7,10 @@ use Rattle.lk_types.specs.declared.command.Command.TheVariants.{Noop, Request}
 use Rattle.lk_types.specs.declared.command.Op.{Op}
 use Rattle.lk_types.specs.declared.command.Op.TheVariants.{Table, Join, Leave, Raise}
 use Rattle.lk_types.specs.declared.genesis.Genesis.{Genesis}
-use Rattle.lk_guarantees.specs.Plain.{State, serve, takes_effect, after_one, begin, after, changes, asks_change}
+use Rattle.lk_guarantees.specs.Plain.{State, execute, takes_effect, after_one, begin, after, changes, asks_change}
 use Rattle.lk_guarantees.specs.Plain.{FixedUnlessChanged}
 
-op_fixed : (client : ℕ) (op : Op) (s : State) → changes op ≡ false → (serve client op s).1.members ≡ s.members
+op_fixed : (client : ℕ) (op : Op) (s : State) → changes op ≡ false → (execute client op s).1.members ≡ s.members
 op_fixed client (Table body) s e = refl
 op_fixed client (Join node port) s e = absurd cc
 op_fixed client (Leave node) s e = absurd cc

@@ -34,7 +34,7 @@ use Rattle.lk_guarantees.specs.Guarantee.{IsExplained}
 use Rattle.lk_guarantees.specs.Guarded.{Write, accepted, IsUnder, FencesRise, IsGuarded, AreListed}
 use Rattle.lk_guarantees.specs.Plain.{Locks, State, hold, give_again, give_first, acquire_known, acquire, and_one}
 use Rattle.lk_guarantees.specs.Plain.{share_known, share, is_held_by, is_free, is_held_at, release, without, break_lock}
-use Rattle.lk_guarantees.specs.Plain.{first, told_of, asks, use_locks, begin, serve, join, leave, raise, takes_effect}
+use Rattle.lk_guarantees.specs.Plain.{first, told_of, asks, use_locks, begin, execute, join, leave, raise, takes_effect}
 use Rattle.lk_guarantees.specs.Plain.{after_one, after, at}
 use Rattle.lk_guarantees.proofs.Locking.{join_agrees, leave_agrees}
 use Rattle.lk_guarantees.proofs.Placing.{IsPlaced, placed}
@@ -170,7 +170,7 @@ same_grows : (old new : Locks) (q : List ℕ) → new ≡ old → fence_in old q
 same_grows old new q e = subst (λ (l : Locks). fence_in old q ≤ fence_in l q) (sym e) (still old q)
 
 serve_grows : (client : ℕ) (op : Op) (s : State) (q : List ℕ)
-    → fence_in s.locks q ≤ fence_in (serve client op s).1.locks q
+    → fence_in s.locks q ≤ fence_in (execute client op s).1.locks q
 serve_grows client (Table body) s q = use_grows client s.raised (body_of body) s.locks q
 serve_grows client (Join node port) s q =
     same_grows s.locks (join node port s).1.locks q (join_agrees node port s).locks
@@ -265,15 +265,15 @@ module _ (genesis : Genesis) (L : List Command) (name : List ℕ) where
   grants_at w i u =
       let s = fold after_one (begin genesis) (take (i - 1) L) in
       let served : (use_locks u.request.client s.raised (body_of u.body) s.locks).0 ≡ Granted w.fence =
-      ap (λ (op : Op). (serve u.request.client op s).0) (sym u.asks) ∙ u.granted in
+      ap (λ (op : Op). (execute u.request.client op s).0) (sym u.asks) ∙ u.granted in
       let known : (use_locks u.request.client s.raised (Some (Acquire name)) s.locks).0 ≡ Granted w.fence =
       ap (λ (o : Option Body). (use_locks u.request.client s.raised o s.locks).0) (sym u.acquires) ∙ served in
       let g = acquire_grants u.request.client name (map.get s.locks name) s.locks w.fence refl known in
-      let stepped : (after_one s (Request u.request)).locks ≡ (serve u.request.client u.request.op s).1.locks =
+      let stepped : (after_one s (Request u.request)).locks ≡ (execute u.request.client u.request.op s).1.locks =
       of_step (takes_effect s u.request) u.takes.1 in
       let locks : (after_one s (Request u.request)).locks
       ≡ (acquire u.request.client name (map.get s.locks name) s.locks).1 =
-      stepped ∙ ap (λ (op : Op). (serve u.request.client op s).1.locks) u.asks
+      stepped ∙ ap (λ (op : Op). (execute u.request.client op s).1.locks) u.asks
       ∙ ap (λ (o : Option Body). (use_locks u.request.client s.raised o s.locks).1) u.acquires in
       let now : fold after_one (begin genesis) (take i L) ≡ after_one s (Request u.request) =
       ap (λ (l : List Command). fold after_one (begin genesis) l) (one_further L i (Request u.request) u.takes.0)
@@ -282,7 +282,7 @@ module _ (genesis : Genesis) (L : List Command) (name : List ℕ) where
     where
       of_step : (b : Bool) → takes_effect (fold after_one (begin genesis) (take (i - 1) L)) u.request ≡ true
           → (after_one (fold after_one (begin genesis) (take (i - 1) L)) (Request u.request)).locks
-          ≡ (serve u.request.client u.request.op (fold after_one (begin genesis) (take (i - 1) L))).1.locks
+          ≡ (execute u.request.client u.request.op (fold after_one (begin genesis) (take (i - 1) L))).1.locks
       of_step b e = rw e refl
 
   later_above : (v w : Write) (i j : ℕ) → IsUnder genesis L name v i → IsUnder genesis L name w j
@@ -466,7 +466,7 @@ no_grant_state : (b : Bool) (x y : Answer × State) (fence : ℕ) → (x.0 ≡ G
 no_grant_state true x y fence a b g = a g
 no_grant_state false x y fence a b g = b g
 
-acquired : (client : ℕ) (op : Op) (s : State) (fence : ℕ) → (serve client op s).0 ≡ Granted fence → IsAcquired op
+acquired : (client : ℕ) (op : Op) (s : State) (fence : ℕ) → (execute client op s).0 ≡ Granted fence → IsAcquired op
 acquired client (Table bytes) s fence g = acquired_by client s.raised bytes (body_of bytes) s.locks fence refl g
 acquired client (Join node port) s fence g = absurd (elim (cases_Bool (leb node s.greatest)) [
   | inl e ↦ (let d : Used ≡ Granted fence = rw e at g in cc d)
@@ -492,8 +492,8 @@ listed : (genesis : Genesis) (L : List Command) (client number fence : ℕ)
     → (name : List ℕ) × (i : ℕ) × IsUnder genesis L name (record { client = client; number = number; fence = fence }) i
 listed genesis L client number fence p =
     let before : State = after genesis (take (p.position - 1) L) in
-    let served : (serve p.request.client p.request.op before).0 ≡ Granted fence =
-    ap (λ (c : ℕ). (serve c p.request.op before).0) p.of_client ∙ p.answered in
+    let served : (execute p.request.client p.request.op before).0 ≡ Granted fence =
+    ap (λ (c : ℕ). (execute c p.request.op before).0) p.of_client ∙ p.answered in
     let k = acquired p.request.client p.request.op before fence served in (
       k.name,
       p.position,

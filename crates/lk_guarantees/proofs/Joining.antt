@@ -16,7 +16,7 @@ use Rattle.lk_types.specs.declared.genesis.Genesis.{Genesis}
 use Rattle.lk_types.specs.declared.member.Member.{Member}
 use Rattle.lk_agreement_laws.proofs.Histories.{cons_cases, filter_from}
 use Rattle.lk_guarantees.specs.Joining.{JoinsAt, JoinsOnce}
-use Rattle.lk_guarantees.specs.Plain.{State, greatest_of, begin, serve, join, leave, raise, takes_effect}
+use Rattle.lk_guarantees.specs.Plain.{State, greatest_of, begin, execute, join, leave, raise, takes_effect}
 use Rattle.lk_guarantees.specs.Plain.{after_one, after}
 use Rattle.lk_guarantees.proofs.Guarded.{fold-append}
 
@@ -67,7 +67,7 @@ raise_climbs : (s : State) → IsBounded s → Climbs s (raise s).1
 raise_climbs s bounded =
     elim (cases_Bool s.raised) [ inl e ↦ rw e (stays s bounded) | inr e ↦ rw e (bounded, omega arith) ]
 
-serve_climbs : (client : ℕ) (op : Op) (s : State) → IsBounded s → Climbs s (serve client op s).1
+serve_climbs : (client : ℕ) (op : Op) (s : State) → IsBounded s → Climbs s (execute client op s).1
 serve_climbs client (Table body) s bounded = (bounded, omega arith)
 serve_climbs client (Join node port) s bounded = join_climbs node port s bounded
 serve_climbs client (Leave node) s bounded = leave_climbs node s bounded
@@ -112,7 +112,7 @@ module _ (genesis : Genesis) (L : List Command) where
   joins_once node i k joins before m c is =
       let s = fold after_one (begin genesis) (take (i - 1) L) in
       let told : (join node joins.port s).0 ≡ Joined =
-      ap (λ (op : Op). (serve joins.request.client op s).0) (sym joins.asks) ∙ joins.granted in
+      ap (λ (op : Op). (execute joins.request.client op s).0) (sym joins.asks) ∙ joins.granted in
       let above = joined_above node joins.port s told in
       let low = (all_climb (take k L) (begin genesis) (greatest_bounds genesis.members)).0 m c in
       let climb = (climbs k (i - 1) (omega (arith, before))).1 in

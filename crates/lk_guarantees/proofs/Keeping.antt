@@ -14,11 +14,11 @@ use Rattle.lk_agreement_laws.specs.Chosen.{Command, command_at, Chosen}
 use Rattle.lk_agreement_laws.specs.Datagrams.{Datagram}
 use Rattle.lk_locks.specs.Meaning.{table_meaning}
 use Rattle.lk_node.specs.Leavings.{header_of, acceptor_of, StandsAs}
-use Rattle.lk_node.specs.Served.{text}
+use Rattle.lk_node.specs.BorneOut.{text}
 use Rattle.lk_replica.specs.ReplicaValue.{ReplicaValue, device_of}
 use Rattle.lk_sim_nodes.specs.Seats.{disks_of, At}
 use Rattle.lk_sim.specs.Kept.{EveryStanding, CoversAll, KeepsCommand, IsKeptBy}
-use Rattle.lk_sim.specs.Packed.{StandsPacked}
+use Rattle.lk_sim.specs.Packed.{HasPackedState}
 use Rattle.lk_sim_nodes.specs.Rooms as lengths
 use Rattle.lk_sim.specs.Scenes.{Scene}
 use Rattle.lk_sim.specs.States.{IsPackedList, KeepsPacked, SumsUpChosen}
@@ -127,7 +127,7 @@ has_snapshots genesis sent s sums image remains = by_life s.life refl
     by_life (Down d) e = keeps_packed genesis sent s.number (Down d) image (sums.left d e)
         (subst (λ (l : Life ReplicaValue). MayRemainOf l image) e remains)
 
-pub compacted : (w : Scene ReplicaValue) (n : ℕ) → StandsPacked (λ r. r.node.learner.whole) disks_in table_meaning w n
+pub compacted : (w : Scene ReplicaValue) (n : ℕ) → HasPackedState (λ r. r.node.learner.whole) disks_in table_meaning w n
     → (s : Seat ReplicaValue) × (replica : ReplicaValue) × Contains w.seats s × (s.number ≡ n) × (s.life ≡ Up replica)
     × EachImage w.genesis s (λ x. (x.position ≡ replica.node.learner.whole.roster.executed)
     × HasSnapshot w.genesis w.sent x)

@@ -18,7 +18,7 @@ use Rattle.lk_agreement_laws.proofs.Histories.{cons_cases}
 use Rattle.lk_node_interface.specs.declared.note.Note.{Note}
 use Rattle.lk_node_interface.specs.declared.note.Note.TheVariants as note
 use Rattle.lk_guarantees.specs.Linear.{Object, object, alone, Sequence, IsLegal, Linearizes, IsLinearizable}
-use Rattle.lk_guarantees.specs.Plain.{State, begin, serve, takes_effect, used, after_one, after, at, IsAnswered}
+use Rattle.lk_guarantees.specs.Plain.{State, begin, execute, takes_effect, used, after_one, after, at, GivesAnswer}
 use Rattle.lk_guarantees.specs.Plain.{TakesEffectAt}
 use Rattle.lk_guarantees.specs.Guarantee.{IsChosen, Explains, IsExplained, IsOrdered}
 use Rattle.lk_guarantees.proofs.Once.{once}
@@ -28,8 +28,8 @@ use Rattle.lk_guarantees.proofs.Quorums.{at_is}
 -- ---- the object by itself answers as the state does
 
 abbrev Agrees : ℕ → Op → State → Type 0
-Agrees client op s = ((alone client op (object s)).0 ≡ (serve client op s).0)
-    × ((alone client op (object s)).1 ≡ object (serve client op s).1)
+Agrees client op s = ((alone client op (object s)).0 ≡ (execute client op s).0)
+    × ((alone client op (object s)).1 ≡ object (execute client op s).1)
 
 agrees : (client : ℕ) (op : Op) (s : State) → Agrees client op s
 agrees client (Table body) s = (refl, refl)
@@ -48,7 +48,7 @@ agrees client Raise s = elim (cases_Bool s.raised) [ inl e ↦ rw e ((refl, refl
 -- ---- the entries that take effect
 
 abbrev entry_by : Bool → State → Asking → Sequence
-entry_by true s r = (r, (serve r.client r.op s).0) ∷ []
+entry_by true s r = (r, (execute r.client r.op s).0) ∷ []
 entry_by false s r = []
 
 abbrev entry : State → Command → Sequence
@@ -68,7 +68,7 @@ effective-append s (c ∷ L) K =
 
 -- what stands after a request, by whether that takes effect
 abbrev after_by : Bool → State → Asking → State
-after_by b s r = record (cond b (used r (serve r.client r.op s).1) s) { position = s.position + 1 }
+after_by b s r = record (cond b (used r (execute r.client r.op s).1) s) { position = s.position + 1 }
 
 legal_by : (b : Bool) (s : State) (r : Asking) (L : List Command)
     → IsLegal (object (after_by b s r)) (effective (after_by b s r) L)
@@ -112,7 +112,7 @@ split_by : (b : Bool) (s : State) (r : Asking) (L : List Command) (front : Seque
     → ((f : Sequence) → effective (after_one s (Request r)) L ≡ f ++ x ∷ back → Split (after_one s (Request r)) L f x)
     → Split s (Request r ∷ L) front x
 split_by true s r L [] x back is e again =
-    let here : (r, (serve r.client r.op s).0) ≡ x = cc e in
+    let here : (r, (execute r.client r.op s).0) ≡ x = cc e in
     record {
       before = [];
       later = L;
@@ -121,7 +121,7 @@ split_by true s r L [] x back is e again =
       takes = subst (λ (y : Asking × Answer). takes_effect s y.0 ≡ true) here is;
     }
 split_by true s r L (y ∷ front) x back is e again =
-    let here : (r, (serve r.client r.op s).0) ≡ y = cc e in
+    let here : (r, (execute r.client r.op s).0) ≡ y = cc e in
     let rest : effective (after_one s (Request r)) L ≡ front ++ x ∷ back = cc e in
     let whole : entry s (Request r) ++ front ≡ y ∷ front = ap (λ (b : Bool). entry_by b s r ++ front) is
     ∙ ap (λ (z : Asking × Answer). z ∷ front) here in
@@ -194,19 +194,19 @@ module _ (genesis : Genesis) where
   -- what takes effect stands in the history
   stands_in : (before : List Command) (r : Asking) (later : List Command)
       → takes_effect (after genesis before) r ≡ true
-      → Contains (effective first (before ++ (Request r ∷ later))) (r, (serve r.client r.op (after genesis before)).0)
+      → Contains (effective first (before ++ (Request r ∷ later))) (r, (execute r.client r.op (after genesis before)).0)
   unfolding after
   stands_in before r later takes =
       let state = fold after_one first before in
       let here : Contains (entry state (Request r) ++ effective (after_one state (Request r)) later)
-      (r, (serve r.client r.op state).0) =
+      (r, (execute r.client r.op state).0) =
       subst (λ (b : Bool). Contains (entry_by b state r ++ effective (after_one state (Request r)) later)
-      (r, (serve r.client r.op state).0)) (sym takes) (0, omega arith, refl) in
-      subst (λ (h : Sequence). Contains h (r, (serve r.client r.op state).0))
+      (r, (execute r.client r.op state).0)) (sym takes) (0, omega arith, refl) in
+      subst (λ (h : Sequence). Contains h (r, (execute r.client r.op state).0))
       (sym (effective-append first before (Request r ∷ later)))
       (Contains-append_right (effective first before)
       (entry state (Request r) ++ effective (after_one state (Request r)) later)
-      (r, (serve r.client r.op state).0) here)
+      (r, (execute r.client r.op state).0) here)
 
   -- what takes effect in front of an entry of the history stands in front of it there
   in_front : (L : List Command) (front : Sequence) (x : Asking × Answer) → (k : Split first L front x)
@@ -224,14 +224,14 @@ module _ (genesis : Genesis) where
       ∙ take_before j k.before (Request x.0 ∷ k.later) (omega (arith, lt)) in
       let takes = subst (λ (l : List Command). takes_effect (after genesis l) q ≡ true) same t.1 in
       let found = stands_in (take j k.before) q cut.0 takes in (
-        (serve q.client q.op (after genesis (take j k.before))).0,
-        subst (λ (h : Sequence). Contains h (q, (serve q.client q.op (after genesis (take j k.before))).0))
+        (execute q.client q.op (after genesis (take j k.before))).0,
+        subst (λ (h : Sequence). Contains h (q, (execute q.client q.op (after genesis (take j k.before))).0))
             (ap (λ (l : List Command). effective first l) (sym cut.1) ∙ k.is_front) found,
       )
 
   module _ (sent : List Datagram) (trace : List Note) (L : List Command) (chosen : IsChosen genesis sent L)
       (x : Explains genesis sent trace L) (ordered : IsOrdered genesis sent trace) where
-    completes : (client number : ℕ) (answer : Answer) → IsAnswered genesis L client number answer
+    completes : (client number : ℕ) (answer : Answer) → GivesAnswer genesis L client number answer
         → (r : Asking) × (r.client ≡ client) × (r.number ≡ number) × Contains (effective first L) (r, answer)
     completes client number answer a = (
       a.request,
@@ -239,7 +239,7 @@ module _ (genesis : Genesis) where
       a.of_number,
       subst (λ (l : List Command). Contains (effective first l) (a.request, answer)) (sym a.stands)
           (subst (λ (z : Answer). Contains (effective first (a.before ++ (Request a.request ∷ a.later)))
-          (a.request, z)) (ap (λ (c : ℕ). (serve c a.request.op (after genesis a.before)).0) a.of_client ∙ a.answered)
+          (a.request, z)) (ap (λ (c : ℕ). (execute c a.request.op (after genesis a.before)).0) a.of_client ∙ a.answered)
           (stands_in a.before a.request a.later a.takes)),
     )
 

@@ -78,7 +78,7 @@ one_more client (c ∷ cs) none =
     ]
 
 joined_agrees : (client : ℕ) (name : List ℕ) (last : ℕ) (clients : List ℕ) (m : Locks)
-    → Agrees name (plain.joined client last clients) m (share_known client name last (Together clients) m)
+    → Agrees name (plain.shared_with client last clients) m (share_known client name last (Together clients) m)
 joined_agrees client name last clients m =
     elim (cases_Bool (list_any (λ (c : ℕ). eqb c client) clients)) [
       | inl e ↦ rw e (refl, refl)

@@ -6,7 +6,7 @@ use Rattle.lk_types.specs.declared.command.Command.{Command}
 use Rattle.lk_types.specs.declared.command.Command.TheVariants.{Request}
 use Rattle.lk_types.specs.declared.command.Request.{Request as Asking}
 use Rattle.lk_types.specs.declared.genesis.Genesis.{Genesis}
-use Rattle.lk_guarantees.specs.Plain.{serve, takes_effect, after, at, IsAnswered, TakesEffectAt}
+use Rattle.lk_guarantees.specs.Plain.{execute, takes_effect, after, at, GivesAnswer, TakesEffectAt}
 use Rattle.lk_guarantees.proofs.Quorums.{at_is}
 
 pub get_middle : {X : Type 0} (xs : List X) (x : X) (ys : List X) → slice_get (xs ++ x ∷ ys) (length xs) ≡ Some x
@@ -28,10 +28,10 @@ pub record IsPlaced (genesis : Genesis) (L : List Command) (client number : ℕ)
   pub of_client : request.client ≡ client
   pub of_number : request.number ≡ number
   pub takes : TakesEffectAt genesis L position request
-  pub answered : (serve client request.op (after genesis (take (position - 1) L))).0 ≡ answer
+  pub answered : (execute client request.op (after genesis (take (position - 1) L))).0 ≡ answer
 
 pub placed : (genesis : Genesis) (L : List Command) (client number : ℕ) (answer : Answer)
-    → IsAnswered genesis L client number answer → IsPlaced genesis L client number answer
+    → GivesAnswer genesis L client number answer → IsPlaced genesis L client number answer
 placed genesis L client number answer a =
     let index : ℕ = length a.before in
     let next : index + 1 ≡ suc index = omega arith in
@@ -48,5 +48,6 @@ placed genesis L client number answer a =
       takes =
           (stands, subst (λ (l : List Command). takes_effect (after genesis l) a.request ≡ true) (sym front) a.takes);
       answered =
-          subst (λ (l : List Command). (serve client a.request.op (after genesis l)).0 ≡ answer) (sym front) a.answered;
+          subst (λ (l : List Command). (execute client a.request.op (after genesis l)).0 ≡ answer) (sym front)
+          a.answered;
     }

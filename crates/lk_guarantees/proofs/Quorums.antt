@@ -9,7 +9,7 @@ use Rattle.lk_types.specs.BallotValue.{BallotValue}
 use Rattle.lk_messages.specs.declared.message.NodeMessage.{NodeMessage}
 use Rattle.lk_members.specs.Rosters.{PlainRoster, is_member, members}
 use Rattle.lk_agreement_laws.specs.Datagrams.{Datagram, HasSent, Accepted}
-use Rattle.lk_agreement_laws.specs.Chosen.{Command, command_at, Chosen, IsAcceptedIn, IsBeginning}
+use Rattle.lk_agreement_laws.specs.Chosen.{Command, command_at, Chosen, IsAcceptedIn, IsPrefix as IsBeginning}
 use Rattle.lk_agreement_laws.proofs.Histories.{cons_cases, contains_more, filter_from, filter_passes_at}
 use Rattle.lk_guarantees.specs.Guarantee as guarantee
 use Rattle.lk_guarantees.specs.Plain as plainly

@@ -27,7 +27,7 @@ use Rattle.lk_sim_nodes.specs.Sends as sending
 use Rattle.lk_sim.specs.Events as doing
 use Rattle.lk_sim.specs.Groups.{bytes_of, given_by}
 use Rattle.lk_sim_nodes.specs.Refusals.{NoneUp, NoRestart}
-use Rattle.lk_sim.specs.Refusals.{datagram_at, AreFor, NotStarted, NoTurn, NoStart, NoClient, NoneBound, NoDelivery}
+use Rattle.lk_sim.specs.Refusals.{datagram_at, AreFor, NotStarted, NoStep, NoStart, NoClient, NoneBound, NoDelivery}
 use Rattle.lk_sim.specs.Refusals.{NoInjection, NoGroup, IsPermitted, IsRejectedFor}
 use Rattle.lk_sim.specs.Scenes.{Scene}
 use Rattle.lk_sim_nodes.specs.Seats.{HasNo}
@@ -37,7 +37,7 @@ use Rattle.lk_sim_nodes.specs.declared.end.End.{End}
 use Rattle.lk_sim.specs.declared.event.Event.{Event}
 use Rattle.lk_sim.specs.declared.event.Event.TheVariants as event
 use Rattle.lk_sim.specs.declared.event.GroupInput.{GroupInput}
-use Rattle.lk_sim.specs.declared.event.GroupInput.TheVariants as turn
+use Rattle.lk_sim.specs.declared.event.GroupInput.TheVariants as group_input
 use Rattle.lk_sim_nodes.specs.declared.refused.Refused.{Refused}
 use Rattle.lk_sim_nodes.specs.declared.refused.Refused.TheVariants.{NoSuchNode, NotUp, AlreadyUp, NoSuchDatagram}
 use Rattle.lk_sim_nodes.specs.declared.refused.Refused.TheVariants.{Forged, WorldFull, WorldMemory}
@@ -45,7 +45,7 @@ use Rattle.lk_sim_nodes.specs.declared.seat.Seat.{Seat}
 use Rattle.lk_sim_nodes.specs.declared.seat.Life.TheVariants.{Up}
 use Rattle.lk_sim.proofs.Networks.{at_set_here}
 use Rattle.lk_guarantees.specs.Events.{IsFor, IsStarted, IsUp, IsDown, HasCause, LeavesUp, IsTaken, AreGiven, AreTaken}
-use Rattle.lk_guarantees.specs.Events.{TakesAsTold}
+use Rattle.lk_guarantees.specs.Events.{TakesAsStated}
 
 -- ---- where the node is
 
@@ -82,16 +82,21 @@ no_client a b o n c first second to other = cc (ap (λ (d : Datagram). d.to) (sa
     same : Some a ≡ Some b → a ≡ b
     same e = cc e
 
--- each turn of a group is for its node, where each of its datagrams is
-are_for : (sent : List Datagram) (n : ℕ) (turns : List GroupInput)
-    → ((k : ℕ) → Contains turns (turn.Deliver k) → IsFor sent (event.Deliver k) n) → AreFor sent n turns
+-- each input of a group is for its node, where each of its datagrams is
+are_for : (sent : List Datagram) (n : ℕ) (group_inputs : List GroupInput)
+    → ((k : ℕ) → Contains group_inputs (group_input.Deliver k) → IsFor sent (event.Deliver k) n)
+    → AreFor sent n group_inputs
 are_for sent n [] each = tt
-are_for sent n (turn.Tick ∷ turns) each =
-    (tt, are_for sent n turns (λ k c. each k (contains_more turn.Tick turns (turn.Deliver k) c)))
-are_for sent n (turn.Deliver j ∷ turns) each =
+are_for sent n (group_input.Tick ∷ group_inputs) each = (
+  tt,
+  are_for sent n group_inputs (λ k c. each k (contains_more group_input.Tick group_inputs
+      (group_input.Deliver k) c)),
+)
+are_for sent n (group_input.Deliver j ∷ group_inputs) each =
     let f = each j (0, omega arith, refl) in (
       (f.1, stands_there sent j f.0 f.1 f.2 f.3, f.4),
-      are_for sent n turns (λ k c. each k (contains_more (turn.Deliver j) turns (turn.Deliver k) c)),
+      are_for sent n group_inputs (λ k c. each k (contains_more (group_input.Deliver j) group_inputs
+          (group_input.Deliver k) c)),
     )
 
 -- what only a node says
@@ -124,7 +129,7 @@ module _ (old : Scene ReplicaValue) where
   no_restart n WorldFull k = absurd k
   no_restart n WorldMemory k = absurd k
 
-  no_tick : (n : ℕ) (r : Refused) → NoTurn old.seats old.sent n r → HasCause old (event.Tick n) r
+  no_tick : (n : ℕ) (r : Refused) → NoStep old.seats old.sent n r → HasCause old (event.Tick n) r
   no_tick n NoSuchNode k = (n, refl, none_started old.seats n k)
   no_tick n NotUp k = (n, refl, down old.seats n k)
   no_tick n AlreadyUp k = absurd k
@@ -179,7 +184,7 @@ module _ (old : Scene ReplicaValue) where
   no_arm n count bytes WorldFull k = absurd k
   no_arm n count bytes WorldMemory k = absurd k
 
-  no_turn : (i n : ℕ) (f : IsFor old.sent (event.Deliver i) n) (r : Refused) → NoTurn old.seats old.sent n r
+  no_turn : (i n : ℕ) (f : IsFor old.sent (event.Deliver i) n) (r : Refused) → NoStep old.seats old.sent n r
       → HasCause old (event.Deliver i) r
   no_turn i n f NoSuchNode k = (n, f, none_started old.seats n k)
   no_turn i n f NotUp k = (n, f, down old.seats n k)
@@ -203,15 +208,16 @@ module _ (old : Scene ReplicaValue) where
       (λ n f. nobody (datagram_at old.sent i) f.1 (stands_there old.sent i f.0 f.1 f.2 f.3) e)
   no_delivery i (Some d) r e k = no_bound i d d.to r e refl k
 
-  no_group : (n : ℕ) (turns : Vec GroupInput Global) (r : Refused) → NoGroup old.seats old.sent n turns.items r
-      → HasCause old (event.Group n turns) r
-  no_group n turns NoSuchNode k = (n, refl, none_started old.seats n k)
-  no_group n turns NotUp k = (n, refl, down old.seats n k)
-  no_group n turns AlreadyUp k = absurd k
-  no_group n turns NoSuchDatagram k = λ each. k.1 (are_for old.sent n turns.items each)
-  no_group n turns Forged k = absurd k
-  no_group n turns WorldFull k = k.2
-  no_group n turns WorldMemory k = absurd k
+  no_group : (n : ℕ) (group_inputs : Vec GroupInput Global) (r : Refused)
+      → NoGroup old.seats old.sent n group_inputs.items r
+      → HasCause old (event.Group n group_inputs) r
+  no_group n group_inputs NoSuchNode k = (n, refl, none_started old.seats n k)
+  no_group n group_inputs NotUp k = (n, refl, down old.seats n k)
+  no_group n group_inputs AlreadyUp k = absurd k
+  no_group n group_inputs NoSuchDatagram k = λ each. k.1 (are_for old.sent n group_inputs.items each)
+  no_group n group_inputs Forged k = absurd k
+  no_group n group_inputs WorldFull k = k.2
+  no_group n group_inputs WorldMemory k = absurd k
 
   no_injection : (n : ℕ) (bytes : Vec ℕ Global) (r : Refused) → NoInjection old.seats old.sent n bytes.items r
       → HasCause old (event.Inject n bytes) r
@@ -230,7 +236,7 @@ module _ (old : Scene ReplicaValue) where
   may_not (event.Compact n) r k = no_compact n r k
   may_not (event.Client n q) r k = no_client_event n q r k
   may_not (event.Deliver i) r k = no_delivery i (datagram_at old.sent i) r refl k
-  may_not (event.Group n turns) r k = no_group n turns r k
+  may_not (event.Group n group_inputs) r k = no_group n group_inputs r k
   may_not (event.Inject n bytes) r k = no_injection n bytes r k
   may_not (event.Stop n x y) r k = no_stop n x y r k
   may_not (event.FailAt n count) r k = no_fail n count r k
@@ -244,7 +250,7 @@ module _ (old : Scene ReplicaValue) where
     wanting (event.Compact n) k = tt
     wanting (event.Client n q) k = tt
     wanting (event.Deliver i) k = tt
-    wanting (event.Group n turns) k = tt
+    wanting (event.Group n group_inputs) k = tt
     wanting (event.Inject n bytes) k = tt
     wanting (event.Stop n x y) k = absurd k
     wanting (event.FailAt n count) k = absurd k
@@ -274,7 +280,7 @@ module _ (old : Scene ReplicaValue) where
     given_up : (n : ℕ) (o : Option (List ℕ)) (asked : List Note) → IsGiven b old new n o asked
         → new.ended ≡ None → IsUp new.seats n
     given_up n o asked k none = elim k.comes_to [
-      | inl r ↦ sits k.seat k.next n _ k.turns k.number r.up
+      | inl r ↦ sits k.seat k.next n _ k.replaces k.number r.up
       | inr (inl r) ↦ absurd (not_ended _ r.ended none)
       | inr (inr f) ↦ absurd (not_ended _ f.ended none)
     ]
@@ -282,7 +288,7 @@ module _ (old : Scene ReplicaValue) where
     together_up : (n : ℕ) (given : List (Option (List ℕ))) → IsGivenTogether b old new n given
         → new.ended ≡ None → IsUp new.seats n
     together_up n given k none = elim k.comes_to [
-      | inl r ↦ sits k.seat k.next n _ k.turns k.number r.up
+      | inl r ↦ sits k.seat k.next n _ k.replaces k.number r.up
       | inr (inl r) ↦ absurd (not_ended _ r.ended none)
       | inr (inr f) ↦ absurd (not_ended _ f.ended none)
     ]
@@ -304,12 +310,12 @@ module _ (old : Scene ReplicaValue) where
       | inr f ↦ absurd (not_ended _ f.ended none)
     ]
     leaves_up (event.Restart n) k = λ none. elim k.comes [
-      | inl r ↦ (n, refl, sits k.seat k.next n r.replica k.turns k.number r.up)
+      | inl r ↦ (n, refl, sits k.seat k.next n r.replica k.replaces k.number r.up)
       | inr f ↦ absurd (not_ended _ f.ended none)
     ]
     leaves_up (event.Tick n) k = λ none. (n, refl, given_up n None [] k none)
     leaves_up (event.Compact n) k = λ none. elim k.comes_to [
-      | inl r ↦ (n, refl, sits k.seat k.next n r.replica k.turns k.number r.up)
+      | inl r ↦ (n, refl, sits k.seat k.next n r.replica k.replaces k.number r.up)
       | inr f ↦ absurd (not_ended _ f.ended none)
     ]
     leaves_up (event.Client n q) k = tt
@@ -319,7 +325,12 @@ module _ (old : Scene ReplicaValue) where
           is_for old.sent i k.datagram k.node k.stands k.bound,
           given_up k.node (Some k.datagram.bytes) [] k.given none,
         )
-    leaves_up (event.Group n turns) k = λ none. (n, refl, together_up n (map (given_by old.sent) turns.items) k none)
+    leaves_up (event.Group n group_inputs) k = λ none. (
+      n,
+      refl,
+      together_up n (map
+          (given_by old.sent) group_inputs.items) k none,
+    )
     leaves_up (event.Inject n bytes) k =
         λ none. (n, refl, given_up n (Some bytes.items) (asked_note k.request) k.given none)
     leaves_up (event.Stop n x y) k = tt
@@ -328,20 +339,25 @@ module _ (old : Scene ReplicaValue) where
 
 -- ---- what is taken
 
-brought : (sent : List Datagram) (n : ℕ) (turns : List GroupInput) → AreFor sent n turns
-    → AreGiven sent turns (map (given_by sent) turns)
+brought : (sent : List Datagram) (n : ℕ) (group_inputs : List GroupInput) → AreFor sent n group_inputs
+    → AreGiven sent group_inputs (map (given_by sent) group_inputs)
 brought sent n [] are = refl
-brought sent n (turn.Tick ∷ turns) are = (map (given_by sent) turns, refl, brought sent n turns are.1)
-brought sent n (turn.Deliver zero ∷ turns) are = absurd (cc are.0.1)
-brought sent n (turn.Deliver (suc j) ∷ turns) are = (
+brought sent n (group_input.Tick ∷ group_inputs) are = (
+  map
+      (given_by sent) group_inputs,
+  refl,
+  brought sent n group_inputs are.1,
+)
+brought sent n (group_input.Deliver zero ∷ group_inputs) are = absurd (cc are.0.1)
+brought sent n (group_input.Deliver (suc j) ∷ group_inputs) are = (
   j,
   are.0.0,
   omega arith,
   are.0.1,
   (
-    map (given_by sent) turns,
-    ap (λ (o : Option Datagram). bytes_of o ∷ map (given_by sent) turns) are.0.1,
-    brought sent n turns are.1,
+    map (given_by sent) group_inputs,
+    ap (λ (o : Option Datagram). bytes_of o ∷ map (given_by sent) group_inputs) are.0.1,
+    brought sent n group_inputs are.1,
   ),
 )
 
@@ -364,17 +380,17 @@ module _ (b : Behaviour ReplicaValue) (node_stays : (t : Trap) (r : ReplicaValue
       → IsGiven b old new n o asked → new.ended ≡ None → IsTaken old n o new
   taken old new n o asked k none = elim k.comes_to [
     | inl r ↦ (
-        let here = at_set_here old.seats k.turns.index k.next k.turns.at.0 in
+        let here = at_set_here old.seats k.replaces.index k.next k.replaces.at.0 in
         record {
           before = k.replica;
           after = r.replica;
-          was_up = (k.seat, k.replica, (k.turns.index, k.turns.at.0, k.turns.at.1), k.number, k.up, refl);
+          was_up = (k.seat, k.replica, (k.replaces.index, k.replaces.at.0, k.replaces.at.1), k.number, k.up, refl);
           is_up = (
             k.next,
             sending.after_sends b (length r.batch) r.replica,
-            subst (λ (l : List (Seat ReplicaValue)). Contains l k.next) (sym k.turns.seats)
-                (k.turns.index, here.0, here.1),
-            k.turns.number ∙ k.number,
+            subst (λ (l : List (Seat ReplicaValue)). Contains l k.next) (sym k.replaces.seats)
+                (k.replaces.index, here.0, here.1),
+            k.replaces.number ∙ k.number,
             r.up,
             counted (b.memory r.replica).meter.trap (length r.batch) r.replica,
           );
@@ -387,28 +403,30 @@ module _ (b : Behaviour ReplicaValue) (node_stays : (t : Trap) (r : ReplicaValue
     | inr (inr f) ↦ absurd (not_ended old b new _ f.ended none)
   ]
 
-  taken_together : (old new : Scene ReplicaValue) (n : ℕ) (turns : List GroupInput) → AreFor old.sent n turns
-      → IsGivenTogether b old new n (map (given_by old.sent) turns) → new.ended ≡ None → AreTaken old n turns new
-  taken_together old new n turns are k none = elim k.comes_to [
+  taken_together : (old new : Scene ReplicaValue) (n : ℕ) (group_inputs : List GroupInput)
+      → AreFor old.sent n group_inputs
+      → IsGivenTogether b old new n (map (given_by old.sent) group_inputs) → new.ended ≡ None
+      → AreTaken old n group_inputs new
+  taken_together old new n group_inputs are k none = elim k.comes_to [
     | inl r ↦ (
-        let here = at_set_here old.seats k.turns.index k.next k.turns.at.0 in
+        let here = at_set_here old.seats k.replaces.index k.next k.replaces.at.0 in
         record {
           before = k.replica;
           after = r.replica;
-          was_up = (k.seat, k.replica, (k.turns.index, k.turns.at.0, k.turns.at.1), k.number, k.up, refl);
+          was_up = (k.seat, k.replica, (k.replaces.index, k.replaces.at.0, k.replaces.at.1), k.number, k.up, refl);
           is_up = (
             k.next,
             sending.after_sends b (length (sent_of r.said)) r.replica,
-            subst (λ (l : List (Seat ReplicaValue)). Contains l k.next) (sym k.turns.seats)
-                (k.turns.index, here.0, here.1),
-            k.turns.number ∙ k.number,
+            subst (λ (l : List (Seat ReplicaValue)). Contains l k.next) (sym k.replaces.seats)
+                (k.replaces.index, here.0, here.1),
+            k.replaces.number ∙ k.number,
             r.up,
             counted (b.memory r.replica).meter.trap (length (sent_of r.said)) r.replica,
           );
-          given = map (given_by old.sent) turns;
-          are_given = brought old.sent n turns are;
+          given = map (given_by old.sent) group_inputs;
+          are_given = brought old.sent n group_inputs are;
           said = r.said;
-          took = contract_of_all k.replica (map (given_by old.sent) turns) r.replica (Ok r.said) r.takes;
+          took = contract_of_all k.replica (map (given_by old.sent) group_inputs) r.replica (Ok r.said) r.takes;
           sent = r.adds.sent ∙ ap (λ (l : List Datagram). old.sent ++ l) (all_sent r.said);
         })
     | inr (inl r) ↦ absurd (not_ended old b new _ r.ended none)
@@ -416,7 +434,7 @@ module _ (b : Behaviour ReplicaValue) (node_stays : (t : Trap) (r : ReplicaValue
   ]
 
   pub takes_as_told : (old new : Scene ReplicaValue) (e : Event) → IsPermitted old e
-      → HasEffect b old e new → TakesAsTold old e new
+      → HasEffect b old e new → TakesAsStated old e new
   takes_as_told old new (event.Start n) may k = tt
   takes_as_told old new (event.Restart n) may k = tt
   takes_as_told old new (event.Tick n) may k = taken old new n None [] k
@@ -431,7 +449,7 @@ module _ (b : Behaviour ReplicaValue) (node_stays : (t : Trap) (r : ReplicaValue
           → (n : ℕ) × (f : IsFor old.sent (event.Deliver i) n) × IsTaken old n (Some f.1.bytes) new
       delivered zero d n e to t = absurd cc
       delivered (suc j) d n e to t = (n, (j, d, omega arith, e, to), t)
-  takes_as_told old new (event.Group n turns) may k = taken_together old new n turns.items may.1 k
+  takes_as_told old new (event.Group n group_inputs) may k = taken_together old new n group_inputs.items may.1 k
   takes_as_told old new (event.Inject n bytes) may k = taken old new n (Some bytes.items) (asked_note k.request) k.given
   takes_as_told old new (event.Stop n x y) may k = tt
   takes_as_told old new (event.FailAt n count) may k = tt

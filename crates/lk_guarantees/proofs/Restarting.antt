@@ -17,7 +17,7 @@ use Rattle.lk_log.specs.Images.{Image, MayLeaveBoth, IsLive, seen}
 use Rattle.lk_log.specs.StoreValue.{StoreValue, disks}
 use Rattle.lk_log.specs.Stores.{Found, HoldsEntries}
 use Rattle.lk_log.proofs.StoreLaws.{found_live, found_sound, one_standing, synced_live}
-use Rattle.lk_node.specs.Served.{text}
+use Rattle.lk_node.specs.BorneOut.{text}
 use Rattle.lk_replica.specs.ReplicaValue.{ReplicaValue}
 use Rattle.lk_recovery.specs.Revivals.{MayRevive, revived, notes_of, run_from}
 use Rattle.lk_replica.specs.Revived.{Revives}

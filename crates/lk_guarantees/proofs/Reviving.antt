@@ -22,7 +22,7 @@ use Rattle.lk_sim.specs.declared.event.Event.TheVariants as event
 use Rattle.lk_sim_nodes.specs.declared.seat.Seat.{Seat}
 use Rattle.lk_sim_nodes.specs.declared.seat.Life.{Life}
 use Rattle.lk_sim_nodes.specs.declared.seat.Life.TheVariants.{Up, Down}
-use Rattle.lk_guarantees.specs.Events.{IsRestarted, EndsOn, IsNotRestarted, RestartsAsTold}
+use Rattle.lk_guarantees.specs.Events.{IsRestarted, EndsOn, IsNotRestarted, RestartsAsStated}
 
 pub same_seat : (s : Seat ReplicaValue) (n : ℕ) (life : Life ReplicaValue) → s.number ≡ n → s.life ≡ life
     → s ≡ record { number = n; life = life }
@@ -45,11 +45,12 @@ module _ (b : Behaviour ReplicaValue)
     → b.Revives device whose came → RevivesTo table_meaning IsTableText device whose came)
     (old new : Scene ReplicaValue) (n : ℕ) (k : IsBack b old new n) where
   number : k.next.number ≡ n
-  number = k.turns.number ∙ k.number
+  number = k.replaces.number ∙ k.number
 
-  was_down : slice_get old.seats k.turns.index ≡ Some (record { number = n; life = Down k.device })
+  was_down : slice_get old.seats k.replaces.index ≡ Some (record { number = n; life = Down k.device })
   was_down =
-      stands_at old.seats new.seats k.seat k.next k.turns ∙ ap Some (same_seat k.seat n (Down k.device) k.number k.down)
+      stands_at old.seats new.seats k.seat k.next k.replaces ∙ ap Some (same_seat k.seat n
+      (Down k.device) k.number k.down)
 
   -- by the contract of a replica, under the header of this node
   told : (came : Result (ReplicaValue × List Note) (ℕ × Memory))
@@ -60,13 +61,13 @@ module _ (b : Behaviour ReplicaValue)
 
   restarted : IsRevived b old new k.next k.device → IsRestarted old n new
   restarted r = record {
-    index = k.turns.index;
+    index = k.replaces.index;
     device = k.device;
     was_down = was_down;
     replica = r.replica;
     notes = r.notes;
     revives = told (Ok (r.replica, r.notes)) r.revives;
-    is_up = k.turns.seats ∙ ap (set old.seats k.turns.index) (same_seat k.next n (Up r.replica) number r.up);
+    is_up = k.replaces.seats ∙ ap (set old.seats k.replaces.index) (same_seat k.next n (Up r.replica) number r.up);
     noted = r.adds.trace;
     nothing_sent = r.adds.sent ∙ append-nil old.sent;
     none_ended = r.ended;
@@ -75,7 +76,7 @@ module _ (b : Behaviour ReplicaValue)
   not_restarted : EndsByFault (StaysDown b k.device (header_of old.genesis k.next.number)) old new k.next []
       → IsNotRestarted old n new
   not_restarted f = record {
-    index = k.turns.index;
+    index = k.replaces.index;
     device = k.device;
     was_down = was_down;
     number = f.number;
@@ -83,7 +84,7 @@ module _ (b : Behaviour ReplicaValue)
     fails = told (Err (f.number, f.left)) f.ends.0;
     not_starved = f.no_want.starved;
     rest = rested_on (stopping f.left.meter) f.left;
-    is_down = k.turns.seats ∙ ap (set old.seats k.turns.index)
+    is_down = k.replaces.seats ∙ ap (set old.seats k.replaces.index)
         (same_seat k.next n (Down (rested_on (stopping f.left.meter) f.left)) number f.down);
     ends = ends_on (stopping f.left.meter) n f.number f.left new.ended
         (f.ended ∙ ap (λ (m : ℕ). Some (end_by (stopping f.left.meter) m f.number)) number);
@@ -97,14 +98,14 @@ module _ (b : Behaviour ReplicaValue)
 module _ (b : Behaviour ReplicaValue)
     (contract : (device : Memory) (whose : HeaderValue) (came : Result (ReplicaValue × List Note) (ℕ × Memory))
     → b.Revives device whose came → RevivesTo table_meaning IsTableText device whose came) where
-  pub restarts_as_told : (old new : Scene ReplicaValue) (e : Event) → HasEffect b old e new → RestartsAsTold old e new
+  pub restarts_as_told : (old new : Scene ReplicaValue) (e : Event) → HasEffect b old e new → RestartsAsStated old e new
   restarts_as_told old new (event.Start n) k = tt
   restarts_as_told old new (event.Restart n) k = is_back b contract old new n k
   restarts_as_told old new (event.Tick n) k = tt
   restarts_as_told old new (event.Compact n) k = tt
   restarts_as_told old new (event.Client n q) k = tt
   restarts_as_told old new (event.Deliver i) k = tt
-  restarts_as_told old new (event.Group n turns) k = tt
+  restarts_as_told old new (event.Group n group_inputs) k = tt
   restarts_as_told old new (event.Inject n bytes) k = tt
   restarts_as_told old new (event.Stop n x y) k = tt
   restarts_as_told old new (event.FailAt n count) k = tt

@@ -32,7 +32,7 @@ use Rattle.lk_sim.specs.declared.event.Event.{Event}
 use Rattle.lk_sim_nodes.specs.declared.refused.Refused.{Refused}
 use Rattle.lk_sim.specs.declared.event.Event.TheVariants as event
 use Rattle.lk_sim.specs.declared.event.GroupInput.{GroupInput}
-use Rattle.lk_sim.specs.declared.event.GroupInput.TheVariants as turn
+use Rattle.lk_sim.specs.declared.event.GroupInput.TheVariants as group_input
 use Rattle.lk_sim_nodes.specs.declared.refused.Refused.TheVariants.{NoSuchNode, NotUp, AlreadyUp, NoSuchDatagram}
 use Rattle.lk_sim_nodes.specs.declared.refused.Refused.TheVariants.{Forged, WorldFull, WorldMemory}
 use Rattle.lk_sim_nodes.specs.declared.seat.Life.TheVariants.{Up, Down}
@@ -83,7 +83,7 @@ IsFor sent (event.Compact n) number = number ≡ n
 IsFor sent (event.Client n r) number = number ≡ n
 IsFor sent (event.Deliver k) number =
     (j : ℕ) × (d : Datagram) × (k ≡ j + 1) × (slice_get sent j ≡ Some d) × (d.to ≡ party.Node number)
-IsFor sent (event.Group n turns) number = number ≡ n
+IsFor sent (event.Group n group_inputs) number = number ≡ n
 IsFor sent (event.Inject n bytes) number = number ≡ n
 IsFor sent (event.Stop n x y) number = number ≡ n
 IsFor sent (event.FailAt n count) number = number ≡ n
@@ -186,8 +186,8 @@ LacksLife old e = (n : ℕ) × IsFor old.sent e n × IsDown old.seats n
 -- a datagram that is to be delivered was sent, to a node; those of a group to that of the group
 abbrev pub LacksDatagram : List Datagram → Event → Type 0
 LacksDatagram sent (event.Deliver k) = (n : ℕ) → IsFor sent (event.Deliver k) n → ⊥
-LacksDatagram sent (event.Group n turns) =
-    ((k : ℕ) → Contains turns.items (turn.Deliver k) → IsFor sent (event.Deliver k) n) → ⊥
+LacksDatagram sent (event.Group n group_inputs) =
+    ((k : ℕ) → Contains group_inputs.items (group_input.Deliver k) → IsFor sent (event.Deliver k) n) → ⊥
 LacksDatagram sent _ = ⊥
 
 -- what only a node says is not injected
@@ -208,11 +208,11 @@ IsFull old (event.Arm n count bytes) = ⊥
 IsFull old e = 99000 < length old.sent
 
 -- a stop takes no memory, nor does a trap
-abbrev pub TakesMemory : Event → Type 0
-TakesMemory (event.Stop n x y) = ⊥
-TakesMemory (event.FailAt n count) = ⊥
-TakesMemory (event.Arm n count bytes) = ⊥
-TakesMemory _ = Unit {0}
+abbrev pub NeedsMemory : Event → Type 0
+NeedsMemory (event.Stop n x y) = ⊥
+NeedsMemory (event.FailAt n count) = ⊥
+NeedsMemory (event.Arm n count bytes) = ⊥
+NeedsMemory _ = Unit {0}
 
 -- why an event is refused
 abbrev pub HasCause : Scene ReplicaValue → Event → Refused → Type 0
@@ -222,7 +222,7 @@ HasCause old e AlreadyUp = IsAlready old.seats e
 HasCause old e NoSuchDatagram = LacksDatagram old.sent e
 HasCause old e Forged = IsForged e
 HasCause old e WorldFull = IsFull old e
-HasCause old e WorldMemory = TakesMemory e
+HasCause old e WorldMemory = NeedsMemory e
 
 -- where it ended no node, the node to which an event gives something, or which it starts, is up
 abbrev pub LeavesUp : Scene ReplicaValue → Event → Scene ReplicaValue → Type 0
@@ -261,36 +261,36 @@ pub record IsTaken (old : Scene ReplicaValue) (n : ℕ) (given : Option (List �
   pub took : ComesTo table_meaning IsTableText before given after (Ok (notes, batch))
   pub sent : new.sent ≡ old.sent ++ batch
 
--- what the turns of a group give: nothing but the time at a tick, and else the bytes of the datagram at that place
+-- what the inputs of a group give: nothing but the time at a tick, and else the bytes of the datagram at that place
 abbrev pub AreGiven : List Datagram → List GroupInput → List (Option (List ℕ)) → Type 0
 AreGiven sent [] given = given ≡ []
-AreGiven sent (turn.Tick ∷ turns) given =
-    (rest : List (Option (List ℕ))) × (given ≡ None ∷ rest) × AreGiven sent turns rest
-AreGiven sent (turn.Deliver k ∷ turns) given =
+AreGiven sent (group_input.Tick ∷ group_inputs) given =
+    (rest : List (Option (List ℕ))) × (given ≡ None ∷ rest) × AreGiven sent group_inputs rest
+AreGiven sent (group_input.Deliver k ∷ group_inputs) given =
     (j : ℕ) × (d : Datagram) × (k ≡ j + 1) × (slice_get sent j ≡ Some d)
-    × ((rest : List (Option (List ℕ))) × (given ≡ Some d.bytes ∷ rest) × AreGiven sent turns rest)
+    × ((rest : List (Option (List ℕ))) × (given ≡ Some d.bytes ∷ rest) × AreGiven sent group_inputs rest)
 
 -- so a replica took these together
-pub record AreTaken (old : Scene ReplicaValue) (n : ℕ) (turns : List GroupInput)
+pub record AreTaken (old : Scene ReplicaValue) (n : ℕ) (group_inputs : List GroupInput)
     (new : Scene ReplicaValue) : Type 0 where
   pub before : ReplicaValue
   pub after : ReplicaValue
   pub was_up : IsUpWith old.seats n (λ replica. replica ≡ before)
   pub is_up : IsUpWith new.seats n (λ replica. replica.node ≡ after.node)
   pub given : List (Option (List ℕ))
-  pub are_given : AreGiven old.sent turns given
+  pub are_given : AreGiven old.sent group_inputs given
   pub said : List (List Note × List Datagram)
   pub took : ComesToAll table_meaning IsTableText before given after (Ok said)
   pub sent : new.sent ≡ old.sent ++ flat_map (λ x. x.1) said
 
 -- unless the event ended the node, its replica took the input as its contract says
-abbrev pub TakesAsTold : Scene ReplicaValue → Event → Scene ReplicaValue → Type 0
-TakesAsTold old (event.Tick n) new = new.ended ≡ None → IsTaken old n None new
-TakesAsTold old (event.Inject n bytes) new = new.ended ≡ None → IsTaken old n (Some bytes.items) new
-TakesAsTold old (event.Deliver k) new =
+abbrev pub TakesAsStated : Scene ReplicaValue → Event → Scene ReplicaValue → Type 0
+TakesAsStated old (event.Tick n) new = new.ended ≡ None → IsTaken old n None new
+TakesAsStated old (event.Inject n bytes) new = new.ended ≡ None → IsTaken old n (Some bytes.items) new
+TakesAsStated old (event.Deliver k) new =
     new.ended ≡ None → (n : ℕ) × (f : IsFor old.sent (event.Deliver k) n) × IsTaken old n (Some f.1.bytes) new
-TakesAsTold old (event.Group n turns) new = new.ended ≡ None → AreTaken old n turns.items new
-TakesAsTold old _ new = Unit {0}
+TakesAsStated old (event.Group n group_inputs) new = new.ended ≡ None → AreTaken old n group_inputs.items new
+TakesAsStated old _ new = Unit {0}
 
 -- a node that was down restarted from its disks: it is up as the contract of a replica says, and what it executed again
 -- is noted. (The contract, `RevivesTo`, is named here and not restated)
@@ -328,9 +328,9 @@ pub record IsNotRestarted (old : Scene ReplicaValue) (n : ℕ) (new : Scene Repl
   pub nothing_noted : new.trace ≡ old.trace
   pub nothing_sent : new.sent ≡ old.sent
 
-abbrev pub RestartsAsTold : Scene ReplicaValue → Event → Scene ReplicaValue → Type 0
-RestartsAsTold old (event.Restart n) new = IsRestarted old n new ⊎ IsNotRestarted old n new
-RestartsAsTold old _ new = Unit {0}
+abbrev pub RestartsAsStated : Scene ReplicaValue → Event → Scene ReplicaValue → Type 0
+RestartsAsStated old (event.Restart n) new = IsRestarted old n new ⊎ IsNotRestarted old n new
+RestartsAsStated old _ new = Unit {0}
 
 -- an event that is done
 pub record IsDone (old : Scene ReplicaValue) (e : Event) (new : Scene ReplicaValue) : Type 0 where
@@ -341,8 +341,8 @@ pub record IsDone (old : Scene ReplicaValue) (e : Event) (new : Scene ReplicaVal
   pub silent : IsSilent old e new
   pub up : LeavesUp old e new
   pub down : LeavesDown old e new
-  pub takes : TakesAsTold old e new
-  pub restarts : RestartsAsTold old e new
+  pub takes : TakesAsStated old e new
+  pub restarts : RestartsAsStated old e new
   pub grows : Grows old new
 
 -- a node that has compacted, and that nothing has ended, remembers a snapshot of everything that it has executed,

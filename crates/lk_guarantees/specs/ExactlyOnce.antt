@@ -11,7 +11,7 @@ use Rattle.lk_types.specs.declared.genesis.Genesis.{Genesis}
 use Rattle.lk_agreement_laws.specs.Datagrams.{Datagram}
 use Rattle.lk_node_interface.specs.declared.note.Note.{Note}
 use Rattle.lk_node_interface.specs.declared.note.Note.TheVariants as note
-use Rattle.lk_guarantees.specs.Plain.{after, serve, TakesEffectAt}
+use Rattle.lk_guarantees.specs.Plain.{after, execute, TakesEffectAt}
 use Rattle.lk_guarantees.specs.Guarantee.{IsChosen}
 
 -- the client asks this request
@@ -42,11 +42,11 @@ pub record FollowsRule (trace : List Note) (client : ℕ) : Type 0 where
       → WasAnswered before client q.number
 
 -- what it gets for that, by a list that takes effect
-pub record IsServedOnce (genesis : Genesis) (L : List Command) (trace : List Note) (client : ℕ) : Type 0 where
+pub record IsExactlyOnce (genesis : Genesis) (L : List Command) (trace : List Note) (client : ℕ) : Type 0 where
   -- an operation that was answered takes effect at some position, and was answered what it is answered there
   pub takes_effect : (r : Asking) (node : ℕ) (answer : Answer) → IsAskedBy trace client r
       → Contains trace (note.Answered node client r.number answer)
-      → (i : ℕ) × TakesEffectAt genesis L i r × ((serve client r.op (after genesis (take (i - 1) L))).0 ≡ answer)
+      → (i : ℕ) × TakesEffectAt genesis L i r × ((execute client r.op (after genesis (take (i - 1) L))).0 ≡ answer)
   -- no operation takes effect at two
   pub once : (r : Asking) (i j : ℕ) → TakesEffectAt genesis L i r → TakesEffectAt genesis L j r
       → r.client ≡ client → i ≡ j
@@ -61,7 +61,7 @@ pub record IsServedOnce (genesis : Genesis) (L : List Command) (trace : List Not
       → WasAnswered before client r.number
 
 -- so with each client that follows the rule, by one chosen list
-abbrev pub AreServedOnce : Genesis → List Datagram → List Note → Type 0
-AreServedOnce genesis sent trace =
+abbrev pub AreExactlyOnce : Genesis → List Datagram → List Note → Type 0
+AreExactlyOnce genesis sent trace =
     (L : List Command) × IsChosen genesis sent L
-    × ((client : ℕ) → FollowsRule trace client → IsServedOnce genesis L trace client)
+    × ((client : ℕ) → FollowsRule trace client → IsExactlyOnce genesis L trace client)

@@ -34,7 +34,7 @@ use Rattle.lk_replica.specs.ReplicaValue.{ReplicaValue}
 use Rattle.lk_sim.specs.Scenes.{Scene}
 use Rattle.lk_sim_nodes.specs.declared.seat.Life.TheVariants.{Up}
 use Rattle.lk_sim_nodes.specs.declared.seat.Seat.{Seat}
-use Rattle.lk_guarantees.specs.Plain.{at, members, IsAnswered, TakesEffectAt, Kept, IsKeptOf}
+use Rattle.lk_guarantees.specs.Plain.{at, members, GivesAnswer, TakesEffectAt, Kept, IsKeptOf}
 pub use Rattle.lk_guarantees.specs.Chosen.{Says, UsesBallotsOnce, IsAcceptedBy, IsChosen, IsPrefix, Agree}
 pub use Rattle.lk_guarantees.specs.Disks.{members_text, session_text, kept_text, IsSnapshot, device_in, MayRemain}
 pub use Rattle.lk_guarantees.specs.Disks.{MayRemainOf, Remembers, EachImage, HasSnapshot, HaveSnapshots, HasVote}
@@ -69,9 +69,9 @@ pub record Explains (genesis : Genesis) (sent : List Datagram) (trace : List Not
   -- a client's answer is the answer to its request where that takes effect; and any other reply tells it a greater
   -- number of its own that takes effect
   pub answered : (node client number : ℕ) (answer : Answer) → Contains trace (note.Answered node client number answer)
-      → IsAnswered genesis L client number answer
+      → GivesAnswer genesis L client number answer
   pub told : (node client number last : ℕ) → Contains trace (note.Told node client number last)
-      → (number < last) × ((answer : Answer) × IsAnswered genesis L client last answer)
+      → (number < last) × ((answer : Answer) × GivesAnswer genesis L client last answer)
   -- a command that was sent as decided for a position of the list is the list's command there
   pub decided : (node k : ℕ) (d : DecidedValue) (v w : Command) → Says genesis sent node (message.Decided d)
       → at d.commands (k + 1) ≡ Some v → at L (d.first + k) ≡ Some w → v ≡ w

@@ -11,7 +11,7 @@ use Rattle.lk_locks.specs.declared.body.Body.TheVariants.{Acquire}
 use Rattle.lk_agreement_laws.specs.Datagrams.{Datagram}
 use Rattle.lk_node_interface.specs.declared.note.Note.{Note}
 use Rattle.lk_node_interface.specs.declared.note.Note.TheVariants as note
-use Rattle.lk_guarantees.specs.Plain.{after, serve, TakesEffectAt}
+use Rattle.lk_guarantees.specs.Plain.{after, execute, TakesEffectAt}
 use Rattle.lk_guarantees.specs.Guarantee.{IsChosen}
 
 -- a write, with the grant under which it is made: the client and number of the request that was granted, and the fence
@@ -35,7 +35,7 @@ pub record IsUnder (genesis : Genesis) (L : List Command) (name : List ℕ) (w :
   pub body : List ℕ
   pub asks : request.op ≡ Table body
   pub acquires : body_of body ≡ Some (Acquire name)
-  pub granted : (serve request.client request.op (after genesis (take (i - 1) L))).0 ≡ Granted w.fence
+  pub granted : (execute request.client request.op (after genesis (take (i - 1) L))).0 ≡ Granted w.fence
 
 -- the fences of a name's grants rise along the list, and none is given twice
 pub record FencesRise (genesis : Genesis) (L : List Command) (name : List ℕ) : Type 0 where

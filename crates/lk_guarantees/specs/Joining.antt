@@ -6,7 +6,7 @@ use Rattle.lk_types.specs.declared.command.Op.TheVariants.{Join}
 use Rattle.lk_types.specs.declared.command.Request.{Request as Asking}
 use Rattle.lk_types.specs.declared.genesis.Genesis.{Genesis}
 use Rattle.lk_types.specs.declared.member.Member.{Member}
-use Rattle.lk_guarantees.specs.Plain.{after, serve, TakesEffectAt}
+use Rattle.lk_guarantees.specs.Plain.{after, execute, TakesEffectAt}
 
 -- the node joins by the entry at this position of the list: a request for it takes effect there, and is granted
 pub record JoinsAt (genesis : Genesis) (L : List Command) (node i : ℕ) : Type 0 where
@@ -14,7 +14,7 @@ pub record JoinsAt (genesis : Genesis) (L : List Command) (node i : ℕ) : Type 
   pub takes : TakesEffectAt genesis L i request
   pub port : ℕ
   pub asks : request.op ≡ Join node port
-  pub granted : (serve request.client request.op (after genesis (take (i - 1) L))).0 ≡ Joined
+  pub granted : (execute request.client request.op (after genesis (take (i - 1) L))).0 ≡ Joined
 
 -- no entry before that one has left the node a member. So each number joins at most once, and none of the genesis does
 abbrev pub JoinsOnce : Genesis → List Command → Type 0

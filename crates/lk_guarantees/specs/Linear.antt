@@ -9,7 +9,7 @@ use Rattle.lk_types.specs.declared.genesis.Genesis.{Genesis}
 use Rattle.lk_types.specs.declared.member.Member.{Member}
 use Rattle.lk_node_interface.specs.declared.note.Note.{Note}
 use Rattle.lk_node_interface.specs.declared.note.Note.TheVariants as note
-use Rattle.lk_guarantees.specs.Plain.{State, Locks, begin, serve}
+use Rattle.lk_guarantees.specs.Plain.{State, Locks, begin, execute}
 
 -- the object alone: the members, the greatest number that was ever a member's, and the lock table. It knows no
 -- positions and no clients' numbers
@@ -35,7 +35,7 @@ state_of o = record {
 
 -- an operation of a client on it: its answer, and the object after it
 abbrev pub alone : ℕ → Op → Object → Answer × Object
-alone client op o = ((serve client op (state_of o)).0, object (serve client op (state_of o)).1)
+alone client op o = ((execute client op (state_of o)).0, object (execute client op (state_of o)).1)
 
 -- a sequential history: operations one after another, each with its answer
 abbrev pub Sequence : Type 0

@@ -218,14 +218,14 @@ abbrev pub raise : State → Answer × State
 raise s = if s.raised then (AlreadyRaised, s) else (Raised, record s { raised = true })
 
 -- the answer to a request, and the state after that
-abbrev pub serve : ℕ → Op → State → Answer × State
-serve client (Table body) s = (
+abbrev pub execute : ℕ → Op → State → Answer × State
+execute client (Table body) s = (
   (use_locks client s.raised (body_of body) s.locks).0,
   record s { locks = (use_locks client s.raised (body_of body) s.locks).1 },
 )
-serve client (Join node port) s = join node port s
-serve client (Leave node) s = leave node s
-serve client Raise s = raise s
+execute client (Join node port) s = join node port s
+execute client (Leave node) s = leave node s
+execute client Raise s = raise s
 
 -- a request takes effect if its number is above all that its client has used: so a number takes effect once
 abbrev pub takes_effect : State → Asking → Bool
@@ -237,7 +237,7 @@ used r s = record s { least = λ client. if client == r.client then r.number + 1
 -- a no-op changes nothing, nor does a request that takes no effect
 abbrev pub effect : State → Command → State
 effect s Noop = s
-effect s (Request r) = if takes_effect s r then used r (serve r.client r.op s).1 else s
+effect s (Request r) = if takes_effect s r then used r (execute r.client r.op s).1 else s
 
 abbrev pub after_one : State → Command → State
 after_one s c = record (effect s c) { position = s.position + 1 }
@@ -248,7 +248,7 @@ unfoldable pub after : Genesis → List Command → State
 after genesis L = fold after_one (begin genesis) L
 
 -- the request is in the list, takes effect there, and gets this answer from what the entries before it leave
-pub record IsAnswered (genesis : Genesis) (L : List Command) (client number : ℕ) (answer : Answer) : Type 0 where
+pub record GivesAnswer (genesis : Genesis) (L : List Command) (client number : ℕ) (answer : Answer) : Type 0 where
   pub before : List Command
   pub request : Asking
   pub later : List Command
@@ -256,7 +256,7 @@ pub record IsAnswered (genesis : Genesis) (L : List Command) (client number : �
   pub of_client : request.client ≡ client
   pub of_number : request.number ≡ number
   pub takes : IsTrue (takes_effect (after genesis before) request)
-  pub answered : (serve client request.op (after genesis before)).0 ≡ answer
+  pub answered : (execute client request.op (after genesis before)).0 ≡ answer
 
 -- ---- positions, and their members
 
@@ -319,7 +319,7 @@ pub record IsKeptOf (genesis : Genesis) (L : List Command) (kept : Kept) : Type 
   pub greatest : kept.greatest ≡ (after genesis L).greatest
   pub changed : kept.changed ≡ (after genesis L).changed
   -- for each client that has asked, in rising order, its request of greatest number, and the answer to that
-  pub answers : (s : Session) → Contains kept.sessions s → IsAnswered genesis L s.client s.number s.answer
+  pub answers : (s : Session) → Contains kept.sessions s → GivesAnswer genesis L s.client s.number s.answer
   pub last : (s : Session) → Contains kept.sessions s → (r : Asking) → Contains L (Request r)
       → r.client ≡ s.client → r.number ≤ s.number
   pub clients : (r : Asking) → Contains L (Request r) → (s : Session) × Contains kept.sessions s × (s.client ≡ r.client)

@@ -8,11 +8,11 @@ use Rattle.lk_messages.specs.declared.message.Answered.{Answered}
 use Rattle.lk_messages.specs.declared.message.NodeMessage.TheVariants as message
 use Rattle.lk_agreement_laws.specs.Datagrams.{Datagram}
 use Rattle.lk_guarantees.specs.Chosen.{Says}
-use Rattle.lk_guarantees.specs.Plain.{IsAnswered}
+use Rattle.lk_guarantees.specs.Plain.{GivesAnswer}
 
 -- the list explains each datagram that answers a request, or tells of a greater number
 pub record ExplainsReplies (genesis : Genesis) (sent : List Datagram) (L : List Command) : Type 0 where
   pub answers : (node : ℕ) (a : Answered) → Says genesis sent node (message.Answer a)
-      → IsAnswered genesis L a.client a.number a.answer
+      → GivesAnswer genesis L a.client a.number a.answer
   pub passes : (node : ℕ) (p : PassedValue) → Says genesis sent node (message.Passed p)
-      → (answer : Answer) × IsAnswered genesis L p.client p.last answer
+      → (answer : Answer) × GivesAnswer genesis L p.client p.last answer

@@ -14,7 +14,7 @@ ghost use Rattle.lk_sim.specs.declared.event.Event.TheVariants as event;
 ghost use Rattle.lk_guarantees.specs.ComingBack.{ComesBack};
 ghost use Rattle.lk_guarantees.specs.Converging.{Converges};
 ghost use Rattle.lk_guarantees.specs.Events.{AreDone, IsDone, IsReachable, IsRun, IsUp};
-ghost use Rattle.lk_guarantees.specs.ExactlyOnce.{AreServedOnce};
+ghost use Rattle.lk_guarantees.specs.ExactlyOnce.{AreExactlyOnce};
 ghost use Rattle.lk_guarantees.specs.Guarded.{AreListed, FencesRise, IsGuarded, Write};
 ghost use Rattle.lk_guarantees.specs.Joining.{JoinsOnce};
 ghost use Rattle.lk_guarantees.specs.Linear.{IsLinearizable};
@@ -75,7 +75,8 @@ pub fn replies_are_explained()
 /// one position where it was answered, in the order in which the client asked, and before it is answered the client is
 /// not told Passed.
 pub fn operations_take_effect_exactly_once()
-    ensures { (world : Scene ReplicaValue) → MeetsGuarantee world → AreServedOnce world.genesis world.sent world.trace }
+    ensures { (world : Scene ReplicaValue) → MeetsGuarantee world
+        → AreExactlyOnce world.genesis world.sent world.trace }
 {}
 
 /// Convergence: in a world that meets the guarantee, nodes that have executed equally many commands have the same

@@ -28,8 +28,8 @@ pub record DescribesList (genesis : Genesis) (L : List Command) (i : Inspection)
   pub clients : i.clients ≡ length (sessions_of table_meaning genesis L)
 
 -- the snapshot of the standing packs no state at its position
-abbrev pub CannotStand : StandingValue → Type 0
-CannotStand s = (w : WholeValue) → Packs IsTableText w s.snapshot → w.roster.executed ≡ s.position → ⊥
+abbrev pub PacksNoState : StandingValue → Type 0
+PacksNoState s = (w : WholeValue) → Packs IsTableText w s.snapshot → w.roster.executed ≡ s.position → ⊥
 
 -- ---- what is found in a store
 
@@ -59,7 +59,7 @@ pub record ShowsNone (image : Image) : Type 0 where
   pub format : ℕ
   pub standing : StandingValue
   pub shows : Shows image generation format standing
-  pub cannot : CannotStand standing
+  pub cannot : PacksNoState standing
 
 -- the files are damaged, or a snapshot is
 abbrev pub IsSpoilt : Image → Type 0

@@ -10,7 +10,7 @@ ghost use Rattle.lk_state.specs.States.{whole_after};
 ghost use Rattle.lk_recovery.specs.Revivals.{run_from};
 ghost use Rattle.lk_locks.specs.Meaning.{table_meaning};
 ghost use Rattle.lk_locks.specs.Packed.{IsTableText};
-ghost use Rattle.lk_inspect.specs.Inspections.{CannotStand, DescribesList};
+ghost use Rattle.lk_inspect.specs.Inspections.{PacksNoState, DescribesList};
 
 use crate::state::state_of;
 use lk_locks::{Name, Slot};
@@ -42,7 +42,7 @@ pub fn inspected(alloc: Global, standing: &Standing) -> Result<Inspection, Servi
         → Packs IsTableText (whole_after table_meaning genesis L) standing.now.snapshot
         → AllByRecursion IsCommand (L ++ run_from (length L) standing.now.pairs)
         → IfOk result (DescribesList genesis (L ++ run_from (length L) standing.now.pairs)) }
-    ensures damaged { IsErrOf result ServiceFault.Damaged → CannotStand standing.now }
+    ensures damaged { IsErrOf result ServiceFault.Damaged → PacksNoState standing.now }
     ensures only { IfErr result (λ e. (e ≡ ServiceFault.Damaged) ⊎ (e ≡ ServiceFault.NoMemory)) }
 {
     let whole = state_of(alloc, standing)?;

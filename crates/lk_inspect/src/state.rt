@@ -10,7 +10,7 @@ ghost use Rattle.lk_state.specs.States.{WholeValue, SumsUp, whole_after};
 ghost use Rattle.lk_recovery.specs.Revivals.{run_from, all_ran};
 ghost use Rattle.lk_locks.specs.Meaning.{table_meaning};
 ghost use Rattle.lk_locks.specs.Packed.{IsTableText};
-ghost use Rattle.lk_inspect.specs.Inspections.{CannotStand};
+ghost use Rattle.lk_inspect.specs.Inspections.{PacksNoState};
 
 use lk_locks::LockTable;
 use lk_state::{Ran, Whole};
@@ -24,7 +24,7 @@ use std::alloc::Global;
 fn unpacked(alloc: Global, standing: &Standing) -> Result<Whole<LockTable>, ServiceFault>
     ensures one { (w : WholeValue) → Packs IsTableText w standing.now.snapshot → IfOk result (λ v. v ≡ w) }
     ensures stands { IfOk result (λ w. w.roster.executed ≡ standing.now.position) }
-    ensures damaged { IsErrOf result ServiceFault.Damaged → CannotStand standing.now }
+    ensures damaged { IsErrOf result ServiceFault.Damaged → PacksNoState standing.now }
     ensures only { IfErr result (λ e. (e ≡ ServiceFault.Damaged) ⊎ (e ≡ ServiceFault.NoMemory)) }
 {
     let whole: Whole<LockTable> = Whole::unpack(alloc, &standing.snapshot)?;
@@ -62,7 +62,7 @@ pub fn state_of(alloc: Global, standing: &Standing) -> Result<Whole<LockTable>, 
     ensures sums { (genesis : GenesisValue) (L : List CommandValue)
         → Packs IsTableText (whole_after table_meaning genesis L) standing.now.snapshot
         → IfOk result (SumsUp table_meaning genesis (L ++ run_from (length L) standing.now.pairs)) }
-    ensures damaged { IsErrOf result ServiceFault.Damaged → CannotStand standing.now }
+    ensures damaged { IsErrOf result ServiceFault.Damaged → PacksNoState standing.now }
     ensures only { IfErr result (λ e. (e ≡ ServiceFault.Damaged) ⊎ (e ≡ ServiceFault.NoMemory)) }
 {
     let mut whole = unpacked(alloc, standing)?;

@@ -60,13 +60,13 @@ has_term None = false
 has_term (Some t) = true
 
 -- the term, if any, has a promise of the node
-abbrev pub keeps_promise : Option TermValue → ℕ → Bool
-keeps_promise None k = false
-keeps_promise (Some t) k = is_promiser k t.reports
+abbrev pub has_promise_of : Option TermValue → ℕ → Bool
+has_promise_of None k = false
+has_promise_of (Some t) k = is_promiser k t.reports
 
 -- the nodes whose promise the term does not have
 abbrev pub silent_among : Option TermValue → List ℕ → List ℕ
-silent_among term nodes = filter (λ k. not (keeps_promise term k)) nodes
+silent_among term nodes = filter (λ k. not (has_promise_of term k)) nodes
 
 -- a promise of the node is kept in the term: it is of the term's ballot, of a node of the window, and its first
 pub record IsFirstOf (l : LeaderValue) (roster : RosterValue) (node : ℕ) (b : BallotValue)

@@ -50,7 +50,7 @@ pub record IsFirstNew (executed : ℕ) (ps : List ProposalValue) (waiting : List
   pub before : List RequestValue
   pub behind : List RequestValue
   pub parts : waiting ≡ before ++ (q ∷ behind)
-  pub passed : (r : RequestValue) → Contains before r → IsUnderWay executed ps (Request r)
+  pub under_way : (r : RequestValue) → Contains before r → IsUnderWay executed ps (Request r)
   pub new : IsUnderWay executed ps (Request q) → ⊥
 
 -- there is none
@@ -58,8 +58,8 @@ abbrev pub NoneIsNew : ℕ → List ProposalValue → List RequestValue → Type
 NoneIsNew executed ps waiting = (r : RequestValue) → Contains waiting r → IsUnderWay executed ps (Request r)
 
 -- some promise reports a vote at the position or after it
-abbrev pub is_reached : List ReceivedPromise → ℕ → Bool
-is_reached reports i = list_any (λ r. list_any (λ x. nat_le i x.position) r.votes) reports
+abbrev pub has_vote_from : List ReceivedPromise → ℕ → Bool
+has_vote_from reports i = list_any (λ r. list_any (λ x. nat_le i x.position) r.votes) reports
 
 -- the last change is not in effect before the position
 abbrev pub is_changing_at : RosterValue → ℕ → Bool
@@ -78,5 +78,5 @@ pub data IsLeadersValue (t : TermValue) (waiting : List RequestValue) (roster : 
   -- otherwise a no-op, if a promise reports a vote at it or after it, or the last change of members is not in effect
   -- before it
   fills : told_at i (reports_at set i t.reports) ≡ [] → NoneIsNew roster.executed t.proposals waiting
-      → IsTrue (is_reached t.reports i || is_changing_at roster i)
+      → IsTrue (has_vote_from t.reports i || is_changing_at roster i)
       → IsLeadersValue t waiting roster set i Noop

@@ -6,7 +6,7 @@ ghost use Rattle.lk_types.specs.declared.member.Member.{Member as MemberValue};
 ghost use Rattle.lk_leader.specs.Waits.{asked, waiting_of, number_up_to, left_by};
 ghost use Rattle.lk_leader.specs.Terms.{LeaderValue, TermValue, ProposalValue, Command as CommandValue, idle, begun};
 ghost use Rattle.lk_leader.specs.Terms.{with_term, with_report, with_proposals, is_promiser, IsFirstOf, has_term};
-ghost use Rattle.lk_leader.specs.Terms.{keeps_promise, silent_among};
+ghost use Rattle.lk_leader.specs.Terms.{has_promise_of, silent_among};
 ghost use Rattle.lk_leader.specs.Proposing.{Leads, LeaderProposes, proposed};
 ghost use Rattle.lk_leader.specs.Acceptances.{IsVoteFor, heard_at, GainsMajority, IsOpen};
 
@@ -250,7 +250,7 @@ impl Leader {
 
     // Whether the term has no promise of the node.
     fn is_silent(&self, node: NodeNo) -> bool
-        ensures { result ≡ not (keeps_promise self.now.term node) }
+        ensures { result ≡ not (has_promise_of self.now.term node) }
     {
         !self.has_promised(node)
     }

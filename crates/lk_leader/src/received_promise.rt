@@ -57,13 +57,13 @@ impl ReceivedPromise {
     }
 
     // Whether it reports a vote at the position or a later one.
-    pub(crate) fn reaches(&self, position: Position) -> bool
+    pub(crate) fn has_vote_from(&self, position: Position) -> bool
         ensures { result ≡ list_any (λ x. nat_le position x.position) self.now.votes }
     {
         self.votes.iter().any(|vote| position <= vote.position)
     }
 
-    // Whether the node gave it, and it is for the position too: its `first` is at most the position.
+    // Whether this node gave it, and its `first` is at most the position.
     pub(crate) fn is_from(&self, node: NodeNo, position: Position) -> bool
         ensures { result ≡ (self.now.node == node && nat_le self.now.first position) }
     {

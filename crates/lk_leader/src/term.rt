@@ -4,7 +4,7 @@ ghost use Rattle.std.specs.Option.{option_copied};
 ghost use Rattle.std.specs.List.{list_any};
 ghost use Rattle.lk_leader.specs.Terms.{begun, with_report, with_proposals, proposal_at, ProposalValue, is_promiser};
 ghost use Rattle.lk_leader.specs.Terms.{BallotValue, Command as CommandValue};
-ghost use Rattle.lk_leader.specs.Values.{IsBest, told_at, reports_at, is_reached, is_changing_at, IsLeadersValue};
+ghost use Rattle.lk_leader.specs.Values.{IsBest, told_at, reports_at, has_vote_from, is_changing_at, IsLeadersValue};
 ghost use Rattle.lk_leader.specs.Proposing.{promisers as those_who_promised, IsPromisedAt, IsElected, IsNext, Proposes};
 ghost use Rattle.lk_leader.specs.Proposing.{proposed};
 ghost use Rattle.lk_leader.specs.Acceptances.{heard_at, GainsMajority};
@@ -142,18 +142,20 @@ impl Term {
     }
 
     // Whether some promise reports a vote at the position or a later one.
-    fn is_reached(&self, position: Position) -> bool
-        ensures { result ≡ is_reached self.now.reports position }
+    fn has_vote_from(&self, position: Position) -> bool
+        ensures { result ≡ has_vote_from self.now.reports position }
     {
-        self.reports.iter().any(|report| report.reaches(position))
+        self.reports
+            .iter()
+            .any(|report| report.has_vote_from(position))
     }
 
     // Whether a no-op has to fill the position: a promise reports a vote there or later, or the last change of members
     // is not in effect before it. Neither may wait until clients ask for more.
     fn is_gap(&self, position: Position, roster: &Roster) -> bool
-        ensures { result ≡ (is_reached self.now.reports position || is_changing_at roster.now position) }
+        ensures { result ≡ (has_vote_from self.now.reports position || is_changing_at roster.now position) }
     {
-        self.is_reached(position) || is_changing(position, roster)
+        self.has_vote_from(position) || is_changing(position, roster)
     }
 
     // Returns the command to propose at a position of these members: the highest vote reported there, else the first

@@ -20,7 +20,7 @@ use Rattle.lk_state.specs.States.{SumsUp, whole_after}
 use Rattle.lk_state.specs.Runs.{ran}
 use Rattle.lk_state.proofs.Wholes.{ran-whole_after}
 use Rattle.lk_learner.specs.Learners.{Command, Pair, WholeValue, LearnerValue, executed, begun, keeping, IsNext}
-use Rattle.lk_learner.specs.Learners.{advanced, IsServed, decided_from, with_snapshot}
+use Rattle.lk_learner.specs.Learners.{advanced, IsRetained, decided_from, with_snapshot}
 use Rattle.lk_learner.specs.Installing.{pairs_above, installed}
 use Rattle.lk_learner.specs.Following.{AgreesWithList}
 use Rattle.lk_learner.proofs.PairLaws.{with_has, with_others, with_only, without_from}
@@ -101,7 +101,7 @@ module _ (m : Meaning) (genesis : Genesis) where
         sums = sums;
         within = omega (arith, e);
         text = packed_is done w sums;
-        served = sym (drop_of_length-le done (omega (arith, e)));
+        retained = sym (drop_of_length-le done (omega (arith, e)));
         known = λ p h. h;
         kept = λ p h. h;
       }
@@ -116,7 +116,7 @@ module _ (m : Meaning) (genesis : Genesis) where
         sums = f.sums;
         within = omega (arith, e);
         text = packed_is done l.whole f.sums;
-        served = sym (drop_of_length-le done (omega (arith, e)));
+        retained = sym (drop_of_length-le done (omega (arith, e)));
         known = f.known;
         kept = f.kept;
       }
@@ -127,7 +127,7 @@ module _ (m : Meaning) (genesis : Genesis) where
     sums = f.sums;
     within = f.within;
     text = f.text;
-    served = f.served;
+    retained = f.retained;
     known = λ q h. elim (with_only p l.pairs q h) [
       | inl is ↦ subst (λ (x : Pair). Contains (pairs ++ p ∷ []) x) is (Contains-push pairs p)
       | inr old ↦ Contains-append_left pairs (p ∷ []) q (f.known q old)
@@ -146,7 +146,7 @@ module _ (m : Meaning) (genesis : Genesis) where
     within = omega (arith, f.within, length-append done (v ∷ []));
     text = f.text ∙ ap (λ (L : List Command). packed (whole_after m genesis L))
         (sym (take-append-le l.snapshot_position done (v ∷ []) f.within));
-    served = ap (λ (xs : List Command). xs ++ v ∷ []) f.served
+    retained = ap (λ (xs : List Command). xs ++ v ∷ []) f.retained
         ∙ sym (drop-append-le l.snapshot_position done (v ∷ []) f.within);
     known = λ p h. h;
     kept = λ p h. h;
@@ -162,7 +162,7 @@ module _ (m : Meaning) (genesis : Genesis) where
         sums = sums;
         within = omega (arith, e);
         text = packed_is L w sums;
-        served = sym (drop_of_length-le L (omega (arith, e)));
+        retained = sym (drop_of_length-le L (omega (arith, e)));
         known = above_among w.roster.executed l.pairs pairs f.known;
         kept = above_among w.roster.executed pairs l.pairs f.kept;
       }
@@ -204,22 +204,22 @@ module _ (m : Meaning) (genesis : Genesis) where
 
   pub served_stands : (done : List Command) (pairs : List Pair) (l : LearnerValue) (i : ℕ) (v : Command)
       → AgreesWithList m genesis done pairs l → l.snapshot_position < i
-      → slice_get l.served (i - (l.snapshot_position + 1)) ≡ Some v → command_at done i ≡ Some v
+      → slice_get l.retained (i - (l.snapshot_position + 1)) ≡ Some v → command_at done i ≡ Some v
   served_stands done pairs l i v f above h =
       let s : ℕ = l.snapshot_position in
       let j : ℕ = i - (s + 1) in
       let place : i ≡ suc (s + j) = omega (arith, above) in
       ap (command_at done) place ∙ sym (got_behind s done j)
-      ∙ ap (λ (xs : List Command). slice_get xs j) (sym f.served) ∙ h
+      ∙ ap (λ (xs : List Command). slice_get xs j) (sym f.retained) ∙ h
 
   pub served_chosen : (sent : List Datagram) (done : List Command) (pairs : List Pair) (l : LearnerValue) (first : ℕ)
-      → Chosen genesis sent done → AgreesWithList m genesis done pairs l → IsServed l first
+      → Chosen genesis sent done → AgreesWithList m genesis done pairs l → IsRetained l first
       → AreChosenFrom genesis sent first (decided_from first l).commands
   served_chosen sent done pairs l first chosen f is k v h =
       let s : ℕ = l.snapshot_position in
       let j : ℕ = first - (s + 1) in
-      let there : slice_get l.served (j + k) ≡ Some v = sym (got_behind j l.served k)
-      ∙ got_taken 16 (drop j l.served) k v h in
+      let there : slice_get l.retained (j + k) ≡ Some v = sym (got_behind j l.retained k)
+      ∙ got_taken 16 (drop j l.retained) k v h in
       let place : j + k ≡ (first + k) - (s + 1) = omega (arith, is.0) in
       entry_chosen genesis sent done chosen (first + k) v
-      (served_stands done pairs l (first + k) v f (omega (arith, is.0)) (ap (slice_get l.served) (sym place) ∙ there))
+      (served_stands done pairs l (first + k) v f (omega (arith, is.0)) (ap (slice_get l.retained) (sym place) ∙ there))

@@ -10,11 +10,11 @@ use Rattle.lk_members.specs.Rosters.{PlainRoster, next_roster}
 use Rattle.lk_members.specs.Windows.{RosterValue, moved, newest_roster, changed_by}
 use Rattle.lk_state.specs.Meanings.{Meaning}
 use Rattle.lk_state.specs.Packed.{packed}
-use Rattle.lk_state.specs.Runs.{ran, served_by, in_effect_now}
+use Rattle.lk_state.specs.Runs.{ran, after_request, in_effect_now}
 use Rattle.lk_state.specs.declared.whole.Ran.{Ran}
 use Rattle.lk_learner.specs.Pairs.{without}
 use Rattle.lk_learner.specs.Learners.{Command, Pair, WholeValue, LearnerValue, IsLearner, executed, alpha, IsWanted}
-use Rattle.lk_learner.specs.Learners.{keeping, advanced, IsServed, decided_from}
+use Rattle.lk_learner.specs.Learners.{keeping, advanced, IsRetained, decided_from}
 use Rattle.lk_learner.specs.Installing.{pairs_above, installed}
 use Rattle.lk_learner.proofs.PairLaws.{kept_with, kept_without, kept_above}
 
@@ -26,8 +26,8 @@ moved_sets r changed v some = let n = length-append (drop 1 v.sets) (r.members �
     omega (arith, n, k, some)
 
 served_moves : (m : Meaning) (w : WholeValue) (q : Option RequestValue) → 1 ≤ length w.roster.sets
-    → ((served_by m w q).roster.executed ≡ w.roster.executed + 1)
-    × (length (served_by m w q).roster.sets ≡ length w.roster.sets)
+    → ((after_request m w q).roster.executed ≡ w.roster.executed + 1)
+    × (length (after_request m w q).roster.sets ≡ length w.roster.sets)
 served_moves m w None some = (refl, moved_sets (newest_roster w.roster) w.roster.changed w.roster some)
 served_moves m w (Some r) some =
     (refl, moved_sets (next_roster (newest_roster w.roster) r.op) (changed_by r.op w.roster).changed w.roster some)
@@ -40,7 +40,7 @@ ran_moves m v w some = served_moves m w (in_effect_now w.sessions v) some
 pub advanced_fits : (m : Meaning) (v : Command) (l : LearnerValue) → IsLearner l → IsLearner (advanced m v l)
 advanced_fits m v l f =
     let moves = ran_moves m v l.whole f.window.0 in
-    let longer : length (l.served ++ v ∷ []) ≡ length l.served + 1 = length-append l.served (v ∷ []) in
+    let longer : length (l.retained ++ v ∷ []) ≡ length l.retained + 1 = length-append l.retained (v ∷ []) in
     record {
       window = rw moves.1 f.window;
       reaches = omega (arith, moves.0, longer, f.reaches);
@@ -73,13 +73,13 @@ installed_fits w l f above sets some room = record {
 -- ---- what is served
 
 -- what is served fits into a message
-pub decided_fits : (first : ℕ) (l : LearnerValue) → IsLearner l → executed l ≤ 281474976710656 → IsServed l first
+pub decided_fits : (first : ℕ) (l : LearnerValue) → IsLearner l → executed l ≤ 281474976710656 → IsRetained l first
     → are_commands_from first (decided_from first l).commands ≡ true
 decided_fits first l f small is =
     let k : ℕ = first - (l.snapshot_position + 1) in
     let vs : List Command = (decided_from first l).commands in
-    let rest = length-drop k l.served in
-    let len = length-take 16 (drop k l.served) in
+    let rest = length-drop k l.retained in
+    let len = length-take 16 (drop k l.retained) in
     let some : 1 ≤ length vs = omega (arith, rest, len, f.reaches, is.0, is.1) in
     let few : length vs ≤ 16 = omega (arith, len) in
     let within : first + length vs ≤ 281474976710657 = omega (arith, rest, len, f.reaches, is.0, is.1, small) in
@@ -99,22 +99,22 @@ pub ran_is : (r : Ran) (i : ℕ) (a : Option Answer) → r.position ≡ i → r.
 ran_is r i a p q = λ k. Some (record { position = p k; answer = q k })
 
 pub stepped : (m : Meaning) (v : Command) (l : LearnerValue) (w : WholeValue)
-    (served : List Command) (pairs : List Pair)
-    → w ≡ ran m v l.whole → served ≡ l.served ++ v ∷ [] → pairs ≡ without (executed l + 1) l.pairs
+    (retained : List Command) (pairs : List Pair)
+    → w ≡ ran m v l.whole → retained ≡ l.retained ++ v ∷ [] → pairs ≡ without (executed l + 1) l.pairs
     → record {
       whole = w;
       snapshot_position = l.snapshot_position;
       snapshot = l.snapshot;
-      served = served;
+      retained = retained;
       pairs = pairs;
       gathered = l.gathered;
     } ≡ advanced m v l
-stepped m v l w served pairs a b c =
+stepped m v l w retained pairs a b c =
     λ k. record {
       whole = a k;
       snapshot_position = l.snapshot_position;
       snapshot = l.snapshot;
-      served = b k;
+      retained = b k;
       pairs = c k;
       gathered = l.gathered;
     }

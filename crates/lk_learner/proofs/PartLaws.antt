@@ -8,8 +8,8 @@ use Rattle.lk_agreement_laws.specs.Chosen.{Command}
 use Rattle.lk_agreement_laws.specs.Datagrams.{Genesis, Datagram}
 use Rattle.lk_agreement_laws.specs.Snapshots.{IsSlice}
 use Rattle.lk_agreement_laws.specs.Soundness.{Sound}
-use Rattle.lk_agreement_laws.proofs.Histories.{slices_join}
-use Rattle.lk_learner.specs.Gathering.{begun_by, joined, joined_any, begins, heard}
+use Rattle.lk_agreement_laws.proofs.Histories.{slices_concatenate}
+use Rattle.lk_learner.specs.Gathering.{first_gathered, with_next, with_next_any, starts_text, heard}
 use Rattle.lk_learner.specs.Learners.{GatheredValue}
 use Rattle.lk_learner.specs.Parts.{part_of, AreParts}
 
@@ -41,7 +41,7 @@ module _ (genesis : Genesis) (sent : List Datagram) (text : List Command → Lis
   IsFront g = IsSlice genesis sent text g.position g.total 0 g.bytes
 
   module _ (p : PartValue) (part : IsSlice genesis sent text p.position p.total p.offset p.bytes) where
-    begun_front : IsFront (begun_by p)
+    begun_front : IsFront (first_gathered p)
     begun_front = by_offset (eqb p.offset 0) refl
       where
         by_offset : (t : Bool) → eqb p.offset 0 ≡ t → IsSlice genesis sent text p.position p.total 0 (cond t p.bytes [])
@@ -55,7 +55,7 @@ module _ (genesis : Genesis) (sent : List Datagram) (text : List Command → Lis
           slice = refl;
         }
 
-    joined_front : (g : GatheredValue) → IsFront g → IsFront (joined g p)
+    joined_front : (g : GatheredValue) → IsFront g → IsFront (with_next g p)
     joined_front g front =
         by_test (eqb p.position g.position && (eqb p.total g.total && eqb p.offset (length g.bytes))) refl
       where
@@ -69,27 +69,28 @@ module _ (genesis : Genesis) (sent : List Datagram) (text : List Command → Lis
             (eqb-true p.position g.position at.0)
             (subst₂ (λ (t k : ℕ). IsSlice genesis sent text p.position t k p.bytes) (eqb-true p.total g.total both.0)
             (eqb-true p.offset (length g.bytes) both.1) part) in
-            slices_join genesis sent sound text g.position g.total g.bytes p.bytes front here
+            slices_concatenate genesis sent sound text g.position g.total g.bytes p.bytes front here
         by_test false e = front
 
     some_is : (a b : GatheredValue) → Some a ≡ Some b → a ≡ b
     some_is a b same = cc same
 
     with_old : (old : Option GatheredValue) → ((g : GatheredValue) → old ≡ Some g → IsFront g) → (g : GatheredValue)
-        → cond (begins old p) (Some (begun_by p)) (joined_any old p) ≡ Some g → IsFront g
-    with_old None fits g is = subst IsFront (some_is (begun_by p) g is) begun_front
+        → cond (starts_text old p) (Some (first_gathered p)) (with_next_any old p) ≡ Some g → IsFront g
+    with_old None fits g is = subst IsFront (some_is (first_gathered p) g is) begun_front
     with_old (Some k) fits g is = by_newer (ltb k.position p.position) is
       where
-        by_newer : (t : Bool) → cond t (Some (begun_by p)) (Some (joined k p)) ≡ Some g → IsFront g
-        by_newer true same = subst IsFront (some_is (begun_by p) g same) begun_front
-        by_newer false same = subst IsFront (some_is (joined k p) g same) (joined_front k (fits k refl))
+        by_newer : (t : Bool) → cond t (Some (first_gathered p)) (Some (with_next k p)) ≡ Some g → IsFront g
+        by_newer true same = subst IsFront (some_is (first_gathered p) g same) begun_front
+        by_newer false same = subst IsFront (some_is (with_next k p) g same) (joined_front k (fits k refl))
 
     -- so it goes on being
     pub heard_front : (e : ℕ) (old : Option GatheredValue) → ((g : GatheredValue) → old ≡ Some g → IsFront g)
         → (g : GatheredValue) → heard e old p ≡ Some g → IsFront g
     heard_front e old fits g is = by_test (ltb e p.position) is
       where
-        by_test : (t : Bool) → cond t (cond (begins old p) (Some (begun_by p)) (joined_any old p)) old ≡ Some g
+        by_test : (t : Bool) → cond t (cond (starts_text old p) (Some (first_gathered p)) (with_next_any old p)) old
+            ≡ Some g
             → IsFront g
         by_test true same = with_old old fits g same
         by_test false same = fits g same

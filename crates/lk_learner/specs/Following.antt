@@ -14,6 +14,6 @@ pub record AgreesWithList (m : Meaning) (genesis : Genesis) (done : List Command
   pub sums : SumsUp m genesis done l.whole
   pub within : l.snapshot_position ≤ length done
   pub text : l.snapshot ≡ packed (whole_after m genesis (take l.snapshot_position done))
-  pub served : l.served ≡ drop l.snapshot_position done
+  pub retained : l.retained ≡ drop l.snapshot_position done
   pub known : AreAmong l.pairs pairs
   pub kept : AreAmong pairs l.pairs

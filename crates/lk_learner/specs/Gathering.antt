@@ -15,21 +15,21 @@ abbrev pub first_bytes : PartValue → List ℕ
 first_bytes p = if p.offset == 0 then p.bytes else []
 
 -- what is gathered with this part as its start: nothing yet, if the part is not the first one
-abbrev pub begun_by : PartValue → GatheredValue
-begun_by p = record { position = p.position; total = p.total; bytes = first_bytes p }
+abbrev pub first_gathered : PartValue → GatheredValue
+first_gathered p = record { position = p.position; total = p.total; bytes = first_bytes p }
 
 -- the part is one of the same snapshot: its total agrees, and it continues the gathered bytes
 abbrev pub goes_on : GatheredValue → PartValue → Bool
 goes_on g p = (p.position == g.position) && ((p.total == g.total) && (p.offset == length g.bytes))
 
 -- what is gathered with this part: it is appended if it continues the gathered bytes
-abbrev pub joined : GatheredValue → PartValue → GatheredValue
-joined g p = if goes_on g p then record { position = g.position; total = g.total; bytes = g.bytes ++ p.bytes } else g
+abbrev pub with_next : GatheredValue → PartValue → GatheredValue
+with_next g p = if goes_on g p then record { position = g.position; total = g.total; bytes = g.bytes ++ p.bytes } else g
 
 -- the part is of a snapshot above that which is gathered, if any is
-abbrev pub begins : Option GatheredValue → PartValue → Bool
-begins None p = true
-begins (Some g) p = nat_lt g.position p.position
+abbrev pub starts_text : Option GatheredValue → PartValue → Bool
+starts_text None p = true
+starts_text (Some g) p = nat_lt g.position p.position
 
 -- it continues what is gathered, if anything is
 abbrev pub goes_on_any : Option GatheredValue → PartValue → Bool
@@ -37,16 +37,16 @@ goes_on_any None p = false
 goes_on_any (Some g) p = goes_on g p
 
 -- the part is appended to what is gathered, if anything is
-abbrev pub joined_any : Option GatheredValue → PartValue → Option GatheredValue
-joined_any None p = None
-joined_any (Some g) p = Some (joined g p)
+abbrev pub with_next_any : Option GatheredValue → PartValue → Option GatheredValue
+with_next_any None p = None
+with_next_any (Some g) p = Some (with_next g p)
 
 -- what is gathered after a part, given how many positions are executed: a part at an executed position is dropped, one
 -- at a greater position than that of the gathered text starts afresh, and any other continues the text or is dropped
 abbrev pub heard : ℕ → Option GatheredValue → PartValue → Option GatheredValue
 heard executed g p =
-    if nat_lt executed p.position then (if begins g p then Some (begun_by p) else joined_any g p) else g
+    if nat_lt executed p.position then (if starts_text g p then Some (first_gathered p) else with_next_any g p) else g
 
--- its bytes are taken: it is at a position that is not executed, and begins a text or continues the gathered one
-abbrev pub is_taken : ℕ → Option GatheredValue → PartValue → Bool
-is_taken executed g p = nat_lt executed p.position && (if begins g p then p.offset == 0 else goes_on_any g p)
+-- the part can be used: it is at a position that is not executed, and begins a text or continues the gathered one
+abbrev pub is_usable : ℕ → Option GatheredValue → PartValue → Bool
+is_usable executed g p = nat_lt executed p.position && (if starts_text g p then p.offset == 0 else goes_on_any g p)

@@ -11,7 +11,7 @@ with_gathered g l = record {
   whole = l.whole;
   snapshot_position = l.snapshot_position;
   snapshot = l.snapshot;
-  served = l.served;
+  retained = l.retained;
   pairs = l.pairs;
   gathered = g;
 }
@@ -42,7 +42,7 @@ installed w l = record {
   whole = w;
   snapshot_position = w.roster.executed;
   snapshot = packed w;
-  served = [];
+  retained = [];
   pairs = pairs_above w.roster.executed l.pairs;
   gathered = None;
 }

@@ -23,7 +23,7 @@ pub record LearnerValue : Type 0 where
   pub whole : WholeValue
   pub snapshot_position : ℕ
   pub snapshot : List ℕ
-  pub served : List Command
+  pub retained : List Command
   pub pairs : List Pair
   pub gathered : Option GatheredValue
 
@@ -38,7 +38,7 @@ alpha l = length l.whole.roster.sets
 -- the invariant
 pub record IsLearner (l : LearnerValue) : Type 0 where
   pub window : IsAlpha (alpha l)
-  pub reaches : executed l ≡ l.snapshot_position + length l.served
+  pub reaches : executed l ≡ l.snapshot_position + length l.retained
   pub some : 1 ≤ length l.snapshot
   pub room : length l.snapshot ≤ max_base
   pub kept : AreKept (executed l) (alpha l) l.pairs
@@ -49,7 +49,7 @@ begun w = record {
   whole = w;
   snapshot_position = w.roster.executed;
   snapshot = packed w;
-  served = [];
+  retained = [];
   pairs = [];
   gathered = None;
 }
@@ -66,7 +66,7 @@ keeping p l = record {
   whole = l.whole;
   snapshot_position = l.snapshot_position;
   snapshot = l.snapshot;
-  served = l.served;
+  retained = l.retained;
   pairs = with_pair p l.pairs;
   gathered = l.gathered;
 }
@@ -81,7 +81,7 @@ advanced m v l = record {
   whole = ran m v l.whole;
   snapshot_position = l.snapshot_position;
   snapshot = l.snapshot;
-  served = l.served ++ v ∷ [];
+  retained = l.retained ++ v ∷ [];
   pairs = without (executed l + 1) l.pairs;
   gathered = l.gathered;
 }
@@ -92,19 +92,19 @@ with_snapshot l = record {
   whole = l.whole;
   snapshot_position = executed l;
   snapshot = packed l.whole;
-  served = [];
+  retained = [];
   pairs = l.pairs;
   gathered = l.gathered;
 }
 
 -- the position is executed, and above the snapshot
-abbrev pub IsServed : LearnerValue → ℕ → Type 0
-IsServed l i = (l.snapshot_position < i) × (i ≤ executed l)
+abbrev pub IsRetained : LearnerValue → ℕ → Type 0
+IsRetained l i = (l.snapshot_position < i) × (i ≤ executed l)
 
 -- the commands from there on, up to the last executed one, up to 16
 abbrev pub decided_from : ℕ → LearnerValue → DecidedValue
 decided_from first l =
-    record { first = first; commands = take max_commands (drop (first - (l.snapshot_position + 1)) l.served) }
+    record { first = first; commands = take max_commands (drop (first - (l.snapshot_position + 1)) l.retained) }
 
 -- how many bytes of a snapshot are gathered
 abbrev pub gathered_bytes : Option GatheredValue → ℕ

@@ -2,7 +2,7 @@ ghost use Rattle.std.specs.Prelude.{◌≡◌, ◌≤◌, ◌↔◌, IsTrue, IfS
 ghost use Rattle.lk_types.specs.Limits.{max_base};
 ghost use Rattle.lk_state.specs.States.{WholeValue};
 ghost use Rattle.lk_learner.specs.Unpacking.{Unpacks};
-ghost use Rattle.lk_learner.specs.Gathering.{first_bytes, begun_by, goes_on, joined};
+ghost use Rattle.lk_learner.specs.Gathering.{first_bytes, first_gathered, goes_on, with_next};
 
 use lk_messages::PartRef;
 use lk_state::{Machine, UnpackFault, Whole};
@@ -42,8 +42,8 @@ fn first_bytes(alloc: Global, part: &PartRef<'_>) -> Result<Vec<u8>, NoMemory>
 
 impl Gathered {
     // Starts gathering the part's snapshot: with the part's bytes if it is the first one, otherwise with none.
-    pub(crate) fn begun_by(alloc: Global, part: &PartRef<'_>) -> Result<Gathered, NoMemory>
-        ensures value { IfOk result (λ g. g ≡ begun_by part.now) }
+    pub(crate) fn first_gathered(alloc: Global, part: &PartRef<'_>) -> Result<Gathered, NoMemory>
+        ensures value { IfOk result (λ g. g ≡ first_gathered part.now) }
         ensures memory { OnErr result (part.now.offset ≡ 0) }
     {
         part.facts();
@@ -95,7 +95,7 @@ impl Gathered {
 
     // Appends the part if it continues these bytes. It needs memory for its bytes; a failed call changes nothing.
     pub(crate) fn append(&mut self, part: &PartRef<'_>) -> Result<(), NoMemory>
-        ensures ok { OnOk result (self.new ≡ joined self.old part.now) }
+        ensures ok { OnOk result (self.new ≡ with_next self.old part.now) }
         ensures err { OnErr result (self.new ≡ self.old) }
         ensures memory { OnErr result (IsTrue (goes_on self.old part.now)) }
     {

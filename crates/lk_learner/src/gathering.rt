@@ -1,5 +1,5 @@
 ghost use Rattle.std.specs.Prelude.{◌≡◌, IsTrue, OnOk, OnErr};
-ghost use Rattle.lk_learner.specs.Gathering.{begins, goes_on_any, joined_any, heard, is_taken};
+ghost use Rattle.lk_learner.specs.Gathering.{starts_text, goes_on_any, with_next_any, heard, is_usable};
 
 use crate::gathered::Gathered;
 use lk_messages::PartRef;
@@ -7,8 +7,8 @@ use lk_types::{Executed, NoMemory};
 use std::alloc::Global;
 
 // Whether the part replaces what is gathered: its snapshot is at a greater position, or nothing is gathered.
-fn begins(gathered: &Option<Gathered>, part: &PartRef<'_>) -> bool
-    ensures { result ≡ begins gathered.now part.now }
+fn starts_text(gathered: &Option<Gathered>, part: &PartRef<'_>) -> bool
+    ensures { result ≡ starts_text gathered.now part.now }
 {
     match gathered {
         Some(gathered) => gathered.position() < part.position(),
@@ -18,7 +18,7 @@ fn begins(gathered: &Option<Gathered>, part: &PartRef<'_>) -> bool
 
 // Appends the part if it continues what is gathered, and drops it otherwise. A failed call changes nothing.
 fn append_part(gathered: &mut Option<Gathered>, part: &PartRef<'_>) -> Result<(), NoMemory>
-    ensures ok { OnOk result (gathered.new ≡ joined_any gathered.old part.now) }
+    ensures ok { OnOk result (gathered.new ≡ with_next_any gathered.old part.now) }
     ensures err { OnErr result (gathered.new ≡ gathered.old) }
     ensures memory { OnErr result (IsTrue (goes_on_any gathered.old part.now)) }
 {
@@ -41,13 +41,13 @@ pub fn add_part(
 ) -> Result<(), NoMemory>
     ensures ok { OnOk result (gathered.new ≡ heard executed gathered.old part.now) }
     ensures err { OnErr result (gathered.new ≡ gathered.old) }
-    ensures memory { OnErr result (IsTrue (is_taken executed gathered.old part.now)) }
+    ensures memory { OnErr result (IsTrue (is_usable executed gathered.old part.now)) }
 {
     if part.position().get() <= executed.get() {
         return Ok(());
     }
-    if begins(gathered, part) {
-        *gathered = Some(Gathered::begun_by(alloc, part)?);
+    if starts_text(gathered, part) {
+        *gathered = Some(Gathered::first_gathered(alloc, part)?);
         return Ok(());
     }
     append_part(gathered, part)?;

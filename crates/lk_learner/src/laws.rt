@@ -12,7 +12,7 @@ ghost use Rattle.lk_state.specs.Meanings.{Meaning};
 ghost use Rattle.lk_state.specs.States.{SumsUp};
 ghost use Rattle.lk_learner.specs.Pairs.{AreKept, without};
 ghost use Rattle.lk_learner.specs.Learners.{Command, Pair, WholeValue, LearnerValue, executed, begun, keeping, IsNext};
-ghost use Rattle.lk_learner.specs.Learners.{advanced, IsServed, decided_from};
+ghost use Rattle.lk_learner.specs.Learners.{advanced, IsRetained, decided_from};
 ghost use Rattle.lk_learner.specs.Following.{AgreesWithList};
 ghost use Rattle.lk_learner.specs.Learners.{GatheredValue};
 ghost use Rattle.lk_learner.specs.Gathering.{heard};
@@ -74,10 +74,10 @@ pub fn a_learner_changes_as_it_may()
 pub fn what_is_served_is_chosen()
     ensures may { (m : Meaning) (genesis : Genesis) (sent : List Datagram) (w : PaxosState) (l : LearnerValue)
         (first : ℕ) → Stems genesis sent w → AgreesWithList m genesis w.done w.pairs l
-        → IsServed l first → MaySend genesis sent w (Decided (decided_from first l)) }
+        → IsRetained l first → MaySend genesis sent w (Decided (decided_from first l)) }
     ensures there { (m : Meaning) (genesis : Genesis) (done : List Command) (pairs : List Pair) (l : LearnerValue)
         (i : ℕ) (v : Command) → AgreesWithList m genesis done pairs l
-        → l.snapshot_position < i → slice_get l.served (i - (l.snapshot_position + 1)) ≡ Some v
+        → l.snapshot_position < i → slice_get l.retained (i - (l.snapshot_position + 1)) ≡ Some v
         → command_at done i ≡ Some v }
 {}
 

@@ -13,7 +13,7 @@ use std::alloc::Global;
 use std::marker::Model;
 
 /// What a node has learned of the list of commands: the state after those that it has executed (`whole`), the position
-/// and packed text of its snapshot, the commands executed since then (`served`), decided commands of later positions
+/// and packed text of its snapshot, the commands executed since then (`retained`), decided commands of later positions
 /// (`pairs`), and what it has gathered of another node's snapshot.
 #[derive(Drop)]
 pub struct Learner<M: Machine> {
@@ -21,7 +21,7 @@ pub struct Learner<M: Machine> {
     pub(crate) whole: Whole<M>,
     pub(crate) snapshot_position: Executed,
     pub(crate) snapshot: Vec<u8>,
-    pub(crate) served: Vec<Command>,
+    pub(crate) retained: Vec<Command>,
     pub(crate) pairs: ArrayVec<Pair, MAX_VOTES>,
     pub(crate) gathered: Option<Gathered>,
 }
@@ -35,7 +35,7 @@ impl<M: Machine> Model for Learner<M> {
       whole = l.whole;
       snapshot_position = l.snapshot_position;
       snapshot = l.snapshot.items;
-      served = l.served.items;
+      retained = l.retained.items;
       pairs = l.pairs.items;
       gathered = l.gathered;
     } };
@@ -45,7 +45,7 @@ impl<M: Machine> Model for Learner<M> {
           whole = l.whole;
           snapshot_position = l.snapshot_position;
           snapshot = l.snapshot.items;
-          served = l.served.items;
+          retained = l.retained.items;
           pairs = l.pairs.items;
           gathered = l.gathered;
         }) };
@@ -61,7 +61,7 @@ impl<M: Machine> Learner<M> {
     ghost use Rattle.lk_state.specs.States.{SumsUp, reply_of};
     ghost use Rattle.lk_state.specs.Runs.{run_answer};
     ghost use Rattle.lk_learner.specs.Learners.{IsLearner, executed, alpha, begun, IsWanted, keeping, IsNext, advanced};
-    ghost use Rattle.lk_learner.specs.Learners.{with_snapshot, IsServed, decided_from, gathered_bytes, wanted};
+    ghost use Rattle.lk_learner.specs.Learners.{with_snapshot, IsRetained, decided_from, gathered_bytes, wanted};
 
     /// Creates a learner from a state and its packed text, which becomes its snapshot. Takes no memory.
     pub fn new(alloc: Global, whole: Whole<M>, snapshot: Vec<u8>) -> Learner<M>
@@ -76,7 +76,7 @@ impl<M: Machine> Learner<M> {
             whole,
             snapshot_position,
             snapshot,
-            served: Vec::new(alloc),
+            retained: Vec::new(alloc),
             pairs: ArrayVec::new(),
             gathered: None,
         }
@@ -174,10 +174,10 @@ impl<M: Machine> Learner<M> {
             return Ok(None);
         }
         // Room is reserved first: once the command is executed nothing may fail.
-        self.served.reserve(1)?;
+        self.retained.reserve(1)?;
         let ran = self.whole.run(self.pairs[0].command())?;
         let pair = self.pairs.remove(0);
-        self.served.push(pair.command).unwrap();
+        self.retained.push(pair.command).unwrap();
         Ok(Some(ran))
     }
 
@@ -202,7 +202,7 @@ impl<M: Machine> Learner<M> {
         self.whole.facts();
         self.snapshot_position = self.whole.executed();
         self.snapshot = snapshot;
-        self.served = Vec::new(self.alloc);
+        self.retained = Vec::new(self.alloc);
     }
 
     /// Returns what to ask another node for: the commands from the next position on, or the rest of the snapshot being
@@ -225,9 +225,9 @@ impl<M: Machine> Learner<M> {
         }
     }
 
-    // Returns the index that the position has in `served`; at or past its end if the position is not executed. `None`
+    // Returns the index that the position has in `retained`; at or past its end if the position is not executed. `None`
     // if the snapshot has replaced it.
-    fn served_index(&self, position: Position) -> Option<usize>
+    fn retained_index(&self, position: Position) -> Option<usize>
         ensures { MatchOption result (position ≤ self.now.snapshot_position)
             (λ k. (self.now.snapshot_position < position) × (k ≡ position - (self.now.snapshot_position + 1))) }
     {
@@ -240,34 +240,34 @@ impl<M: Machine> Learner<M> {
     /// Returns the command that was executed at the position. `None` if it is not executed, or the snapshot has
     /// replaced it.
     pub fn executed_at(&self, position: Position) -> Option<&Command>
-        ensures some { MatchOption result (IsServed self.now position → ⊥)
-            (λ v. IsServed self.now position
-            × (slice_get self.now.served (position - (self.now.snapshot_position + 1)) ≡ Some v.now)) }
+        ensures some { MatchOption result (IsRetained self.now position → ⊥)
+            (λ v. IsRetained self.now position
+            × (slice_get self.now.retained (position - (self.now.snapshot_position + 1)) ≡ Some v.now)) }
     {
-        self.served.get(self.served_index(position)?)
+        self.retained.get(self.retained_index(position)?)
     }
 
     // Returns the executed commands from the position on, up to 16. `None` if the position is not executed, or the
     // snapshot has replaced it.
     fn commands_from(&self, first: Position) -> Option<&[Command]>
-        ensures { MatchOption result (IsServed self.now first → ⊥)
-            (λ vs. IsServed self.now first × (vs.now ≡ (decided_from first self.now).commands)) }
+        ensures { MatchOption result (IsRetained self.now first → ⊥)
+            (λ vs. IsRetained self.now first × (vs.now ≡ (decided_from first self.now).commands)) }
     {
-        let start = self.served_index(first)?;
-        let count = self.served.len();
+        let start = self.retained_index(first)?;
+        let count = self.retained.len();
         if start >= count {
             return None;
         }
         let end = count.min(start + MAX_COMMANDS);
-        self.served.get(start..end)
+        self.retained.get(start..end)
     }
 
     /// Returns the reply to a node that asks for the commands from `first` on: up to 16 of them, up to the last
     /// executed one. `None` if `first` is not executed, or the snapshot has replaced it: then `parts` is the reply.
     pub fn serve(&self, first: Position) -> Result<Option<Decided>, NoMemory>
-        ensures some { IsServed self.now first → IfOk result (λ d. d ≡ Some (decided_from first self.now)) }
-        ensures none { (IsServed self.now first → ⊥) → result ≡ Ok None }
-        ensures memory { OnErr result (IsServed self.now first) }
+        ensures some { IsRetained self.now first → IfOk result (λ d. d ≡ Some (decided_from first self.now)) }
+        ensures none { (IsRetained self.now first → ⊥) → result ≡ Ok None }
+        ensures memory { OnErr result (IsRetained self.now first) }
     {
         let _ = self.whole.executed().get();
         let Some(commands) = self.commands_from(first) else {

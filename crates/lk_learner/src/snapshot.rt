@@ -4,7 +4,7 @@ ghost use Rattle.std.specs.Prelude.{◌≡◌, ◌<◌, ◌≤◌, ◌↔◌, le
 ghost use Rattle.lk_state.specs.Packed.{packed};
 ghost use Rattle.lk_learner.specs.Learners.{WholeValue, GatheredValue, executed, alpha};
 ghost use Rattle.lk_learner.specs.Parts.{start_of, AreParts};
-ghost use Rattle.lk_learner.specs.Gathering.{is_taken};
+ghost use Rattle.lk_learner.specs.Gathering.{is_usable};
 ghost use Rattle.lk_learner.specs.Installing.{hearing, HasWhole, MayInstall, pairs_above, installed, Installs};
 
 use crate::gathering::add_part;
@@ -51,7 +51,7 @@ impl<M: Machine> Learner<M> {
     pub fn add_part(&mut self, part: &PartRef<'_>) -> Result<(), NoMemory>
         ensures ok { OnOk result (self.new ≡ hearing part.now self.old) }
         ensures err { OnErr result (self.new ≡ self.old) }
-        ensures memory { OnErr result (IsTrue (is_taken (executed self.old) self.old.gathered part.now)) }
+        ensures memory { OnErr result (IsTrue (is_usable (executed self.old) self.old.gathered part.now)) }
     {
         let executed = self.whole.executed();
         add_part(self.alloc, executed, &mut self.gathered, part)?;
@@ -98,7 +98,7 @@ impl<M: Machine> Learner<M> {
         self.snapshot_position = whole.executed();
         self.whole = whole;
         self.snapshot = snapshot;
-        self.served = Vec::new(self.alloc);
+        self.retained = Vec::new(self.alloc);
         self.gathered = None;
     }
 

@@ -30,7 +30,7 @@ use Rattle.lk_locks.specs.Holders.{is_held, left_by}
 use Rattle.lk_locks.specs.Sharers.{is_among}
 use Rattle.lk_locks.specs.Plain.{Names, Table, empty, transition, transition_in, changed, answer_to, answer, next_by}
 use Rattle.lk_locks.specs.Plain.{next, raised}
-use Rattle.lk_locks.specs.Plain.{given, fence_after, first_fence, acquired_at, acquired, joined, shared_at, shared}
+use Rattle.lk_locks.specs.Plain.{given, fence_after, first_fence, acquired_at, acquired, shared_with, shared_at, shared}
 use Rattle.lk_locks.specs.Plain.{left_at, released, is_held_at, broken, asked, asked_at, checked}
 use Rattle.lk_locks.specs.Meaning.{next_by_task, task_answer}
 use Rattle.lk_locks.specs.PackedLaws.{decided}
@@ -93,7 +93,7 @@ share_goes : (client : ℕ) (s : Option Slot) (names : ℕ) → RowGoes s (share
 share_goes client None names = first_goes Shared (Together (client ∷ [])) names (λ fence. refl)
 share_goes client (Some s) names = by s.holders
   where
-    joined_goes : (clients : List ℕ) → RowGoes (Some s) (joined client s.fence clients)
+    joined_goes : (clients : List ℕ) → RowGoes (Some s) (shared_with client s.fence clients)
     joined_goes clients = elim (decided (is_among client clients)) [
       | inl e ↦ rw e (inr (inr (refl, refl)))
       | inr new ↦ elim (decided (ltb (length clients) 8))

@@ -7,7 +7,7 @@ use Rattle.lk_types.specs.Ranges.{IsClient}
 use Rattle.lk_types.specs.Commands.{IsCommand}
 use Rattle.lk_types.specs.declared.command.Op.{Op}
 use Rattle.lk_types.specs.declared.command.Op.TheVariants.{Table as TableOp, Join, Leave, Raise}
-use Rattle.lk_members.specs.Effects.{Command, RequestValue, Noop, Request, is_older, in_effect, placed, effects}
+use Rattle.lk_members.specs.Effects.{Command, RequestValue, Noop, Request, is_older, in_effect, positioned, effects}
 use Rattle.lk_members.proofs.Memberships.{added, effects-push}
 use Rattle.lk_state.specs.Meanings.{KeepsTexts}
 use Rattle.lk_state.specs.States.{next_text, text_of}
@@ -82,7 +82,7 @@ abbrev TextIsPlain : List Command → Type 0
 TextIsPlain L = AllByRecursion IsCommand L → IsTextOf (table_of L) (text_of table_meaning L)
 
 none_is_plain : TextIsPlain []
-unfolding table_of text_of effects placed
+unfolding table_of text_of effects positioned
 none_is_plain all = (empty_are_names false, refl)
 
 more_is_plain : (L : List Command) (c : Command) → TextIsPlain L → TextIsPlain (L ++ c ∷ [])

@@ -19,7 +19,7 @@ use Rattle.lk_locks.specs.Held.{IsFree}
 use Rattle.lk_locks.specs.Holders.{is_held, left_by}
 use Rattle.lk_locks.specs.Sharers.{is_among}
 use Rattle.lk_locks.specs.Plain.{Names, Table, empty, transition, answer_to, answer, given, fence_after, first_fence}
-use Rattle.lk_locks.specs.Plain.{acquired_at, acquired, joined, shared_at, shared, left_at, released, is_held_at}
+use Rattle.lk_locks.specs.Plain.{acquired_at, acquired, shared_with, shared_at, shared, left_at, released, is_held_at}
 use Rattle.lk_locks.specs.Plain.{broken, asked, checked}
 use Rattle.lk_locks.specs.Meaning.{next_by_task, task_answer}
 use Rattle.lk_locks.specs.PackedLaws.{decided}
@@ -147,7 +147,7 @@ granted_free client (Acquire name) (Some s) names fence e = by s.holders e
     by (Together clients) e = cc
 granted_free client (Share name) (Some s) names fence e = absurd (by s.holders e)
   where
-    joined_not : (clients : List ℕ) → (joined client s.fence clients).answer ≡ Granted fence → ⊥
+    joined_not : (clients : List ℕ) → (shared_with client s.fence clients).answer ≡ Granted fence → ⊥
     joined_not clients e = elim (decided (is_among client clients)) [
       | inl a ↦ let no = rw a at e in cc
       | inr a ↦ elim (decided (ltb (length clients) 8))

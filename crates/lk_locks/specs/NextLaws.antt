@@ -19,7 +19,8 @@ use Rattle.lk_locks.specs.Sharers.{AreSharers, is_among, without}
 use Rattle.lk_locks.specs.SharerLaws.{with_client-fits, held_by-fits, one_sharer, least-fits}
 use Rattle.lk_locks.specs.Plain.{Names, Table, transition, transition_in, changed, next_by, next, answer_to, raised}
 use Rattle.lk_locks.specs.Plain.{given}
-use Rattle.lk_locks.specs.Plain.{fence_after, first_fence, acquired_at, acquired, joined, shared_at, shared, left_at}
+use Rattle.lk_locks.specs.Plain.{fence_after, first_fence, acquired_at, acquired, shared_with, shared_at, shared}
+use Rattle.lk_locks.specs.Plain.{left_at}
 use Rattle.lk_locks.specs.Plain.{released, is_held_at, broken, asked_at, asked, checked}
 use Rattle.lk_locks.specs.Packed.{Entry, IsSlotIn, IsTableEntry, AreNames, IsTable, IsTableText, table_in}
 use Rattle.lk_locks.specs.declared.body.Body.{Body}
@@ -121,9 +122,9 @@ module _ (raised_now : Bool) where
   IsKept None = Unit {0}
   IsKept (Some s) = IsSlotIn raised_now s
 
-  abbrev pub MayStand : Option Slot → ℕ → Option Slot → Type 0
-  MayStand old names None = Unit {0}
-  MayStand old names (Some s) = IsSlotIn raised_now s × (old ≡ None → names < 512)
+  abbrev pub IsNextSlot : Option Slot → ℕ → Option Slot → Type 0
+  IsNextSlot old names None = Unit {0}
+  IsNextSlot old names (Some s) = IsSlotIn raised_now s × (old ≡ None → names < 512)
 
   -- what is given: a fence in its range, and for a new name there is room
   abbrev MayGive : Option Slot → ℕ → Result ℕ Answer → Type 0
@@ -145,32 +146,32 @@ module _ (raised_now : Bool) where
       ]
 
   given_may : (told : ℕ → Answer) (h : Holders) (old : Option Slot) (names : ℕ) (r : Result ℕ Answer) → IsHolders h
-      → is_kept raised_now h ≡ true → MayGive old names r → MayStand old names (given told h r).change
+      → is_kept raised_now h ≡ true → MayGive old names r → IsNextSlot old names (given told h r).change
   given_may told h old names (Ok fence) is_holders is_known may = ((may.0, (is_holders, is_known)), may.1)
   given_may told h old names (Err refusal) is_holders is_known may = tt
 
   acquired_may : (client : ℕ) (old : Option Slot) (names : ℕ) → IsClient client → IsKept old
-      → MayStand old names (acquired client old names).change
+      → IsNextSlot old names (acquired client old names).change
   acquired_may client None names is_client fits =
       given_may Granted (Alone client) None names (first_fence names) is_client refl (first_may names)
   acquired_may client (Some s) names is_client fits = by s.holders
     where
-      by : (h : Holders) → MayStand (Some s) names (acquired_at client s.fence h).change
+      by : (h : Holders) → IsNextSlot (Some s) names (acquired_at client s.fence h).change
       by Nobody = given_may Granted (Alone client) (Some s) names (fence_after s.fence) is_client refl
           (after_may s names fits.0)
       by (Alone holder) = tt
       by (Together clients) = tt
 
   shared_may : (client : ℕ) (old : Option Slot) (names : ℕ) → raised_now ≡ true → IsClient client → IsKept old
-      → MayStand old names (shared client old names).change
+      → IsNextSlot old names (shared client old names).change
   shared_may client None names is_raised is_client fits =
       given_may Shared (Together (client ∷ [])) None names (first_fence names)
       (one_sharer client is_client) is_raised (first_may names)
   shared_may client (Some s) names is_raised is_client fits = by s.holders fits.1.0
     where
-      joined_may : (clients : List ℕ) → AreSharers clients
-          → MayStand (Some s) names (joined client s.fence clients).change
-      joined_may clients are = elim (decided (is_among client clients)) [
+      shared_with_may : (clients : List ℕ) → AreSharers clients
+          → IsNextSlot (Some s) names (shared_with client s.fence clients).change
+      shared_with_may clients are = elim (decided (is_among client clients)) [
         | inl e ↦ rw e tt
         | inr new ↦ elim (decided (ltb (length clients) 8)) [
           | inl e ↦ rw (new, e) (
@@ -181,15 +182,15 @@ module _ (raised_now : Bool) where
         ]
       ]
 
-      by : (h : Holders) → IsHolders h → MayStand (Some s) names (shared_at client s.fence h).change
+      by : (h : Holders) → IsHolders h → IsNextSlot (Some s) names (shared_at client s.fence h).change
       by Nobody is = given_may Shared (Together (client ∷ [])) (Some s) names (fence_after s.fence)
           (one_sharer client is_client) is_raised (after_may s names fits.0)
       by (Alone holder) is = tt
-      by (Together clients) is = joined_may clients is
+      by (Together clients) is = shared_with_may clients is
 
   left_may : (client fence : ℕ) (old : Option Slot) (names : ℕ) (s : Slot) → old ≡ Some s → IsCount fence
       → (o : Option Holders) → ((h : Holders) → o ≡ Some h → IsHolders h × (is_kept raised_now h ≡ true))
-      → MayStand old names (left_at fence o).change
+      → IsNextSlot old names (left_at fence o).change
   left_may client fence old names s is fits None h = tt
   left_may client fence old names s is fits (Some holders) h =
       ((fits, h holders refl), λ none. let no : Some s ≡ None = sym is ∙ none in absurd cc)
@@ -216,7 +217,7 @@ module _ (raised_now : Bool) where
       ]
 
   released_may : (client fence : ℕ) (old : Option Slot) (names : ℕ) → IsKept old
-      → MayStand old names (released client fence old).change
+      → IsNextSlot old names (released client fence old).change
   released_may client fence None names fits = tt
   released_may client fence (Some s) names fits = elim (decided (eqb s.fence fence)) [
     | inl e ↦ rw e (left_may client fence (Some s) names s refl (subst IsCount (eqb-true s.fence fence e) fits.0)
@@ -224,7 +225,7 @@ module _ (raised_now : Bool) where
     | inr e ↦ rw e tt
   ]
 
-  broken_may : (fence : ℕ) (old : Option Slot) (names : ℕ) → IsKept old → MayStand old names (broken fence old).change
+  broken_may : (fence : ℕ) (old : Option Slot) (names : ℕ) → IsKept old → IsNextSlot old names (broken fence old).change
   broken_may fence None names fits = tt
   broken_may fence (Some s) names fits = elim (tested (is_held s.holders) s.fence fence) [
     | inl h ↦ rw h.0 ((subst IsCount h.1 fits.0, (tt, refl)), λ none. absurd cc)
@@ -232,7 +233,7 @@ module _ (raised_now : Bool) where
   ]
 
   row_may : (client : ℕ) (body : Body) (old : Option Slot) (names : ℕ) → is_known raised_now body ≡ true
-      → IsClient client → IsKept old → MayStand old names (transition client body old names).change
+      → IsClient client → IsKept old → IsNextSlot old names (transition client body old names).change
   row_may client (Acquire name) old names is_known is_client fits = acquired_may client old names is_client fits
   row_may client (Release name fence) old names is_known is_client fits = released_may client fence old names fits
   row_may client (Ask name) old names is_known is_client fits = tt
@@ -257,13 +258,13 @@ module _ (raised_now : Bool) where
   kept m name fits = subst IsKept (sym (map.get-entries m name)) (found_fits name (map.entries m) fits.1)
 
   changed_are_names : (m : Names) (name : List ℕ) (change : Option Slot) → AreNames raised_now m → IsName name
-      → MayStand (map.get m name) (map.len m) change → AreNames raised_now (changed name change m)
+      → IsNextSlot (map.get m name) (map.len m) change → AreNames raised_now (changed name change m)
   changed_are_names m name None fits named may = fits
   changed_are_names m name (Some s) fits named may = insert_are_names raised_now m name s fits (named, may.0) may.1
 
   -- what a transition writes may be in a table
   pub row_in_may : (client : ℕ) (body : Body) (m : Names) → is_known raised_now body ≡ true → IsClient client
-      → AreNames raised_now m → MayStand (map.get m (name_of body)) (map.len m) (transition_in client body m).change
+      → AreNames raised_now m → IsNextSlot (map.get m (name_of body)) (map.len m) (transition_in client body m).change
   row_in_may client body m is_known is_client fits =
       row_may client body (map.get m (name_of body)) (map.len m) is_known is_client (kept m (name_of body) fits)
 
@@ -349,8 +350,9 @@ module _ (raised_now : Bool) where
       (first_may raised_now names) (first_refuses names)
   shared_answers client (Some s) names fits = by s.holders fits.1.0
     where
-      joined_answers : (clients : List ℕ) → AreSharers clients → IsAnswer (joined client s.fence clients).answer
-      joined_answers clients are = elim (decided (is_among client clients)) [
+      shared_with_answers : (clients : List ℕ) → AreSharers clients
+          → IsAnswer (shared_with client s.fence clients).answer
+      shared_with_answers clients are = elim (decided (is_among client clients)) [
         | inl e ↦ rw e fits.0
         | inr new ↦ elim (decided (ltb (length clients) 8))
             [ inl e ↦ rw (new, e) fits.0 | inr e ↦ rw (new, e) (least-fits clients are, fits.0) ]
@@ -360,7 +362,7 @@ module _ (raised_now : Bool) where
       by Nobody is = given_answers Shared (Together (client ∷ [])) (Some s) names (fence_after s.fence) (λ fence f. f)
           (after_may raised_now s names fits.0) (after_refuses s.fence)
       by (Alone holder) is = (is, fits.0)
-      by (Together clients) is = joined_answers clients is
+      by (Together clients) is = shared_with_answers clients is
 
   left_answers : (fence : ℕ) (o : Option Holders) → IsAnswer (left_at fence o).answer
   left_answers fence None = tt

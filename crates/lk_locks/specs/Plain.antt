@@ -65,9 +65,9 @@ abbrev pub acquired : ℕ → Option Slot → ℕ → Transition
 acquired client None names = given Granted (Alone client) (first_fence names)
 acquired client (Some s) names = acquired_at client s.fence s.holders
 
--- joining those who share the name takes no new fence
-abbrev pub joined : ℕ → ℕ → List ℕ → Transition
-joined client fence clients =
+-- one more client shares the name, at the same fence
+abbrev pub shared_with : ℕ → ℕ → List ℕ → Transition
+shared_with client fence clients =
     if is_among client clients then unchanged (Shared fence)
     else if nat_lt (length clients) max_sharers then
     record {
@@ -79,7 +79,7 @@ joined client fence clients =
 abbrev pub shared_at : ℕ → ℕ → Holders → Transition
 shared_at client fence Nobody = given Shared (Together (client ∷ [])) (fence_after fence)
 shared_at client fence (Alone holder) = unchanged (Busy holder fence)
-shared_at client fence (Together clients) = joined client fence clients
+shared_at client fence (Together clients) = shared_with client fence clients
 
 abbrev pub shared : ℕ → Option Slot → ℕ → Transition
 shared client None names = given Shared (Together (client ∷ [])) (first_fence names)

@@ -176,7 +176,7 @@ impl LockTable {
 
     // Executes a body that the table knows, and returns the answer. Only a new name takes memory. An `Err` changes
     // nothing.
-    fn serve(&mut self, client: ClientNo, body: Body) -> Result<Answer, NoMemory>
+    fn execute_known(&mut self, client: ClientNo, body: Body) -> Result<Answer, NoMemory>
         requires { is_known self.old.raised body ≡ true }
         ensures answer { IfOk result (λ a. a ≡ (transition_in client body self.old.names).answer) }
         ensures ok { OnOk result
@@ -203,7 +203,7 @@ impl LockTable {
         ensures memory { OnErr result (IsNewName (known self.old.raised (body_of body.now)) self.old.names) }
     {
         match Body::read(body) {
-            Some(body) if body.is_known(self.raised) => self.serve(client, body),
+            Some(body) if body.is_known(self.raised) => self.execute_known(client, body),
             _ => Ok(Answer::Bad),
         }
     }

@@ -3,7 +3,8 @@
 ghost use Rattle.std.specs.Prelude.{◌≡◌, Some, [], ◌∷◌};
 ghost use Rattle.lk_types.specs.declared.answer.Answer.TheVariants.{Shared};
 ghost use Rattle.lk_locks.specs.declared.slot.Holders.TheVariants.{Together};
-ghost use Rattle.lk_locks.specs.Plain.{unchanged, fence_after, first_fence, given, acquired, joined, shared, released};
+ghost use Rattle.lk_locks.specs.Plain.{unchanged, fence_after, first_fence, given, acquired, shared_with, shared};
+ghost use Rattle.lk_locks.specs.Plain.{released};
 ghost use Rattle.lk_locks.specs.Plain.{is_held_at, broken, asked, checked, transition};
 
 use crate::body::Body;
@@ -67,7 +68,7 @@ fn acquire(client: ClientNo, slot: Option<Slot>, names: usize) -> Transition
 // The result when a client shares a name that is shared: a sharer gets its fence again, a new one joins at the same
 // fence, or gets `Busy` if there are eight.
 fn add_sharer(client: ClientNo, fence: Fence, clients: Sharers) -> Transition
-    ensures { result ≡ joined client fence clients }
+    ensures { result ≡ shared_with client fence clients }
 {
     if clients.has(client) {
         return unchanged(Answer::Shared(fence));

@@ -13,7 +13,7 @@ use Rattle.lk_disk.specs.declared.device.Side.TheVariants.{A, B}
 use Rattle.lk_store_format.specs.Headers.{IsHeader}
 use Rattle.lk_store_format.specs.Entries.{base, spelling, IsStored}
 use Rattle.lk_store_format.specs.Formats.{is_mixed}
-use Rattle.lk_store_format.specs.Files.{NoneBegins, is_torn, IsFile}
+use Rattle.lk_store_format.specs.Files.{NoEntryNext, is_torn, IsFile}
 use Rattle.lk_store_format.specs.Values.{HeaderValue}
 use Rattle.lk_store_format.specs.declared.stored.Stored.{Stored}
 use Rattle.lk_store_format.specs.declared.stored.Stored.TheVariants.{Base}
@@ -80,7 +80,7 @@ entry_or_nothing e p c fits sound is = elim (cases_lt p (length (spelling e))) [
           fit = tt;
           rest = c;
           is = refl;
-          ends = subst (λ (l : List ℕ). NoneBegins l) (sym is) (front_begins_none e p fits short);
+          ends = subst (λ (l : List ℕ). NoEntryNext l) (sym is) (front_begins_none e p fits short);
         };
     damage = ap (λ (l : List ℕ). not (is_torn l) || is_mixed []) is
         ∙ sound_rest (is_torn (take p (spelling e))) (is_mixed []) (entry_front_torn e p fits short) refl;
@@ -136,13 +136,13 @@ module _ (old new : Side → Disk) (h : HeaderValue) (text : List ℕ) (empty : 
       synced = ap (λ (d : Disk). d.synced) is ∙ sym (append-nil (spelling (Base (first_base h text))));
       unsynced = ap (λ (d : Disk). d.unsynced) is;
       fit = (fits, tt);
-      placed = refl;
+      base_first = refl;
       sound = refl;
       older = record {
         entries = [];
         is_damaged = false;
         file = subst (λ (d : Disk). IsFile (contents d) [] false) (sym same) was_nothing.b;
-        placed = refl;
+        base_first = refl;
         less = lit< tt;
       };
     };

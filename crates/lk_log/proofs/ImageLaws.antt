@@ -174,7 +174,7 @@ chosen_b false false false false false false false e = absurd cc
 
 -- what makes a file live, beside the other one
 pub record Wins (es os : List Stored) (d : Bool) : Type 0 where
-  pub placed : is_misplaced es ≡ false
+  pub base_first : is_misplaced es ≡ false
   pub other_placed : is_misplaced os ≡ false
   pub less : generation os < generation es
   pub sound : d ≡ false
@@ -183,13 +183,13 @@ pub wins_a : (a b : List Stored) (d f : Bool) → verdict a b d f ≡ Live A →
 wins_a a b d f e =
     let c = chosen_a (is_misplaced a) (is_misplaced b) (ltb (generation b) (generation a))
     (ltb (generation a) (generation b)) (ltb 0 (generation a)) d f e in
-    record { placed = c.0; other_placed = c.1; less = ltb-true _ _ c.2; sound = c.3 }
+    record { base_first = c.0; other_placed = c.1; less = ltb-true _ _ c.2; sound = c.3 }
 
 pub wins_b : (a b : List Stored) (d f : Bool) → verdict a b d f ≡ Live B → Wins b a f
 wins_b a b d f e =
     let c = chosen_b (is_misplaced a) (is_misplaced b) (ltb (generation b) (generation a))
     (ltb (generation a) (generation b)) (ltb 0 (generation a)) d f e in
-    record { placed = c.1; other_placed = c.0; less = ltb-true _ _ c.2; sound = c.3 }
+    record { base_first = c.1; other_placed = c.0; less = ltb-true _ _ c.2; sound = c.3 }
 
 -- ---- an empty image
 
@@ -252,8 +252,8 @@ found_a disks a b d f end size at_a at_b is ends sized =
     let w = wins_a a b d f (sym is) in
     record {
       file = subst (λ (x : Bool). IsFile (contents (disks A)) a x) w.sound at_a;
-      placed = w.placed;
-      older = record { entries = b; is_damaged = f; file = at_b; placed = w.other_placed; less = w.less };
+      base_first = w.base_first;
+      older = record { entries = b; is_damaged = f; file = at_b; base_first = w.other_placed; less = w.less };
       ends = ends;
       sized = sized;
     }
@@ -265,8 +265,8 @@ found_b disks a b d f end size at_a at_b is ends sized =
     let w = wins_b a b d f (sym is) in
     record {
       file = subst (λ (x : Bool). IsFile (contents (disks B)) b x) w.sound at_b;
-      placed = w.placed;
-      older = record { entries = a; is_damaged = d; file = at_a; placed = w.other_placed; less = w.less };
+      base_first = w.base_first;
+      older = record { entries = a; is_damaged = d; file = at_a; base_first = w.other_placed; less = w.less };
       ends = ends;
       sized = sized;
     }
@@ -274,8 +274,8 @@ found_b disks a b d f end size at_a at_b is ends sized =
 pub found_is_live : (disks : Side → Disk) (live : Side) (es : List Stored) (end size : ℕ)
     → FoundLive disks live es end size → IsLive (seen disks) es
 found_is_live disks live es end size f =
-    is_live (seen disks) live es f.older.entries f.older.is_damaged f.file f.older.file f.placed
-    f.older.placed f.older.less
+    is_live (seen disks) live es f.older.entries f.older.is_damaged f.file f.older.file f.base_first
+    f.older.base_first f.older.less
 
 pub found_positive : (disks : Side → Disk) (live : Side) (es : List Stored) (end size : ℕ)
     → FoundLive disks live es end size → 0 < generation es

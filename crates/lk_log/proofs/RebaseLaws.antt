@@ -27,7 +27,7 @@ use Rattle.lk_store_format.proofs.Spelling.{spelled-append, all-left, all-right}
 use Rattle.lk_store_format.proofs.Whole.{front, file_behind, front_file, file_spelled}
 use Rattle.lk_log.specs.Images.{Image, IsLive}
 use Rattle.lk_log.specs.StoreValue.{pick}
-use Rattle.lk_log.specs.Stores.{IsOlder, HoldsOn, MayBegin, KeepsOrIs, IsWrittenOver}
+use Rattle.lk_log.specs.Stores.{IsOlder, HoldsOn, FitsBase, KeepsOrIs, IsWrittenOver}
 use Rattle.lk_log.proofs.BeginLaws.{entry_or_nothing, members_long}
 use Rattle.lk_log.proofs.ImageLaws.{misplaced-take, generation-append, generation-take, each_side, is_live}
 use Rattle.lk_log.proofs.Settle.{all_synced, short_front}
@@ -61,7 +61,7 @@ pairs_long (p ∷ ps) fit =
 
 pub base_fits : (b : BaseValue) → b.format ≡ 2 → IsCount b.generation → IsHeader b.header → IsBallot b.standing.promised
     → IsTotal b.standing.position → AllByRecursion IsVote b.standing.votes → AllByRecursion IsPair b.standing.pairs
-    → MayBegin b.standing → IsStored (Base b)
+    → FitsBase b.standing → IsStored (Base b)
 unfolding base two four eight
 base_fits b two number whose promised position votes pairs may = (
   (
@@ -102,7 +102,7 @@ base_fits b two number whose promised position votes pairs may = (
 record LiveImage (c : List ℕ) (ks ls : List Stored) : Type 0 where
   count : ℕ
   file : IsFile c (ks ++ take count ls) false
-  placed : is_misplaced (ks ++ take count ls) ≡ false
+  base_first : is_misplaced (ks ++ take count ls) ≡ false
   same : generation (ks ++ take count ls) ≡ generation ks
 
 live_image : (d o : Disk) (ks ls : List Stored) → HoldsOn d o ks ls → (c : List ℕ) → MayLeave d c → LiveImage c ks ls
@@ -114,8 +114,8 @@ live_image d o ks ls h c left =
       count = n;
       file = subst (λ (x : List ℕ). IsFile x (ks ++ take n ls) false) (sym at.1)
           (file_behind ks ls at.0 fits (all-left IsStored ks ls h.fit) h.sound);
-      placed = subst (λ (l : List Stored). is_misplaced l ≡ false) (take-append-add ks ls n)
-          (misplaced-take (length ks + n) (ks ++ ls) h.placed);
+      base_first = subst (λ (l : List Stored). is_misplaced l ≡ false) (take-append-add ks ls n)
+          (misplaced-take (length ks + n) (ks ++ ls) h.base_first);
       same = generation-append ks (take n ls) (omega (arith, h.older.less));
     }
 
@@ -127,12 +127,12 @@ older_front d g older c p is =
       entries = take cut.count older.entries;
       is_damaged = cut.is_damaged;
       file = subst (λ (l : List ℕ). IsFile l (take cut.count older.entries) cut.is_damaged) (sym is) cut.file;
-      placed = misplaced-take cut.count older.entries older.placed;
+      base_first = misplaced-take cut.count older.entries older.base_first;
       less = omega (arith, generation-take cut.count older.entries, older.less);
     }
 
 nothing_older : (c : List ℕ) (g : ℕ) → IsFile c [] false → 0 < g → OlderImage c g
-nothing_older c g f some = record { entries = []; is_damaged = false; file = f; placed = refl; less = some }
+nothing_older c g f some = record { entries = []; is_damaged = false; file = f; base_first = refl; less = some }
 
 live_older : (c : List ℕ) (ks ls : List Stored) (g : ℕ) → LiveImage c ks ls → generation ks < g → OlderImage c g
 live_older c ks ls g i less =
@@ -140,7 +140,7 @@ live_older c ks ls g i less =
       entries = ks ++ take i.count ls;
       is_damaged = false;
       file = i.file;
-      placed = i.placed;
+      base_first = i.base_first;
       less = omega (arith, i.same, less);
     }
 
@@ -151,7 +151,7 @@ holds_older d o ks ls g h less = record {
   is_damaged = false;
   file = file_spelled (ks ++ ls) (contents d) h.fit h.sound
       ((λ i. h.synced i ++ h.unsynced i) ∙ sym (spelled-append ks ls));
-  placed = h.placed;
+  base_first = h.base_first;
   less = omega (arith, less, generation-append ks ls (omega (arith, h.older.less)));
 }
 
@@ -159,14 +159,14 @@ holds_older d o ks ls g h less = record {
 old_stays : (image : Image) (live : Side) (ks ls : List Stored) (i : LiveImage (image live) ks ls)
     → OlderImage (image (other live)) (generation ks) → IsLive image (ks ++ take i.count ls)
 old_stays image live ks ls i o =
-    is_live image live (ks ++ take i.count ls) o.entries o.is_damaged i.file o.file i.placed o.placed
+    is_live image live (ks ++ take i.count ls) o.entries o.is_damaged i.file o.file i.base_first o.base_first
     (omega (arith, o.less, i.same))
 
 -- beside an older file the new Base is live
 new_goes : (image : Image) (live : Side) (b : BaseValue) → IsFile (image (other live)) (Base b ∷ []) false
     → OlderImage (image live) b.generation → IsLive image (Base b ∷ [])
-new_goes image A b at o = is_live image B (Base b ∷ []) o.entries o.is_damaged at o.file refl o.placed o.less
-new_goes image B b at o = is_live image A (Base b ∷ []) o.entries o.is_damaged at o.file refl o.placed o.less
+new_goes image A b at o = is_live image B (Base b ∷ []) o.entries o.is_damaged at o.file refl o.base_first o.less
+new_goes image B b at o = is_live image A (Base b ∷ []) o.entries o.is_damaged at o.file refl o.base_first o.less
 
 -- a file that has a Base alone, all of it synced
 base_alone : (d : Disk) (b : BaseValue) (c : List ℕ) → b.format ≡ 2 → IsStored (Base b)
@@ -215,13 +215,13 @@ files_switched d o b two fits is left = record {
   synced = ap (λ (e : Disk). e.synced) is ∙ sym (append-nil (spelling (Base b)));
   unsynced = ap (λ (e : Disk). e.unsynced) is;
   fit = (fits, tt);
-  placed = refl;
+  base_first = refl;
   sound = mixed-two (Base b ∷ []) [] two;
   older = record {
     entries = [];
     is_damaged = false;
     file = file_spelled [] (contents o) tt refl (ap contents left);
-    placed = refl;
+    base_first = refl;
     less = omega (arith, fits.0.0.0);
   };
 }

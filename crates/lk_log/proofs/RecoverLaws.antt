@@ -29,7 +29,7 @@ module _ (old mid : Side → Disk) (same : (s : Side) → mid s ≡ old s) where
       → FoundLive mid live es end size
   found_after live es end size f = record {
     file = subst (λ (d : Disk). IsFile (contents d) es false) (sym (same live)) f.file;
-    placed = f.placed;
+    base_first = f.base_first;
     older = subst (λ (d : Disk). IsOlder d (generation es)) (sym (same (other live))) f.older;
     ends = f.ends;
     sized = f.sized ∙ ap (λ (d : Disk). length (contents d)) (sym (same live));

@@ -128,13 +128,13 @@ nothing_behind d es w short =
 pub settled : (mid new o o' : Disk) (es : List Stored) → AllByRecursion IsStored es → is_misplaced es ≡ false
     → is_mixed es ≡ false → contents mid ≡ spelling_of_all es → new ≡ fully_synced mid → o' ≡ o
     → IsOlder o (generation es) → HoldsOn new o' es []
-settled mid new o o' es fit placed sound is sync same older =
+settled mid new o o' es fit base_first sound is sync same older =
     let all = sym (append-nil es) in
     record {
       synced = ap (λ (d : Disk). d.synced) sync ∙ is;
       unsynced = ap (λ (d : Disk). d.unsynced) sync;
       fit = subst (AllByRecursion IsStored) all fit;
-      placed = subst (λ (l : List Stored). is_misplaced l ≡ false) all placed;
+      base_first = subst (λ (l : List Stored). is_misplaced l ≡ false) all base_first;
       sound = subst (λ (l : List Stored). is_mixed l ≡ false) all sound;
       older = subst (λ (d : Disk). IsOlder d (generation es)) (sym same) older;
     }

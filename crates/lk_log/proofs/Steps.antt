@@ -35,7 +35,7 @@ pub record OlderImage (c : List ℕ) (newest : ℕ) : Type 0 where
   pub entries : List Stored
   pub is_damaged : Bool
   pub file : IsFile c entries is_damaged
-  pub placed : is_misplaced entries ≡ false
+  pub base_first : is_misplaced entries ≡ false
   pub less : generation entries < newest
 
 pub older_image : (d : Disk) (g : ℕ) → IsOlder d g → (c : List ℕ) → MayLeave d c → OlderImage c g
@@ -46,7 +46,7 @@ older_image d g older c left =
       entries = take cut.count older.entries;
       is_damaged = cut.is_damaged;
       file = subst (λ (l : List ℕ). IsFile l (take cut.count older.entries) cut.is_damaged) (sym at.1) cut.file;
-      placed = misplaced-take cut.count older.entries older.placed;
+      base_first = misplaced-take cut.count older.entries older.base_first;
       less = omega (arith, generation-take cut.count older.entries, older.less);
     }
 
@@ -54,7 +54,7 @@ older_image d g older c left =
 pub record Grows (live_disk other_disk : Disk) (ks more : List Stored) : Type 0 where
   pub front : (c : List ℕ) → MayLeave live_disk c → (m : ℕ) × (c ≡ spelling_of_all ks ++ take m (spelling_of_all more))
   pub fit : AllByRecursion IsStored (ks ++ more)
-  pub placed : is_misplaced (ks ++ more) ≡ false
+  pub base_first : is_misplaced (ks ++ more) ≡ false
   pub sound : is_mixed (ks ++ more) ≡ false
   pub older : IsOlder other_disk (generation ks)
 
@@ -73,8 +73,8 @@ stands disks live ks more h image left =
           (file_behind ks more at.0 fits (all-left IsStored ks more h.fit) h.sound))
           older.file
           (subst (λ (l : List Stored). is_misplaced l ≡ false) (take-append-add ks more n)
-          (misplaced-take (length ks + n) (ks ++ more) h.placed))
-          older.placed
+          (misplaced-take (length ks + n) (ks ++ more) h.base_first))
+          older.base_first
           (omega (arith, older.less, generation-append ks (take n more) some)),
     )
 
@@ -91,7 +91,7 @@ keeps_at live d o ks ls more h image left =
     (record {
       front = λ c left. (left.0, left.1 ∙ (λ i. h.synced i ++ take left.0 (h.unsynced i)));
       fit = h.fit;
-      placed = h.placed;
+      base_first = h.base_first;
       sound = h.sound;
       older = h.older;
     }) image left in
@@ -123,9 +123,9 @@ module _ (ks ls : List Stored) (given : List Entry) where
   more_fit fit fits = subst (AllByRecursion IsStored) regrouped (all-append IsStored (ks ++ ls) (plain given) fit fits)
 
   more_placed : 0 < generation ks → is_misplaced (ks ++ ls) ≡ false → is_misplaced (ks ++ (ls ++ plain given)) ≡ false
-  more_placed some placed =
+  more_placed some base_first =
       subst (λ (l : List Stored). is_misplaced l ≡ false) regrouped
-      (misplaced-plain (ks ++ ls) given (omega (arith, some, generation-append ks ls some)) placed)
+      (misplaced-plain (ks ++ ls) given (omega (arith, some, generation-append ks ls some)) base_first)
 
 older_same : (o o' : Disk) (g : ℕ) → o' ≡ o → IsOlder o g → IsOlder o' g
 older_same o o' g same older = subst (λ (e : Disk). IsOlder e g) (sym same) older
@@ -149,7 +149,7 @@ module _ (d o d' o' : Disk) (ks ls : List Stored) (given : List Entry) where
               (within.1 ∙ ap (λ (l : List ℕ). take within.0 l) (sym (spelled-append ls (plain given)))),
         );
     fit = more_fit ks ls given h.fit fits;
-    placed = more_placed ks ls given (older_positive o (generation ks) h.older) h.placed;
+    base_first = more_placed ks ls given (older_positive o (generation ks) h.older) h.base_first;
     sound = mixed-two ks (ls ++ plain given) two;
     older = older_same o o' (generation ks) same h.older;
   }
@@ -161,7 +161,7 @@ module _ (d o d' o' : Disk) (ks ls : List Stored) (given : List Entry) where
     unsynced = ap (λ (e : Disk). e.unsynced) is ∙ ap (λ (l : List ℕ). l ++ spelling_of_all (plain given)) h.unsynced
         ∙ sym (spelled-append ls (plain given));
     fit = more_fit ks ls given h.fit fits;
-    placed = more_placed ks ls given (older_positive o (generation ks) h.older) h.placed;
+    base_first = more_placed ks ls given (older_positive o (generation ks) h.older) h.base_first;
     sound = mixed-two ks (ls ++ plain given) two;
     older = older_same o o' (generation ks) same h.older;
   }
@@ -174,7 +174,7 @@ holds_sync d o d' o' ks ls h is same =
       synced = ap (λ (e : Disk). e.synced) is ∙ (λ i. h.synced i ++ h.unsynced i) ∙ sym (spelled-append ks ls);
       unsynced = ap (λ (e : Disk). e.unsynced) is;
       fit = subst (AllByRecursion IsStored) (sym all) h.fit;
-      placed = subst (λ (l : List Stored). is_misplaced l ≡ false) (sym all) h.placed;
+      base_first = subst (λ (l : List Stored). is_misplaced l ≡ false) (sym all) h.base_first;
       sound = subst (λ (l : List Stored). is_mixed l ≡ false) (sym all) h.sound;
       older = older_same o o' (generation (ks ++ ls)) same
           (subst (IsOlder o) (sym (generation-append ks ls (older_positive o (generation ks) h.older))) h.older);
@@ -185,7 +185,7 @@ grows_holds d o ks ls h =
     record {
       front = λ c left. (left.0, left.1 ∙ (λ i. h.synced i ++ take left.0 (h.unsynced i)));
       fit = h.fit;
-      placed = h.placed;
+      base_first = h.base_first;
       sound = h.sound;
       older = h.older;
     }
@@ -204,7 +204,7 @@ grows_synced d o d' o' ks ls h is same = record {
             (sym (take_all (length (spelling_of_all ls)) (spelling_of_all ls) (omega arith))),
       );
   fit = h.fit;
-  placed = h.placed;
+  base_first = h.base_first;
   sound = h.sound;
   older = older_same o o' (generation ks) same h.older;
 }

@@ -77,14 +77,14 @@ no_base_right (Plain x ∷ ks) ls e = no_base_right ks ls e
 
 pub plain_behind : (ks ls : List Stored) → 0 < generation ks → is_misplaced (ks ++ ls) ≡ false
     → (more : List Entry) × (ls ≡ plain more)
-plain_behind [] ls some placed = absurd (omega arith)
-plain_behind (Base b ∷ ks) ls some placed = no_base_plain ls (no_base_right ks ls placed)
-plain_behind (Plain x ∷ ks) ls some placed = absurd (omega arith)
+plain_behind [] ls some base_first = absurd (omega arith)
+plain_behind (Base b ∷ ks) ls some base_first = no_base_plain ls (no_base_right ks ls base_first)
+plain_behind (Plain x ∷ ks) ls some base_first = absurd (omega arith)
 
 -- what a store holds unsynced is plain
 pub holds_plain : (s : StoreValue) (ks ls : List Stored) → HoldsEntries s ks ls → (more : List Entry)
     × (ls ≡ plain more)
-holds_plain s ks ls h = plain_behind ks ls (omega (arith, h.on.older.less)) h.on.placed
+holds_plain s ks ls h = plain_behind ks ls (omega (arith, h.on.older.less)) h.on.base_first
 
 pub plain_append : (xs ys : List Entry) → plain (xs ++ ys) ≡ plain xs ++ plain ys
 plain_append [] ys = refl
@@ -104,14 +104,14 @@ header_more (Plain x ∷ es) more whose h = absurd h
 -- well placed entries with a Base in front stand for something
 pub every_standing : (es : List Stored) → AllByRecursion IsStored es → is_misplaced es ≡ false → 0 < generation es
     → (s : StandingValue) × StandsFor es s
-every_standing [] fit placed some = absurd (omega arith)
-every_standing (Base b ∷ es) fit placed some =
-    let more = no_base_plain es placed in (
+every_standing [] fit base_first some = absurd (omega arith)
+every_standing (Base b ∷ es) fit base_first some =
+    let more = no_base_plain es base_first in (
       with_all more.0 (of_base b),
       subst (λ (l : List Stored). StandsFor (Base b ∷ l) (with_all more.0 (of_base b))) (sym more.1)
           (all_stand (Base b ∷ []) (of_base b) more.0 (base_stands b fit.0.0)),
     )
-every_standing (Plain x ∷ es) fit placed some = absurd (omega arith)
+every_standing (Plain x ∷ es) fit base_first some = absurd (omega arith)
 
 -- ---- an image comes to one thing
 
@@ -123,11 +123,11 @@ live_stands image es l = by_side l.side l.entries l.are l.means
         → (s : StandingValue) × StandsFor es s
     by_side A entries are m =
         let w = images.wins_a (entries A) (entries B) (m.is_damaged A) (m.is_damaged B) m.is in
-        let s = every_standing (entries A) (m.file A).whole.fit w.placed (omega (arith, w.less)) in
+        let s = every_standing (entries A) (m.file A).whole.fit w.base_first (omega (arith, w.less)) in
         (s.0, subst (λ (l : List Stored). StandsFor l s.0) are s.1)
     by_side B entries are m =
         let w = images.wins_b (entries A) (entries B) (m.is_damaged A) (m.is_damaged B) m.is in
-        let s = every_standing (entries B) (m.file B).whole.fit w.placed (omega (arith, w.less)) in
+        let s = every_standing (entries B) (m.file B).whole.fit w.base_first (omega (arith, w.less)) in
         (s.0, subst (λ (l : List Stored). StandsFor l s.0) are s.1)
 
 -- the live file has one list of entries
@@ -303,8 +303,8 @@ synced_image s ks ls h =
         synced = h.on.synced;
         unsynced = refl;
         fit = subst (AllByRecursion IsStored) nothing (all-left IsStored ks ls h.on.fit);
-        placed = subst (λ (l : List Stored). is_misplaced l ≡ false) (take_at ks ls (length ks) refl ∙ nothing)
-            (images.misplaced-take (length ks) (ks ++ ls) h.on.placed);
+        base_first = subst (λ (l : List Stored). is_misplaced l ≡ false) (take_at ks ls (length ks) refl ∙ nothing)
+            (images.misplaced-take (length ks) (ks ++ ls) h.on.base_first);
         sound = subst (λ (l : List Stored). is_mixed l ≡ false) (take_at ks ls (length ks) refl ∙ nothing)
             (mixed-take (length ks) (ks ++ ls) h.on.sound);
         older = h.on.older;

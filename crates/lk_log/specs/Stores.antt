@@ -26,7 +26,7 @@ pub record IsOlder (d : Disk) (newest : ℕ) : Type 0 where
   pub entries : List Stored
   pub is_damaged : Bool
   pub file : IsFile (contents d) entries is_damaged
-  pub placed : is_misplaced entries ≡ false
+  pub base_first : is_misplaced entries ≡ false
   pub less : generation entries < newest
 
 -- the live disk holds these entries, the first of them synced, and the other disk is older
@@ -34,7 +34,7 @@ pub record HoldsOn (live_disk other_disk : Disk) (synced_entries unsynced_entrie
   pub synced : live_disk.synced ≡ spelling_of_all synced_entries
   pub unsynced : live_disk.unsynced ≡ spelling_of_all unsynced_entries
   pub fit : AllByRecursion IsStored (synced_entries ++ unsynced_entries)
-  pub placed : is_misplaced (synced_entries ++ unsynced_entries) ≡ false
+  pub base_first : is_misplaced (synced_entries ++ unsynced_entries) ≡ false
   pub sound : is_mixed (synced_entries ++ unsynced_entries) ≡ false
   pub older : IsOlder other_disk (generation synced_entries)
 
@@ -79,7 +79,7 @@ max_snapshot = 43230
 
 -- a standing that may be written: its snapshot leaves room in a Base for all votes and pairs, and these are few and in
 -- order
-pub record MayBegin (s : StandingValue) : Type 0 where
+pub record FitsBase (s : StandingValue) : Type 0 where
   pub some : 1 ≤ length s.snapshot
   pub room : length s.snapshot ≤ max_snapshot
   pub few_votes : length s.votes ≤ max_votes
@@ -131,14 +131,14 @@ abbrev pub StandsForSome : StandingValue → Type 0
 StandsForSome s = (es : List Stored) × StandsFor es s
 
 -- these disks hold what an opening finds, all of it synced, under this header, with its format and with this standing
-pub record OpensOn (before : Image) (h : HeaderValue) (zero : List ℕ) (live_disk other_disk : Disk) (number told : ℕ)
-    (standing : StandingValue) : Type 0 where
+pub record OpensOn (before : Image) (h : HeaderValue) (zero : List ℕ) (live_disk other_disk : Disk)
+    (generation_number format_number : ℕ) (standing : StandingValue) : Type 0 where
   pub entries : List Stored
   pub found : Found before h zero entries
   pub holds : HoldsOn live_disk other_disk entries []
   pub header : HasHeader entries h
-  pub generation_is : number ≡ generation entries
-  pub format_is : told ≡ format entries
+  pub generation_is : generation_number ≡ generation entries
+  pub format_is : format_number ≡ format entries
   pub stands : StandsFor entries standing
 
 -- the same of an opened store
@@ -159,9 +159,9 @@ OpensBy before k =
     × (k ≡ cut_calls (length (spelling_of_all es)) (length (before live)) + 1))
 
 -- whole entries with one Base, at the start: those that have a standing
-pub record MayStand (es : List Stored) : Type 0 where
+pub record HasStanding (es : List Stored) : Type 0 where
   pub fit : AllByRecursion IsStored es
-  pub placed : is_misplaced es ≡ false
+  pub base_first : is_misplaced es ≡ false
   pub based : 0 < generation es
 
 -- the live file is another node's or of another genesis
@@ -177,11 +177,11 @@ abbrev pub StaysWrong : (Side → Disk) → (Side → Disk) → HeaderValue → 
 StaysWrong old new h = IsWrong (seen old) h × ((s : Side) → new s ≡ old s)
 
 -- the live file has this generation, this format and this standing
-pub record Shows (before : Image) (number told : ℕ) (standing : StandingValue) : Type 0 where
+pub record Shows (before : Image) (generation_number format_number : ℕ) (standing : StandingValue) : Type 0 where
   pub entries : List Stored
   pub live : IsLive before entries
-  pub generation_is : number ≡ generation entries
-  pub format_is : told ≡ format entries
+  pub generation_is : generation_number ≡ generation entries
+  pub format_is : format_number ≡ format entries
   pub stands : StandsFor entries standing
 
 -- each image of the new disks has the verdict and the entries of some image of the old ones, or is a new store if there
@@ -199,7 +199,7 @@ FileNarrows old new = (c : List ℕ) → MayLeave new c → (b : List ℕ) × Ma
 -- the live file of these disks as it was read: its whole entries, where they end, and how many bytes there are
 pub record FoundLive (disks : Side → Disk) (live : Side) (es : List Stored) (end size : ℕ) : Type 0 where
   pub file : IsFile (contents (disks live)) es false
-  pub placed : is_misplaced es ≡ false
+  pub base_first : is_misplaced es ≡ false
   pub older : IsOlder (disks (other live)) (generation es)
   pub ends : end ≡ length (spelling_of_all es)
   pub sized : size ≡ length (contents (disks live))

@@ -31,7 +31,7 @@ pub struct File {
 
 // Returns whether a stop may have left these bytes after whole entries: none, a cut length field, or a length from 1 to
 // `MAX_TORN` with fewer bytes after it.
-#[tactic(auto, unfolding(lk_store_format::specs::Files::told_length, lk_codec::specs::FieldReading::read_four))]
+#[tactic(auto, unfolding(lk_store_format::specs::Files::stated_length, lk_codec::specs::FieldReading::read_four))]
 fn is_torn(rest: &[u8]) -> bool
     ensures { result ≡ is_torn rest.now }
 {

@@ -9,7 +9,7 @@ ghost use Rattle.lk_log.specs.Causes.{ComesBy};
 ghost use Rattle.lk_log.specs.OpenCauses.{FailuresRise, IsMetered};
 ghost use Rattle.lk_log.specs.Rooms.{StaysWithin};
 ghost use Rattle.lk_log.specs.Images.{unless_damaged, verdict, IsEmpty, IsDamaged, Narrows, seen};
-ghost use Rattle.lk_log.specs.Stores.{cut_calls, FileNarrows, HoldsOn, IsOlder, FoundLive, MayStand};
+ghost use Rattle.lk_log.specs.Stores.{cut_calls, FileNarrows, HoldsOn, IsOlder, FoundLive, HasStanding};
 
 use crate::fault::OpenFault;
 use crate::file::{File, generation_of, is_misplaced, read_file};
@@ -58,7 +58,7 @@ pub fn find<D: LogDisk>(alloc: Global, device: &mut D) -> Result<Option<(Side, F
     ensures live { D.is_honest
         → IfOk result (λ found. IfSome found
         (λ f. FoundLive (D.disk device.old) f.0 f.1.entries.items f.1.end f.1.size)) }
-    ensures stands { IfOk result (λ found. IfSome found (λ f. MayStand f.1.entries.items)) }
+    ensures stands { IfOk result (λ found. IfSome found (λ f. HasStanding f.1.entries.items)) }
     ensures wrong { IsErrOf result OpenFault.WrongStore → ⊥ }
     ensures cause { FailuresRise (D.failures device.old) (D.failures device.new) result }
     ensures metered { D.is_metered → D.is_honest → IsMetered (D.meter device.old) (D.meter device.new) 0 result }

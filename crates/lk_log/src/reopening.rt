@@ -17,7 +17,7 @@ ghost use Rattle.lk_log.specs.Images.{IsEmpty, IsDamaged, seen};
 ghost use Rattle.lk_log.specs.Rooms.{StaysWithin};
 ghost use Rattle.lk_log.specs.StoreValue.{disks};
 ghost use Rattle.lk_log.specs.Stores.{first_base, cut_calls, OpensBy, FoundLive, IsWrittenOver, OpensOn, Opens};
-ghost use Rattle.lk_log.specs.Stores.{IsOpened, StaysDamaged, StaysWrong, Shows, NarrowsOrBegins, MayStand};
+ghost use Rattle.lk_log.specs.Stores.{IsOpened, StaysDamaged, StaysWrong, Shows, NarrowsOrBegins, HasStanding};
 ghost use Rattle.lk_log.specs.Stores.{StandsForSome};
 
 use crate::fault::{OpenFault, ReopenFault};
@@ -145,7 +145,7 @@ fn open<D: LogDisk>(
     live: Side,
     file: File,
 ) -> Result<Opened, OpenFault>
-    requires { MayStand file.entries.items }
+    requires { HasStanding file.entries.items }
     ensures opens { D.is_honest → FoundLive (D.disk device.old) live file.entries.items file.end file.size
         → (whose : HeaderValue) (zero : List ℕ) → HasHeader file.entries.items whose
         → IfOk result (λ o. OpensOn (seen (D.disk device.old)) whose zero (D.disk device.new o.live)

@@ -2,7 +2,7 @@
 ghost use Rattle.std.specs.Prelude.{◌≡◌, ◌≤◌, map, length, OnOk, OnErr, IfOk};
 ghost use Rattle.lk_store_format.specs.Standings.{greater, greatest_of, ballot_of, pairs_below, with_pair, with_plain};
 ghost use Rattle.lk_store_format.specs.Standings.{of_base, ArePairsRising, Rises, StandsFor};
-ghost use Rattle.lk_log.specs.Stores.{MayStand};
+ghost use Rattle.lk_log.specs.Stores.{HasStanding};
 ghost use Rattle.lk_types.specs.declared.entry.Entry.TheVariants.{Vote as vote_entry, Decided as decided_entry};
 
 use lk_store_format::{Base, Standing, Stored, keep_vote};
@@ -131,7 +131,7 @@ fn add_pair(standing: &mut Standing, pair: (Position, Command)) -> Result<(), No
 /// Replays entries, of which the first is a Base, into their standing. Votes and pairs are inserted by binary search:
 /// entries in the order of positions cost no moves, and others move those of greater positions.
 pub fn replay(alloc: Global, entries: Vec<Stored>) -> Result<Standing, NoMemory>
-    requires { MayStand entries.items }
+    requires { HasStanding entries.items }
     ensures { IfOk result (StandsFor entries.items) }
 {
     let mut standing = nothing(alloc);

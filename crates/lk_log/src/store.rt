@@ -13,7 +13,7 @@ ghost use Rattle.lk_log.specs.Causes.{FailsByRefusing, FailsUnlessLast, IsMetere
 ghost use Rattle.lk_log.specs.Rooms.{StaysWithin};
 ghost use Rattle.lk_log.specs.StoreValue.{disks};
 ghost use Rattle.lk_log.specs.Stores.{HoldsEntries, KeepsAtLeast, KeepsItsFile, KeepsBothDisks, KeepsOtherDisk};
-ghost use Rattle.lk_log.specs.Stores.{MayBegin};
+ghost use Rattle.lk_log.specs.Stores.{FitsBase};
 ghost use Rattle.lk_log.specs.Stores.{next_base, SwitchesFiles, LeavesEmpty, KeepsOrIs};
 
 use crate::adding::add;
@@ -152,7 +152,7 @@ impl<D: LogDisk + Drop> Store<D> {
     /// It fails with `Device` (7) and `NoMemory` (8); after that every call fails with `Failed` (11). At generation
     /// 2^48 it fails with `Failed` and changes nothing. It takes memory only before it calls the device.
     pub fn rebase(&mut self, standing: &Standing) -> Result<(), StoreFault>
-        requires { MayBegin standing.now }
+        requires { FitsBase standing.now }
         // At Ok the Base alone is there, synced, and the old file is empty.
         ensures base { D.is_honest → (ks ls : List Stored) → HoldsEntries self.old ks ls
             → OnOk result (HoldsEntries self.new (Base (next_base self.old standing.now) ∷ []) []) }

@@ -3,7 +3,7 @@
 use clap::ArgMatches;
 use lk_client::question::Question;
 use lk_command_line::argument_error::{ArgumentError, invalid_argument};
-use lk_command_line::asking::{question_of, turns_of};
+use lk_command_line::asking::{ports_of, question_of};
 use lk_command_line::operation::invalid_operation;
 use lk_command_line::values::{
     address_in, client_in, genesis_in, node_in, number_in, port_in, word,
@@ -114,7 +114,7 @@ pub fn ask_plan<'a>(
         let first = matches.get_str("op").unwrap_or("");
         return Ok(Err(invalid_operation(first)));
     };
-    match turns_of(alloc, matches)? {
+    match ports_of(alloc, matches)? {
         Ok(ports) => Ok(ask_plan_of(matches, op, ports)),
         Err(error) => Ok(Err(error)),
     }

@@ -127,7 +127,7 @@ fn run_node_words<R: Files<File = File> + Net + Eprint + Clock, E: Write>(
 
 // Returns the address to bind a client's socket to: any of its machine, in the family of `--address`, or of IPv4 with
 // `--hosts` alone, since an answer may name a node elsewhere; 127.0.0.1 with neither.
-fn own_address(options: &NetworkOptions<'_>) -> IpAddr {
+fn local_address(options: &NetworkOptions<'_>) -> IpAddr {
     match options.bind {
         Some(IpAddr::V6(_)) => IpAddr::V6(Ipv6Addr::UNSPECIFIED),
         Some(IpAddr::V4(_)) => IpAddr::V4(Ipv4Addr::UNSPECIFIED),
@@ -155,7 +155,7 @@ fn run_ask<R: Files<File = File> + Net, W: Write, E: Write>(
         Ok(destination) => destination,
         Err(fault) => return fault.write_to(err),
     };
-    match open_socket_at(rt, SocketAddr::from((own_address(&options), 0)), err) {
+    match open_socket_at(rt, SocketAddr::from((local_address(&options), 0)), err) {
         Ok(mut socket) => ask(alloc, &mut socket, &question, &ports, out, err),
         Err(fault) => fault.write_to(err),
     }
@@ -209,7 +209,7 @@ fn run_status_words<R: Files<File = File> + Net, W: Write, E: Write>(
         Ok(destination) => destination,
         Err(fault) => return fault.write_to(err),
     };
-    match open_socket_at(rt, SocketAddr::from((plan.inquiry.own_address(), 0)), err) {
+    match open_socket_at(rt, SocketAddr::from((plan.inquiry.local_address(), 0)), err) {
         Ok(mut socket) => status(alloc, &mut socket, &plan, out, err),
         Err(fault) => fault.write_to(err),
     }

@@ -1,4 +1,4 @@
--- Placed entries, which of them take effect, and the last request of a client.
+-- Positioned entries, which of them take effect, and the last request of a client.
 use Rattle.std.proofs.Common.{◌≡◌, zero, suc, ℕ, Bool, true, ◌&&◌, List, [], ◌∷◌, ◌++◌, Some, None, refl, ap, sym, ◌∙◌}
 use Rattle.std.proofs.Common.{inl, inr, append_assoc, append-nil, arith}
 use Rattle.std.specs.Prelude.{Contains}
@@ -6,22 +6,24 @@ use Rattle.std.specs.List.{list_all}
 use Rattle.std.proofs.lemmas.Bool.{and_parts, and_from, cases_Bool}
 use Rattle.std.proofs.lemmas.List.Folds.{list_all-append}
 use Rattle.std.proofs.lemmas.List.Elements.{Contains-append_left, Contains-push}
-use Rattle.lk_members.specs.Effects.{Command, RequestValue, Noop, Request, Placed, is_older, in_effect, placed_behind}
-use Rattle.lk_members.specs.Effects.{placed, is_of_another, is_at_most, IsLast}
+use Rattle.lk_members.specs.Effects.{Command, RequestValue, Noop, Request, PositionedEntry, is_older, in_effect}
+use Rattle.lk_members.specs.Effects.{positioned_after}
+use Rattle.lk_members.specs.Effects.{positioned, is_of_another, is_at_most, IsLast}
 
-stands_behind : (before entries : List Command) (p : Placed) → Contains (placed_behind before entries) p
+stands_behind : (before entries : List Command) (p : PositionedEntry) → Contains (positioned_after before entries) p
     → (rest : List Command) × (before ++ entries ≡ p.before ++ (p.entry ∷ rest))
 stands_behind before [] p (k, lt, is) = absurd (omega arith)
-stands_behind before (c ∷ entries) p (zero, lt, is) = (entries, ap (λ (q : Placed). q.before ++ (q.entry ∷ entries)) is)
+stands_behind before (c ∷ entries) p (zero, lt, is) =
+    (entries, ap (λ (q : PositionedEntry). q.before ++ (q.entry ∷ entries)) is)
 stands_behind before (c ∷ entries) p (suc k, lt, is) =
     let later = stands_behind (before ++ c ∷ []) entries p (k, omega arith, is) in
     (later.0, sym (append_assoc before (c ∷ []) entries) ∙ later.1)
 
--- what stands before a placed entry is a beginning of the list, and the entry comes next
-pub placed_entries_stand : (L : List Command) (p : Placed) → Contains (placed L) p
+-- what stands before a positioned entry is a beginning of the list, and the entry comes next
+pub entries_follow_their_predecessors : (L : List Command) (p : PositionedEntry) → Contains (positioned L) p
     → (rest : List Command) × (L ≡ p.before ++ (p.entry ∷ rest))
-unfolding placed
-placed_entries_stand L p here = stands_behind [] L p here
+unfolding positioned
+entries_follow_their_predecessors L p here = stands_behind [] L p here
 
 -- ---- an entry that takes effect
 
@@ -35,11 +37,11 @@ in_effect_after before (Request s) r e =
       | inr some ↦ let none : None ≡ Some r = rw some at e in absurd cc
     ]
 
-begins_behind : (before entries : List Command) (p : Placed) → Contains (placed_behind before entries) p
+begins_behind : (before entries : List Command) (p : PositionedEntry) → Contains (positioned_after before entries) p
     → (front : List Command) × (p.before ≡ before ++ front)
 begins_behind before [] p (k, lt, is) = absurd (omega arith)
 begins_behind before (c ∷ entries) p (zero, lt, is) =
-    ([], ap (λ (q : Placed). q.before) (sym is) ∙ sym (append-nil before))
+    ([], ap (λ (q : PositionedEntry). q.before) (sym is) ∙ sym (append-nil before))
 begins_behind before (c ∷ entries) p (suc k, lt, is) =
     let later = begins_behind (before ++ c ∷ []) entries p (k, omega arith, is) in
     (c ∷ later.0, later.1 ∙ append_assoc before (c ∷ []) later.0)
@@ -48,8 +50,8 @@ not_the_same : (r s : RequestValue) → r.client ≡ s.client → r.number ≡ s
 not_the_same r s client number older = grind arith
 
 -- of two entries for one number the later does not take effect
-first_takes_effect : (before entries : List Command) (c : Command) (p : Placed) (r s : RequestValue)
-    → in_effect before c ≡ Some r → Contains (placed_behind (before ++ c ∷ []) entries) p
+first_takes_effect : (before entries : List Command) (c : Command) (p : PositionedEntry) (r s : RequestValue)
+    → in_effect before c ≡ Some r → Contains (positioned_after (before ++ c ∷ []) entries) p
     → in_effect p.before p.entry ≡ Some s → r.client ≡ s.client → r.number ≡ s.number → ⊥
 first_takes_effect before entries c p r s first later counts client number =
     let front = begins_behind (before ++ c ∷ []) entries p later in
@@ -62,30 +64,31 @@ first_takes_effect before entries c p r s first later counts client number =
     let older = and_parts (is_older s c) true here.1 in
     not_the_same r s client number (rw (in_effect_after before c r first).0 at older.0)
 
-once_behind : (before entries : List Command) (p q : Placed) (r s : RequestValue)
-    → Contains (placed_behind before entries) p → Contains (placed_behind before entries) q
+once_behind : (before entries : List Command) (p q : PositionedEntry) (r s : RequestValue)
+    → Contains (positioned_after before entries) p → Contains (positioned_after before entries) q
     → in_effect p.before p.entry ≡ Some r → in_effect q.before q.entry ≡ Some s → r.client ≡ s.client
     → r.number ≡ s.number → p ≡ q
 once_behind before [] p q r s (j, lt, is) there counts takes_effect_too client number = absurd (omega arith)
 once_behind before (c ∷ entries) p q r s (zero, lt, is) (zero, lt_too, is_too) counts takes_effect_too client number =
     sym is ∙ is_too
 once_behind before (c ∷ entries) p q r s (zero, lt, is) (suc k, lt_too, is_too) counts takes_effect_too client number =
-    absurd (first_takes_effect before entries c q r s (ap (λ (x : Placed). in_effect x.before x.entry) is ∙ counts)
+    absurd (first_takes_effect before entries c q r s
+    (ap (λ (x : PositionedEntry). in_effect x.before x.entry) is ∙ counts)
     (k, omega arith, is_too) takes_effect_too client number)
 once_behind before (c ∷ entries) p q r s (suc j, lt, is) (zero, lt_too, is_too) counts takes_effect_too client number =
     absurd (first_takes_effect before entries c p s r
-    (ap (λ (x : Placed). in_effect x.before x.entry) is_too ∙ takes_effect_too) (j, omega arith, is) counts
+    (ap (λ (x : PositionedEntry). in_effect x.before x.entry) is_too ∙ takes_effect_too) (j, omega arith, is) counts
     (sym client) (sym number))
 once_behind before (c ∷ entries) p q r s (suc j, lt, is) (suc k, lt_too, is_too) counts takes_effect_too client number =
     once_behind (before ++ c ∷ []) entries p q r s (j, omega arith, is)
     (k, omega arith, is_too) counts takes_effect_too client number
 
 -- at most one entry takes effect for a client's number
-pub numbers_take_effect_once : (L : List Command) (p q : Placed) (r s : RequestValue)
-    → Contains (placed L) p → Contains (placed L) q
+pub numbers_take_effect_once : (L : List Command) (p q : PositionedEntry) (r s : RequestValue)
+    → Contains (positioned L) p → Contains (positioned L) q
     → in_effect p.before p.entry ≡ Some r → in_effect q.before q.entry ≡ Some s → r.client ≡ s.client
     → r.number ≡ s.number → p ≡ q
-unfolding placed
+unfolding positioned
 numbers_take_effect_once L = once_behind [] L
 
 -- ---- one entry more

@@ -4,43 +4,45 @@ use Rattle.std.proofs.Common.{append_assoc, append-nil}
 use Rattle.std.specs.List.{filter_map}
 use Rattle.std.proofs.lemmas.List.Sums.{fold-append}
 use Rattle.std.proofs.lemmas.List.Elements.{filter_map-append}
-use Rattle.lk_members.specs.Effects.{Command, RequestValue, Placed, in_effect, placed_behind, placed, effects}
+use Rattle.lk_members.specs.Effects.{Command, RequestValue, PositionedEntry, in_effect, positioned_after, positioned}
+use Rattle.lk_members.specs.Effects.{effects}
 use Rattle.lk_members.specs.Rosters.{Genesis, PlainRoster, next_roster, first_roster, roster_of, is_granted_change}
 use Rattle.lk_members.specs.Rosters.{is_change, last_change}
 
-placed_behind-push : (before rest : List Command) (c : Command)
-    → placed_behind before (rest ++ c ∷ []) ≡ placed_behind before rest
+positioned_after-push : (before rest : List Command) (c : Command)
+    → positioned_after before (rest ++ c ∷ []) ≡ positioned_after before rest
     ++ record { before = before ++ rest; entry = c } ∷ []
-placed_behind-push before [] c =
-    ap (λ (l : List Command). let p : Placed = record { before = l; entry = c } in p ∷ []) (sym (append-nil before))
-placed_behind-push before (x ∷ rest) c =
-    let first : Placed = record { before = before; entry = x } in
-    ap (λ (ps : List Placed). first ∷ ps)
-    (placed_behind-push (before ++ x ∷ []) rest c
-    ∙ ap (λ (l : List Command). let p : Placed = record { before = l; entry = c } in
-    placed_behind (before ++ x ∷ []) rest ++ p ∷ []) (append_assoc before (x ∷ []) rest))
+positioned_after-push before [] c =
+    ap (λ (l : List Command). let p : PositionedEntry = record { before = l; entry = c } in p ∷ [])
+    (sym (append-nil before))
+positioned_after-push before (x ∷ rest) c =
+    let first : PositionedEntry = record { before = before; entry = x } in
+    ap (λ (ps : List PositionedEntry). first ∷ ps)
+    (positioned_after-push (before ++ x ∷ []) rest c
+    ∙ ap (λ (l : List Command). let p : PositionedEntry = record { before = l; entry = c } in
+    positioned_after (before ++ x ∷ []) rest ++ p ∷ []) (append_assoc before (x ∷ []) rest))
 
-pub placed-push : (L : List Command) (c : Command)
-    → placed (L ++ c ∷ []) ≡ placed L ++ record { before = L; entry = c } ∷ []
-unfolding placed
-placed-push L c = placed_behind-push [] L c
+pub positioned-push : (L : List Command) (c : Command)
+    → positioned (L ++ c ∷ []) ≡ positioned L ++ record { before = L; entry = c } ∷ []
+unfolding positioned
+positioned-push L c = positioned_after-push [] L c
 
 -- the requests that one entry adds to those that take effect
 abbrev pub added : Option RequestValue → List RequestValue
 added None = []
 added (Some r) = r ∷ []
 
-added_is : (o : Option RequestValue) (p : Placed) → in_effect p.before p.entry ≡ o
-    → filter_map (λ (p : Placed). in_effect p.before p.entry) (p ∷ []) ≡ added o
+added_is : (o : Option RequestValue) (p : PositionedEntry) → in_effect p.before p.entry ≡ o
+    → filter_map (λ (p : PositionedEntry). in_effect p.before p.entry) (p ∷ []) ≡ added o
 added_is None p e = rw e refl
 added_is (Some r) p e = rw e refl
 
 pub effects-push : (L : List Command) (c : Command) → effects (L ++ c ∷ []) ≡ effects L ++ added (in_effect L c)
 unfolding effects
 effects-push L c =
-    let p : Placed = record { before = L; entry = c } in
-    ap (filter_map (λ (p : Placed). in_effect p.before p.entry)) (placed-push L c)
-    ∙ filter_map-append (λ (p : Placed). in_effect p.before p.entry) (placed L) (p ∷ [])
+    let p : PositionedEntry = record { before = L; entry = c } in
+    ap (filter_map (λ (p : PositionedEntry). in_effect p.before p.entry)) (positioned-push L c)
+    ∙ filter_map-append (λ (p : PositionedEntry). in_effect p.before p.entry) (positioned L) (p ∷ [])
     ∙ ap (λ (rs : List RequestValue). effects L ++ rs) (added_is (in_effect L c) p refl)
 
 -- the roster after a request that takes effect, or none
@@ -67,6 +69,8 @@ pub last_change-push : (genesis : Genesis) (L : List Command) (c : Command)
     ≡ cond (is_granted_change (roster_of genesis L) (in_effect L c)) (length L + 1) (last_change genesis L)
 unfolding last_change
 last_change-push genesis L c =
-    let p : Placed = record { before = L; entry = c } in
-    ap (fold (λ last (p : Placed). cond (is_change genesis p) (length p.before + 1) last) 0) (placed-push L c)
-    ∙ fold-append (λ last (p : Placed). cond (is_change genesis p) (length p.before + 1) last) 0 (placed L) (p ∷ [])
+    let p : PositionedEntry = record { before = L; entry = c } in
+    ap (fold (λ last (p : PositionedEntry). cond (is_change genesis p) (length p.before + 1) last) 0)
+    (positioned-push L c)
+    ∙ fold-append (λ last (p : PositionedEntry). cond (is_change genesis p) (length p.before + 1) last) 0
+    (positioned L) (p ∷ [])

@@ -8,7 +8,7 @@ use Rattle.std.proofs.Math.Seq.{take-length, take-nil}
 use Rattle.std.proofs.lemmas.Bool.{and_from}
 use Rattle.std.proofs.lemmas.List.{take-append-le}
 use Rattle.std.proofs.lemmas.Option.{slice_get_within, get_or_from_slice_get}
-use Rattle.lk_members.specs.Effects.{Command, RequestValue, Request, in_effect, placed, effects}
+use Rattle.lk_members.specs.Effects.{Command, RequestValue, Request, in_effect, positioned, effects}
 use Rattle.lk_members.specs.Rosters.{Member, Genesis, PlainRoster, Op, Answer, Table, Join, Leave, Raise, greatest_node}
 use Rattle.lk_members.specs.Rosters.{next_roster, roster_answer, is_granted, is_granted_change, members, roster_of}
 use Rattle.lk_members.specs.Rosters.{last_change}
@@ -179,7 +179,7 @@ sets_from-get genesis L i k set sets e at is =
     ∙ ap (members genesis L) (sym is)
 
 pub members-begin : (genesis : Genesis) (i : ℕ) → members genesis [] i ≡ genesis.members
-unfolding members roster_of effects placed
+unfolding members roster_of effects positioned
 members-begin genesis i = ap (λ (l : List Command). (roster_of genesis l).members) (take-nil (i - genesis.alpha))
 
 -- one more set of a cluster that has executed nothing
@@ -206,7 +206,7 @@ pub roster_after-begin : (genesis : Genesis)
       greatest = greatest_node genesis.members;
       changed = 0;
     }
-unfolding roster_after roster_of effects placed last_change
+unfolding roster_after roster_of effects positioned last_change
 roster_after-begin genesis = refl
 
 -- the set that decides a position is at its index of the window

@@ -17,22 +17,22 @@ in_effect before Noop = None
 in_effect before (Request r) = if list_all (is_older r) before then Some r else None
 
 -- an entry, and the entries before it
-pub record Placed : Type 0 where
+pub record PositionedEntry : Type 0 where
   pub before : List Command
   pub entry : Command
 
 -- each entry of `rest`, which follows `before`, with the entries before it
-abbrev pub placed_behind : List Command → List Command → List Placed
-placed_behind before [] = []
-placed_behind before (c ∷ rest) = record { before = before; entry = c } ∷ placed_behind (before ++ c ∷ []) rest
+abbrev pub positioned_after : List Command → List Command → List PositionedEntry
+positioned_after before [] = []
+positioned_after before (c ∷ rest) = record { before = before; entry = c } ∷ positioned_after (before ++ c ∷ []) rest
 
 -- each entry of the list with the entries before it
-unfoldable pub placed : List Command → List Placed
-placed L = placed_behind [] L
+unfoldable pub positioned : List Command → List PositionedEntry
+positioned L = positioned_after [] L
 
 -- the requests that take effect, in order
 unfoldable pub effects : List Command → List RequestValue
-effects L = filter_map (λ p. in_effect p.before p.entry) (placed L)
+effects L = filter_map (λ p. in_effect p.before p.entry) (positioned L)
 
 -- ---- the last request of a client
 

@@ -8,7 +8,7 @@ pub use Rattle.lk_types.specs.declared.answer.Answer.TheVariants.{Joined, Used, 
 use Rattle.std.specs.Prelude.{ℕ, ◌+◌, ◌-◌, max, Bool, true, false, not, ◌==◌, nat_le, if◌then◌else◌, Option, Some, None}
 use Rattle.std.specs.Prelude.{List, [], ◌∷◌, ◌++◌, length, take, fold, filter}
 use Rattle.std.specs.List.{list_any}
-use Rattle.lk_members.specs.Effects.{Command, RequestValue, Placed, placed, in_effect, effects}
+use Rattle.lk_members.specs.Effects.{Command, RequestValue, PositionedEntry, positioned, in_effect, effects}
 
 -- the members, rising by node, and the greatest number that was ever a member's
 pub record PlainRoster : Type 0 where
@@ -95,9 +95,9 @@ is_granted_change r None = false
 is_granted_change r (Some q) = is_granted (roster_answer r q.op)
 
 -- the entry takes effect after the entries before it, and its join or leave is granted
-abbrev pub is_change : Genesis → Placed → Bool
+abbrev pub is_change : Genesis → PositionedEntry → Bool
 is_change genesis p = is_granted_change (roster_of genesis p.before) (in_effect p.before p.entry)
 
 -- the position of the last granted change, 0 if there is none
 unfoldable pub last_change : Genesis → List Command → ℕ
-last_change genesis L = fold (λ last p. if is_change genesis p then length p.before + 1 else last) 0 (placed L)
+last_change genesis L = fold (λ last p. if is_change genesis p then length p.before + 1 else last) 0 (positioned L)

@@ -121,7 +121,7 @@ impl MemoryDisk {
 
     // Counts a changing call. Fails if the trap or the fuse rejects it. Returns how many unsynced bytes the stop is to
     // keep, if the call is an armed stop.
-    fn begin_call(&mut self) -> Result<Option<usize>, DeviceFault>
+    fn admit_call(&mut self) -> Result<Option<usize>, DeviceFault>
         ensures ok { OnOk result ((is_refused self.old.meter ≡ false) × (self.new ≡ counted self.old)) }
         ensures stop { IfOk result (λ stop. stop ≡ stops_next self.old.meter.trap) }
         ensures err { OnErr result ((is_refused self.old.meter ≡ true) × (self.new ≡ refused self.old)) }
@@ -133,7 +133,7 @@ impl MemoryDisk {
     }
 
     // Counts a reading call. Fails if it is the one that `fail_read` chose.
-    fn begin_read(&mut self) -> Result<(), DeviceFault>
+    fn admit_read(&mut self) -> Result<(), DeviceFault>
         ensures ok { OnOk result ((is_unread self.old.meter ≡ false) × (self.new ≡ read_counted self.old)) }
         ensures err { OnErr result ((is_unread self.old.meter ≡ true) × (self.new ≡ failed (read_counted self.old))) }
     {
@@ -207,24 +207,24 @@ impl LogDisk for MemoryDisk {
     fn length(&mut self, side: Side) -> Result<usize, DeviceFault>
         ensures refused { IsTrue (is_unread self.old.meter)
             → IsErr result × (self.new ≡ failed (read_counted self.old)) }
-        ensures passed { IsFalse (is_unread self.old.meter)
+        ensures succeeds { IsFalse (is_unread self.old.meter)
             → (result ≡ Ok (length (contents (disk_of self.old side)))) × (self.new ≡ read_counted self.old) }
     {
-        self.begin_read()?;
+        self.admit_read()?;
         Ok(self.len_of(side))
     }
 
     fn read_into(&mut self, side: Side, offset: usize, buffer: &mut [u8]) -> Result<(), DeviceFault>
         ensures refused { IsTrue (is_unread self.old.meter) → IsErr result }
         ensures past_end { length (contents (disk_of self.old side)) < offset + length buffer.old → IsErr result }
-        ensures passed { IsFalse (is_unread self.old.meter)
+        ensures succeeds { IsFalse (is_unread self.old.meter)
             → offset + length buffer.old ≤ length (contents (disk_of self.old side)) → IsOk result }
         ensures value { OnOk result
             (buffer.new ≡ slice_range (contents (disk_of self.old side)) offset (offset + length buffer.old)) }
         ensures ok { OnOk result (self.new ≡ read_counted self.old) }
         ensures err { OnErr result ((self.new ≡ failed (read_counted self.old)) × (buffer.new ≡ buffer.old)) }
     {
-        self.begin_read()?;
+        self.admit_read()?;
         let is_read = match side {
             Side::A => self.a.read_into(offset, buffer),
             Side::B => self.b.read_into(offset, buffer),
@@ -241,12 +241,12 @@ impl LogDisk for MemoryDisk {
             → stops_next self.old.meter.trap ≡ Some bytes → IsErr result
             × ((self.new ≡ failed (with_disk side (appended (disk_of self.old side) piece.now) (counted self.old)))
             ⊎ (self.new ≡ wanting self.old)) }
-        ensures passed { IsFalse (is_refused self.old.meter)
+        ensures succeeds { IsFalse (is_refused self.old.meter)
             → stops_next self.old.meter.trap ≡ None → MatchResult result
             (λ _. self.new ≡ with_disk side (appended (disk_of self.old side) piece.now) (counted self.old))
             (λ _. self.new ≡ wanting self.old) }
     {
-        let stop = self.begin_call()?;
+        let stop = self.admit_call()?;
         // At an armed stop too: the stop may then keep a prefix of the piece.
         if self.grow(side, piece).is_err() {
             self.meter.starved = true;
@@ -269,10 +269,10 @@ impl LogDisk for MemoryDisk {
         ensures refused { IsTrue (is_refused self.old.meter) → IsErr result × (self.new ≡ refused self.old) }
         ensures stopped { IsFalse (is_refused self.old.meter) → (bytes : ℕ)
             → stops_next self.old.meter.trap ≡ Some bytes → IsErr result × (self.new ≡ refused self.old) }
-        ensures passed { IsFalse (is_refused self.old.meter) → stops_next self.old.meter.trap ≡ None → IsOk result
+        ensures succeeds { IsFalse (is_refused self.old.meter) → stops_next self.old.meter.trap ≡ None → IsOk result
             × (self.new ≡ with_disk side (fully_synced (disk_of self.old side)) (counted self.old)) }
     {
-        match self.begin_call()? {
+        match self.admit_call()? {
             Some(_) => Err(self.fail()),
             None => {
                 self.make_synced(side);
@@ -296,11 +296,11 @@ impl LogDisk for MemoryDisk {
         ensures stopped { IsFalse (is_refused self.old.meter) → len ≤ length (contents (disk_of self.old side))
             → (bytes : ℕ) → stops_next self.old.meter.trap ≡ Some bytes → IsErr result
             × (self.new ≡ failed (with_disk side (cut_within len bytes (disk_of self.old side)) (counted self.old))) }
-        ensures passed { IsFalse (is_refused self.old.meter) → len ≤ length (contents (disk_of self.old side))
+        ensures succeeds { IsFalse (is_refused self.old.meter) → len ≤ length (contents (disk_of self.old side))
             → stops_next self.old.meter.trap ≡ None → IsOk result
             × (self.new ≡ with_disk side (cut_to len (disk_of self.old side)) (counted self.old)) }
     {
-        let stop = self.begin_call()?;
+        let stop = self.admit_call()?;
         let size = self.len_of(side);
         if size < len {
             return Err(self.fail());

@@ -66,7 +66,7 @@ pub fn count_call(meter: &mut Meter) -> Result<Option<usize>, DeviceFault>
     let is_blown = meter.fuse == Some(0);
     meter.fuse = match stop {
         Some(_) => Some(0),
-        None => meter.fuse.map(|passes| passes.saturating_sub(1)),
+        None => meter.fuse.map(|left| left.saturating_sub(1)),
     };
     meter.sprung = meter.sprung || is_due;
     if (is_due && stop.is_none()) || is_blown {

@@ -70,7 +70,7 @@ impl MemorySocket {
     /// Removes and returns what was sent, in order.
     pub fn take_sent(&mut self) -> Vec<MemoryDatagram>
         ensures taken { result.items ≡ self.old.sent.items }
-        ensures rest { self.new ≡ record self.old { sent = self.new.sent } }
+        ensures others { self.new ≡ record self.old { sent = self.new.sent } }
         ensures left { self.new.sent.items ≡ [] }
     {
         mem::replace(&mut self.sent, Vec::new(self.alloc))

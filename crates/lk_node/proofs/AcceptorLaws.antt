@@ -13,7 +13,7 @@ use Rattle.lk_messages.specs.Grammar.{IsMessage}
 use Rattle.lk_messages.specs.declared.message.NodeMessage.{NodeMessage}
 use Rattle.lk_messages.specs.declared.message.NodeMessage.TheVariants as kinds
 use Rattle.lk_state.specs.Meanings.{Meaning}
-use Rattle.lk_agreement_laws.specs.Acceptors.{AcceptorState, Covers, TakesVote}
+use Rattle.lk_agreement_laws.specs.Acceptors.{AcceptorState, Covers, AddsVote}
 use Rattle.lk_agreement_laws.specs.Changes.{promises, accepts, holding_acceptor, with_promise}
 use Rattle.lk_agreement_laws.specs.Chosen.{Command}
 use Rattle.lk_agreement_laws.specs.Datagrams.{HasSent, WasSent}
@@ -36,11 +36,11 @@ use Rattle.lk_node.specs.Histories.{History, Genesis, Datagram, IsLawful}
 use Rattle.lk_node.specs.Keeping.{TellsDecided, IsKnown}
 use Rattle.lk_node.specs.NodeValue.{NodeValue}
 use Rattle.lk_node.specs.Saying.{to_node}
-use Rattle.lk_node.specs.Served.{BearsOutMessage}
-use Rattle.lk_node.specs.Serving.{with_entries, ActsSafely}
+use Rattle.lk_node.specs.BorneOut.{BearsOutMessage}
+use Rattle.lk_node.specs.SafeSteps.{with_entries, ActsSafely}
 use Rattle.lk_node.specs.Yielding.{yielded}
 use Rattle.lk_node.proofs.Changing.{alike_goes_on, yielded_goes_on}
-use Rattle.lk_node.proofs.Serving.{then_goes_on, says}
+use Rattle.lk_node.proofs.SafeSteps.{then_goes_on, says}
 
 -- ---- the acceptor changes, and what becomes of it is written
 
@@ -191,7 +191,7 @@ voted_moves m h n a x r new lawful was ordered most agree p = record {
       (sym (state_of a (with_vote a.state x) new p.state))
       (change_fits h.genesis h.sent lawful.sound n w (holding_acceptor w (with_vote a.state x)) f
       (accepts x (with_vote a.state x) (subst (λ (s : AcceptorState). IsAtMost s.promised x.ballot) (sym is) most) was
-      (subst (λ (s : AcceptorState). TakesVote s x (with_vote a.state x)) (sym is)
+      (subst (λ (s : AcceptorState). AddsVote s x (with_vote a.state x)) (sym is)
       (takes_vote a.state x ordered most agree))));
   rests = λ e is. elim p.entry [
     | inl listed ↦ absurd (none_is e (sym listed.1 ∙ is))

@@ -17,10 +17,10 @@ use Rattle.lk_leader.specs.Terms.{TermValue}
 use Rattle.lk_leader.specs.Waits.{newer, asked}
 use Rattle.lk_node_interface.specs.Outboxes.{OutboxValue, nothing}
 use Rattle.lk_node_interface.specs.declared.to.To.TheVariants as to
-use Rattle.lk_node.specs.Asking.{with_waiting, leader_in, PointsTo, TakesNew, TakesAs, HandlesRequest}
+use Rattle.lk_node.specs.Asking.{with_waiting, leader_in, PointsTo, QueuesOrRedirects, RepliesAs, HandlesRequest}
 use Rattle.lk_node.specs.Histories.{History, Genesis, Command}
 use Rattle.lk_node.specs.NodeValue.{NodeValue}
-use Rattle.lk_node.specs.Serving.{ActsSafely}
+use Rattle.lk_node.specs.SafeSteps.{ActsSafely}
 use Rattle.lk_node.proofs.Changing.{change_goes_on}
 use Rattle.lk_node.proofs.GapLaws.{idles, alone_goes_on}
 use Rattle.lk_node.proofs.Lists.{cons_cases, contains_more, only}
@@ -100,7 +100,7 @@ points_goes_on m Heard (Some member) old new r out k =
     (λ h n loose s. (tt, tt)))
 
 new_goes_on : (m : Meaning) (o : Option TermValue) (old new : NodeValue) (r : RequestValue) (out : OutboxValue)
-    → TakesNew o old r new out → ActsSafely m (λ h. Contains h.asked r) old new nothing out
+    → QueuesOrRedirects o old r new out → ActsSafely m (λ h. Contains h.asked r) old new nothing out
 new_goes_on m None old new r out k =
     points_goes_on m (λ h. Contains h.asked r) (leader_in old.known old.learner.whole.roster.sets) old new r out k
 new_goes_on m (Some t) old new r out k =
@@ -112,7 +112,7 @@ pub request_goes_on : (m : Meaning) (old new : NodeValue) (r : RequestValue) (ou
 request_goes_on m old new r out k = by_seen (seen_as (session_of r.client old.learner.whole.sessions) r.number) refl k
   where
     by_seen : (x : Seen) → seen_as (session_of r.client old.learner.whole.sessions) r.number ≡ x
-        → TakesAs x old r new out → ActsSafely m (λ h. Contains h.asked r) old new nothing out
+        → RepliesAs x old r new out → ActsSafely m (λ h. Contains h.asked r) old new nothing out
     by_seen seen.New is d = new_goes_on m old.leader.term old new r out d
     by_seen (seen.Same a) is d =
         subst (λ (node : NodeValue). ActsSafely m (λ h. Contains h.asked r) old node nothing out) (sym d.0)

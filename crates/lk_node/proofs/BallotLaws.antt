@@ -22,12 +22,12 @@ use Rattle.lk_node_interface.specs.Saying.{saying}
 use Rattle.lk_node.specs.Beginning.{beginning, BeginsBallot}
 use Rattle.lk_node.specs.Histories.{History}
 use Rattle.lk_node.specs.NodeValue.{NodeValue}
-use Rattle.lk_node.specs.Serving.{ActsSafely}
+use Rattle.lk_node.specs.SafeSteps.{ActsSafely}
 use Rattle.lk_node.specs.Telling.{telling}
 use Rattle.lk_node.specs.Waiting.{ticked}
 use Rattle.lk_node.proofs.Changing.{alike_goes_on}
 use Rattle.lk_node.proofs.ManyLetters.{says_all}
-use Rattle.lk_node.proofs.Serving.{then_goes_on}
+use Rattle.lk_node.proofs.SafeSteps.{then_goes_on}
 
 is_begun : (b : BallotValue) (k : TermValue) → Some (begun b) ≡ Some k → begun b ≡ k
 is_begun b k e = cc e

@@ -21,7 +21,7 @@ use Rattle.lk_node.specs.Keeping.{IsKnown, IsHeld, LeadsOn}
 use Rattle.lk_node.specs.Calls.{MayGo}
 use Rattle.lk_node.specs.Holdings.{Holding, HoldingFits}
 use Rattle.lk_node.specs.NodeValue.{NodeValue}
-use Rattle.lk_node.specs.Serving.{IsCoveredLetter, Binds, Serves, ActsSafely}
+use Rattle.lk_node.specs.SafeSteps.{IsCoveredLetter, Binds, IsSafeStep, ActsSafely}
 use Rattle.lk_node.specs.Yielding.{without_term, is_term_below, yielded}
 
 -- all that safety rests on is as it was
@@ -150,7 +150,7 @@ may_go_on m h n old new g d k =
       from = k.from;
       spelled = k.spelled;
       may = may_send_on h.genesis h.sent old new g k.message k.may;
-      served = k.served;
+      borne_out = k.borne_out;
     }
 
 all_on : (P Q : Entry → Type 0) (es : List Entry) → ((e : Entry) → P e → Q e)
@@ -169,7 +169,7 @@ pub record IsFollowed (m : Meaning) (h : History) (n : ℕ) (old : PaxosState) (
 -- such a change goes on
 pub change_goes_on : (m : Meaning) (Heard : History → Type 0) (old new : NodeValue) (out : OutboxValue)
     → new.header ≡ old.header → new.acceptor.state ≡ old.acceptor.state
-    → ((h : History) (n : ℕ) (loose : List Entry) (s : Serves m h n loose old out) → Heard h
+    → ((h : History) (n : ℕ) (loose : List Entry) (s : IsSafeStep m h n loose old out) → Heard h
     → IsFollowed m h n s.holding.paxos new) → ActsSafely m Heard old new out out
 change_goes_on m Heard old new out header state f = record {
   binds = λ first b. record {

@@ -46,13 +46,13 @@ use Rattle.lk_node.specs.Keeping.{IsKnown}
 use Rattle.lk_node.specs.Learning.{with_learner, Learns}
 use Rattle.lk_node.specs.NodeValue.{NodeValue}
 use Rattle.lk_node.specs.Saying.{to_node}
-use Rattle.lk_node.specs.Serving.{Serves, ActsSafely}
+use Rattle.lk_node.specs.SafeSteps.{IsSafeStep, ActsSafely}
 use Rattle.lk_node.specs.Telling.{letter_to}
 use Rattle.lk_node.specs.Yielding.{without_term}
 use Rattle.lk_node.proofs.Changing.{change_goes_on}
 use Rattle.lk_node.proofs.Decisions.{for_proposal_or_not}
 use Rattle.lk_node.proofs.LearnerLaws.{Chooses, unheard}
-use Rattle.lk_node.proofs.Serving.{rests_here, then_goes_on, heard_goes_on, says, notes}
+use Rattle.lk_node.proofs.SafeSteps.{rests_here, then_goes_on, heard_goes_on, says, notes}
 
 -- ---- what the leader tells of a vote
 
@@ -141,7 +141,7 @@ knows_voted from x w t (entry.Vote y) k = k
 knows_voted from x w t (entry.Decided i c) k = k
 
 voted_fits : (h : History) (n from : ℕ) (x : Vote) (w : PaxosState) (t : Term) (m : Meaning) (loose : List Entry)
-    (node : NodeValue) (out : OutboxValue) → Serves m h n loose node out
+    (node : NodeValue) (out : OutboxValue) → IsSafeStep m h n loose node out
     → PaxosFits h.genesis h.sent n w → w.term ≡ Some t → t.ballot ≡ x.ballot → Accepts from x h
     → PaxosFits h.genesis h.sent n (voted from x w t)
 voted_fits h n from x w t m loose node out s fits at ballot heard =
@@ -239,7 +239,7 @@ list_names genesis done r i set sums at =
 -- what a majority has accepted is chosen
 pub decided_chosen : (m : Meaning) (h : History) (n : ℕ) (loose : List Entry) (node : NodeValue) (out : OutboxValue)
     (from : ℕ) (x : Vote) (k : IsForProposal node x) → BringsMajority from x node k
-    → Serves m h n loose node out → Accepts from x h → ChosenAt h.genesis h.sent x.position x.command
+    → IsSafeStep m h n loose node out → Accepts from x h → ChosenAt h.genesis h.sent x.position x.command
 decided_chosen m h n loose node out from x k counted s heard =
     let w : PaxosState = s.holding.paxos in
     let r : RosterValue = node.learner.whole.roster in

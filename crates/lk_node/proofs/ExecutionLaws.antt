@@ -27,7 +27,7 @@ use Rattle.lk_leader.specs.LedTerms.{AgreesWithTerm}
 use Rattle.lk_leader.specs.Waits.{left_by, number_up_to, waiting_of}
 use Rattle.lk_leader.proofs.Leaderships.{later_leads}
 use Rattle.lk_learner.specs.Following.{AgreesWithList}
-use Rattle.lk_learner.specs.Learners.{LearnerValue, IsLearner, executed, IsNext, advanced, IsServed}
+use Rattle.lk_learner.specs.Learners.{LearnerValue, IsLearner, executed, IsNext, advanced, IsRetained}
 use Rattle.lk_learner.specs.Pairs.{without}
 use Rattle.lk_learner.proofs.Learnerships.{ran_moves, advanced_follows, next_stands, running_changes, served_stands}
 use Rattle.lk_node_interface.specs.KeptReplies.{session_reply, session_by}
@@ -35,17 +35,17 @@ use Rattle.lk_node_interface.specs.Outboxes.{OutboxValue, with_note, with_letter
 use Rattle.lk_node_interface.specs.Saying.{saying}
 use Rattle.lk_node_interface.specs.declared.note.Note.TheVariants as note
 use Rattle.lk_node_interface.specs.declared.to.To.TheVariants as to
-use Rattle.lk_node.specs.Executing.{waiting_number, with_told, no_longer_waiting, EndsWait}
+use Rattle.lk_node.specs.Executing.{waiting_number, with_session_reply, no_longer_waiting, EndsWait}
 use Rattle.lk_node.specs.Executing.{EndsWaitIfAny, RunsNext, is_outside}
 use Rattle.lk_node.specs.Executing.{without_term_if_outside, Executes, ExecutesOne, Runs, goes_on, RunsAll}
 use Rattle.lk_node.specs.Histories.{History}
 use Rattle.lk_node.specs.Keeping.{IsKnown}
 use Rattle.lk_node.specs.Learning.{with_learner}
 use Rattle.lk_node.specs.NodeValue.{NodeValue}
-use Rattle.lk_node.specs.Serving.{ActsSafely}
+use Rattle.lk_node.specs.SafeSteps.{ActsSafely}
 use Rattle.lk_node.specs.Yielding.{without_term}
 use Rattle.lk_node.proofs.Changing.{change_goes_on, leaves_goes_on}
-use Rattle.lk_node.proofs.Serving.{rests_here, then_goes_on, says, notes}
+use Rattle.lk_node.proofs.SafeSteps.{rests_here, then_goes_on, says, notes}
 
 -- ---- pairs
 
@@ -184,10 +184,10 @@ got_last (x ∷ xs) v = got_last xs v
 
 -- what has run last stands after what was served before
 pub last_served_at : (m : Meaning) (l : LearnerValue) (v : Command) → IsLearner l
-    → slice_get (advanced m v l).served (executed l + 1 - (l.snapshot_position + 1)) ≡ Some v
+    → slice_get (advanced m v l).retained (executed l + 1 - (l.snapshot_position + 1)) ≡ Some v
 last_served_at m l v is =
-    let place : executed l + 1 - (l.snapshot_position + 1) ≡ length l.served = omega (arith, is.reaches) in
-    ap (slice_get (l.served ++ v ∷ [])) place ∙ got_last l.served v
+    let place : executed l + 1 - (l.snapshot_position + 1) ≡ length l.retained = omega (arith, is.reaches) in
+    ap (slice_get (l.retained ++ v ∷ [])) place ∙ got_last l.retained v
 
 -- what a learner tells of a run
 module _ (m : Meaning) (was : NodeValue) (l : LearnerValue) where
@@ -208,13 +208,14 @@ module _ (m : Meaning) (was : NodeValue) (l : LearnerValue) where
       (ran : (v : Command) → IsNext was.learner v → Some r ≡ Some (Ended v))
       (some : ((v : Command) → IsNext was.learner v → ⊥) → ⊥) where
     there : (v : Command) → IsNext was.learner v
-        → IsServed l r.position × (slice_get l.served (r.position - (l.snapshot_position + 1)) ≡ Some v) × (r ≡ Ended v)
+        → IsRetained l r.position × (slice_get l.retained (r.position - (l.snapshot_position + 1)) ≡ Some v) × (r
+        ≡ Ended v)
     there v h =
         let same : r ≡ Ended v = (let e = ran v h in cc e) in
         let is_next = next v h in
         let moves = ran_moves m v was.learner.whole is.window.0 in
-        subst₂ (λ (k : LearnerValue) (x : Ran). IsServed k x.position
-        × (slice_get k.served (x.position - (k.snapshot_position + 1)) ≡ Some v) × (x ≡ Ended v)) (sym is_next)
+        subst₂ (λ (k : LearnerValue) (x : Ran). IsRetained k x.position
+        × (slice_get k.retained (x.position - (k.snapshot_position + 1)) ≡ Some v) × (x ≡ Ended v)) (sym is_next)
         (sym same)
         ((omega (arith, is.reaches), omega (arith, moves.0)), last_served_at m was.learner v is, refl)
 
@@ -222,10 +223,10 @@ module _ (m : Meaning) (was : NodeValue) (l : LearnerValue) where
     kept = elim (next_or_none (executed was.learner + 1) was.learner.pairs)
         [ inl n ↦ n | inr nothing ↦ absurd (some nothing) ]
 
-    pub is_served : IsServed l r.position
+    pub is_served : IsRetained l r.position
     is_served = (there kept.0 kept.1).0
 
-    pub some_next : (v : Command) → slice_get l.served (r.position - (l.snapshot_position + 1)) ≡ Some v
+    pub some_next : (v : Command) → slice_get l.retained (r.position - (l.snapshot_position + 1)) ≡ Some v
         → RunsNext m was (with_learner was l) (Some (v, r))
     some_next v at =
         let k = there kept.0 kept.1 in
@@ -235,7 +236,7 @@ module _ (m : Meaning) (was : NodeValue) (l : LearnerValue) where
 
 notes_ran : (m : Meaning) (Heard : History → Type 0) (node : NodeValue) (out : OutboxValue) (v : Command) (whose i : ℕ)
     → node.learner.snapshot_position < i
-    → slice_get node.learner.served (i - (node.learner.snapshot_position + 1)) ≡ Some v
+    → slice_get node.learner.retained (i - (node.learner.snapshot_position + 1)) ≡ Some v
     → ActsSafely m Heard node node out (with_note (note.Ran whose i v) out)
 notes_ran m Heard node out v whose i above at =
     notes m Heard node out (note.Ran whose i v) tt (λ h n loose s heard.
@@ -309,7 +310,7 @@ up_to number (Some q) k e =
 pub tells_client : (m : Meaning) (Heard : History → Type 0) (node : NodeValue) (out : OutboxValue) (s : Session)
     (number : ℕ) → number ≤ s.number
     → session_of s.client node.learner.whole.sessions ≡ Some s → IsMessage (saying node.header (session_reply s number))
-    → ActsSafely m Heard node node out (with_told node.header s (Some number) out)
+    → ActsSafely m Heard node node out (with_session_reply node.header s (Some number) out)
 tells_client m Heard node out s number le at fits = by_test (nat_lt number s.number) refl fits
   where
     message : Bool → NodeMessage
@@ -349,14 +350,14 @@ settles_goes_on m Heard s old before new after at k =
     subst₂ (λ (node : NodeValue) (o : OutboxValue). ActsSafely m Heard old node before o) (sym k.becomes)
     (sym k.comes_to)
     (then_goes_on m Heard old (no_longer_waiting s old) (no_longer_waiting s old) before before
-    (with_told old.header s (waiting_number s old) before)
+    (with_session_reply old.header s (waiting_number s old) before)
     (settled_goes_on m Heard old before s)
     (by_number (waiting_number s old) (up_to s.number (waiting_of s.client old.leader.waiting)) k.fits))
   where
     by_number : (o : Option ℕ) → ((number : ℕ) → o ≡ Some number → number ≤ s.number)
         → ((number : ℕ) → o ≡ Some number → IsMessage (saying old.header (session_reply s number)))
         → ActsSafely m Heard (no_longer_waiting s old) (no_longer_waiting s old) before
-        (with_told old.header s o before)
+        (with_session_reply old.header s o before)
     by_number None le fits = rests_here m Heard (no_longer_waiting s old) before
     by_number (Some number) le fits =
         tells_client m Heard (no_longer_waiting s old) before s number (le number refl) at (fits number refl)

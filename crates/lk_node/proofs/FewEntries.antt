@@ -19,16 +19,16 @@ use Rattle.lk_node_interface.specs.Outboxes.{OutboxValue, nothing, with_rebase, 
 use Rattle.lk_node_interface.specs.declared.input.Input.{Input}
 use Rattle.lk_node_interface.specs.declared.input.Input.TheVariants as input
 use Rattle.lk_node.specs.CatchingUp.{Feeds}
-use Rattle.lk_node.specs.Executing.{with_told, EndsWaitIfAny, waiting_number}
+use Rattle.lk_node.specs.Executing.{with_session_reply, EndsWaitIfAny, waiting_number}
 use Rattle.lk_node.specs.Executing.{without_term_if_outside, Runs, goes_on, stays}
 use Rattle.lk_node.specs.Installing.{EndsFirstWaits, none_ended, one_ended, HandlesPart}
 use Rattle.lk_node.specs.Learning.{Learns}
-use Rattle.lk_node.specs.DecidedPairs.{TakesPairs, none_yet, one_more}
+use Rattle.lk_node.specs.DecidedPairs.{LearnsPairs, none_yet, one_more}
 use Rattle.lk_node.specs.Leading.{ProposesAll}
 use Rattle.lk_node.specs.Reminding.{OffersFirst, OffersAhead, OffersAgain, Ticks, none_offered, one_offered}
 use Rattle.lk_node.specs.NodeValue.{NodeValue}
 use Rattle.lk_node.specs.Steps.{Steps, HandlesNode, Handles}
-use Rattle.lk_node.specs.Asking.{HandlesRequest, PointsTo, TakesNew, TakesAs, leader_in}
+use Rattle.lk_node.specs.Asking.{HandlesRequest, PointsTo, QueuesOrRedirects, RepliesAs, leader_in}
 use Rattle.lk_node.specs.Histories.{RequestValue}
 use Rattle.lk_types.specs.declared.member.Member.{Member}
 use Rattle.lk_leader.specs.Terms.{TermValue}
@@ -51,7 +51,7 @@ one_few e before after is =
 -- ---- what is executed
 
 told_same : (whose : HeaderValue) (s : Session) (o : Option ℕ) (out : OutboxValue)
-    → (with_told whose s o out).entries ≡ out.entries
+    → (with_session_reply whose s o out).entries ≡ out.entries
 told_same whose s None out = refl
 told_same whose s (Some n) out = refl
 
@@ -77,7 +77,7 @@ learned_few p old new before after k = elim k [
 ]
 
 pairs_few : (m : Meaning) (first : ℕ) (commands : List Command) (old : NodeValue) (before : OutboxValue) (k : ℕ)
-    (new : NodeValue) (after : OutboxValue) → TakesPairs m first commands old before k new after → Few k before after
+    (new : NodeValue) (after : OutboxValue) → LearnsPairs m first commands old before k new after → Few k before after
 pairs_few m first commands old before k new after none_yet = omega arith
 pairs_few m first commands old before n new after (one_more {k = k} {mid = mid} {between = between} v so_far at pair) =
     omega (
@@ -193,11 +193,11 @@ asked_few old r new out = at (seen_as (session_of r.client old.learner.whole.ses
     pointed None h = ap (λ (o : OutboxValue). o.entries) h.1
     pointed (Some k) h = ap (λ (o : OutboxValue). o.entries) h.1.1
 
-    taken : (t : Option TermValue) → TakesNew t old r new out → out.entries ≡ []
+    taken : (t : Option TermValue) → QueuesOrRedirects t old r new out → out.entries ≡ []
     taken None h = pointed (leader_in old.known old.learner.whole.roster.sets) h
     taken (Some k) h = ap (λ (o : OutboxValue). o.entries) h.1
 
-    at : (s : Seen) → TakesAs s old r new out → out.entries ≡ []
+    at : (s : Seen) → RepliesAs s old r new out → out.entries ≡ []
     at (seen.Same answer) h = ap (λ (o : OutboxValue). o.entries) h.1.1
     at (seen.Passed last) h = ap (λ (o : OutboxValue). o.entries) h.1.1
     at seen.New h = taken old.leader.term h

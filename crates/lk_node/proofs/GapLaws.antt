@@ -27,14 +27,14 @@ use Rattle.lk_node.specs.Histories.{History, Command, text}
 use Rattle.lk_node.specs.NodeValue.{NodeValue}
 use Rattle.lk_node.specs.Replying.{SaysAlone}
 use Rattle.lk_node.specs.Saying.{to_node}
-use Rattle.lk_node.specs.Served.{BearsOutMessage}
-use Rattle.lk_node.specs.Serving.{Serves, ActsSafely}
+use Rattle.lk_node.specs.BorneOut.{BearsOutMessage}
+use Rattle.lk_node.specs.SafeSteps.{IsSafeStep, ActsSafely}
 use Rattle.lk_node.specs.Telling.{letter_to}
 use Rattle.lk_node.specs.Yielding.{with_round, seeing}
 use Rattle.lk_node.proofs.Changing.{alike_goes_on, yielded_goes_on}
 use Rattle.lk_node.proofs.Lists.{contains_more}
 use Rattle.lk_node.proofs.ManyLetters.{lettered}
-use Rattle.lk_node.proofs.Serving.{rests_here, then_goes_on, says}
+use Rattle.lk_node.proofs.SafeSteps.{rests_here, then_goes_on, says}
 
 -- nothing is done, and nothing comes of it
 pub idles : (m : Meaning) (Heard : History → Type 0) (node : NodeValue) (out : OutboxValue) → out ≡ nothing
@@ -44,7 +44,7 @@ idles m Heard node out is = subst (ActsSafely m Heard node node nothing) (sym is
 -- one message, which the executed list bears out
 pub alone_goes_on : (m : Meaning) (Heard : History → Type 0) (node : NodeValue) (to : To) (message : NodeMessage)
     (out : OutboxValue) → SaysAlone node to message out → Covers node.acceptor.state message
-    → ((h : History) (n : ℕ) (loose : List Entry) (s : Serves m h n loose node nothing)
+    → ((h : History) (n : ℕ) (loose : List Entry) (s : IsSafeStep m h n loose node nothing)
     → MaySend h.genesis h.sent s.holding.paxos message × BearsOutMessage m h s.holding.paxos.done message)
     → ActsSafely m Heard node node nothing out
 alone_goes_on m Heard node to message out k covers may =

@@ -37,9 +37,9 @@ use Rattle.lk_node.specs.Learning.{with_learner}
 use Rattle.lk_node.specs.Leavings.{header_of}
 use Rattle.lk_node.specs.Nearness.{AreNear}
 use Rattle.lk_node.specs.NodeValue.{NodeValue}
-use Rattle.lk_node.specs.Serving.{ActsSafely}
+use Rattle.lk_node.specs.SafeSteps.{ActsSafely}
 use Rattle.lk_node.proofs.Changing.{IsFollowed, change_goes_on}
-use Rattle.lk_node.proofs.Serving.{rests_here, then_goes_on}
+use Rattle.lk_node.proofs.SafeSteps.{rests_here, then_goes_on}
 
 -- ---- an acceptor and a learner stay near each other
 
@@ -77,7 +77,7 @@ module _ (m : Meaning) (h : History) (n : ℕ) (node : NodeValue) (x : Holding) 
         sums = held.follows.sums;
         within = held.follows.within;
         text = held.follows.text;
-        served = held.follows.served;
+        retained = held.follows.retained;
         known = held.follows.known;
         kept = held.follows.kept;
       };

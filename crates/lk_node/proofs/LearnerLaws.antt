@@ -29,13 +29,13 @@ use Rattle.lk_node_interface.specs.Outboxes.{OutboxValue, with_entry}
 use Rattle.lk_node.specs.Entries.{Rests}
 use Rattle.lk_node.specs.Executing.{RunsAll}
 use Rattle.lk_node.specs.Histories.{History}
-use Rattle.lk_node.specs.DecidedPairs.{TakesPair, TakesFirst, TakesPairs, one_more}
+use Rattle.lk_node.specs.DecidedPairs.{LearnsPair, LearnsFirst, LearnsPairs, one_more}
 use Rattle.lk_node.specs.Keeping.{TellsDecided, IsKnown}
 use Rattle.lk_node.specs.Learning.{with_learner, Learns}
 use Rattle.lk_node.specs.NodeValue.{NodeValue}
-use Rattle.lk_node.specs.Serving.{with_entries, Serves, ActsSafely}
+use Rattle.lk_node.specs.SafeSteps.{with_entries, IsSafeStep, ActsSafely}
 use Rattle.lk_node.proofs.Changing.{change_goes_on}
-use Rattle.lk_node.proofs.Serving.{rests_here, then_goes_on, heard_goes_on}
+use Rattle.lk_node.proofs.SafeSteps.{rests_here, then_goes_on, heard_goes_on}
 
 -- ---- entries
 
@@ -56,7 +56,7 @@ unsynced_before true e = absurd (cc e)
 -- an entry of a decided command that is chosen, and that the learner keeps
 pub writes_decided : (m : Meaning) (Heard : History → Type 0) (node : NodeValue) (out : OutboxValue) (i : ℕ)
     (v : Command) → Contains node.learner.pairs (i, v)
-    → ((h : History) (n : ℕ) (loose : List Entry) → Serves m h n loose node out → Heard h
+    → ((h : History) (n : ℕ) (loose : List Entry) → IsSafeStep m h n loose node out → Heard h
     → ChosenAt h.genesis h.sent i v)
     → ActsSafely m Heard node node out (with_entry (entry.Decided i v) out)
 writes_decided m Heard node out i v kept chosen = record {
@@ -91,7 +91,7 @@ knows_more w p (entry.Decided i c) (inl pair) = inl (Contains-append_left w.pair
 knows_more w p (entry.Decided i c) (inr done) = inr done
 
 keeps_goes_on : (m : Meaning) (Heard : History → Type 0) (node : NodeValue) (out : OutboxValue) (i : ℕ) (v : Command)
-    → ((h : History) (n : ℕ) (loose : List Entry) → Serves m h n loose node out → Heard h
+    → ((h : History) (n : ℕ) (loose : List Entry) → IsSafeStep m h n loose node out → Heard h
     → ChosenAt h.genesis h.sent i v)
     → ActsSafely m Heard node (with_learner node (keeping (i, v) node.learner)) out out
 keeps_goes_on m Heard node out i v chosen =
@@ -162,7 +162,7 @@ pub stepped_over : (m : Meaning) (position : ℕ) (commands : List Command) (lef
     → (IsWanted old.learner position → ⊥) → RunsAll m old before new after
     → ActsSafely m (λ h. Unit {0}) old new before after
     → IfSome left (λ others. (v : Command) × (commands ≡ v ∷ others))
-    → IfSome left (λ others. TakesFirst m position commands others old before new after)
+    → IfSome left (λ others. LearnsFirst m position commands others old before new after)
 stepped_over m position commands None old new before after other runs goes_on skips = tt
 stepped_over m position commands (Some others) old new before after other runs goes_on skips =
     record {
@@ -189,10 +189,10 @@ told_goes_on m from d k i v first old new begun before after is at f g =
 
 pub takes_more : (m : Meaning) (d : DecidedValue) (k i : ℕ) (v : Command) (first old new : NodeValue)
     (begun before after : OutboxValue) → i ≡ d.first + k → slice_get d.commands k ≡ Some v
-    → TakesPairs m d.first d.commands first begun k old before → TakesPair m (i, v) old before new after
-    → TakesPairs m d.first d.commands first begun (k + 1) new after
+    → LearnsPairs m d.first d.commands first begun k old before → LearnsPair m (i, v) old before new after
+    → LearnsPairs m d.first d.commands first begun (k + 1) new after
 takes_more m d k i v first old new begun before after is at so_far one =
-    one_more v so_far at (subst (λ (j : ℕ). TakesPair m (j, v) old before new after) is one)
+    one_more v so_far at (subst (λ (j : ℕ). LearnsPair m (j, v) old before new after) is one)
 
 -- each position is in its range
 pub within_range : (d : DecidedValue) (k : ℕ) → IsDecided d → k < length d.commands → d.first + k ≤ 281474976710656

@@ -1,5 +1,5 @@
 mod Lists
-mod Serving
+mod SafeSteps
 mod ManyLetters
 mod Changing
 mod TermLaws

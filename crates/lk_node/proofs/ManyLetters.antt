@@ -12,10 +12,10 @@ use Rattle.lk_node_interface.specs.Saying.{saying}
 use Rattle.lk_node.specs.Histories.{History}
 use Rattle.lk_node.specs.NodeValue.{NodeValue}
 use Rattle.lk_node.specs.Saying.{to_node}
-use Rattle.lk_node.specs.Served.{IsServed}
-use Rattle.lk_node.specs.Serving.{IsNeitherPromiseNorVote, Serves, ActsSafely}
+use Rattle.lk_node.specs.BorneOut.{MessageIsBorneOut}
+use Rattle.lk_node.specs.SafeSteps.{IsNeitherPromiseNorVote, IsSafeStep, ActsSafely}
 use Rattle.lk_node.specs.Telling.{letter_to, telling}
-use Rattle.lk_node.proofs.Serving.{rests_here, then_goes_on, says}
+use Rattle.lk_node.proofs.SafeSteps.{rests_here, then_goes_on, says}
 
 letters_behind : (xs ys zs : List LetterValue) → (xs ++ ys) ++ zs ≡ xs ++ (ys ++ zs)
 letters_behind [] ys zs = refl
@@ -33,8 +33,8 @@ lettered out ls =
 pub says_all : (m : Meaning) (Heard : History → Type 0) (node : NodeValue) (out : OutboxValue) (nodes : List ℕ)
     (message : NodeMessage) → IsMessage (saying node.header message) → Covers node.acceptor.state message
     → (out.rebase ≡ true → IsNeitherPromiseNorVote message)
-    → ((o : OutboxValue) (h : History) (n : ℕ) (loose : List Entry) (s : Serves m h n loose node o) → Heard h
-    → MaySend h.genesis h.sent s.holding.paxos message × IsServed m h message)
+    → ((o : OutboxValue) (h : History) (n : ℕ) (loose : List Entry) (s : IsSafeStep m h n loose node o) → Heard h
+    → MaySend h.genesis h.sent s.holding.paxos message × MessageIsBorneOut m h message)
     → ActsSafely m Heard node node out (telling node nodes message out)
 says_all m Heard node out [] message fits covers neither may =
     subst (λ (ls : List LetterValue). ActsSafely m Heard node node out (lettered out ls)) (sym (no_letters out.letters))

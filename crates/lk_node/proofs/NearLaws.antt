@@ -6,7 +6,7 @@ use Rattle.lk_types.specs.declared.vote.Vote.{Vote}
 use Rattle.lk_agreement_laws.specs.Acceptors.{AcceptorState}
 use Rattle.lk_agreement_laws.specs.Changes.{with_promise}
 use Rattle.lk_store_format.specs.Entries.{are_pairs_above}
-use Rattle.lk_log.specs.Stores.{MayBegin}
+use Rattle.lk_log.specs.Stores.{FitsBase}
 use Rattle.lk_state.specs.Meanings.{Meaning}
 use Rattle.lk_state.specs.Packed.{packed}
 use Rattle.lk_acceptor.specs.AcceptorValue.{AcceptorValue}
@@ -95,7 +95,7 @@ same_above low (p ∷ ps) = ap (λ (t : Bool). ltb low p.0 && t) (same_above p.0
 pub may_begin : (node : NodeValue) → IsAcceptor node.acceptor → IsLearner node.learner
     → AreNear node.acceptor node.learner → 1 ≤ length (packed node.learner.whole)
     → length (packed node.learner.whole) ≤ 42087
-    → MayBegin (standing_of node)
+    → FitsBase (standing_of node)
 may_begin node a l n some room = record {
   some = some;
   room = omega (arith, room);

@@ -26,10 +26,10 @@ use Rattle.lk_node_interface.specs.Outboxes.{OutboxValue}
 use Rattle.lk_node_interface.specs.declared.input.Input.{Input}
 use Rattle.lk_node_interface.specs.declared.input.Input.TheVariants as input
 use Rattle.lk_node.specs.Responding.{with_acceptor, replied, Responds}
-use Rattle.lk_node.specs.Asking.{leader_in, PointsTo, TakesNew, TakesAs}
+use Rattle.lk_node.specs.Asking.{leader_in, PointsTo, QueuesOrRedirects, RepliesAs}
 use Rattle.lk_node.specs.CatchingUp.{following, HandlesLead}
 use Rattle.lk_node.specs.Deciding.{IsOnlyHeard, HandlesAccepted}
-use Rattle.lk_node.specs.DecidedPairs.{TakesPairs, none_yet, one_more}
+use Rattle.lk_node.specs.DecidedPairs.{LearnsPairs, none_yet, one_more}
 use Rattle.lk_node.specs.Executing.{NothingToRun}
 use Rattle.lk_node.specs.Installing.{HandlesPart}
 use Rattle.lk_node.specs.Leading.{HandlesPromise, having_proposed, ProposesAll}
@@ -101,12 +101,12 @@ points_settles None old new r out k = stays_as old old new refl k.0
 points_settles (Some member) old new r out k = stays_as old old new refl k.0
 
 new_settles : (o : Option TermValue) (old new : NodeValue) (r : RequestValue) (out : OutboxValue)
-    → TakesNew o old r new out → LeavesNothing old new
+    → QueuesOrRedirects o old r new out → LeavesNothing old new
 new_settles None old new r out k = points_settles (leader_in old.known old.learner.whole.roster.sets) old new r out k
 new_settles (Some t) old new r out k = stays_as old _ new refl k.0
 
 taken_settles : (s : Seen) (old new : NodeValue) (r : RequestValue) (out : OutboxValue)
-    → TakesAs s old r new out → LeavesNothing old new
+    → RepliesAs s old r new out → LeavesNothing old new
 taken_settles seen.New old new r out k = new_settles old.leader.term old new r out k
 taken_settles (seen.Same answer) old new r out k = stays_as old old new refl k.0
 taken_settles (seen.Passed last) old new r out k = stays_as old old new refl k.0
@@ -124,7 +124,7 @@ accepted_settles m from x old new out (inr heard) none = only_heard_settles from
 
 pairs_settle : (m : Meaning) (first : ℕ) (commands : List Command) (old : NodeValue) (before : OutboxValue) (k : ℕ)
     (new : NodeValue) (after : OutboxValue)
-    → TakesPairs m first commands old before k new after → LeavesNothing old new
+    → LearnsPairs m first commands old before k new after → LeavesNothing old new
 pairs_settle m first commands old before _ _ _ none_yet none = none
 pairs_settle m first commands old before _ _ _ (one_more v so_far at takes) none = takes.runs.1
 

@@ -40,14 +40,14 @@ use Rattle.lk_node.specs.Leading.{with_leader, ProposesVote, having_proposed, No
 use Rattle.lk_node.specs.Leading.{ProposesOpen}
 use Rattle.lk_node.specs.Leading.{ProposesNext}
 use Rattle.lk_node.specs.NodeValue.{NodeValue}
-use Rattle.lk_node.specs.Promised.{HasPromised}
-use Rattle.lk_node.specs.Served.{IsServed}
-use Rattle.lk_node.specs.Serving.{Serves, ActsSafely}
+use Rattle.lk_node.specs.Promised.{IsTermPromised}
+use Rattle.lk_node.specs.BorneOut.{MessageIsBorneOut}
+use Rattle.lk_node.specs.SafeSteps.{IsSafeStep, ActsSafely}
 use Rattle.lk_node.specs.Telling.{telling}
 use Rattle.lk_node.proofs.Changing.{change_goes_on}
 use Rattle.lk_node.proofs.Lists.{only}
 use Rattle.lk_node.proofs.ManyLetters.{says_all}
-use Rattle.lk_node.proofs.Serving.{then_goes_on}
+use Rattle.lk_node.proofs.SafeSteps.{then_goes_on}
 use Rattle.lk_node.proofs.TermLaws.{term_followed, some_value}
 
 -- ---- there is an end of it
@@ -180,10 +180,10 @@ module _ (m : Meaning) (h : History) (n : ℕ) (old : NodeValue) (x : Holding) (
 
 -- what the leader's term has proposed may be told
 pub accept_may : (m : Meaning) (h : History) (n : ℕ) (loose : List Entry) (node : NodeValue) (o : OutboxValue)
-    (s : Serves m h n loose node o) (k : TermValue) (q : ProposalValue) (x : Vote)
+    (s : IsSafeStep m h n loose node o) (k : TermValue) (q : ProposalValue) (x : Vote)
     → node.leader.term ≡ Some k → Contains k.proposals q
     → x ≡ record { position = q.position; ballot = k.ballot; command = q.command }
-    → MaySend h.genesis h.sent s.holding.paxos (kinds.Accept x) × IsServed m h (kinds.Accept x)
+    → MaySend h.genesis h.sent s.holding.paxos (kinds.Accept x) × MessageIsBorneOut m h (kinds.Accept x)
 accept_may m h n loose node o s k q x at among is =
     let lead = s.held.leads k at in (
       (
@@ -196,7 +196,7 @@ accept_may m h n loose node o s k q x at among is =
     )
 
 pub proposal_goes_on : (m : Meaning) (old : NodeValue) (x : Vote) (p : ProposesVote old x) (out : OutboxValue)
-    → HasPromised old.acceptor old.leader → IsMessage (saying old.header (kinds.Accept x))
+    → IsTermPromised old.acceptor old.leader → IsMessage (saying old.header (kinds.Accept x))
     → ActsSafely m (λ h. Unit {0}) old (having_proposed old x p) out
     (telling old (nodes_of p.proposes.set) (kinds.Accept x) out)
 proposal_goes_on m old x p out promised fits =
@@ -234,8 +234,8 @@ proposal_goes_on m old x p out promised fits =
     (ap (λ (b : BallotValue). record { position = x.position; ballot = b; command = x.command }) p.ballot)))
 
 -- the node goes on leading in what it promised
-pub proposal_promised : (old : NodeValue) (x : Vote) (p : ProposesVote old x) → HasPromised old.acceptor old.leader
-    → HasPromised old.acceptor (having_proposed old x p).leader
+pub proposal_promised : (old : NodeValue) (x : Vote) (p : ProposesVote old x) → IsTermPromised old.acceptor old.leader
+    → IsTermPromised old.acceptor (having_proposed old x p).leader
 proposal_promised old x p promised j at =
     subst (λ (y : TermValue). IsAtMost y.ballot old.acceptor.state.promised)
     (some_value (proposed old.learner.whole.roster x.position x.command p.term) j at) (promised p.term p.current)
@@ -298,8 +298,8 @@ none_is_next old node new roster e e1 none =
     )
 
 pub next_promised : (a : AcceptorValue) (l new : LeaderValue) (roster : RosterValue) (i : ℕ) (v : Command)
-    → HasPromised a l → LeaderProposes l roster i v
-    → ((t : TermValue) → l.term ≡ Some t → new ≡ with_term (proposed roster i v t) l) → HasPromised a new
+    → IsTermPromised a l → LeaderProposes l roster i v
+    → ((t : TermValue) → l.term ≡ Some t → new ≡ with_term (proposed roster i v t) l) → IsTermPromised a new
 next_promised a l new roster i v promised may term j at =
     subst (λ (b : BallotValue). IsAtMost b a.state.promised)
     (ap (λ (y : TermValue). y.ballot)
@@ -321,7 +321,7 @@ module _ (old mid : NodeValue) (x : Vote) (p : ProposesVote old x) (is : mid ≡
       subst (λ (k : NodeValue). (set : List Member) → AreMembersAt k.learner.whole.roster x.position set
       → IsMessage (saying k.header (kinds.Accept x))) is fits p.proposes.set p.proposes.members
 
-  pub next_goes_on : (m : Meaning) (before more : OutboxValue) → HasPromised old.acceptor old.leader
+  pub next_goes_on : (m : Meaning) (before more : OutboxValue) → IsTermPromised old.acceptor old.leader
       → IsMessage (saying old.header (kinds.Accept x))
       → more ≡ telling old (nodes_of p.proposes.set) (kinds.Accept x) before
       → ActsSafely m (λ h. Unit {0}) old mid before more

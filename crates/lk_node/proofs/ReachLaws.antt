@@ -18,8 +18,9 @@ use Rattle.lk_node.proofs.Lists.{cons_cases, contains_more}
 use Rattle.lk_node.specs.Histories.{Genesis}
 use Rattle.lk_node.specs.NodeValue.{NodeValue}
 use Rattle.lk_node.specs.Packing.{standing_of, with_snapshot}
-use Rattle.lk_node.specs.Reaching.{IsDecidedAt, Reaches, LiesNear, AllLieNear, EntryLiesNear, EntriesLieNear, TellsOf}
-use Rattle.lk_node.specs.Reaching.{IsTold, TellsOn, HoldsNear}
+use Rattle.lk_node.specs.Reaching.{IsDecidedAt, DecidesTo, LiesNear, AllLieNear, EntryLiesNear, EntriesLieNear}
+use Rattle.lk_node.specs.Reaching.{RestoresNode}
+use Rattle.lk_node.specs.Reaching.{IsRestorable, StillRestoresNode, HoldsNear}
 use Rattle.lk_acceptor.proofs.Acceptors.{takes_snapshot}
 use Rattle.lk_learner.specs.Learners.{executed, alpha}
 
@@ -94,14 +95,14 @@ decided_here s i c low =
     subst (λ (t : Bool). IsDecidedAt i (cond t (with_pair (i, c) s.pairs) s.pairs)) (sym (lt-ltb s.position i low))
     (pair_put (i, c) s.pairs)
 
-reaches_more : (s : StandingValue) (x : Entry) (e : ℕ) → Reaches s e → Reaches (with_plain x s) e
+reaches_more : (s : StandingValue) (x : Entry) (e : ℕ) → DecidesTo s e → DecidesTo (with_plain x s) e
 reaches_more s x e r i low most = decided_more s x i (r i (omega (arith, low, position_more s x)) most)
 
 lies_more : (ahead : ℕ) (s : StandingValue) (x : Entry) (i : ℕ) → LiesNear ahead s i → LiesNear ahead (with_plain x s) i
 lies_more ahead s x i n = (n.0, reaches_more s x n.0 n.1, n.2)
 
-pub tells_more : (ahead : ℕ) (s : StandingValue) (x : Entry) (node : NodeValue) → TellsOf ahead s node
-    → TellsOf ahead (with_plain x s) node
+pub tells_more : (ahead : ℕ) (s : StandingValue) (x : Entry) (node : NodeValue) → RestoresNode ahead s node
+    → RestoresNode ahead (with_plain x s) node
 tells_more ahead s x node t = record {
   some = t.some;
   votes_ahead = t.votes_ahead;
@@ -188,17 +189,18 @@ near_behind ahead s (e ∷ es) more n k = (n.0, near_behind ahead (with_plain e 
 
 -- what is told with these entries, with more is still
 pub told_behind : (ahead : ℕ) (s : StandingValue) (loose es : List Entry) (old new : NodeValue)
-    → IsTold ahead s loose old → TellsOn old new es → IsTold ahead s (loose ++ es) new
+    → IsRestorable ahead s loose old → StillRestoresNode old new es → IsRestorable ahead s (loose ++ es) new
 told_behind ahead s loose es old new told on =
     let k = on ahead (with_all loose s) told.tells in
     record {
       near = near_behind ahead s loose es told.near k.0;
-      tells = subst (λ (t : StandingValue). TellsOf ahead t new) (sym (with_all_behind loose es s)) k.1;
+      tells = subst (λ (t : StandingValue). RestoresNode ahead t new) (sym (with_all_behind loose es s)) k.1;
     }
 
 -- what is told is told where all of it is synced
-pub told_synced : (ahead : ℕ) (s : StandingValue) (loose : List Entry) (node : NodeValue) → IsTold ahead s loose node
-    → IsTold ahead (with_all loose s) [] node
+pub told_synced : (ahead : ℕ) (s : StandingValue) (loose : List Entry) (node : NodeValue)
+    → IsRestorable ahead s loose node
+    → IsRestorable ahead (with_all loose s) [] node
 told_synced ahead s loose node told = record { near = tt; tells = told.tells }
 
 -- where all lies near and the entries do, all does with each beginning of them
@@ -212,7 +214,7 @@ near_begins ahead s (e ∷ es) (suc k) all near =
 -- ---- a Base
 
 -- nothing above the snapshot has to be reached
-none_above : (s : StandingValue) → Reaches s s.position
+none_above : (s : StandingValue) → DecidesTo s s.position
 none_above s i low most = absurd (omega (arith, low, most))
 
 pub base_near : (node : NodeValue) → HoldsNear node → AllLieNear (alpha node.learner) (standing_of node)
@@ -226,7 +228,7 @@ base_near node near = record {
 }
 
 pub base_tells : (node : NodeValue) → HoldsNear node → 1 ≤ alpha node.learner
-    → TellsOf (alpha node.learner) (standing_of node) (with_snapshot node)
+    → RestoresNode (alpha node.learner) (standing_of node) (with_snapshot node)
 base_tells node near some = record {
   some = some;
   votes_ahead = near.0.alpha_is;

@@ -17,22 +17,22 @@ use Rattle.lk_learner.specs.Learners.{executed}
 use Rattle.lk_node_interface.specs.Outboxes.{OutboxValue}
 use Rattle.lk_node.specs.Histories.{History}
 use Rattle.lk_node.specs.NodeValue.{NodeValue}
-use Rattle.lk_node.specs.Promised.{HasPromised}
+use Rattle.lk_node.specs.Promised.{IsTermPromised}
 use Rattle.lk_node.specs.Reminding.{IsTermOf, TellsThese, AsksAgain, vote_for, OffersAgain, TellsLead}
-use Rattle.lk_node.specs.Serving.{ActsSafely}
+use Rattle.lk_node.specs.SafeSteps.{ActsSafely}
 use Rattle.lk_node.proofs.Lists.{contains_more}
 use Rattle.lk_node.proofs.ManyLetters.{says_all}
 use Rattle.lk_node.proofs.Proposals.{accept_may}
-use Rattle.lk_node.proofs.Serving.{rests_here}
+use Rattle.lk_node.proofs.SafeSteps.{rests_here}
 
 -- the term's ballot is promised
-term_promised : (node : NodeValue) (b : BallotValue) → HasPromised node.acceptor node.leader → IsTermOf b node.leader
+term_promised : (node : NodeValue) (b : BallotValue) → IsTermPromised node.acceptor node.leader → IsTermOf b node.leader
     → IsAtMost b node.acceptor.state.promised
 term_promised node b promised k =
     subst (λ (x : BallotValue). IsAtMost x node.acceptor.state.promised) k.2 (promised k.0 k.1)
 
 pub asks_go_on : (m : Meaning) (Heard : History → Type 0) (node : NodeValue) (b : BallotValue)
-    (before out : OutboxValue) → HasPromised node.acceptor node.leader → IsTermOf b node.leader
+    (before out : OutboxValue) → IsTermPromised node.acceptor node.leader → IsTermOf b node.leader
     → AsksAgain node b before out
     → ActsSafely m Heard node node before out
 asks_go_on m Heard node b before out promised is (inl asks) =
@@ -76,7 +76,7 @@ found_at i p (q ∷ ps) e = by_test (λ k. found_at i p ps k) (eqb q.position i)
     by_test again false same e = let r = again e in (contains_more q ps p r.0, r.1)
 
 pub offer_goes_on : (m : Meaning) (Heard : History → Type 0) (node : NodeValue) (b : BallotValue) (i : ℕ)
-    (before out : OutboxValue) → HasPromised node.acceptor node.leader → IsTermOf b node.leader
+    (before out : OutboxValue) → IsTermPromised node.acceptor node.leader → IsTermOf b node.leader
     → OffersAgain node b i before out
     → ActsSafely m Heard node node before out
 offer_goes_on m Heard node b i before out promised is (inl offers) =

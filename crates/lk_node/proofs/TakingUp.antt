@@ -11,9 +11,9 @@ use Rattle.lk_node.specs.Executing.{without_term_if_outside}
 use Rattle.lk_node.specs.Histories.{History}
 use Rattle.lk_node.specs.Installing.{EndsFirstWaits, none_ended, one_ended, EndsWaits}
 use Rattle.lk_node.specs.NodeValue.{NodeValue}
-use Rattle.lk_node.specs.Serving.{ActsSafely}
+use Rattle.lk_node.specs.SafeSteps.{ActsSafely}
 use Rattle.lk_node.proofs.ExecutionLaws.{settles_goes_on, named_goes_on}
-use Rattle.lk_node.proofs.Serving.{rests_here, then_goes_on}
+use Rattle.lk_node.proofs.SafeSteps.{rests_here, then_goes_on}
 
 -- in front of all that is sent, the store may be rebased
 rebases_goes_on : (m : Meaning) (Heard : History → Type 0) (node : NodeValue)

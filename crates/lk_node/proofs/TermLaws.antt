@@ -30,10 +30,10 @@ use Rattle.lk_node.specs.Holdings.{Holding, HoldingFits}
 use Rattle.lk_node.specs.Keeping.{IsKnown, IsHeld}
 use Rattle.lk_node.specs.Leading.{with_leader, report_of, RecordsPromise, DropsPromise, HandlesPromise}
 use Rattle.lk_node.specs.NodeValue.{NodeValue}
-use Rattle.lk_node.specs.Promised.{HasPromised}
-use Rattle.lk_node.specs.Serving.{ActsSafely}
+use Rattle.lk_node.specs.Promised.{IsTermPromised}
+use Rattle.lk_node.specs.SafeSteps.{ActsSafely}
 use Rattle.lk_node.proofs.Changing.{IsFollowed, change_goes_on}
-use Rattle.lk_node.proofs.Serving.{rests_here}
+use Rattle.lk_node.proofs.SafeSteps.{rests_here}
 
 -- ---- the term changes
 
@@ -155,9 +155,9 @@ kept_or_dropped old node new roster from p b first votes Same e e1 e2 e3 e4 kept
     ])
 
 pub report_promised : (a : AcceptorValue) (l new : LeaderValue) (roster : RosterValue) (from : ℕ) (b : BallotValue)
-    (r : ReceivedPromise) (Same : Type 0) → HasPromised a l
+    (r : ReceivedPromise) (Same : Type 0) → IsTermPromised a l
     → ((t : TermValue) → IsFirstOf l roster from b t → new ≡ with_term (with_report r t) l)
-    → (((t : TermValue) → IsFirstOf l roster from b t → ⊥) → (new ≡ l) × Same) → HasPromised a new
+    → (((t : TermValue) → IsFirstOf l roster from b t → ⊥) → (new ≡ l) × Same) → IsTermPromised a new
 report_promised a l new roster from b r Same promised kept other k at = elim (first_or_not l roster from b) [
   | inl is ↦ subst (λ (y : BallotValue). IsAtMost y a.state.promised)
       (ap (λ (y : TermValue). y.ballot)

@@ -38,18 +38,20 @@ use Rattle.lk_node_interface.specs.Outboxes.{OutboxValue, nothing, with_optional
 use Rattle.lk_node_interface.specs.declared.input.Input.{Input}
 use Rattle.lk_node_interface.specs.declared.input.Input.TheVariants as input
 use Rattle.lk_node.specs.Responding.{with_acceptor, replied, Responds}
-use Rattle.lk_node.specs.Asking.{leader_in, PointsTo, TakesNew, TakesAs}
+use Rattle.lk_node.specs.Asking.{leader_in, PointsTo, QueuesOrRedirects, RepliesAs}
 use Rattle.lk_node.specs.Beginning.{next_ballot}
 use Rattle.lk_node.specs.CatchingUp.{HandlesLead, HandlesNack}
 use Rattle.lk_node.specs.Deciding.{IsOnlyHeard, HandlesAccepted}
-use Rattle.lk_node.specs.DecidedPairs.{TakesPairs, none_yet, one_more}
-use Rattle.lk_node.specs.Executing.{with_told, waiting_number, EndsWaitIfAny, is_outside, without_term_if_outside, Runs}
+use Rattle.lk_node.specs.DecidedPairs.{LearnsPairs, none_yet, one_more}
+use Rattle.lk_node.specs.Executing.{with_session_reply, waiting_number, EndsWaitIfAny, is_outside}
+use Rattle.lk_node.specs.Executing.{without_term_if_outside, Runs}
 use Rattle.lk_node.specs.Executing.{stays, goes_on}
 use Rattle.lk_node.specs.Installing.{EndsFirstWaits, none_ended, one_ended, HandlesPart}
 use Rattle.lk_node.specs.Leading.{HandlesPromise, having_proposed, ProposesAll}
 use Rattle.lk_node.specs.Learning.{Learns, with_learner}
 use Rattle.lk_node.specs.NodeValue.{NodeValue}
-use Rattle.lk_node.specs.Reaching.{IsDecidedAt, Reaches, EntryLiesNear, EntriesLieNear, TellsOf, TellsOn}
+use Rattle.lk_node.specs.Reaching.{IsDecidedAt, DecidesTo, EntryLiesNear, EntriesLieNear, RestoresNode}
+use Rattle.lk_node.specs.Reaching.{StillRestoresNode}
 use Rattle.lk_node.specs.Reminding.{Ticks}
 use Rattle.lk_node.specs.Steps.{HandlesNode, Handles, TakesBytes, Steps}
 use Rattle.lk_node.specs.Waiting.{ticked}
@@ -73,7 +75,7 @@ as_this : (mid new : NodeValue) → new ≡ mid → Rests mid new
 as_this mid new is = ap parts is
 
 tells_as : (ahead : ℕ) (s : StandingValue) (old new : NodeValue) → Rests old new
-    → TellsOf ahead s old → TellsOf ahead s new
+    → RestoresNode ahead s old → RestoresNode ahead s new
 tells_as ahead s old new same t =
     let whole : new.learner.whole ≡ old.learner.whole = ap (λ (p : Parts). p.0) same in
     let pairs : new.learner.pairs ≡ old.learner.pairs = ap (λ (p : Parts). p.1) same in
@@ -83,13 +85,13 @@ tells_as ahead s old new same t =
       votes_ahead = votes ∙ t.votes_ahead;
       window = ap (λ (w : WholeValue). length w.roster.sets) whole ∙ t.window;
       above = subst (λ (w : WholeValue). s.position ≤ w.roster.executed) (sym whole) t.above;
-      reached = subst (λ (w : WholeValue). Reaches s w.roster.executed) (sym whole) t.reached;
+      reached = subst (λ (w : WholeValue). DecidesTo s w.roster.executed) (sym whole) t.reached;
       kept = subst (λ (ps : List Pair). (p : Pair) → Contains ps p → IsDecidedAt p.0 s.pairs) (sym pairs) t.kept;
     }
 
 -- the entries lie near, and with them it tells of the node
 abbrev Told : ℕ → StandingValue → List Entry → NodeValue → Type 0
-Told ahead s es node = EntriesLieNear ahead s es × TellsOf ahead (with_all es s) node
+Told ahead s es node = EntriesLieNear ahead s es × RestoresNode ahead (with_all es s) node
 
 told_as : (ahead : ℕ) (s : StandingValue) (es fs : List Entry) (old new : NodeValue) → fs ≡ es → Rests old new
     → Told ahead s es old → Told ahead s fs new
@@ -97,15 +99,15 @@ told_as ahead s es fs old new same rests t =
     subst (λ (l : List Entry). Told ahead s l new) (sym same) (t.0, tells_as ahead (with_all es s) old new rests t.1)
 
 -- where nothing is written
-none_told : (old new : NodeValue) (es : List Entry) → es ≡ [] → Rests old new → TellsOn old new es
+none_told : (old new : NodeValue) (es : List Entry) → es ≡ [] → Rests old new → StillRestoresNode old new es
 none_told old new es none rests ahead s t = told_as ahead s [] es old new none rests (tt, t)
 
 one_told : (ahead : ℕ) (s : StandingValue) (es : List Entry) (e : Entry) (old new : NodeValue) → Told ahead s es old
     → EntryLiesNear ahead (with_all es s) e
-    → TellsOf ahead (with_plain e (with_all es s)) new → Told ahead s (es ++ e ∷ []) new
+    → RestoresNode ahead (with_plain e (with_all es s)) new → Told ahead s (es ++ e ∷ []) new
 one_told ahead s es e old new t near more = (
   near_behind ahead s es (e ∷ []) t.0 (near, tt),
-  subst (λ (z : StandingValue). TellsOf ahead z new) (sym (with_all_behind es (e ∷ []) s)) more,
+  subst (λ (z : StandingValue). RestoresNode ahead z new) (sym (with_all_behind es (e ∷ []) s)) more,
 )
 
 -- ---- what rests
@@ -149,12 +151,12 @@ points_rests None old new r out k = as_this old new k.0
 points_rests (Some member) old new r out k = as_this old new k.0
 
 new_rests : (o : Option TermValue) (old new : NodeValue) (r : RequestValue) (out : OutboxValue)
-    → TakesNew o old r new out → Rests old new
+    → QueuesOrRedirects o old r new out → Rests old new
 new_rests None old new r out k = points_rests (leader_in old.known old.learner.whole.roster.sets) old new r out k
 new_rests (Some t) old new r out k = as_this _ new k.0
 
 taken_rests : (s : Seen) (old new : NodeValue) (r : RequestValue) (out : OutboxValue)
-    → TakesAs s old r new out → Rests old new
+    → RepliesAs s old r new out → Rests old new
 taken_rests seen.New old new r out k = new_rests old.leader.term old new r out k
 taken_rests (seen.Same answer) old new r out k = as_this old new k.0
 taken_rests (seen.Passed last) old new r out k = as_this old new k.0
@@ -187,7 +189,7 @@ installs_rests IsText p old new l (inr (inr same)) is =
 
 -- one position further
 runs_tells : (m : Meaning) (ahead : ℕ) (s : StandingValue) (node : NodeValue) (v : Command) → IsNext node.learner v
-    → TellsOf ahead s node → TellsOf ahead s (with_learner node (advanced m v node.learner))
+    → RestoresNode ahead s node → RestoresNode ahead s (with_learner node (advanced m v node.learner))
 runs_tells m ahead s node v next t =
     let l : LearnerValue = node.learner in
     let some : 1 ≤ length l.whole.roster.sets = omega (arith, t.some, t.window) in
@@ -207,7 +209,7 @@ runs_tells m ahead s node v next t =
     }
 
 ran_tells : (m : Meaning) (ahead : ℕ) (s : StandingValue) (old : NodeValue) (before : OutboxValue) (new : NodeValue)
-    (after : OutboxValue) → Runs m old before new after → TellsOf ahead s old → TellsOf ahead s new
+    (after : OutboxValue) → Runs m old before new after → RestoresNode ahead s old → RestoresNode ahead s new
 ran_tells m ahead s old before new after stays t = t
 ran_tells m ahead s old before new after (goes_on {mid = mid} {between = between} so_far k) t =
     let ran : NodeValue = with_learner mid (advanced m k.command mid.learner) in
@@ -225,7 +227,7 @@ ran_told m ahead s old before new after r t =
 
 -- a pair that is wanted
 kept_tells : (ahead : ℕ) (s : StandingValue) (node : NodeValue) (p : Pair) → IsWanted node.learner p.0
-    → TellsOf ahead s node → TellsOf ahead (with_plain (entry.Decided p.0 p.1) s)
+    → RestoresNode ahead s node → RestoresNode ahead (with_plain (entry.Decided p.0 p.1) s)
     (with_learner node (keeping p node.learner))
 kept_tells ahead s node p wanted t =
     let more = tells_more ahead s (entry.Decided p.0 p.1) node t in
@@ -257,7 +259,7 @@ learned_told ahead s p old new before after (inr k) t =
 
 pairs_told : (m : Meaning) (ahead : ℕ) (s : StandingValue) (first : ℕ) (commands : List Command) (old : NodeValue)
     (before : OutboxValue) (k : ℕ) (new : NodeValue) (after : OutboxValue)
-    → TakesPairs m first commands old before k new after → Told ahead s before.entries old
+    → LearnsPairs m first commands old before k new after → Told ahead s before.entries old
     → Told ahead s after.entries new
 pairs_told m ahead s first commands old before k new after none_yet t = t
 pairs_told m ahead s first commands old before n new after
@@ -269,7 +271,7 @@ pairs_told m ahead s first commands old before n new after
 -- ---- what an acceptor writes
 
 optional_told : (ahead : ℕ) (s : StandingValue) (node : NodeValue) (o : Option Entry)
-    → ((e : Entry) → o ≡ Some e → EntryLiesNear ahead s e) → TellsOf ahead s node
+    → ((e : Entry) → o ≡ Some e → EntryLiesNear ahead s e) → RestoresNode ahead s node
     → Told ahead s (with_optional o nothing).entries node
 optional_told ahead s node None near t = (tt, t)
 optional_told ahead s node (Some e) near t = ((near e refl, tt), tells_more ahead s e node t)
@@ -297,7 +299,7 @@ prepared_near ahead s a new e b first r (inr k) =
     (no_entry ahead s r.entry k.1.entry, ap (λ (x : AcceptorValue). x.alpha) k.1.state)
 
 accepted_near : (ahead : ℕ) (s : StandingValue) (node : NodeValue) (new : AcceptorValue) (v : Vote) (r : Response)
-    → TellsOf ahead s node → RepliesToAccept node.acceptor node.learner.whole.roster.executed v r new
+    → RestoresNode ahead s node → RepliesToAccept node.acceptor node.learner.whole.roster.executed v r new
     → ((x : Entry) → r.entry ≡ Some x → EntryLiesNear ahead s x) × (new.alpha ≡ node.acceptor.alpha)
 accepted_near ahead s node new v r t (inl k) = (
   elim k.1.entry [
@@ -313,7 +315,7 @@ accepted_near ahead s node new v r t (inr k) =
 responds_told : (ahead : ℕ) (s : StandingValue) (old new : NodeValue) (from : ℕ)
     (Gives : Response → AcceptorValue → Type 0) (out : OutboxValue) (k : Responds old from Gives new out)
     → ((x : Entry) → k.response.entry ≡ Some x → EntryLiesNear ahead s x) × (k.acceptor.alpha ≡ old.acceptor.alpha)
-    → TellsOf ahead s old → Told ahead s out.entries new
+    → RestoresNode ahead s old → Told ahead s out.entries new
 responds_told ahead s old new from Gives out k near t =
     let answered : NodeValue = with_acceptor old k.acceptor in
     let rests : Rests old new = as_this (replied k.response.reply answered) new k.becomes
@@ -325,7 +327,7 @@ responds_told ahead s old new from Gives out k near t =
 -- ---- whether the step rebases
 
 told_rebase : (whose : HeaderValue) (s : Session) (o : Option ℕ) (out : OutboxValue)
-    → (with_told whose s o out).rebase ≡ out.rebase
+    → (with_session_reply whose s o out).rebase ≡ out.rebase
 told_rebase whose s None out = refl
 told_rebase whose s (Some n) out = refl
 
@@ -355,7 +357,7 @@ proposed_rebase (x ∷ xs) old new before out p = proposed_rebase xs _ new _ out
 -- ---- what is heard
 
 accepted_told : (m : Meaning) (from : ℕ) (x : Vote) (old new : NodeValue) (out : OutboxValue)
-    → HandlesAccepted m from x old new out → TellsOn old new out.entries
+    → HandlesAccepted m from x old new out → StillRestoresNode old new out.entries
 accepted_told m from x old new out (inl counted) ahead s t =
     let k = counted.2 in
     told_as ahead s k.ran.entries out.entries new new (ap (λ (o : OutboxValue). o.entries) k.comes_to) refl
@@ -366,7 +368,7 @@ accepted_told m from x old new out (inr heard) ahead s t =
     (only_heard_rests from x old new heard.0) ahead s t
 
 part_told : (m : Meaning) (IsText : List ℕ → Type 0) (p : PartValue) (old new : NodeValue) (out : OutboxValue)
-    → HandlesPart m IsText old p new out → out.rebase ≡ false → TellsOn old new out.entries
+    → HandlesPart m IsText old p new out → out.rebase ≡ false → StillRestoresNode old new out.entries
 part_told m IsText p old new out (inl k) puts =
     let t = k.2 in
     let rebases : out.rebase ≡ true =
@@ -399,7 +401,8 @@ lead_none old new from b theirs out h = elim h [
 ]
 
 node_told : (m : Meaning) (IsText : List ℕ → Type 0) (from : ℕ) (x : NodeMessage) (old new : NodeValue)
-    (out : OutboxValue) → HandlesNode m IsText old from x new out → out.rebase ≡ false → TellsOn old new out.entries
+    (out : OutboxValue) → HandlesNode m IsText old from x new out → out.rebase ≡ false
+    → StillRestoresNode old new out.entries
 node_told m IsText from (kinds.Prepare b first) old new out k puts = λ ahead s t.
     responds_told ahead s old new from _ out k
     (prepared_near ahead s old.acceptor k.acceptor old.learner.whole.roster.executed b first k.response k.given) t
@@ -428,14 +431,14 @@ node_told m IsText from (kinds.Passed a) old new out k puts =
     none_told old new out.entries (ap (λ (o : OutboxValue). o.entries) k.1) (as_this old new k.0)
 
 content_told : (m : Meaning) (IsText : List ℕ → Type 0) (x : Content) (old new : NodeValue) (out : OutboxValue)
-    → Handles m IsText old x new out → out.rebase ≡ false → TellsOn old new out.entries
+    → Handles m IsText old x new out → out.rebase ≡ false → StillRestoresNode old new out.entries
 content_told m IsText (content.Request r) old new out k puts =
     none_told old new out.entries (asked_few old r new out k)
     (taken_rests (seen_as (session_of r.client old.learner.whole.sessions) r.number) old new r out k)
 content_told m IsText (content.Node from x) old new out k puts = node_told m IsText from x old new out k puts
 
 bytes_told : (m : Meaning) (IsText : List ℕ → Type 0) (bytes : List ℕ) (old new : NodeValue) (out : OutboxValue)
-    → TakesBytes m IsText old bytes new out → out.rebase ≡ false → TellsOn old new out.entries
+    → TakesBytes m IsText old bytes new out → out.rebase ≡ false → StillRestoresNode old new out.entries
 bytes_told m IsText bytes old new out (inl heard) puts = content_told m IsText heard.0.content old new out heard.3 puts
 bytes_told m IsText bytes old new out (inr foreign) puts =
     none_told old new out.entries (ap (λ (o : OutboxValue). o.entries) foreign.1.1) (as_this old new foreign.1.0)
@@ -443,11 +446,11 @@ bytes_told m IsText bytes old new out (inr foreign) puts =
 -- ---- a tick
 
 begun_told : (b : BallotValue) (old new : NodeValue) (es : List Entry) → es ≡ entry.Promise b ∷ []
-    → Rests old new → TellsOn old new es
+    → Rests old new → StillRestoresNode old new es
 begun_told b old new es is rests ahead s t =
     told_as ahead s (entry.Promise b ∷ []) es old new is rests ((tt, tt), tells_more ahead s (entry.Promise b) old t)
 
-tick_told : (old new : NodeValue) (out : OutboxValue) → Ticks old new out → TellsOn old new out.entries
+tick_told : (old new : NodeValue) (out : OutboxValue) → Ticks old new out → StillRestoresNode old new out.entries
 tick_told old new out (inl k) =
     let r = k.2 in
     none_told old new out.entries
@@ -474,7 +477,7 @@ tick_told old new out (inr k) = elim k.1 [
 
 -- A standing that told of the node still does with the entries of a step, which lie near, unless the step rebases.
 pub step_told : (m : Meaning) (IsText : List ℕ → Type 0) (old : NodeValue) (i : Input) (new : NodeValue)
-    (out : OutboxValue) → Steps m IsText old i new out → out.rebase ≡ false → TellsOn old new out.entries
+    (out : OutboxValue) → Steps m IsText old i new out → out.rebase ≡ false → StillRestoresNode old new out.entries
 step_told m IsText old input.Tick new out t puts = tick_told old new out t
 step_told m IsText old (input.Datagram bytes) new out k puts = λ ahead s t.
     let first : k.first.rebase ≡ false = sym (proposed_rebase k.proposes.0 k.mid new k.first out k.proposes.1) ∙ puts in

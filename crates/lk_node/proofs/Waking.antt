@@ -26,10 +26,10 @@ use Rattle.lk_node_interface.specs.Outboxes.{OutboxValue}
 use Rattle.lk_node_interface.specs.declared.input.Input.{Input}
 use Rattle.lk_node_interface.specs.declared.input.Input.TheVariants as input
 use Rattle.lk_node.specs.Responding.{with_acceptor, replied, Responds}
-use Rattle.lk_node.specs.Asking.{leader_in, PointsTo, TakesNew, TakesAs}
+use Rattle.lk_node.specs.Asking.{leader_in, PointsTo, QueuesOrRedirects, RepliesAs}
 use Rattle.lk_node.specs.CatchingUp.{HandlesLead}
 use Rattle.lk_node.specs.Deciding.{IsOnlyHeard, HandlesAccepted}
-use Rattle.lk_node.specs.DecidedPairs.{TakesPairs, none_yet, one_more}
+use Rattle.lk_node.specs.DecidedPairs.{LearnsPairs, none_yet, one_more}
 use Rattle.lk_node.specs.Executing.{EndsWaitIfAny, is_outside, without_term_if_outside, Executes, Runs, stays, goes_on}
 use Rattle.lk_node.specs.Installing.{EndsFirstWaits, none_ended, one_ended, HandlesPart}
 use Rattle.lk_node.specs.Leading.{HandlesPromise, having_proposed, ProposesAll}
@@ -95,12 +95,12 @@ points_wakes None old new r out k = as_this old new k.0
 points_wakes (Some member) old new r out k = as_this old new k.0
 
 new_wakes : (o : Option TermValue) (old new : NodeValue) (r : RequestValue) (out : OutboxValue)
-    → TakesNew o old r new out → Wakes old new
+    → QueuesOrRedirects o old r new out → Wakes old new
 new_wakes None old new r out k = points_wakes (leader_in old.known old.learner.whole.roster.sets) old new r out k
 new_wakes (Some t) old new r out k = as_this _ new k.0
 
 taken_wakes : (s : Seen) (old new : NodeValue) (r : RequestValue) (out : OutboxValue)
-    → TakesAs s old r new out → Wakes old new
+    → RepliesAs s old r new out → Wakes old new
 taken_wakes seen.New old new r out k = new_wakes old.leader.term old new r out k
 taken_wakes (seen.Same answer) old new r out k = as_this old new k.0
 taken_wakes (seen.Passed last) old new r out k = as_this old new k.0
@@ -150,7 +150,7 @@ accepted_wakes m from x old new out (inr heard) = only_heard_wakes from x old ne
 
 pairs_wake : (m : Meaning) (first : ℕ) (commands : List Command) (old : NodeValue) (before : OutboxValue) (k : ℕ)
     (new : NodeValue) (after : OutboxValue)
-    → TakesPairs m first commands old before k new after → Wakes old new
+    → LearnsPairs m first commands old before k new after → Wakes old new
 pairs_wake m first commands old before _ _ _ none_yet = refl
 pairs_wake m first commands old before _ new after (one_more v so_far at takes) =
     runs_wake m takes.learned takes.written new after takes.runs.0

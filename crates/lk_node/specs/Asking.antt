@@ -38,18 +38,19 @@ PointsTo (Some member) old r new out =
     (kinds.Elsewhere (record { client = r.client; number = r.number; member = member })) new out
 
 -- a new request waits at a node with a term; without a term its client is sent to the known leader
-abbrev pub TakesNew : Option TermValue → NodeValue → RequestValue → NodeValue → OutboxValue → Type 0
-TakesNew None old r new out = PointsTo (leader_in old.known old.learner.whole.roster.sets) old r new out
-TakesNew (Some term) old r new out = (new ≡ with_waiting r old) × (out ≡ nothing)
+abbrev pub QueuesOrRedirects : Option TermValue → NodeValue → RequestValue → NodeValue → OutboxValue → Type 0
+QueuesOrRedirects None old r new out = PointsTo (leader_in old.known old.learner.whole.roster.sets) old r new out
+QueuesOrRedirects (Some term) old r new out = (new ≡ with_waiting r old) × (out ≡ nothing)
 
 -- the number of the client's last request gets the stored answer, a smaller one the last number
-abbrev pub TakesAs : Seen → NodeValue → RequestValue → NodeValue → OutboxValue → Type 0
-TakesAs (seen.Same answer) old r new out =
+abbrev pub RepliesAs : Seen → NodeValue → RequestValue → NodeValue → OutboxValue → Type 0
+RepliesAs (seen.Same answer) old r new out =
     TellsClient old r.client (kinds.Answer (record { client = r.client; number = r.number; answer = answer })) new out
-TakesAs (seen.Passed last) old r new out =
+RepliesAs (seen.Passed last) old r new out =
     TellsClient old r.client (kinds.Passed (record { client = r.client; number = r.number; last = last })) new out
-TakesAs seen.New old r new out = TakesNew old.leader.term old r new out
+RepliesAs seen.New old r new out = QueuesOrRedirects old.leader.term old r new out
 
--- what the node does with a request, by its place relative to its client's last one that took effect
+-- what the node does with a request, by its number and that of its client's last one that took effect
 abbrev pub HandlesRequest : NodeValue → RequestValue → NodeValue → OutboxValue → Type 0
-HandlesRequest old r new out = TakesAs (seen_as (session_of r.client old.learner.whole.sessions) r.number) old r new out
+HandlesRequest old r new out =
+    RepliesAs (seen_as (session_of r.client old.learner.whole.sessions) r.number) old r new out

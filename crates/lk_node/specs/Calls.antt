@@ -12,7 +12,7 @@ use Rattle.lk_node_interface.specs.declared.note.Note.{Note}
 use Rattle.lk_node_interface.specs.declared.input.Input.{Input}
 use Rattle.lk_node_interface.specs.declared.input.Input.TheVariants.{Tick, Datagram as Heard}
 use Rattle.lk_node.specs.Histories.{History, Datagram, later, IsLawful, IsHeard}
-use Rattle.lk_node.specs.Served.{IsOfNode, IsBorneOut, IsServed}
+use Rattle.lk_node.specs.BorneOut.{IsOfNode, IsBorneOut, MessageIsBorneOut}
 use Rattle.lk_node.specs.Holdings.{Holding, HoldingFits}
 use Rattle.lk_node.specs.Leavings.{DisksFit}
 
@@ -33,7 +33,7 @@ pub record MayGo (m : Meaning) (h : History) (n : ℕ) (w : PaxosState) (d : Dat
   pub from : d.from ≡ party.Node n
   pub spelled : Spells (said_by h.genesis n message) d.bytes
   pub may : MaySend h.genesis h.sent w message
-  pub served : IsServed m h message
+  pub borne_out : MessageIsBorneOut m h message
 
 -- The node fits: the history is lawful, what it holds fits, and so does whatever a stop may leave. `Shows` says what
 -- the replica holds.

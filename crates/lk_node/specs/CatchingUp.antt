@@ -7,7 +7,7 @@ use Rattle.lk_messages.specs.Grammar.{IsMessage}
 use Rattle.lk_messages.specs.Values.{WantValue, PartValue}
 use Rattle.lk_messages.specs.declared.message.Nack.{Nack}
 use Rattle.lk_messages.specs.declared.message.NodeMessage.TheVariants as kinds
-use Rattle.lk_learner.specs.Learners.{executed, IsServed, decided_from, wanted}
+use Rattle.lk_learner.specs.Learners.{executed, IsRetained, decided_from, wanted}
 use Rattle.lk_learner.specs.Parts.{start_of, AreParts}
 use Rattle.lk_node_interface.specs.Outboxes.{OutboxValue, nothing, with_letters}
 use Rattle.lk_node_interface.specs.Saying.{saying}
@@ -32,7 +32,7 @@ pub record FeedsParts (node : NodeValue) (other offset : ℕ) (out : OutboxValue
 -- snapshot from the offset on if the snapshot has replaced it, and nothing if it is not executed
 abbrev pub Feeds : NodeValue → ℕ → ℕ → ℕ → OutboxValue → Type 0
 Feeds node other first offset out =
-    (IsServed node.learner first
+    (IsRetained node.learner first
     × SaysAlone node (to_node node other) (kinds.Decided (decided_from first node.learner)) out)
     ⊎ ((first ≤ node.learner.snapshot_position) × FeedsParts node other offset out)
     ⊎ ((executed node.learner < first) × (out ≡ nothing))

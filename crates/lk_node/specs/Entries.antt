@@ -12,7 +12,7 @@ use Rattle.lk_agreement_laws.specs.Acceptors.{CoversSent}
 use Rattle.lk_agreement_laws.specs.Nodes.{Stems}
 use Rattle.lk_node.specs.Histories.{History, Command}
 use Rattle.lk_node.specs.Reaching.{AllLieNear}
-use Rattle.lk_node.specs.Served.{text}
+use Rattle.lk_node.specs.BorneOut.{text}
 use Rattle.lk_node.specs.Leavings.{header_of, acceptor_of, paxos_of}
 
 -- what the whole entries of a live file have to be, for the image to fit

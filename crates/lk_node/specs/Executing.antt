@@ -27,9 +27,9 @@ abbrev pub waiting_number : Session → NodeValue → Option ℕ
 waiting_number s node = number_up_to s.number (waiting_of s.client node.leader.waiting)
 
 -- with a letter to the client, if its request of this number waits
-abbrev pub with_told : HeaderValue → Session → Option ℕ → OutboxValue → OutboxValue
-with_told whose s None out = out
-with_told whose s (Some number) out =
+abbrev pub with_session_reply : HeaderValue → Session → Option ℕ → OutboxValue → OutboxValue
+with_session_reply whose s None out = out
+with_session_reply whose s (Some number) out =
     with_letter (record { to = to.Client s.client; bytes = spelling (saying whose (session_reply s number)) }) out
 
 -- the client's requests up to the session's wait no longer
@@ -42,10 +42,10 @@ no_longer_waiting s node =
 pub record EndsWait (s : Session) (old : NodeValue) (before : OutboxValue) (new : NodeValue)
     (after : OutboxValue) : Type 0 where
   pub becomes : new ≡ no_longer_waiting s old
-  pub comes_to : after ≡ with_told old.header s (waiting_number s old) before
+  pub comes_to : after ≡ with_session_reply old.header s (waiting_number s old) before
   pub fits : (number : ℕ) → waiting_number s old ≡ Some number → IsMessage (saying old.header (session_reply s number))
 
--- the session, if there is one, is settled, and otherwise nothing changes
+-- the wait of the session's client ends, if there is a session, and otherwise nothing changes
 abbrev pub EndsWaitIfAny : Option Session → NodeValue → OutboxValue → NodeValue → OutboxValue → Type 0
 EndsWaitIfAny None old before new after = (new ≡ old) × (after ≡ before)
 EndsWaitIfAny (Some s) old before new after = EndsWait s old before new after

@@ -5,7 +5,7 @@ use Rattle.lk_agreement_laws.specs.Nodes.{Term, PaxosState, PaxosFits}
 use Rattle.lk_agreement_laws.specs.Snapshots.{IsSlice}
 use Rattle.lk_learner.specs.Learners.{GatheredValue}
 use Rattle.lk_node.specs.Histories.{History, Command, RequestValue, WasAsked}
-use Rattle.lk_node.specs.Served.{text}
+use Rattle.lk_node.specs.BorneOut.{text}
 
 -- a Paxos state, the requests that wait for the node to propose them, and a snapshot being gathered
 pub record Holding : Type 0 where

@@ -15,7 +15,7 @@ abbrev pub GathersPart : (List ℕ → Type 0) → Bool → PartValue → NodeVa
 GathersPart IsText went p old new =
     (l : LearnerValue) × Installs IsText went (hearing p old.learner) l × (new ≡ with_learner old l)
 
--- this many of the sessions are settled, one after another
+-- the waits of the clients of this many sessions end, one after another
 pub data EndsFirstWaits (ss : List Session) (old : NodeValue) (before : OutboxValue) : ℕ → NodeValue
     → OutboxValue → Type 0 where
   none_ended : EndsFirstWaits ss old before 0 old before

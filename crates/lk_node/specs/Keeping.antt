@@ -21,7 +21,7 @@ use Rattle.lk_node.specs.Histories.{Genesis}
 use Rattle.lk_node.specs.Holdings.{Holding}
 use Rattle.lk_node.specs.Leavings.{header_of, acceptor_of}
 use Rattle.lk_node.specs.NodeValue.{NodeValue}
-use Rattle.lk_node.specs.Reaching.{EntriesLieNear, IsTold}
+use Rattle.lk_node.specs.Reaching.{EntriesLieNear, IsRestorable}
 
 -- the entry tells of a decided command
 abbrev pub TellsDecided : Entry → Type 0
@@ -69,7 +69,7 @@ pub record ReplicaHolds (m : Meaning) (node : NodeValue) (store : StoreValue) (g
   pub keeps : StoreKeeps (header_of genesis n) store node.acceptor.state
   pub known : AllByRecursion (IsKnown x.paxos) keeps.loose
   pub held : IsHeld m node genesis x
-  pub told : IsTold genesis.alpha keeps.standing keeps.loose node
+  pub told : IsRestorable genesis.alpha keeps.standing keeps.loose node
 
 -- The same in the middle of a step that has installed a snapshot: the store does not tell of that yet.
 pub record HoldsBeforeRebase (m : Meaning) (node : NodeValue) (store : StoreValue) (genesis : Genesis) (n : ℕ)

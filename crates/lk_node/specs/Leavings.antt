@@ -13,7 +13,7 @@ use Rattle.lk_agreement_laws.specs.Acceptors.{AcceptorState, Covers, CoversSent}
 use Rattle.lk_agreement_laws.specs.Nodes.{PaxosState, Stems}
 use Rattle.lk_node.specs.Histories.{History, Genesis, Command}
 use Rattle.lk_node.specs.Reaching.{AllLieNear}
-use Rattle.lk_node.specs.Served.{text}
+use Rattle.lk_node.specs.BorneOut.{text}
 
 -- whose store it is
 abbrev pub header_of : Genesis → ℕ → HeaderValue

@@ -1,5 +1,5 @@
 pub mod Histories
-pub mod Served
+pub mod BorneOut
 pub mod Holdings
 pub mod Leavings
 pub mod Calls
@@ -7,7 +7,7 @@ pub mod Entries
 pub mod NodeValue
 pub mod Keeping
 pub mod Saying
-pub mod Serving
+pub mod SafeSteps
 pub mod Yielding
 pub mod Replying
 pub mod CatchingUp

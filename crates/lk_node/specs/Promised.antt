@@ -5,5 +5,5 @@ use Rattle.lk_acceptor.specs.AcceptorValue.{AcceptorValue}
 use Rattle.lk_leader.specs.Terms.{TermValue, LeaderValue}
 
 -- if there is a term, its ballot is at most the promised one
-abbrev pub HasPromised : AcceptorValue → LeaderValue → Type 0
-HasPromised acceptor leader = (k : TermValue) → leader.term ≡ Some k → IsAtMost k.ballot acceptor.state.promised
+abbrev pub IsTermPromised : AcceptorValue → LeaderValue → Type 0
+IsTermPromised acceptor leader = (k : TermValue) → leader.term ≡ Some k → IsAtMost k.ballot acceptor.state.promised

@@ -16,12 +16,12 @@ abbrev pub IsDecidedAt : ℕ → List (ℕ × Command) → Type 0
 IsDecidedAt i pairs = (c : Command) × Contains pairs (i, c)
 
 -- each position above the snapshot up to this one is decided, so that a restart executes it
-abbrev pub Reaches : StandingValue → ℕ → Type 0
-Reaches s e = (i : ℕ) → s.position < i → i ≤ e → IsDecidedAt i s.pairs
+abbrev pub DecidesTo : StandingValue → ℕ → Type 0
+DecidesTo s e = (i : ℕ) → s.position < i → i ≤ e → IsDecidedAt i s.pairs
 
 -- the position is at most twice alpha above what a restart executes
 abbrev pub LiesNear : ℕ → StandingValue → ℕ → Type 0
-LiesNear ahead s i = (e : ℕ) × Reaches s e × (i ≤ e + 2 * ahead)
+LiesNear ahead s i = (e : ℕ) × DecidesTo s e × (i ≤ e + 2 * ahead)
 
 -- no vote and no pair of the standing lies farther
 pub record AllLieNear (ahead : ℕ) (s : StandingValue) : Type 0 where
@@ -39,24 +39,24 @@ abbrev pub EntriesLieNear : ℕ → StandingValue → List Entry → Type 0
 EntriesLieNear ahead s [] = Unit {0}
 EntriesLieNear ahead s (e ∷ es) = EntryLiesNear ahead s e × EntriesLieNear ahead (with_plain e s) es
 
--- the standing tells of the positions that the node has executed above the snapshot, and of those of its pairs
-pub record TellsOf (ahead : ℕ) (s : StandingValue) (node : NodeValue) : Type 0 where
+-- a restart from the standing executes what the node has executed, and has a command for each of its pairs
+pub record RestoresNode (ahead : ℕ) (s : StandingValue) (node : NodeValue) : Type 0 where
   pub some : 1 ≤ ahead
   pub votes_ahead : node.acceptor.alpha ≡ ahead
   pub window : length node.learner.whole.roster.sets ≡ ahead
   pub above : s.position ≤ executed node.learner
-  pub reached : Reaches s (executed node.learner)
+  pub reached : DecidesTo s (executed node.learner)
   pub kept : (p : ℕ × Command) → Contains node.learner.pairs p → IsDecidedAt p.0 s.pairs
 
--- The unsynced entries lie near, each after those before it, and the standing with all of them tells of the node.
-pub record IsTold (ahead : ℕ) (s : StandingValue) (loose : List Entry) (node : NodeValue) : Type 0 where
+-- The unsynced entries lie near, each after those before it, and the standing with all of them restores the node.
+pub record IsRestorable (ahead : ℕ) (s : StandingValue) (loose : List Entry) (node : NodeValue) : Type 0 where
   pub near : EntriesLieNear ahead s loose
-  pub tells : TellsOf ahead (with_all loose s) node
+  pub tells : RestoresNode ahead (with_all loose s) node
 
--- what the node does to its store's standing, whatever that is, if it told of the node before
-abbrev pub TellsOn : NodeValue → NodeValue → List Entry → Type 0
-TellsOn old new es = (ahead : ℕ) (s : StandingValue) → TellsOf ahead s old
-    → EntriesLieNear ahead s es × TellsOf ahead (with_all es s) new
+-- whatever the standing is: if it restored the old node, the entries lie near, and with them it restores the new one
+abbrev pub StillRestoresNode : NodeValue → NodeValue → List Entry → Type 0
+StillRestoresNode old new es = (ahead : ℕ) (s : StandingValue) → RestoresNode ahead s old
+    → EntriesLieNear ahead s es × RestoresNode ahead (with_all es s) new
 
 -- everything that a node holds above what it has executed lies near
 abbrev pub HoldsNear : NodeValue → Type 0

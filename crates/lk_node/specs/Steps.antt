@@ -18,7 +18,7 @@ use Rattle.lk_node.specs.CatchingUp.{HandlesWant, HandlesNack, HandlesLead}
 use Rattle.lk_node.specs.Histories.{History}
 use Rattle.lk_node.specs.Leading.{HandlesPromise, ProposesOpen}
 use Rattle.lk_node.specs.Deciding.{HandlesAccepted}
-use Rattle.lk_node.specs.DecidedPairs.{TakesPairs}
+use Rattle.lk_node.specs.DecidedPairs.{LearnsPairs}
 use Rattle.lk_node.specs.Installing.{HandlesPart}
 use Rattle.lk_node.specs.NodeValue.{NodeValue}
 use Rattle.lk_node.specs.Yielding.{with_round}
@@ -30,8 +30,8 @@ WasHeard h (content.Request r) = Contains h.asked r
 WasHeard h (content.Node from m) = HasSent h.genesis h.sent from m
 
 -- nothing changes, and nothing follows
-abbrev pub StandsStill : NodeValue → NodeValue → OutboxValue → Type 0
-StandsStill old new out = (new ≡ old) × (out ≡ nothing)
+abbrev pub ChangesNothing : NodeValue → NodeValue → OutboxValue → Type 0
+ChangesNothing old new out = (new ≡ old) × (out ≡ nothing)
 
 -- what the node does with a message of another node, or of itself. `IsText` says which texts are those of a machine
 abbrev pub HandlesNode : Meaning → (List ℕ → Type 0) → NodeValue → ℕ → NodeMessage → NodeValue → OutboxValue → Type 0
@@ -42,12 +42,12 @@ HandlesNode m IsText old from (kinds.Accept x) new out =
 HandlesNode m IsText old from (kinds.Promise p) new out = HandlesPromise old from p new out
 HandlesNode m IsText old from (kinds.Accepted x) new out = HandlesAccepted m from x old new out
 HandlesNode m IsText old from (kinds.Decided d) new out =
-    TakesPairs m d.first d.commands old nothing (length d.commands) new out
+    LearnsPairs m d.first d.commands old nothing (length d.commands) new out
 HandlesNode m IsText old from (kinds.Nack k) new out = HandlesNack old from k new out
 HandlesNode m IsText old from (kinds.Want w) new out = HandlesWant old from w new out
 HandlesNode m IsText old from (kinds.Part p) new out = HandlesPart m IsText old p new out
 HandlesNode m IsText old from (kinds.Lead b executed) new out = HandlesLead old from b executed new out
-HandlesNode m IsText old from _ new out = StandsStill old new out
+HandlesNode m IsText old from _ new out = ChangesNothing old new out
 
 -- what it does with a message of its cluster
 abbrev pub Handles : Meaning → (List ℕ → Type 0) → NodeValue → Content → NodeValue → OutboxValue → Type 0
@@ -62,7 +62,7 @@ IsForeign node bytes = (m : Message) → Spells m bytes → m.cluster ≡ node.h
 abbrev pub TakesBytes : Meaning → (List ℕ → Type 0) → NodeValue → List ℕ → NodeValue → OutboxValue → Type 0
 TakesBytes m IsText old bytes new out =
     ((x : Message) × Spells x bytes × (x.cluster ≡ old.header.cluster) × Handles m IsText old x.content new out)
-    ⊎ (IsForeign old bytes × StandsStill old new out)
+    ⊎ (IsForeign old bytes × ChangesNothing old new out)
 
 -- and after that it proposes everything that is open
 pub record TakesDatagram (m : Meaning) (IsText : List ℕ → Type 0) (old : NodeValue) (bytes : List ℕ) (new : NodeValue)

@@ -15,7 +15,7 @@ index_of node = index_in node.learner.whole.roster.sets node.header.node
 abbrev pub ticked : NodeValue → NodeValue
 ticked node = record node { ticks = min (node.ticks + 1) max_ticks }
 
--- If it has waited long enough, and the round can be raised, the node begins its next ballot.
+-- If it has waited long enough, and a greater round exists, the node begins its next ballot.
 abbrev pub BeginsWhereDue : NodeValue → NodeValue → OutboxValue → Type 0
 BeginsWhereDue old new out =
     ((is_enough old.ticks (index_of old) ≡ true) × BeginsBallot (next_ballot old) old new out)

@@ -1,8 +1,8 @@
 // How a node handles a client's request.
 ghost use Rattle.std.specs.Prelude.{◌≡◌, Contains, IfOk};
 ghost use Rattle.lk_node_interface.specs.Outboxes.{nothing};
-ghost use Rattle.lk_node.specs.Asking.{leader_in, PointsTo, TakesNew, HandlesRequest};
-ghost use Rattle.lk_node.specs.Serving.{ActsSafely};
+ghost use Rattle.lk_node.specs.Asking.{leader_in, PointsTo, QueuesOrRedirects, HandlesRequest};
+ghost use Rattle.lk_node.specs.SafeSteps.{ActsSafely};
 
 use crate::node::Node;
 use lk_node_interface::{Outbox, To, kept_reply};
@@ -38,8 +38,8 @@ impl<M: Machine> Node<M> {
     }
 
     // Handles a new request: queues it for `propose` if there is a term, and redirects its client otherwise.
-    fn take_new(&mut self, request: &Request) -> Result<Outbox, NoMemory>
-        ensures { IfOk result (λ o. TakesNew self.old.leader.term self.old request.now self.new o) }
+    fn queue_or_redirect(&mut self, request: &Request) -> Result<Outbox, NoMemory>
+        ensures { IfOk result (λ o. QueuesOrRedirects self.old.leader.term self.old request.now self.new o) }
     {
         if self.leader.ballot().is_none() {
             return self.redirect(request);
@@ -58,7 +58,7 @@ impl<M: Machine> Node<M> {
         let (client, number) = (request.client, request.number);
         let seen = self.learner.whole().seen(client, number);
         let Some(reply) = kept_reply(client, number, seen) else {
-            return self.take_new(request);
+            return self.queue_or_redirect(request);
         };
         let out = self.outbox_with(To::Client(client), reply)?;
         Ok(out)

@@ -9,7 +9,7 @@ ghost use Rattle.lk_node.specs.CatchingUp.{sending_parts, FeedsParts, Feeds, Han
 ghost use Rattle.lk_node.specs.CatchingUp.{HandlesNack, following, AsksWhereMore, refusal, HandlesLead};
 ghost use Rattle.lk_node.specs.Replying.{SaysAlone};
 ghost use Rattle.lk_node.specs.Saying.{to_node};
-ghost use Rattle.lk_node.specs.Serving.{ActsSafely};
+ghost use Rattle.lk_node.specs.SafeSteps.{ActsSafely};
 
 use crate::node::Node;
 use lk_node_interface::Outbox;

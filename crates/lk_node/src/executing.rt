@@ -2,7 +2,7 @@
 ghost use Rattle.std.specs.Prelude.{◌≡◌, IfOk, OnOk};
 ghost use Rattle.lk_node.specs.Executing.{EndsWait, EndsWaitIfAny, RunsNext, is_outside};
 ghost use Rattle.lk_node.specs.Executing.{without_term_if_outside, ExecutesOne, RunsAll};
-ghost use Rattle.lk_node.specs.Serving.{ActsSafely};
+ghost use Rattle.lk_node.specs.SafeSteps.{ActsSafely};
 
 use crate::node::Node;
 use lk_node_interface::{Note, Outbox, To, session_of, session_reply};

@@ -4,7 +4,7 @@ ghost use Rattle.lk_messages.specs.declared.message.NodeMessage.TheVariants as k
 ghost use Rattle.lk_agreement_laws.specs.Datagrams.{HasSent};
 ghost use Rattle.lk_node_interface.specs.Outboxes.{nothing};
 ghost use Rattle.lk_node.specs.Installing.{GathersPart, EndsWaits, InstallsGathered, HandlesPart};
-ghost use Rattle.lk_node.specs.Serving.{ActsSafely};
+ghost use Rattle.lk_node.specs.SafeSteps.{ActsSafely};
 
 use crate::node::Node;
 use lk_node_interface::Outbox;

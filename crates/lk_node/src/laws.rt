@@ -8,7 +8,7 @@ ghost use Rattle.lk_node_interface.specs.Outboxes.{OutboxValue};
 ghost use Rattle.lk_node_interface.specs.declared.input.Input.{Input};
 ghost use Rattle.lk_node.specs.NodeValue.{NodeValue};
 ghost use Rattle.lk_node.specs.Packing.{standing_of, with_snapshot};
-ghost use Rattle.lk_node.specs.Reaching.{AllLieNear, EntriesLieNear, HoldsNear, TellsOf, TellsOn};
+ghost use Rattle.lk_node.specs.Reaching.{AllLieNear, EntriesLieNear, HoldsNear, RestoresNode, StillRestoresNode};
 ghost use Rattle.lk_node.specs.Steps.{Steps};
 
 use lk_state::Machine;
@@ -18,7 +18,7 @@ use lk_state::Machine;
 /// alpha above what a restart from the entries before it executes.
 pub fn a_step_tells_of_its_node<M: Machine>()
     ensures { (old new : NodeValue) (i : Input) (out : OutboxValue) → Steps M.meaning M.IsText old i new out
-        → out.rebase ≡ false → TellsOn old new out.entries }
+        → out.rebase ≡ false → StillRestoresNode old new out.entries }
 {}
 
 /// A restart from the Base that a node writes executes at least as much as the node, and nothing in the Base is of a
@@ -26,7 +26,7 @@ pub fn a_step_tells_of_its_node<M: Machine>()
 pub fn a_base_tells_of_its_node()
     ensures near { (node : NodeValue) → HoldsNear node → AllLieNear (alpha node.learner) (standing_of node) }
     ensures tells { (node : NodeValue) → HoldsNear node → 1 ≤ alpha node.learner
-        → TellsOf (alpha node.learner) (standing_of node) (with_snapshot node) }
+        → RestoresNode (alpha node.learner) (standing_of node) (with_snapshot node) }
 {}
 
 /// A stop leaves a prefix of the entries. In none of them is a vote or a pair too far above what a restart executes, so

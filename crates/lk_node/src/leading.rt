@@ -10,8 +10,8 @@ ghost use Rattle.lk_node_interface.specs.Outboxes.{nothing};
 ghost use Rattle.lk_node_interface.specs.Saying.{saying};
 ghost use Rattle.lk_node.specs.Leading.{RecordsPromise, DropsPromise, HandlesPromise, ProposesVote, having_proposed};
 ghost use Rattle.lk_node.specs.Leading.{NothingToPropose, ProposesNext, ProposesOpen};
-ghost use Rattle.lk_node.specs.Promised.{HasPromised};
-ghost use Rattle.lk_node.specs.Serving.{ActsSafely};
+ghost use Rattle.lk_node.specs.Promised.{IsTermPromised};
+ghost use Rattle.lk_node.specs.SafeSteps.{ActsSafely};
 ghost use Rattle.lk_node.specs.Telling.{telling};
 ghost use Rattle.lk_node.specs.Yielding.{without_term, yielded, with_round, seeing};
 
@@ -44,7 +44,7 @@ impl<M: Machine> Node<M> {
 
     // Shows the prover that the term's ballot is at most the promised one. Has no effect.
     pub(crate) fn facts(&self)
-        ensures { HasPromised self.now.acceptor self.now.leader }
+        ensures { IsTermPromised self.now.acceptor self.now.leader }
     {
         let _ = &self.alloc;
     }

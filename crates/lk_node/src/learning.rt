@@ -4,9 +4,9 @@ ghost use Rattle.lk_messages.specs.declared.message.NodeMessage.TheVariants as k
 ghost use Rattle.lk_agreement_laws.specs.Chosen.{ChosenAt};
 ghost use Rattle.lk_agreement_laws.specs.Datagrams.{HasSent};
 ghost use Rattle.lk_node_interface.specs.Outboxes.{nothing};
-ghost use Rattle.lk_node.specs.DecidedPairs.{TakesPair, TakesFirst, TakesPairs};
+ghost use Rattle.lk_node.specs.DecidedPairs.{LearnsPair, LearnsFirst, LearnsPairs};
 ghost use Rattle.lk_node.specs.Learning.{Learns};
-ghost use Rattle.lk_node.specs.Serving.{ActsSafely};
+ghost use Rattle.lk_node.specs.SafeSteps.{ActsSafely};
 
 use crate::node::Node;
 use lk_learner::position_behind;
@@ -35,13 +35,13 @@ impl<M: Machine> Node<M> {
     }
 
     // Keeps and writes a command that is chosen at the position, and then executes what it can.
-    pub(crate) fn take_pair(
+    pub(crate) fn learn_pair(
         &mut self,
         position: Position,
         command: &Command,
         out: &mut Outbox,
     ) -> Result<(), NoMemory>
-        ensures exact { OnOk result (TakesPair M.meaning (position, command.now) self.old out.old self.new out.new) }
+        ensures exact { OnOk result (LearnsPair M.meaning (position, command.now) self.old out.old self.new out.new) }
         ensures safe { OnOk result
             (ActsSafely M.meaning (λ h. ChosenAt h.genesis h.sent position command.now) self.old self.new out.old
             out.new) }
@@ -53,14 +53,14 @@ impl<M: Machine> Node<M> {
 
     // Takes the first of these commands as the one decided at the position, and executes what it can. Skips it unread
     // if the learner does not want the position. Returns the commands after it, or `None` if there is no first one.
-    fn take_first<'a>(
+    fn learn_first<'a>(
         &mut self,
         position: Position,
         told: &Commands<'a>,
         out: &mut Outbox,
     ) -> Result<Option<Commands<'a>>, NoMemory>
         ensures some { IfOk result
-            (λ x. IfSome x (λ others. TakesFirst M.meaning position told.now others self.old
+            (λ x. IfSome x (λ others. LearnsFirst M.meaning position told.now others self.old
             out.old self.new out.new)) }
         ensures none { IfOk result (λ x. x ≡ None → told.now ≡ []) }
     {
@@ -71,14 +71,14 @@ impl<M: Machine> Node<M> {
         let Some((command, others)) = told.read() else {
             return Ok(None);
         };
-        self.take_pair(position, &command, out)?;
+        self.learn_pair(position, &command, out)?;
         Ok(Some(others))
     }
 
     // Handles Decided: takes its commands in order, the first at position `first`.
     pub(crate) fn handle_decided(&mut self, decided: &DecidedRef<'_>) -> Result<Outbox, NoMemory>
         ensures exact { IfOk result
-            (λ o. TakesPairs M.meaning decided.now.first decided.now.commands self.old nothing
+            (λ o. LearnsPairs M.meaning decided.now.first decided.now.commands self.old nothing
             (length decided.now.commands) self.new o) }
         ensures safe { (from : ℕ)
             → IfOk result (λ o. ActsSafely M.meaning
@@ -89,7 +89,7 @@ impl<M: Machine> Node<M> {
         let mut rest = decided.commands().copy();
         'pairs: for index in 0..decided.commands().len() {
             let position = position_behind(decided.first(), index);
-            let Some(others) = self.take_first(position, &rest, &mut out)? else {
+            let Some(others) = self.learn_first(position, &rest, &mut out)? else {
                 return Ok(out);
             };
             rest = others;

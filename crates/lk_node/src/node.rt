@@ -41,11 +41,11 @@ pub struct Node<M: Machine> {
 impl<M: Machine> Model for Node<M> {
     ghost use Rattle.lk_node.specs.NodeValue.{NodeValue};
     ghost use Rattle.lk_node.specs.Nearness.{AreNear};
-    ghost use Rattle.lk_node.specs.Promised.{HasPromised};
+    ghost use Rattle.lk_node.specs.Promised.{IsTermPromised};
 
     ghost Value = { NodeValue };
 
-    ghost invariant = { λ n. HasPromised n.acceptor n.leader × AreNear n.acceptor n.learner };
+    ghost invariant = { λ n. IsTermPromised n.acceptor n.leader × AreNear n.acceptor n.learner };
 
     ghost view = { λ n. record {
       header = n.header;

@@ -1,7 +1,7 @@
 // What a node writes as the Base of the other file, and how it then drops what the Base's snapshot replaces.
 ghost use Rattle.std.specs.Prelude.{◌≡◌, ◌+◌, ◌≤◌, ◌↔◌, IsTrue, IfOk};
 ghost use Rattle.lk_learner.specs.Learners.{executed};
-ghost use Rattle.lk_log.specs.Stores.{MayBegin};
+ghost use Rattle.lk_log.specs.Stores.{FitsBase};
 ghost use Rattle.lk_state.specs.Packed.{packed};
 ghost use Rattle.lk_node.specs.Packing.{standing_of, with_snapshot};
 ghost use Rattle.lk_node.specs.Reaching.{HoldsNear};
@@ -18,7 +18,7 @@ impl<M: Machine> Node<M> {
     /// in place of what it has executed. Changes nothing in the node: see `set_snapshot`.
     pub fn standing(&self) -> Result<Standing, NoMemory>
         ensures value { IfOk result (λ s. s ≡ standing_of self.now) }
-        ensures may { IfOk result MayBegin }
+        ensures may { IfOk result FitsBase }
         ensures near { HoldsNear self.now }
     {
         self.acceptor.facts();

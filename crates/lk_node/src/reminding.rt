@@ -3,7 +3,7 @@ ghost use Rattle.std.specs.Prelude.{◌≡◌, ◌+◌, IfOk, OnOk};
 ghost use Rattle.lk_node_interface.specs.Outboxes.{nothing};
 ghost use Rattle.lk_node.specs.Leading.{NothingToPropose};
 ghost use Rattle.lk_node.specs.Reminding.{IsTermOf, AsksAgain, OffersAgain, OffersAll, TellsLead, Reminds};
-ghost use Rattle.lk_node.specs.Serving.{ActsSafely};
+ghost use Rattle.lk_node.specs.SafeSteps.{ActsSafely};
 
 use crate::node::Node;
 use lk_leader::unheard;

@@ -7,7 +7,7 @@ ghost use Rattle.lk_agreement_laws.specs.Datagrams.{HasSent};
 ghost use Rattle.lk_node_interface.specs.Outboxes.{nothing};
 ghost use Rattle.lk_node_interface.specs.Saying.{saying};
 ghost use Rattle.lk_node.specs.Responding.{replied, reply_to, Responds};
-ghost use Rattle.lk_node.specs.Serving.{ActsSafely};
+ghost use Rattle.lk_node.specs.SafeSteps.{ActsSafely};
 ghost use Rattle.lk_node.specs.Yielding.{yielded, with_round};
 
 use crate::node::Node;

@@ -8,7 +8,7 @@ ghost use Rattle.lk_node.specs.Calls.{InputFits};
 ghost use Rattle.lk_node.specs.Executing.{NothingToRun};
 ghost use Rattle.lk_node.specs.Histories.{IsHeard};
 ghost use Rattle.lk_node.specs.Leading.{NothingToPropose};
-ghost use Rattle.lk_node.specs.Serving.{ActsSafely};
+ghost use Rattle.lk_node.specs.SafeSteps.{ActsSafely};
 ghost use Rattle.lk_node.specs.Steps.{Handles, HandlesNode, TakesBytes, TakesDatagram, Steps, WasHeard};
 
 use crate::node::Node;
@@ -18,7 +18,7 @@ use lk_types::{NoMemory, NodeNo};
 use lk_wire::{ContentRef, Datagram, NodeMessageRef};
 
 impl<M: Machine> Node<M> {
-    #[tactic(auto, using(crate::proofs::Serving::rests_here))]
+    #[tactic(auto, using(crate::proofs::SafeSteps::rests_here))]
     // Dispatches a node's message.
     fn handle_node_message(
         &mut self,
@@ -45,7 +45,7 @@ impl<M: Machine> Node<M> {
         }
     }
 
-    #[tactic(auto, using(crate::proofs::Serving::rests_here))]
+    #[tactic(auto, using(crate::proofs::SafeSteps::rests_here))]
     // Dispatches a message of this cluster: a client's request, or a node's message.
     fn handle_message(&mut self, content: &ContentRef<'_>) -> Result<Outbox, NoMemory>
         ensures exact { IfOk result (λ o. Handles M.meaning M.IsText self.old (shown_content content.now) self.new o) }
@@ -58,7 +58,7 @@ impl<M: Machine> Node<M> {
         }
     }
 
-    #[tactic(auto, using(crate::proofs::Serving::rests_here, crate::proofs::Serving::bytes_go_on))]
+    #[tactic(auto, using(crate::proofs::SafeSteps::rests_here, crate::proofs::SafeSteps::bytes_go_on))]
     // Parses and handles a datagram. Ignores bytes that are no message of this cluster.
     fn take_bytes(&mut self, datagram: &Datagram<'_>) -> Result<Outbox, NoMemory>
         ensures exact { IfOk result (λ o. TakesBytes M.meaning M.IsText self.old datagram.now self.new o) }
@@ -87,7 +87,7 @@ impl<M: Machine> Node<M> {
         Ok(out)
     }
 
-    #[tactic(auto, using(crate::proofs::Serving::rests_here))]
+    #[tactic(auto, using(crate::proofs::SafeSteps::rests_here))]
     // Dispatches an input.
     fn handle_input(&mut self, input: Input) -> Result<Outbox, NoMemory>
         ensures exact { IfOk result (λ o. Steps M.meaning M.IsText self.old input.entry self.new o) }

@@ -4,7 +4,7 @@ ghost use Rattle.lk_types.specs.Ballots.{IsBelow};
 ghost use Rattle.lk_node_interface.specs.Outboxes.{nothing};
 ghost use Rattle.lk_node.specs.Beginning.{BeginsBallot};
 ghost use Rattle.lk_node.specs.Reminding.{Ticks};
-ghost use Rattle.lk_node.specs.Serving.{ActsSafely};
+ghost use Rattle.lk_node.specs.SafeSteps.{ActsSafely};
 ghost use Rattle.lk_node.specs.Waiting.{index_of, ticked, BeginsWhereDue};
 
 use crate::node::Node;
@@ -32,7 +32,7 @@ impl<M: Machine> Node<M> {
         Ok(out)
     }
 
-    #[tactic(auto, using(crate::proofs::Serving::rests_here))]
+    #[tactic(auto, using(crate::proofs::SafeSteps::rests_here))]
     // Begins the next ballot if it is a member of the next position, has waited long enough, and a round is left.
     fn begin_if_due(&mut self) -> Result<Outbox, NoMemory>
         ensures exact { IfOk result (λ o. BeginsWhereDue self.old self.new o) }

@@ -20,7 +20,7 @@ first_asked (Some asked) now = asked.0
 pub record IsQuiet (quiet : LeaderlessTimer) (now seconds : ℕ) : Type 0 where
   pub since : ℕ
   pub begun : quiet.since ≡ Some since
-  pub passed : since + seconds * 1000 ≤ now
+  pub elapsed : since + seconds * 1000 ≤ now
   pub whole : now < since + (seconds + 1) * 1000
   pub long : 2 ≤ seconds
   pub doubled : 2 * quiet.told ≤ seconds

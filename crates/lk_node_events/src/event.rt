@@ -163,7 +163,7 @@ fn write_done<W: fmt::Write>(
     write_positions(number, f)
 }
 
-// Writes that a store was found, and how many positions it has executed.
+// Writes that a store was found, and how many positions the node has executed from it.
 fn write_found<W: fmt::Write>(executed: Executed, f: &mut fmt::Formatter<W>) -> fmt::Result {
     write_done("found its store", executed, f)?;
     f.write_str(" executed")

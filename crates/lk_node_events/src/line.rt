@@ -20,7 +20,7 @@ pub trait Observer {
     fn is_on(&self) -> bool;
 
     /// Records that the node has started. `is_empty`: its store holds no promise and no executed position.
-    fn begin(&mut self, is_empty: bool, seen: Observation);
+    fn start(&mut self, is_empty: bool, seen: Observation);
 
     /// Observes the node after a turn.
     fn observe(&mut self, seen: Observation);
@@ -38,7 +38,7 @@ impl Observer for Unobserved {
         false
     }
 
-    fn begin(&mut self, _is_empty: bool, _seen: Observation) {}
+    fn start(&mut self, _is_empty: bool, _seen: Observation) {}
 
     fn observe(&mut self, _seen: Observation) {}
 
@@ -128,7 +128,7 @@ impl<C: Clock + Drop, L: Log + Drop> Observer for Events<C, L> {
         true
     }
 
-    fn begin(&mut self, is_empty: bool, seen: Observation)
+    fn start(&mut self, is_empty: bool, seen: Observation)
         ensures { IsSomeAnd self.new.watch (λ watch. watch.story ≡ story_of seen) }
     {
         let now = self.now();

@@ -56,7 +56,7 @@ impl RateLimit {
     }
 
     /// Removes and returns the waiting line, if one is due.
-    pub fn take(&mut self, now: u64) -> Option<Line>
+    pub fn pop_due(&mut self, now: u64) -> Option<Line>
         ensures line { IfSome result (λ line. IsLineOf self.old now line) }
         ensures told { IsSome result → self.new ≡ having_told now }
         ensures none { IsNone result → (self.new ≡ self.old) × (Waits self.old now) }

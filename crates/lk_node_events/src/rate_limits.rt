@@ -68,7 +68,7 @@ impl RateLimits {
         if kind >= KINDS {
             return None;
         }
-        let Some(line) = self.all[kind].take(now) else {
+        let Some(line) = self.all[kind].pop_due(now) else {
             return None;
         };
         Some(line)

@@ -27,7 +27,7 @@ fn to_write() -> OpenOptions {
 impl FolderLock {
     /// Locks a folder; it creates the file `a` if that is missing. If the file does not open or another process has
     /// locked it, it writes which, and returns `CannotOpen`; without memory for the path, `NoMemory`.
-    pub fn take<R: Files<File = File>, E: Write>(
+    pub fn acquire<R: Files<File = File>, E: Write>(
         rt: &R,
         alloc: Global,
         folder: &str,

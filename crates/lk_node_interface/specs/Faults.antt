@@ -28,15 +28,15 @@ abbrev pub failures_by : ℕ → ℕ → ℕ
 failures_by number n = if number == 7 then one_more n else n
 
 -- the same of a call
-abbrev pub RaisesFailures : {T : Type 0} → ℕ → ℕ → Result T ReplicaFault → Type 0
-RaisesFailures before now (Ok _) = now ≡ before
-RaisesFailures before now (Err e) = now ≡ failures_by (fault_number e) before
+abbrev pub CountsFailures : {T : Type 0} → ℕ → ℕ → Result T ReplicaFault → Type 0
+CountsFailures before now (Ok _) = now ≡ before
+CountsFailures before now (Err e) = now ≡ failures_by (fault_number e) before
 
--- the calls of a metered device before an error of this number: one has failed, or all have passed
+-- the calls of a metered device before an error of this number: one has failed, or all have succeeded
 abbrev pub RefusedAfter : ℕ → Meter → Meter → Type 0
 RefusedAfter number m n = MatchBool (number == 7) (Breaks m n) ((k : ℕ) × CallsSucceed m n k)
 
--- this many passed, or it failed with this
+-- this many succeeded, or it failed with this
 abbrev pub SucceedsOr : {T : Type 0} → Meter → Meter → ℕ → Result T ReplicaFault → Type 0
 SucceedsOr m n k r = MatchResult r (λ _. CallsSucceed m n k) (λ e. RefusedAfter (fault_number e) m n)
 

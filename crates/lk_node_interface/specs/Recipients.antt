@@ -17,7 +17,7 @@ AreWindowNodes sets ns = AreAllAbove (λ k. is_named k sets) 0 ns
 
 -- those without this node
 abbrev pub AreOthers : List (List Member) → ℕ → List ℕ → Type 0
-AreOthers sets own ns = (all : List ℕ) × AreWindowNodes sets all × (ns ≡ filter (λ k. not (k == own)) all)
+AreOthers sets own_node ns = (all : List ℕ) × AreWindowNodes sets all × (ns ≡ filter (λ k. not (k == own_node)) all)
 
 -- the members of the next position
 abbrev pub next_members : List (List Member) → List Member

@@ -28,14 +28,14 @@ pub fn window_nodes(alloc: Global, roster: &Roster) -> Result<Vec<NodeNo>, NoMem
 }
 
 /// Returns the nodes of the window except this one, in rising order.
-pub fn others(alloc: Global, roster: &Roster, own: NodeNo) -> Result<Vec<NodeNo>, NoMemory>
-    ensures { IfOk result (λ ns. AreOthers roster.now.sets own ns.items) }
+pub fn others(alloc: Global, roster: &Roster, own_node: NodeNo) -> Result<Vec<NodeNo>, NoMemory>
+    ensures { IfOk result (λ ns. AreOthers roster.now.sets own_node ns.items) }
 {
     let all = window_nodes(alloc, roster)?;
     let mut others = Vec::new(alloc);
     let nodes = all.as_slice();
     'nodes: for node in nodes {
-        if *node != own {
+        if *node != own_node {
             others.push(*node)?;
         }
     }

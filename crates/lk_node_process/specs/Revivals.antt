@@ -46,7 +46,7 @@ module _ (m : Meaning) (honest : Type 0) (old : Side → Disk) (header : HeaderV
     pub ready : MayGoOn header s.replica
     pub comes_up : honest → ComesUp m header old s.replica
     pub alive : s.failed ≡ false
-    pub own : s.own ≡ []
+    pub own_letters : s.own_letters ≡ []
     pub received : s.received ≡ 0
 
 module _ (m : Meaning) (IsText : List ℕ → Type 0) (honest : Type 0) (old : Side → Disk) (header : HeaderValue) where

@@ -17,18 +17,22 @@ fn write_origin<E: Write>(origin: &Origin, err: &mut E) -> io::Result<()> {
 }
 
 // Writes the line: `another genesis: node N of genesis HEX was led by node M of genesis HEX`.
-fn write_line<E: Write>(own: &Origin, leader: &Origin, err: &mut E) -> io::Result<()> {
+fn write_line<E: Write>(own_origin: &Origin, leader: &Origin, err: &mut E) -> io::Result<()> {
     err.write_all(b"another genesis: ")?;
-    write_origin(own, err)?;
+    write_origin(own_origin, err)?;
     err.write_all(b" was led by ")?;
     write_origin(leader, err)?;
     err.write_all(b"\n")
 }
 
 /// Writes that a node was led by one of another genesis, and returns `OtherGenesis`. A failed write is ignored.
-pub fn write_other_genesis<E: Write>(own: &Origin, leader: &Origin, err: &mut E) -> ServiceFault
+pub fn write_other_genesis<E: Write>(
+    own_origin: &Origin,
+    leader: &Origin,
+    err: &mut E,
+) -> ServiceFault
     ensures { result ≡ ServiceFault.OtherGenesis }
 {
-    let _ = write_line(own, leader, err);
+    let _ = write_line(own_origin, leader, err);
     ServiceFault::OtherGenesis
 }

@@ -153,10 +153,10 @@ impl<M: Machine, S: DatagramSocket + Drop> Cluster<M, S> {
     }
 
     // Each node takes what is waiting for it as one group. Returns whether any replica was given something.
-    fn serve(&mut self) -> Result<bool, ServiceFault> {
+    fn step_nodes(&mut self) -> Result<bool, ServiceFault> {
         let mut was_served = false;
         for node in &mut self.nodes {
-            was_served |= node.serve_next(&mut self.buffer, &Discard)?;
+            was_served |= node.take_waiting(&mut self.buffer, &Discard)?;
         }
         Ok(was_served)
     }
@@ -181,13 +181,13 @@ impl<M: Machine, S: DatagramSocket + Drop> Cluster<M, S> {
     }
 
     // Serves until a reply arrives or no datagram is waiting.
-    fn serve_waiting(
+    fn run_until_reply(
         &mut self,
         question: &Question,
         bytes: &[u8],
     ) -> Result<Option<Reply>, ServiceFault> {
         for _ in 0..TURNS {
-            let was_served = self.serve()?;
+            let was_served = self.step_nodes()?;
             match self.receive_reply(question, bytes) {
                 Heard::Reply(reply) => return Ok(Some(reply)),
                 Heard::Nothing if !was_served => return Ok(None),
@@ -209,7 +209,7 @@ impl<M: Machine, S: DatagramSocket + Drop> Cluster<M, S> {
             if idle % PATIENCE == 0 {
                 let _ = self.client.send_to(local(self.port.get()), &bytes);
             }
-            if let Some(reply) = self.serve_waiting(question, &bytes)? {
+            if let Some(reply) = self.run_until_reply(question, &bytes)? {
                 return Ok(Some(reply));
             }
             self.tick()?;

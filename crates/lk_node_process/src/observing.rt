@@ -66,7 +66,7 @@ pub fn observe_start<M: Machine, D: LogDisk + Drop, O: Observer>(
 ) {
     if observer.is_on() {
         let node = replica.node();
-        observer.begin(is_empty(node), observation_of(node, &TurnEvents::NOTHING));
+        observer.start(is_empty(node), observation_of(node, &TurnEvents::NOTHING));
     }
 }
 

@@ -6,7 +6,7 @@ ghost use Rattle.lk_replica.specs.ReplicaValue.{ReplicaValue};
 ghost use Rattle.lk_replica.specs.Revived.{MayGoOn};
 ghost use Rattle.lk_server.specs.ProbeHandling.{HandlesProbes};
 ghost use Rattle.lk_served_replica.specs.Showing.{IsShown};
-ghost use Rattle.lk_server.specs.Servers.{ServerValue, ServesAs, ServesOn};
+ghost use Rattle.lk_server.specs.Servers.{ServerValue, IsConfiguredAs, HasSocket};
 ghost use Rattle.lk_transport.specs.Chains.{Repeats};
 ghost use Rattle.lk_node_setup.specs.KeysOfNode.{AreSealsOf};
 ghost use Rattle.lk_node_process.specs.Revivals.{ComesUp, IsServerStarted, IsRestartRefused, IsRefusedWith};
@@ -81,9 +81,9 @@ pub fn revive<M: Machine, D: LogDisk + Drop, S: DatagramSocket + Drop, L: Log>(
     // It serves as the node of this header, in its cluster, with a replica restarted from what the device has, and has
     // received nothing.
     ensures begun { IfOk result (IsServerStarted M.meaning D.is_honest (D.disk resources.device) header.now) }
-    ensures serves { IfOk result (ServesAs header.now.cluster header.now.node resources.pace resources.network) }
+    ensures serves { IfOk result (IsConfiguredAs header.now.cluster header.now.node resources.pace resources.network) }
     ensures socket { IfOk result
-        (ServesOn (S.sent resources.socket) (S.failures resources.socket) (S.incoming resources.socket)) }
+        (HasSocket (S.sent resources.socket) (S.failures resources.socket) (S.incoming resources.socket)) }
     // It fails with a fault of 7 to 11, each for its own cause. The disks then fit each history that they fitted
     // before.
     ensures refused { IfErr result
@@ -322,7 +322,7 @@ fn serve_turns<
 }
 
 // Starts the server of a node, and takes 2^48 turns.
-fn serve<
+fn run_server<
     M: Machine,
     D: LogDisk + FailureCause + Drop,
     S: DatagramSocket + Drop,
@@ -393,7 +393,7 @@ pub fn run_node<
         (D.disk resources.device) plan.now.header) plan.now.header
         resources.network.seals ⟦<Replica<M, D> as ServedReplica>⟧.Says S.is_observable (2 ^ 48) }
 {
-    match serve::<M, D, S, C, L, O, E>(clock, alloc, plan, resources, log, observer, err) {
+    match run_server::<M, D, S, C, L, O, E>(clock, alloc, plan, resources, log, observer, err) {
         Ok(()) => 0,
         Err(fault) => {
             observe_end(fault, observer);

@@ -28,14 +28,15 @@ having_warned r s = record r { due = min (s.traffic.ticks + 600) 184467440737095
 
 -- the line of a warning: the node, the port at which it listens, and the one that the genesis names
 unfoldable pub reminder_line : ℕ → ℕ → ℕ → List ℕ
-reminder_line node own named =
+reminder_line node own_port named =
     codes "warning: node "
     ++ (decimal node ++ (codes " has heard of no leader, and listens at port "
-    ++ (decimal own ++ (codes "; the genesis names port " ++ (decimal named ++ 10 ∷ [])))))
+    ++ (decimal own_port ++ (codes "; the genesis names port " ++ (decimal named ++ 10 ∷ [])))))
 
 -- after a turn the line is written if a warning is due, and else nothing is. `before` and `after` are what was written
 -- so far
 abbrev pub Reminds : ℕ → ℕ → Status → PortReminder → PortReminder → Option (List ℕ) → Option (List ℕ) → Type 0
-Reminds node own s old new before after =
-    ((port : ℕ) × IsDue old s port × Appends before after (reminder_line node own port) × (new ≡ having_warned old s))
+Reminds node own_port s old new before after =
+    ((port : ℕ) × IsDue old s port × Appends before after (reminder_line node own_port port)
+    × (new ≡ having_warned old s))
     ⊎ (IsNoneDue old s × (after ≡ before) × (new ≡ old))

@@ -181,7 +181,7 @@ fn write_no_address<E: Write>(node: NodeNo, path: &str, err: &mut E) -> ServiceF
 }
 
 // Returns the address on which a node listens: that of `--bind`, or else its address among the hosts.
-fn own_host<E: Write>(
+fn listen_host<E: Write>(
     header: &Header,
     hosts: &Hosts,
     path: Option<&str>,
@@ -277,7 +277,7 @@ pub fn network_of<R: Files<File = File>, E: Write>(
 {
     let hosts = load_hosts(rt, alloc, options.hosts, err)?;
     let seals = load_seals(rt, alloc, header, options, err)?;
-    let host = own_host(header, &hosts, options.hosts, options.bind, err)?;
+    let host = listen_host(header, &hosts, options.hosts, options.bind, err)?;
     let address = SocketAddr::from((host, port.get()));
     check_reach(&seals, address, err)?;
     Ok((Network { hosts, seals }, address))

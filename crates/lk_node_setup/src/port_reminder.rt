@@ -24,12 +24,12 @@ pub struct PortReminder {
 
 // Writes the line of a warning: the node, the port at which it listens, and the one that the genesis names.
 #[tactic(auto, unfolding(crate::specs::Reminders::reminder_line))]
-fn write_line<E: Write>(node: u32, own: u16, named: u16, err: &mut E) -> io::Result<()>
-    ensures { OnOk result (Appends (E.contents err.old) (E.contents err.new) (reminder_line node own named)) }
+fn write_line<E: Write>(node: u32, own_port: u16, named: u16, err: &mut E) -> io::Result<()>
+    ensures { OnOk result (Appends (E.contents err.old) (E.contents err.new) (reminder_line node own_port named)) }
 {
     writeln!(
         err,
-        "warning: node {node} has heard of no leader, and listens at port {own}; the genesis names port {named}"
+        "warning: node {node} has heard of no leader, and listens at port {own_port}; the genesis names port {named}"
     )
 }
 
@@ -38,8 +38,8 @@ fn write_reminder<E: Write>(plan: &NodePlan<'_>, named: Port, err: &mut E) -> io
     ensures { OnOk result (Appends (E.contents err.old) (E.contents err.new)
         (reminder_line plan.now.header.node plan.now.port named)) }
 {
-    let (node, own) = (plan.header.node().get(), plan.port.get());
-    write_line(node, own, named.get(), err)
+    let (node, own_port) = (plan.header.node().get(), plan.port.get());
+    write_line(node, own_port, named.get(), err)
 }
 
 // Whether a node neither leads nor has heard of a leader since its start.

@@ -64,10 +64,10 @@ fn named_port(members: &[Member], node: NodeNo) -> Option<Port>
 // Warns that the node does not listen at the port that the genesis names: without a relay in between, it would send
 // but not receive.
 fn write_warning<E: Write>(plan: &NodePlan<'_>, named: Port, err: &mut E) {
-    let (node, named, own) = (plan.header.node().get(), named.get(), plan.port.get());
+    let (node, named, own_port) = (plan.header.node().get(), named.get(), plan.port.get());
     let _ = writeln!(
         err,
-        "warning: the genesis names node {node} at port {named}, and it listens at port {own}"
+        "warning: the genesis names node {node} at port {named}, and it listens at port {own_port}"
     );
 }
 
@@ -175,7 +175,7 @@ pub fn open_resources<R: Files<File = File> + Net, E: Write>(
     let (network, address) = network_of(rt, alloc, &plan.header, plan.port, &plan.options, err)?;
     let mut socket = open_socket_at(rt, address, err)?;
     let unheard = check_named_port(alloc, plan, &network, &mut socket, err)?;
-    let lock = FolderLock::take(rt, alloc, plan.folder, err)?;
+    let lock = FolderLock::acquire(rt, alloc, plan.folder, err)?;
     let device = open_device(rt, alloc, plan.folder, err)?;
     let pace = pace_with(&network.seals, plan.pace);
     let resources = Resources {

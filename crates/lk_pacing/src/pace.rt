@@ -47,7 +47,7 @@ impl Pace {
                 tick_timer.reset();
                 false
             }
-            _ => tick_timer.has_passed(),
+            _ => tick_timer.has_elapsed(),
         }
     }
 }

@@ -2,7 +2,7 @@
 
 ghost use Rattle.std.specs.Duration.{as_nanos};
 ghost use Rattle.std.specs.Prelude.{◌≡◌, ◌↔◌, ◌≤◌, ◌-◌, Some, None, true, false};
-ghost use Rattle.lk_pacing.specs.TickTimers.{Leaves, Elapses, begun_by, spent};
+ghost use Rattle.lk_pacing.specs.TickTimers.{Leaves, Elapses, period_start, spent};
 
 use std::time::{Clock, Duration, Instant};
 use std::{io, thread};
@@ -24,8 +24,8 @@ impl Clock for FrozenClock {
     }
 }
 
-/// Measures periods of 100 ms by a monotonic clock. A period begins at the first `left` or `has_passed` after `new` or
-/// `reset`, and at the `has_passed` that ends the one before.
+/// Measures periods of 100 ms by a monotonic clock. A period begins at the first `left` or `has_elapsed` after `new` or
+/// `reset`, and at the `has_elapsed` that ends the one before.
 #[derive(Drop)]
 pub struct TickTimer<C: Clock> {
     clock: C,
@@ -34,7 +34,7 @@ pub struct TickTimer<C: Clock> {
 }
 
 impl<C: Clock> TickTimer<C> {
-    /// Makes a tick timer whose first period begins at the first `left` or `has_passed`.
+    /// Makes a tick timer whose first period begins at the first `left` or `has_elapsed`.
     pub fn new(clock: C) -> TickTimer<C>
         ensures { result ≡ record { clock = clock; began = None } }
     {
@@ -44,7 +44,7 @@ impl<C: Clock> TickTimer<C> {
     // Returns the rest of the period at `now`, where one begins if none has.
     fn left_at(&mut self, now: Instant) -> Duration
         ensures left { as_nanos result ≡ 100000000 - spent now self.old.began }
-        ensures begins { self.new.began ≡ Some (begun_by now self.old.began) }
+        ensures begins { self.new.began ≡ Some (period_start now self.old.began) }
         ensures others { self.new ≡ record self.old { began = self.new.began } }
     {
         let began = self.began.unwrap_or(now);
@@ -54,9 +54,9 @@ impl<C: Clock> TickTimer<C> {
 
     // Returns whether the period has ended at `now`; if so, the next one begins there.
     fn elapses_at(&mut self, now: Instant) -> bool
-        ensures passed { result ≡ true ↔ (100000000 ≤ spent now self.old.began) }
+        ensures elapsed { result ≡ true ↔ (100000000 ≤ spent now self.old.began) }
         ensures again { result ≡ true → self.new.began ≡ Some now }
-        ensures goes_on { result ≡ false → self.new.began ≡ Some (begun_by now self.old.began) }
+        ensures goes_on { result ≡ false → self.new.began ≡ Some (period_start now self.old.began) }
         ensures others { self.new ≡ record self.old { began = self.new.began } }
     {
         if !self.left_at(now).is_zero() {
@@ -79,7 +79,7 @@ impl<C: Clock> TickTimer<C> {
 
     /// Returns whether the period has ended; if so, the next one begins now. If the clock fails it returns true, so
     /// that ticks go on, and changes nothing.
-    pub fn has_passed(&mut self) -> bool
+    pub fn has_elapsed(&mut self) -> bool
         // This holds for some reading of the clock: no contract states which.
         ensures { Elapses self.old.began self.new.began result }
     {
@@ -89,7 +89,7 @@ impl<C: Clock> TickTimer<C> {
         }
     }
 
-    /// Drops the current period; the next one begins at the next `left` or `has_passed`.
+    /// Drops the current period; the next one begins at the next `left` or `has_elapsed`.
     pub fn reset(&mut self)
         ensures { self.new ≡ record self.old { began = None } }
     {

@@ -152,13 +152,13 @@ bound_in (e ∷ es) = or_else (bound_at e) (bound_in es)
 
 -- what a node of that genesis knows of a node that has reported this origin
 abbrev pub having_told : List ℕ → Origin → Knowledge
-having_told own told = if pointwise nat_eq told.genesis own then Same else Other told
+having_told own_genesis told = if pointwise nat_eq told.genesis own_genesis then Same else Other told
 
 -- the node there was asked and has reported that origin; every other entry is unchanged
-pub record Learns (address : SocketAddr) (own : List ℕ) (told : Origin) (is : Neighbour)
+pub record Learns (address : SocketAddr) (own_genesis : List ℕ) (told : Origin) (is : Neighbour)
     (old new : Entries) : Type 0 where
   pub neighbour : Neighbour
   pub entry : slice_get old (entry_for address old) ≡ Some (Some neighbour)
   pub asked : is_open neighbour.knowledge ≡ true
-  pub learned : is ≡ record neighbour { knowledge = having_told own told }
+  pub learned : is ≡ record neighbour { knowledge = having_told own_genesis told }
   pub becomes : new ≡ slice_set old (entry_for address old) (Some is)

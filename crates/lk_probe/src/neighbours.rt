@@ -111,11 +111,11 @@ impl Knowledge {
         matches!(self, Knowledge::Asked(_) | Knowledge::AskedTwice)
     }
 
-    // Returns what a node of the genesis `own` knows of a node that has reported `told`.
-    fn having_told(own: &[u8; DIGEST], told: Origin) -> Knowledge
-        ensures { result ≡ having_told own.now told }
+    // Returns what a node of this genesis knows of a node that has reported `told`.
+    fn having_told(own_genesis: &[u8; DIGEST], told: Origin) -> Knowledge
+        ensures { result ≡ having_told own_genesis.now told }
     {
-        if told.genesis == *own {
+        if told.genesis == *own_genesis {
             Knowledge::Same
         } else {
             Knowledge::Other(told)
@@ -306,10 +306,10 @@ impl Neighbours {
     pub fn learn(
         &mut self,
         address: SocketAddr,
-        own: &[u8; DIGEST],
+        own_genesis: &[u8; DIGEST],
         told: Origin,
     ) -> Option<Neighbour>
-        ensures some { IfSome result (λ n. Learns address own.now told n self.old self.new) }
+        ensures some { IfSome result (λ n. Learns address own_genesis.now told n self.old self.new) }
         ensures none { IsNone result
             → (is_open_at (slice_get self.old (entry_for address self.old)) ≡ false) × (self.new ≡ self.old) }
     {
@@ -324,7 +324,7 @@ impl Neighbours {
             return None;
         }
         self.entries[at] = Some(Neighbour {
-            knowledge: Knowledge::having_told(own, told),
+            knowledge: Knowledge::having_told(own_genesis, told),
             ..neighbour
         });
         self.entries[at]

@@ -126,7 +126,7 @@ impl Report {
         write_report(self)
     }
 
-    /// Whether it answers that probe: cluster, client and token are the same.
+    /// Whether it is for that probe: cluster, client and token are the same.
     pub fn is_for(&self, probe: &Probe) -> bool
         ensures { IsTrue result ↔ IsReportFor probe.now self.now }
     {

@@ -205,7 +205,7 @@ fn put_status(out: &mut Bytes, value: &Status)
 }
 
 // Returns the first four bytes: `LP`, version 1, and the kind, 9 for a probe or 10 for a report.
-fn begun(kind: u8) -> Bytes
+fn with_header(kind: u8) -> Bytes
     ensures items { result.items ≡ front kind [] }
     ensures len { array_vec_len result ≡ 4 }
 {
@@ -229,7 +229,7 @@ fn filled(written: &Bytes) -> [u8; LENGTH]
 pub fn write_probe(value: &Probe) -> [u8; LENGTH]
     ensures { result ≡ probe_spelling value.now }
 {
-    let mut out = begun(9);
+    let mut out = with_header(9);
     put_u64(&mut out, value.cluster);
     put_maybe_node(&mut out, value.node());
     put_maybe_client(&mut out, value.client);
@@ -242,7 +242,7 @@ pub fn write_probe(value: &Probe) -> [u8; LENGTH]
 pub fn write_report(value: &Report) -> [u8; LENGTH]
     ensures { result ≡ report_spelling value.now }
 {
-    let mut out = begun(10);
+    let mut out = with_header(10);
     put_u64(&mut out, value.cluster);
     put_u32(&mut out, value.node.get());
     put_maybe_client(&mut out, value.client);

@@ -8,18 +8,18 @@ use Rattle.lk_sim.specs.declared.event.Event.{Event}
 use Rattle.lk_sim.specs.declared.event.Event.TheVariants.{Tick, Restart}
 use Rattle.lk_sim_nodes.specs.declared.refused.Refused.{Refused}
 use Rattle.lk_sim_nodes.specs.declared.refused.Refused.TheVariants.{NotUp}
-use Rattle.lk_random_schedules.specs.Schedules.{IsPassedBy, PassesBy, Happens}
+use Rattle.lk_random_schedules.specs.Schedules.{IsReplaced, ReplacesEvent, Happens}
 
 -- a refusal that is passed by has changed nothing
-pub refused_by : {R : Type 0} (b : Behaviour R) (old new : Scene R) (e : Event) (r : Refused) → IsPassedBy r
+pub refused_by : {R : Type 0} (b : Behaviour R) (old new : Scene R) (e : Event) (r : Refused) → IsReplaced r
     → IsRefused b old e r new → IsRejectedFor old e r × (new ≡ old)
 refused_by b old new e r by (inl not_now) = not_now
-refused_by b old new e r by (inr wants) = absurd (subst IsPassedBy wants.0 by)
+refused_by b old new e r by (inr wants) = absurd (subst IsReplaced wants.0 by)
 
 -- node 1 was down, and has come up again
 pub passes_again : {R : Type 0} (b : Behaviour R) (old mid new : Scene R) (n : ℕ) → n ≡ 1
     → IsRejectedFor old (Tick n) NotUp
-    → mid ≡ old → IsExecuted b mid (Restart n) new → PassesBy b old new
+    → mid ≡ old → IsExecuted b mid (Restart n) new → ReplacesEvent b old new
 passes_again b old mid new n one not_up same does =
     inr (
       subst (λ k. IsRejectedFor old (Tick k) NotUp) one not_up,
@@ -28,6 +28,6 @@ passes_again b old mid new n one not_up same does =
 
 -- it has changed nothing
 pub happens_instead : {R : Type 0} (b : Behaviour R) (old mid new : Scene R) (e : Event) (r : Refused)
-    → IsPassedBy r → IsRejectedFor old e r → mid ≡ old → PassesBy b mid new → Happens b old e new
+    → IsReplaced r → IsRejectedFor old e r → mid ≡ old → ReplacesEvent b mid new → Happens b old e new
 happens_instead b old mid new e r by not_now same passes =
-    inr (r, by, not_now, subst (λ w. PassesBy b w new) same passes)
+    inr (r, by, not_now, subst (λ w. ReplacesEvent b w new) same passes)

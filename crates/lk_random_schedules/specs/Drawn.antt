@@ -7,7 +7,7 @@ use Rattle.lk_random_schedules.specs.declared.event_kind.EventKind.TheVariants a
 use Rattle.lk_sim.specs.declared.event.Event.{Event}
 use Rattle.lk_sim.specs.declared.event.Event.TheVariants as event
 use Rattle.lk_sim.specs.declared.event.GroupInput.{GroupInput}
-use Rattle.lk_sim.specs.declared.event.GroupInput.TheVariants as turn
+use Rattle.lk_sim.specs.declared.event.GroupInput.TheVariants as group_input
 
 -- one of the nodes 1 to 3, which were started, or node 4
 abbrev pub IsNear : ℕ → Type 0
@@ -26,8 +26,8 @@ IsKind groups _ = ⊤
 
 -- a tick, or the place of one of so many datagrams, or 0
 abbrev pub IsPart : ℕ → GroupInput → Type 0
-IsPart sent turn.Tick = ⊤
-IsPart sent (turn.Deliver k) = k ≤ sent
+IsPart sent group_input.Tick = ⊤
+IsPart sent (group_input.Deliver k) = k ≤ sent
 
 -- an event that may be drawn after so many datagrams were sent: any but a Start, and a Group only if groups are drawn
 abbrev pub IsDrawn : Bool → ℕ → Event → Type 0
@@ -37,7 +37,8 @@ IsDrawn groups sent (event.Tick n) = IsNear n
 IsDrawn groups sent (event.Compact n) = IsNear n
 IsDrawn groups sent (event.Client n r) = IsNear n
 IsDrawn groups sent (event.Deliver k) = k ≤ sent
-IsDrawn groups sent (event.Group n turns) = (groups ≡ true) × IsNear n × AllByRecursion (IsPart sent) turns.items
+IsDrawn groups sent (event.Group n group_inputs) = (groups ≡ true) × IsNear n
+    × AllByRecursion (IsPart sent) group_inputs.items
 IsDrawn groups sent (event.Inject n bytes) = IsNear n
 IsDrawn groups sent (event.Stop n x y) = IsNear n
 IsDrawn groups sent (event.FailAt n count) = IsNear n × (count ≤ 4)

@@ -54,5 +54,5 @@ pub record IsScript {R : Type 0} (b : Behaviour R) (plan : Plan) (text : List â„
   pub ended : Scene R
   pub run : IsRun b plan begun ended
   pub events : List Event
-  pub passes : AreExecuted b events begun ended
+  pub are_executed : AreExecuted b events begun ended
   pub lines : text â‰¡ world_line ++ lines_for events

@@ -29,20 +29,20 @@ pub record IsNew {R : Type 0} (w : Scene R) : Type 0 where
 -- ---- a drawn event
 
 -- the reason of a rejection is neither room nor memory, so the event is replaced
-abbrev pub IsPassedBy : Refused → Type 0
-IsPassedBy WorldFull = ⊥
-IsPassedBy WorldMemory = ⊥
-IsPassedBy _ = ⊤
+abbrev pub IsReplaced : Refused → Type 0
+IsReplaced WorldFull = ⊥
+IsReplaced WorldMemory = ⊥
+IsReplaced _ = ⊤
 
 -- the replacement of a rejected event: node 1 ticks, or restarts if it is down
-abbrev pub PassesBy : {R : Type 0} → Behaviour R → Scene R → Scene R → Type 0
-PassesBy b old new = IsExecuted b old (Tick 1) new ⊎ (IsRejectedFor old (Tick 1) NotUp
+abbrev pub ReplacesEvent : {R : Type 0} → Behaviour R → Scene R → Scene R → Type 0
+ReplacesEvent b old new = IsExecuted b old (Tick 1) new ⊎ (IsRejectedFor old (Tick 1) NotUp
     × IsExecuted b old (Restart 1) new)
 
 -- the event happens, or its replacement if it is rejected for a reason other than room and memory
 abbrev pub Happens : {R : Type 0} → Behaviour R → Scene R → Event → Scene R → Type 0
-Happens b old e new = IsExecuted b old e new ⊎ ((r : Refused) × IsPassedBy r × IsRejectedFor old e r
-    × PassesBy b old new)
+Happens b old e new = IsExecuted b old e new ⊎ ((r : Refused) × IsReplaced r × IsRejectedFor old e r
+    × ReplacesEvent b old new)
 
 -- ---- a run
 

@@ -7,7 +7,8 @@ ghost use Rattle.std.specs.Io.KnownBytes.{Appends};
 ghost use Rattle.lk_script.specs.Worlds.{refused_line};
 ghost use Rattle.lk_sim.specs.Events.{IsExecuted};
 ghost use Rattle.lk_sim.specs.declared.event.Event.TheVariants.{Start};
-ghost use Rattle.lk_random_schedules.specs.Schedules.{IsOfThree, IsNew, IsPassedBy, PassesBy, Happens, Starts, Next};
+ghost use Rattle.lk_random_schedules.specs.Schedules.{IsOfThree, IsNew, IsReplaced, ReplacesEvent, Happens, Starts};
+ghost use Rattle.lk_random_schedules.specs.Schedules.{Next};
 ghost use Rattle.lk_random_schedules.specs.Schedules.{Fuzzes};
 ghost use Rattle.lk_random_schedules.specs.Transcripts.{AddsSome};
 ghost use Rattle.lk_random_schedules.specs.Lines.{ran_at, IsFurthest, done_line, Reports, world_line, IsScript};
@@ -50,12 +51,12 @@ fn genesis() -> Genesis
 }
 
 // Gives node 1 a tick, or restarts it if it is down: the replacement of an event that was rejected.
-fn pass_by<R: MemoryReplica>(
+fn replace_event<R: MemoryReplica>(
     alloc: Global,
     world: &mut World<R>,
     transcript: &mut Transcript,
 ) -> Result<(), Refused>
-    ensures passes { OnOk result (PassesBy R.behaves world.old world.new) }
+    ensures replaces { OnOk result (ReplacesEvent R.behaves world.old world.new) }
     ensures adds { OnOk result (AddsSome R.behaves world.old transcript.old world.new transcript.new) }
 {
     let first = NodeNo::of(1).unwrap();
@@ -66,8 +67,8 @@ fn pass_by<R: MemoryReplica>(
 }
 
 // Whether a rejected event is replaced: its reason is neither room nor memory, so another event may succeed.
-fn is_passed_by(refused: Refused) -> bool
-    ensures { result ≡ true → IsPassedBy refused }
+fn is_replaced(refused: Refused) -> bool
+    ensures { result ≡ true → IsReplaced refused }
 {
     !matches!(refused, Refused::WorldFull | Refused::WorldMemory)
 }
@@ -83,7 +84,7 @@ fn happen<R: MemoryReplica>(
     ensures adds { OnOk result (AddsSome R.behaves world.old transcript.old world.new transcript.new) }
 {
     match transcript.apply(alloc, world, event) {
-        Err(refused) if is_passed_by(refused) => pass_by(alloc, world, transcript),
+        Err(refused) if is_replaced(refused) => replace_event(alloc, world, transcript),
         done => done,
     }
 }

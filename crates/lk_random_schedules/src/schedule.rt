@@ -46,8 +46,9 @@ impl Schedule {
         NodeNo::of(number as u32).unwrap()
     }
 
-    // Draws the place of one of `sent` datagrams, mostly of one of the last 64. It may draw 0, which is no place.
-    fn place(&mut self, sent: usize) -> usize
+    // Draws the number of one of `sent` datagrams, counted from 1, mostly of the last 64. It may draw 0, which no
+    // datagram has.
+    fn datagram_number(&mut self, sent: usize) -> usize
         ensures { result ≤ sent }
     {
         if self.draws.is_one_of(8) {
@@ -89,20 +90,20 @@ impl Schedule {
 
     // Draws bytes to inject: mostly those of a datagram that was sent with one of them redrawn, or else random ones.
     fn bytes(&mut self, alloc: Global, sent: &[Datagram]) -> Result<Vec<u8>, NoMemory> {
-        match sent.get(self.place(sent.len())) {
+        match sent.get(self.datagram_number(sent.len())) {
             Some(datagram) => self.changed(alloc, datagram),
             None => self.any_bytes(alloc),
         }
     }
 
-    // Draws a datagram as a turn of the node's group, or `None` if it is not addressed to the node.
+    // Draws a datagram as an input of the node's group, or `None` if it is not addressed to the node.
     fn part(&mut self, node: NodeNo, sent: &[Datagram]) -> Option<GroupInput>
         ensures { IfSome result (IsPart (length sent.now)) }
     {
-        let place = self.place(sent.len());
-        let datagram = sent.get(place.checked_sub(1)?)?;
+        let datagram_number = self.datagram_number(sent.len());
+        let datagram = sent.get(datagram_number.checked_sub(1)?)?;
         match datagram.to {
-            Party::Node(to) if to == node => Some(GroupInput::Deliver(place)),
+            Party::Node(to) if to == node => Some(GroupInput::Deliver(datagram_number)),
             _ => None,
         }
     }
@@ -114,32 +115,32 @@ impl Schedule {
         node: NodeNo,
         sent: &[Datagram],
     ) -> Result<Vec<GroupInput>, NoMemory>
-        ensures { IfOk result (λ turns. AllByRecursion (IsPart (length sent.now)) turns.items) }
+        ensures { IfOk result (λ group_inputs. AllByRecursion (IsPart (length sent.now)) group_inputs.items) }
     {
-        let mut turns = Vec::new(alloc);
+        let mut group_inputs = Vec::new(alloc);
         'parts: for _ in 0..FOR_A_GROUP {
-            if let Some(turn) = self.part(node, sent) {
-                turns.push(turn)?;
+            if let Some(group_input) = self.part(node, sent) {
+                group_inputs.push(group_input)?;
             }
         }
-        Ok(turns)
+        Ok(group_inputs)
     }
 
-    // Draws the turns of a group of the node: its datagrams, and a tick after them in one of four cases or if there are
-    // none.
-    fn turns(
+    // Draws the inputs of a group of the node: its datagrams, and a tick after them in one of four cases or if there
+    // are none.
+    fn group_inputs(
         &mut self,
         alloc: Global,
         node: NodeNo,
         sent: &[Datagram],
     ) -> Result<Vec<GroupInput>, NoMemory>
-        ensures { IfOk result (λ turns. AllByRecursion (IsPart (length sent.now)) turns.items) }
+        ensures { IfOk result (λ group_inputs. AllByRecursion (IsPart (length sent.now)) group_inputs.items) }
     {
-        let mut turns = self.parts(alloc, node, sent)?;
-        if turns.is_empty() || self.draws.is_one_of(4) {
-            turns.push(GroupInput::Tick)?;
+        let mut group_inputs = self.parts(alloc, node, sent)?;
+        if group_inputs.is_empty() || self.draws.is_one_of(4) {
+            group_inputs.push(GroupInput::Tick)?;
         }
-        Ok(turns)
+        Ok(group_inputs)
     }
 
     // Draws the kind of the next event. If groups are drawn, they replace one in four deliveries.
@@ -168,8 +169,8 @@ impl Schedule {
             EventKind::Tick => Event::Tick(node),
             EventKind::Compact => Event::Compact(node),
             EventKind::Client => Event::Client(node, request(&mut self.draws, self.drawn / 4)),
-            EventKind::Deliver => Event::Deliver(self.place(sent.len())),
-            EventKind::Group => Event::Group(node, self.turns(alloc, node, sent)?),
+            EventKind::Deliver => Event::Deliver(self.datagram_number(sent.len())),
+            EventKind::Group => Event::Group(node, self.group_inputs(alloc, node, sent)?),
             EventKind::Inject => Event::Inject(node, self.bytes(alloc, sent)?),
             EventKind::Stop => Event::Stop(node, self.kept(), self.kept()),
             EventKind::FailAt => Event::FailAt(node, 1 + self.draws.below(4) as u64),

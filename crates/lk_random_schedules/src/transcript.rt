@@ -4,7 +4,7 @@ ghost use Rattle.std.specs.Prelude.{◌≡◌, ◌++◌, ◌∷◌, [], Err, OnO
 ghost use Rattle.lk_sim.specs.Events.{IsExecuted};
 ghost use Rattle.lk_sim.specs.Refusals.{IsRejectedFor};
 ghost use Rattle.lk_sim_nodes.specs.declared.refused.Refused.{Refused as RefusedValue};
-ghost use Rattle.lk_random_schedules.specs.Schedules.{IsPassedBy};
+ghost use Rattle.lk_random_schedules.specs.Schedules.{IsReplaced};
 ghost use Rattle.lk_random_schedules.specs.Transcripts.{Adds, kept_lines};
 
 use lk_replica::MemoryReplica;
@@ -53,7 +53,7 @@ impl Transcript {
     ) -> Result<(), Refused>
         ensures does { OnOk result (IsExecuted R.behaves world.old event world.new) }
         ensures adds { OnOk result (Adds R.behaves (event ∷ []) world.old self.old world.new self.new) }
-        ensures passed_by { (r : RefusedValue) → result ≡ Err r → IsPassedBy r
+        ensures skipped { (r : RefusedValue) → result ≡ Err r → IsReplaced r
             → IsRejectedFor world.old event r × Adds R.behaves [] world.old self.old world.new self.new }
     {
         let length = self.text.len();

@@ -26,7 +26,7 @@ use Rattle.lk_node.specs.Histories.{History, Genesis}
 use Rattle.lk_node.specs.Keeping.{IsKnown}
 use Rattle.lk_node.specs.Leavings.{header_of, acceptor_of, DisksFit, AllCover}
 use Rattle.lk_node.specs.Reaching.{EntryLiesNear, EntriesLieNear}
-use Rattle.lk_node.specs.Served.{text}
+use Rattle.lk_node.specs.BorneOut.{text}
 use Rattle.lk_recovery.proofs.Adding.{adds, covers_more}
 
 -- the entries stand for what covers the message

@@ -8,7 +8,7 @@ use Rattle.lk_store_format.specs.Values.{HeaderValue, StandingValue}
 use Rattle.lk_learner.specs.Learners.{Command, Pair}
 use Rattle.lk_learner.specs.Unpacking.{Unpacks}
 use Rattle.lk_state.specs.States.{WholeValue}
-use Rattle.lk_node.specs.Reaching.{IsDecidedAt, Reaches, LiesNear, AllLieNear}
+use Rattle.lk_node.specs.Reaching.{IsDecidedAt, DecidesTo, LiesNear, AllLieNear}
 use Rattle.lk_node.proofs.Nodes.{cons_cases, contains_more}
 use Rattle.lk_recovery.specs.Revivals.{run_from, reached, MayRevive}
 

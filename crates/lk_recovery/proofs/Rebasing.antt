@@ -19,14 +19,14 @@ use Rattle.lk_store_format.specs.declared.stored.Stored.TheVariants.{Base}
 use Rattle.lk_log.specs.Causes.{rebase_calls}
 use Rattle.lk_log.specs.Images.{IsLive}
 use Rattle.lk_log.specs.StoreValue.{StoreValue, pick, disks}
-use Rattle.lk_log.specs.Stores.{HoldsOn, HoldsEntries, MayBegin, next_base, KeepsOrIs}
+use Rattle.lk_log.specs.Stores.{HoldsOn, HoldsEntries, FitsBase, next_base, KeepsOrIs}
 use Rattle.lk_log.specs.Rooms.{StaysWithin}
 use Rattle.lk_log.proofs.Room.{within_same, within_first}
 use Rattle.lk_log.proofs.StoreLaws.{rising_stands, one_standing, one_header, of_every, plain_take, synced_live}
 use Rattle.lk_log.proofs.StoreLaws.{rebase_every}
 use Rattle.lk_state.specs.Meanings.{Meaning}
 use Rattle.lk_state.specs.Packed.{packed}
-use Rattle.lk_agreement_laws.specs.Acceptors.{AcceptorState, Covers, AreProposed, TakesSnapshot}
+use Rattle.lk_agreement_laws.specs.Acceptors.{AcceptorState, Covers, AreProposed, ForgetsVotes}
 use Rattle.lk_agreement_laws.specs.Changes.{holding_acceptor, packs}
 use Rattle.lk_agreement_laws.proofs.Histories.{at_most_below, below_self, change_fits}
 use Rattle.lk_acceptor.specs.States.{IsOrdered, without_votes_to}
@@ -42,7 +42,7 @@ use Rattle.lk_node.specs.Leavings.{header_of, acceptor_of, DisksFit, AllCover}
 use Rattle.lk_node.specs.NodeValue.{NodeValue}
 use Rattle.lk_node.specs.Packing.{standing_of, with_snapshot}
 use Rattle.lk_node.specs.Reaching.{HoldsNear}
-use Rattle.lk_node.specs.Served.{text}
+use Rattle.lk_node.specs.BorneOut.{text}
 use Rattle.lk_node.proofs.Nodes.{contains_more, window_is}
 use Rattle.lk_recovery.proofs.Growing.{grown_base}
 use Rattle.lk_recovery.specs.Compacting.{AllStandAt, IsDue, IsSameStore}
@@ -77,7 +77,7 @@ base_is b all = ap (λ (g : BallotValue). record b.standing { promised = g })
 
 -- ---- a snapshot covers what the votes covered whose place it takes
 
-pub snapshot_covers : (old new : AcceptorState) (i : ℕ) → TakesSnapshot old i new → (x : NodeMessage)
+pub snapshot_covers : (old new : AcceptorState) (i : ℕ) → ForgetsVotes old i new → (x : NodeMessage)
     → Covers old x → Covers new x
 snapshot_covers old new i t (kinds.Prepare b first) c = subst (IsAtMost b) (sym t.promised) c
 snapshot_covers old new i t (kinds.Promise p) c = subst (IsAtMost p.ballot) (sym t.promised) c
@@ -103,11 +103,11 @@ snapshot_covers old new i t (kinds.Lead b k) c = c
 
 module _ (m : Meaning) (genesis : Genesis) (n : ℕ) (node : NodeValue) (old new : StoreValue)
     (keeps : StoreKeeps (header_of genesis n) old node.acceptor.state)
-    (may : MayBegin (standing_of node)) (within : node.acceptor.state.snapshot_position ≤ executed node.learner) where
+    (may : FitsBase (standing_of node)) (within : node.acceptor.state.snapshot_position ≤ executed node.learner) where
   abbrev base : BaseValue
   base = next_base old (standing_of node)
 
-  takes : TakesSnapshot node.acceptor.state (executed node.learner)
+  takes : ForgetsVotes node.acceptor.state (executed node.learner)
       (without_votes_to node.acceptor.state (executed node.learner))
   takes = takes_snapshot node.acceptor.state (executed node.learner) within
 
@@ -199,7 +199,7 @@ before_fits m h n node store f =
 
 module _ (m : Meaning) (genesis : Genesis) (n : ℕ) (node : NodeValue) (old new : StoreValue) (x : Holding)
     (shown : HoldsBeforeRebase m node old genesis n x)
-    (may : MayBegin (standing_of node)) (close : HoldsNear node) where
+    (may : FitsBase (standing_of node)) (close : HoldsNear node) where
   window : length node.learner.whole.roster.sets ≡ genesis.alpha
   window = window_is m genesis x.paxos.done node.learner.whole shown.held.follows.sums
 
@@ -242,7 +242,7 @@ module _ (m : Meaning) (genesis : Genesis) (n : ℕ) (node : NodeValue) (old new
 
 module _ (m : Meaning) (h : History) (n : ℕ) (node : NodeValue) (old new : StoreValue) (x : Holding)
     (shown : HoldsBeforeRebase m node old h.genesis n x)
-    (may : MayBegin (standing_of node)) (close : HoldsNear node) (lawful : IsLawful m h)
+    (may : FitsBase (standing_of node)) (close : HoldsNear node) (lawful : IsLawful m h)
     (fits : HoldingFits m h n x) where
   far : executed node.learner ≡ length x.paxos.done
   far = executed_is m h.genesis x.paxos.done node.learner.whole shown.held.follows.sums
@@ -327,7 +327,7 @@ module _ (m : Meaning) (h : History) (n : ℕ) (node : NodeValue) (old new : Sto
 -- each image then stands for the snapshot
 module _ (m : Meaning) (genesis : Genesis) (n : ℕ) (node : NodeValue) (old new : StoreValue) (x : Holding)
     (shown : ReplicaHolds m node old genesis n x)
-    (may : MayBegin (standing_of node)) (within : node.acceptor.state.snapshot_position ≤ executed node.learner) where
+    (may : FitsBase (standing_of node)) (within : node.acceptor.state.snapshot_position ≤ executed node.learner) where
   pub all_stand : HoldsEntries new (Base (next_base old (standing_of node)) ∷ []) []
       → AllStandAt m genesis n (disks new) (executed node.learner) x.paxos.done
   all_stand holds image left =
@@ -417,7 +417,7 @@ goes_fits m h n node store lawful left g =
 -- ---- what a rebase comes to
 
 module _ (m : Meaning) (node : NodeValue) (old new : StoreValue)
-    (may : MayBegin (standing_of node)) (close : HoldsNear node)
+    (may : FitsBase (standing_of node)) (close : HoldsNear node)
     (any : (ks ls : List Stored) → HoldsEntries old ks ls
     → KeepsOrIs (disks new) ks ls (next_base old (standing_of node))) where
   -- after any exit

@@ -28,11 +28,11 @@ use Rattle.lk_node.specs.Holdings.{Holding}
 use Rattle.lk_node.specs.Keeping.{StoreKeeps}
 use Rattle.lk_node.specs.Leavings.{header_of, DisksFit}
 use Rattle.lk_node.specs.NodeValue.{NodeValue}
-use Rattle.lk_node.specs.Served.{text}
+use Rattle.lk_node.specs.BorneOut.{text}
 use Rattle.lk_node_interface.specs.Faults.{IsStoreFault}
 use Rattle.lk_recovery.specs.Compacting.{renew_calls}
 use Rattle.lk_node_interface.specs.declared.fault.ReplicaFault.{ReplicaFault}
-use Rattle.lk_recovery.specs.Revivals.{TakesUp, IsOld, IsLastOld, RenewsBy, CallsOfOpening, CallsOfRevival}
+use Rattle.lk_recovery.specs.Revivals.{RestartsAs, IsOld, IsLastOld, RenewsBy, CallsOfOpening, CallsOfRevival}
 use Rattle.lk_recovery.specs.Revivals.{NarrowsOrRenews}
 use Rattle.lk_recovery.proofs.Revivals.{nothing_later, picked}
 
@@ -66,7 +66,7 @@ then_goes m h n Shows Now d new notes g f = record {
 
 pub taken_keeps : (m : Meaning) (IsText : List ℕ → Type 0) (d : Side → Disk) (genesis : Genesis) (n : ℕ)
     (whose : HeaderValue) (node : NodeValue) (store : StoreValue) (notes : List Note)
-    → whose ≡ header_of genesis n → store.header ≡ whose → TakesUp m IsText d whose node store notes
+    → whose ≡ header_of genesis n → store.header ≡ whose → RestartsAs m IsText d whose node store notes
     → StoreKeeps (header_of genesis n) store node.acceptor.state
 taken_keeps m IsText d genesis n whose node store notes is named t =
     subst (λ (w : HeaderValue). StoreKeeps w store node.acceptor.state) is (record {

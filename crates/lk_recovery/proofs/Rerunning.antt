@@ -97,7 +97,7 @@ pub record Comes (m : Meaning) (node : ℕ) (w : WholeValue) (pairs : List Pair)
   pub gathered : l.gathered ≡ None
   pub sets : length l.whole.roster.sets ≡ length w.roster.sets
   pub state : all_ran m (run_from (executed l) all) l.whole ≡ all_ran m (run_from w.roster.executed pairs) w
-  pub served : l.served ++ run_from (executed l) all ≡ run_from w.roster.executed pairs
+  pub retained : l.retained ++ run_from (executed l) all ≡ run_from w.roster.executed pairs
   pub left : drop (length (run_from (executed l) all)) all ≡ drop (length (run_from w.roster.executed pairs)) pairs
   pub noted : notes ++ notes_of node (executed l) (run_from (executed l) all)
       ≡ notes_of node w.roster.executed (run_from w.roster.executed pairs)
@@ -114,7 +114,7 @@ module _ (m : Meaning) (node : ℕ) (w : WholeValue) (pairs : List Pair) where
     gathered = refl;
     sets = refl;
     state = refl;
-    served = refl;
+    retained = refl;
     left = refl;
     noted = refl;
     reaches = refl;
@@ -137,7 +137,7 @@ module _ (m : Meaning) (node : ℕ) (w : WholeValue) (pairs : List Pair) where
         gathered = c.gathered;
         sets = c.sets;
         state = c.state;
-        served = c.served;
+        retained = c.retained;
         left = c.left;
         noted = c.noted;
         reaches = c.reaches;
@@ -185,8 +185,8 @@ module _ (m : Meaning) (node : ℕ) (w : WholeValue) (pairs : List Pair) where
           gathered = c.gathered;
           sets = moves.1 ∙ c.sets;
           state = rw moves.0 (ap (λ (us : List Command). all_ran m us l.whole) (sym runs) ∙ c.state);
-          served = rw moves.0 (append_assoc l.served (p.1 ∷ []) vs
-              ∙ ap (λ (us : List Command). l.served ++ us) (sym runs) ∙ c.served);
+          retained = rw moves.0 (append_assoc l.retained (p.1 ∷ []) vs
+              ∙ ap (λ (us : List Command). l.retained ++ us) (sym runs) ∙ c.retained);
           left = rw moves.0 (sym (ap (λ (us : List Command). drop (length us) (l.pairs ++ p ∷ rest)) runs
               ∙ ap (λ (qs : List Pair). drop (suc (length vs)) qs) begins) ∙ c.left);
           noted = rw moves.0 (append_assoc notes (Ran node p.0 p.1 ∷ []) (notes_of node (e + 1) vs)
@@ -223,8 +223,8 @@ module _ (m : Meaning) (node : ℕ) (w : WholeValue) (pairs : List Pair) where
       comes_to =
           let state : l.whole ≡ all_ran m (run_from w.roster.executed pairs) w =
           sym (ap (λ (us : List Command). all_ran m us l.whole) (stops [] c)) ∙ c.state in
-          let served : l.served ≡ run_from w.roster.executed pairs =
-          sym (ap (λ (us : List Command). l.served ++ us) (stops [] c) ∙ append-nil l.served) ∙ c.served in
+          let retained : l.retained ≡ run_from w.roster.executed pairs =
+          sym (ap (λ (us : List Command). l.retained ++ us) (stops [] c) ∙ append-nil l.retained) ∙ c.retained in
           let left : l.pairs ≡ drop (length (run_from w.roster.executed pairs)) pairs =
           sym (ap (λ (us : List Command). drop (length us) (l.pairs ++ [])) (stops [] c) ∙ append-nil l.pairs)
           ∙ c.left in
@@ -232,7 +232,7 @@ module _ (m : Meaning) (node : ℕ) (w : WholeValue) (pairs : List Pair) where
             whole = state i;
             snapshot_position = c.snapshot i;
             snapshot = c.text i;
-            served = served i;
+            retained = retained i;
             pairs = left i;
             gathered = c.gathered i;
           }

@@ -46,10 +46,10 @@ use Rattle.lk_node.specs.NodeValue.{NodeValue}
 use Rattle.lk_recovery.specs.Remembering.{ReplicaRemembers}
 use Rattle.lk_recovery.specs.Revivals.{run_from, all_ran, notes_of, relearned, revived, MayRevive, Restores}
 use Rattle.lk_recovery.proofs.Reaching.{run_decided, near_revives}
-use Rattle.lk_node.specs.Served.{text, IsOfNode, IsBorneOut}
+use Rattle.lk_node.specs.BorneOut.{text, IsOfNode, IsBorneOut}
 use Rattle.lk_recovery.proofs.Images.{fit_entries, opening_fits, opening_covers}
 use Rattle.lk_node.proofs.Nodes.{cons_cases, contains_more, window_is}
-use Rattle.lk_node.specs.Reaching.{IsTold}
+use Rattle.lk_node.specs.Reaching.{IsRestorable}
 
 -- nothing more was sent
 pub nothing_later : (m : Meaning) (h : History) (n : ℕ) (disks : Side → Disk) → DisksFit m h n disks → (k : ℕ)
@@ -182,7 +182,7 @@ follows_again m genesis under w ps sums =
       within = omega (arith, e, n);
       text = ap packed sums ∙ ap (λ (L : List Command). packed (whole_after m genesis L))
           (sym (ap (λ (i : ℕ). take i (under ++ vs)) e ∙ before_all under vs));
-      served = sym (ap (λ (i : ℕ). drop i (under ++ vs)) e ∙ behind_all under vs);
+      retained = sym (ap (λ (i : ℕ). drop i (under ++ vs)) e ∙ behind_all under vs);
       known = λ p h. h;
       kept = λ p h. h;
     }
@@ -259,7 +259,7 @@ module _ (m : Meaning) (IsText : List ℕ → Type 0) (keeps : KeepsTexts IsText
       }
 
   -- what the pairs reach is executed
-  told : IsTold h.genesis.alpha s [] (revived m (header_of h.genesis n) s r.whole)
+  told : IsRestorable h.genesis.alpha s [] (revived m (header_of h.genesis n) s r.whole)
   told =
       let sums = (follows_again m h.genesis under r.whole s.pairs unpacked).sums in
       let far : (relearned m r.whole s.pairs).whole.roster.executed ≡ length (under ++ ran) =

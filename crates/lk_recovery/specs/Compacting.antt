@@ -15,7 +15,7 @@ use Rattle.lk_node.specs.Packing.{standing_of, with_snapshot}
 use Rattle.lk_state.specs.Meanings.{Meaning}
 use Rattle.lk_node.specs.Histories.{Genesis, Command}
 use Rattle.lk_node.specs.Leavings.{header_of, StandsAs}
-use Rattle.lk_node.specs.Served.{text}
+use Rattle.lk_node.specs.BorneOut.{text}
 
 -- each image that a stop may leave of these disks stands for a snapshot at this position, the packed text of this
 -- list, which has that length

@@ -7,7 +7,7 @@ use Rattle.lk_disk.specs.Meters.{CallsSucceed}
 use Rattle.lk_log.specs.Causes.{rebase_calls}
 use Rattle.lk_log.specs.Rooms.{StaysWithin}
 use Rattle.lk_log.specs.StoreValue.{StoreValue, disks}
-use Rattle.lk_log.specs.Stores.{KeepsItsFile, MayBegin}
+use Rattle.lk_log.specs.Stores.{KeepsItsFile, FitsBase}
 use Rattle.lk_state.specs.Meanings.{Meaning}
 use Rattle.lk_agreement_laws.specs.Acceptors.{Covers}
 use Rattle.lk_agreement_laws.specs.Datagrams.{NodeMessage}
@@ -31,9 +31,9 @@ use Rattle.lk_node_interface.specs.declared.fault.ReplicaFault.TheVariants as fa
 
 -- the node matches its Base, which its disks may begin with, and has executed what it could if it had before; and the
 -- store has the next generation and format 2, and has not failed
-pub record StandsOnBase (node : NodeValue) (store : StoreValue) (new : NodeValue) (after : StoreValue) : Type 0 where
+pub record MatchesBase (node : NodeValue) (store : StoreValue) (new : NodeValue) (after : StoreValue) : Type 0 where
   pub becomes : new ≡ with_snapshot node
-  pub begins : MayBegin (standing_of node)
+  pub begins : FitsBase (standing_of node)
   pub runs : NothingToRun node → NothingToRun new
   pub generation : after.generation ≡ store.generation + 1
   pub format : after.format ≡ 2

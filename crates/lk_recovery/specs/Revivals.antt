@@ -30,7 +30,7 @@ use Rattle.lk_node.specs.Histories.{Genesis, Command}
 use Rattle.lk_node.specs.Leavings.{header_of, acceptor_of, StandsAs}
 use Rattle.lk_node.specs.NodeValue.{NodeValue}
 use Rattle.lk_recovery.specs.Compacting.{AreSame}
-use Rattle.lk_node.specs.Served.{text}
+use Rattle.lk_node.specs.BorneOut.{text}
 
 -- the commands of the pairs from the next position on, up to the first gap
 abbrev pub run_from : ℕ → List Pair → List Command
@@ -53,7 +53,7 @@ relearned m w pairs = record {
   whole = all_ran m (run_from w.roster.executed pairs) w;
   snapshot_position = w.roster.executed;
   snapshot = packed w;
-  served = run_from w.roster.executed pairs;
+  retained = run_from w.roster.executed pairs;
   pairs = drop (length (run_from w.roster.executed pairs)) pairs;
   gathered = None;
 }
@@ -93,7 +93,7 @@ pub record Restores (m : Meaning) (IsText : List ℕ → Type 0) (whose : Header
   pub notes_are : notes ≡ notes_of whose.node s.position (run_from s.position s.pairs)
 
 -- the standing of these disks, or of a new store, restarts as this store and this node, with these notes
-pub record TakesUp (m : Meaning) (IsText : List ℕ → Type 0) (disks : Side → Disk) (whose : HeaderValue)
+pub record RestartsAs (m : Meaning) (IsText : List ℕ → Type 0) (disks : Side → Disk) (whose : HeaderValue)
     (node : NodeValue) (store : StoreValue) (notes : List Note) : Type 0 where
   pub genesis : Genesis
   pub began : whose ≡ header_of genesis whose.node
@@ -103,7 +103,7 @@ pub record TakesUp (m : Meaning) (IsText : List ℕ → Type 0) (disks : Side �
 
 -- it has restarted with this header and goes on, whatever the format of its file: its store has not failed, its node
 -- has not halted, and it has executed what it can
-pub record IsTakenUp (header : HeaderValue) (node : NodeValue) (store : StoreValue) : Type 0 where
+pub record HasRestarted (header : HeaderValue) (node : NodeValue) (store : StoreValue) : Type 0 where
   pub whose : store.header ≡ header
   pub of_node : node.header ≡ header
   pub store_alive : store.failed ≡ false

@@ -9,9 +9,9 @@ ghost use Rattle.lk_log.specs.Stores.{HoldsEntries, KeepsItsFile, KeepsOrIs, nex
 ghost use Rattle.lk_node.specs.Packing.{standing_of};
 ghost use Rattle.lk_node.specs.Reaching.{HoldsNear};
 ghost use Rattle.lk_recovery.specs.Compacting.{IsDue, IsSameStore};
-ghost use Rattle.lk_recovery.specs.Rebased.{StandsOnBase, HasSwitchedFiles, StaysSafe, IsNotRebased, StaysAlive};
+ghost use Rattle.lk_recovery.specs.Rebased.{MatchesBase, HasSwitchedFiles, StaysSafe, IsNotRebased, StaysAlive};
 ghost use Rattle.lk_recovery.specs.Rebased.{IsReadyToStep, LeavesDisks};
-ghost use Rattle.lk_node_interface.specs.Faults.{fault_number, RaisesFailures, SucceedsOr, WantsNoMemory};
+ghost use Rattle.lk_node_interface.specs.Faults.{fault_number, CountsFailures, SucceedsOr, WantsNoMemory};
 
 use lk_disk::LogDisk;
 use lk_log::Store;
@@ -30,7 +30,7 @@ pub fn write_base<M: Machine, D: LogDisk + Drop>(
     // At Ok it has switched: the Base alone is in the file, the node matches it, and goes on.
     ensures done { D.is_honest
         → OnOk result (HasSwitchedFiles M.meaning D.is_metered node.old store.old node.new store.new) }
-    ensures becomes { OnOk result (StandsOnBase node.old store.old node.new store.new) }
+    ensures becomes { OnOk result (MatchesBase node.old store.old node.new store.new) }
     // However it ends, every image that a stop may leave fits and covers what every image covered before, and neither
     // file has grown, except up to the size of a Base.
     ensures disks { D.is_honest → StaysSafe M.meaning node.old store.old store.new }
@@ -44,9 +44,9 @@ pub fn write_base<M: Machine, D: LogDisk + Drop>(
     // An error leaves the node unchanged, and the same file live.
     ensures refused { IfErr result (IsNotRebased D.is_honest D.is_metered node.old store.old node.new store.new) }
     ensures last { max_count ≤ store.old.generation → (store.new ≡ store.old) × IsErrOf result ReplicaFault.Failed }
-    ensures cause { RaisesFailures store.old.failures store.new.failures result }
+    ensures cause { CountsFailures store.old.failures store.new.failures result }
 {
-    // Packed before the check: its contract has the clause `near`, which this one promises at every exit.
+    // Packed before the check: its contract has the clause `near`, which this one ensures at every exit.
     let packed = node.standing();
     if store.generation() >= MAX_COUNT {
         return Err(ReplicaFault::Failed);
@@ -69,7 +69,7 @@ pub fn is_rebase_due<M: Machine, D: LogDisk + Drop>(
     ensures alive { OnOk result (store.new.failed ≡ false) }
     ensures memory { IfErr result (λ e. WantsNoMemory (fault_number e)) }
     ensures failed_before { store.old.failed ≡ false → IsErrOf result ReplicaFault.Failed → ⊥ }
-    ensures cause { RaisesFailures store.old.failures store.new.failures result }
+    ensures cause { CountsFailures store.old.failures store.new.failures result }
     ensures metered { D.is_metered → SucceedsOr store.old.meter store.new.meter 0 result }
     ensures small { D.is_honest → IfOk result (λ due. due ≡ false → length (contents store.new.live_disk) < 131072) }
 {
@@ -94,7 +94,7 @@ pub fn rebase_if_due<M: Machine, D: LogDisk + Drop>(
     // the device fails.
     ensures last { D.is_honest → max_count ≤ store.old.generation → IsDue node.old store.old
         → IsErrAnd result (λ e. WantsNoMemory (fault_number e)) }
-    ensures cause { RaisesFailures store.old.failures store.new.failures result }
+    ensures cause { CountsFailures store.old.failures store.new.failures result }
 {
     let due = is_rebase_due(node, store)?;
     if !due {

@@ -6,7 +6,7 @@ ghost use Rattle.lk_log.specs.StoreValue.{disks};
 ghost use Rattle.lk_log.specs.Stores.{HoldsEntries, KeepsOrIs, next_base};
 ghost use Rattle.lk_node.specs.Packing.{standing_of};
 ghost use Rattle.lk_recovery.specs.Compacting.{renew_calls};
-ghost use Rattle.lk_node_interface.specs.Faults.{fault_number, RaisesFailures, SucceedsOr};
+ghost use Rattle.lk_node_interface.specs.Faults.{fault_number, CountsFailures, SucceedsOr};
 ghost use Rattle.lk_recovery.specs.Rebased.{StaysSafe};
 ghost use Rattle.lk_recovery.specs.Renewals.{IsRenewed, HasFormatTwo, IsNotRenewed};
 
@@ -36,7 +36,7 @@ pub fn renew<M: Machine, D: LogDisk + Drop>(
     // For a store of format 1 at the last generation it fails with `Failed`, even if it is out of memory.
     ensures last { store.old.format ≡ 1 → max_count ≤ store.old.generation
         → (store.new ≡ store.old) × IsErrOf result ReplicaFault.Failed }
-    ensures cause { RaisesFailures store.old.failures store.new.failures result }
+    ensures cause { CountsFailures store.old.failures store.new.failures result }
     ensures metered { D.is_metered → D.is_honest
         → SucceedsOr store.old.meter store.new.meter (renew_calls store.old.format) result }
 {

@@ -17,9 +17,9 @@ ghost use Rattle.lk_node.specs.Executing.{NothingToRun};
 ghost use Rattle.lk_node.specs.Histories.{History, Genesis as GenesisValue, IsLawful};
 ghost use Rattle.lk_node.specs.Keeping.{ReplicaHolds};
 ghost use Rattle.lk_node.specs.Leavings.{header_of, DisksFit, AllCover};
-ghost use Rattle.lk_recovery.specs.Revivals.{Unpacks, MayRevive, Restores, TakesUp, IsTakenUp, IsRefusedFor};
+ghost use Rattle.lk_recovery.specs.Revivals.{Unpacks, MayRevive, Restores, RestartsAs, HasRestarted, IsRefusedFor};
 ghost use Rattle.lk_recovery.specs.Revivals.{CallsOfOpening};
-ghost use Rattle.lk_node.specs.Served.{text};
+ghost use Rattle.lk_node.specs.BorneOut.{text};
 
 use crate::fault::ReviveFault;
 use crate::relearning::relearn;
@@ -145,10 +145,10 @@ pub fn restart_node<M: Machine, D: LogDisk + Drop>(
     // It restarts exactly from the standing of the disks, and executes nothing else. The store is new exactly if there
     // was no Base.
     ensures exact { D.is_honest
-        → IfOk result (λ r. TakesUp M.meaning M.IsText (D.disk device) header.now r.node r.store r.notes.items
+        → IfOk result (λ r. RestartsAs M.meaning M.IsText (D.disk device) header.now r.node r.store r.notes.items
         × (IsTrue r.is_new ↔ IsEmpty (seen (D.disk device)))) }
     // Nothing of it has failed, and it has executed what it can.
-    ensures ready { IfOk result (λ r. IsTakenUp header.now r.node r.store) }
+    ensures ready { IfOk result (λ r. HasRestarted header.now r.node r.store) }
     // An error has its cause. A damaged store and another's are unchanged.
     ensures refused { D.is_honest
         → IfErr result (λ e. IsRefusedFor M.meaning M.IsText (D.disk device) header.now

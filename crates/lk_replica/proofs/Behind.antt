@@ -6,7 +6,7 @@ use Rattle.lk_messages.specs.declared.message.NodeMessage.TheVariants as kinds
 use Rattle.lk_store_format.specs.Values.{StandingValue}
 use Rattle.lk_store_format.specs.declared.stored.Stored.TheVariants.{Base}
 use Rattle.lk_log.specs.StoreValue.{StoreValue, disks}
-use Rattle.lk_log.specs.Stores.{HoldsEntries, MayBegin, next_base}
+use Rattle.lk_log.specs.Stores.{HoldsEntries, FitsBase, next_base}
 use Rattle.lk_log.proofs.StoreLaws.{one_standing}
 use Rattle.lk_state.specs.Meanings.{Meaning}
 use Rattle.lk_agreement_laws.specs.Acceptors.{Covers, CoversSent}
@@ -30,8 +30,8 @@ use Rattle.lk_node.specs.Leavings.{header_of, acceptor_of, paxos_of}
 use Rattle.lk_node.specs.NodeValue.{NodeValue}
 use Rattle.lk_node.specs.Packing.{standing_of, with_snapshot}
 use Rattle.lk_node.specs.Reaching.{HoldsNear}
-use Rattle.lk_node.specs.Served.{IsOfNode, IsBorneOut}
-use Rattle.lk_node.specs.Serving.{IsNeitherPromiseNorVote, IsCoveredLetter, Serves, ActsSafely}
+use Rattle.lk_node.specs.BorneOut.{IsOfNode, IsBorneOut}
+use Rattle.lk_node.specs.SafeSteps.{IsNeitherPromiseNorVote, IsCoveredLetter, IsSafeStep, ActsSafely}
 use Rattle.lk_replica.specs.Posts.{AreOf}
 use Rattle.lk_recovery.specs.Remembering.{ReplicaRemembers}
 use Rattle.lk_replica.proofs.Going.{said_covered, said_neither, batch_covered, bound, serves}
@@ -60,7 +60,7 @@ neither_may h w i (kinds.Lead b k) neither may = may
 -- known.
 module _ (m : Meaning) (h : History) (n : ℕ) (node : NodeValue) (old new : StoreValue) (x : Holding)
     (shown : HoldsBeforeRebase m node old h.genesis n x)
-    (may : MayBegin (standing_of node)) (close : HoldsNear node) (lawful : IsLawful m h) (fits : HoldingFits m h n x)
+    (may : FitsBase (standing_of node)) (close : HoldsNear node) (lawful : IsLawful m h) (fits : HoldingFits m h n x)
     (out : OutboxValue) (tells : (l : LetterValue) → Contains out.letters l
     → IsCoveredLetter node.header node.acceptor.state out.rebase l)
     (goes : (d : Datagram) → Contains (batch_of n out.letters) d → MayGo m h n x.paxos d)
@@ -111,7 +111,7 @@ module _ (m : Meaning) (h : History) (n : ℕ) (node : NodeValue) (old new : Sto
           from = k.from;
           spelled = k.spelled;
           may = neither_may h x.paxos (executed node.learner) k.message (neither d listed) k.may;
-          served = k.served;
+          borne_out = k.borne_out;
         };
     noted = noted;
     left = λ k. fit_disks m (later h (take k (batch_of n sent))) n new (Base (next_base old (standing_of node)) ∷ [])
@@ -153,7 +153,7 @@ module _ (m : Meaning) (h : History) (n : ℕ) (node stepped : NodeValue) (old :
     (i : Input) (out : OutboxValue)
     (f : NodeFits m h n (ReplicaHolds m node old h.genesis n) (disks old)) (heard : InputFits h i)
     (g : ActsSafely m (λ k. InputFits k i) node stepped nothing out) (is : out.rebase ≡ true) where
-  abbrev served : Serves m h n f.shown.keeps.loose stepped out
+  abbrev served : IsSafeStep m h n f.shown.keeps.loose stepped out
   served = serves m h n node stepped old old i out f heard g
 
   -- it fits on the store as it was
@@ -174,7 +174,7 @@ module _ (m : Meaning) (h : History) (n : ℕ) (node stepped : NodeValue) (old :
   }
 
   -- where its Base was written, these letters of it are sent
-  pub installed_goes : (new : StoreValue) → MayBegin (standing_of stepped) → HoldsNear stepped
+  pub installed_goes : (new : StoreValue) → FitsBase (standing_of stepped) → HoldsNear stepped
       → HoldsEntries new (Base (next_base old (standing_of stepped)) ∷ []) []
       → (sent : List LetterValue) → AreOf sent out.letters
       → LeavesFit m h n (ReplicaHolds m (with_snapshot stepped) new h.genesis n) (disks new) out.notes (batch_of n sent)

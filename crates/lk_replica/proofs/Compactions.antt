@@ -7,9 +7,9 @@ use Rattle.lk_log.specs.Causes.{rebase_calls}
 use Rattle.lk_learner.specs.Learners.{executed}
 use Rattle.lk_state.specs.Meanings.{Meaning}
 use Rattle.lk_replica.specs.Compacted.{IsCompacted, IsNotCompacted, CompactsTo}
-use Rattle.lk_node_interface.specs.Faults.{IsStoreFault, fault_number, RaisesFailures, RefusedAfter}
+use Rattle.lk_node_interface.specs.Faults.{IsStoreFault, fault_number, CountsFailures, RefusedAfter}
 use Rattle.lk_recovery.specs.Compacting.{AllStandAt}
-use Rattle.lk_recovery.specs.Rebased.{StandsOnBase, HasSwitchedFiles}
+use Rattle.lk_recovery.specs.Rebased.{MatchesBase, HasSwitchedFiles}
 use Rattle.lk_replica.specs.ReplicaValue.{ReplicaValue}
 use Rattle.lk_node_interface.specs.declared.fault.ReplicaFault.{ReplicaFault}
 use Rattle.lk_node_interface.specs.declared.fault.ReplicaFault.TheVariants as fault
@@ -19,7 +19,7 @@ use Rattle.lk_recovery.proofs.Recoveries.{same_error}
 -- it has compacted
 pub compacted : {T : Type 0} (m : Meaning) (old new : ReplicaValue) (r : Result T ReplicaFault)
     → OnOk r (HasSwitchedFiles m ⊤ old.node old.store new.node new.store)
-    → OnOk r (StandsOnBase old.node old.store new.node new.store) → OnOk r (new.failed ≡ false)
+    → OnOk r (MatchesBase old.node old.store new.node new.store) → OnOk r (new.failed ≡ false)
     → OnOk r (IsCompacted m old new)
 compacted m old new (Ok x) done becomes alive = record {
   rebases = done.rebases;
@@ -34,7 +34,7 @@ compacted m old new (Err e) done becomes alive = tt
 
 -- it was refused, for a cause
 pub refused : {T : Type 0} (m : Meaning) (old new : ReplicaValue) (r : Result T ReplicaFault)
-    → RaisesFailures old.store.failures new.store.failures r
+    → CountsFailures old.store.failures new.store.failures r
     → IfErr r (λ e. IsNotCompacted ⊤ ⊤ old new (fault_number e)) → new.node.halted ≡ old.node.halted
     → (max_count ≤ old.store.generation → (new.store ≡ old.store) × IsErrOf r fault.Failed)
     → IfErr r (λ e. CompactsTo m old new (Err (fault_number e)))

@@ -32,12 +32,13 @@ use Rattle.lk_node.specs.Entries.{EntriesFit, Rests}
 use Rattle.lk_node.specs.Histories.{History, Genesis, Datagram, later}
 use Rattle.lk_node.specs.Holdings.{Holding}
 use Rattle.lk_node.specs.Keeping.{TellsDecided, IsKnown, StoreKeeps, ReplicaHolds}
-use Rattle.lk_node.specs.Reaching.{IsTold, TellsOn}
+use Rattle.lk_node.specs.Reaching.{IsRestorable, StillRestoresNode}
 use Rattle.lk_node.specs.Leavings.{header_of, acceptor_of, paxos_of, DisksFit, AllCover}
 use Rattle.lk_replica.specs.Posts.{AreOf}
 use Rattle.lk_recovery.specs.Remembering.{ReplicaRemembers}
 use Rattle.lk_node.specs.NodeValue.{NodeValue}
-use Rattle.lk_node.specs.Serving.{IsNeitherPromiseNorVote, with_entries, IsCoveredLetter, Binds, Serves, ActsSafely}
+use Rattle.lk_node.specs.SafeSteps.{IsNeitherPromiseNorVote, with_entries, IsCoveredLetter, Binds, IsSafeStep}
+use Rattle.lk_node.specs.SafeSteps.{ActsSafely}
 use Rattle.lk_recovery.proofs.Recoveries.{known_rests, held_fit, fit_disks, cover_disks, put_fits, put_covers}
 use Rattle.lk_node.proofs.Nodes.{take_contains, map_contains, letter_spelled, told_behind, told_synced}
 use Rattle.lk_replica.proofs.Standings.{entries_are, decided_leave, entries_behind}
@@ -64,8 +65,8 @@ pub record KeepsToo (whose : HeaderValue) (new : StoreValue) (b : AcceptorState)
   pub keeps : StoreKeeps whose new b
   pub known : (w : PaxosState) → AllByRecursion (IsKnown w) loose → (sync ≡ false → AllByRecursion (IsKnown w) es)
       → AllByRecursion (IsKnown w) keeps.loose
-  pub told : (ahead : ℕ) (node now : NodeValue) → IsTold ahead standing loose node → TellsOn node now es
-      → IsTold ahead keeps.standing keeps.loose now
+  pub told : (ahead : ℕ) (node now : NodeValue) → IsRestorable ahead standing loose node → StillRestoresNode node now es
+      → IsRestorable ahead keeps.standing keeps.loose now
 
 pub put_keeps : (whose : HeaderValue) (old new : StoreValue) (a b : AcceptorState) (es : List Entry) (sync : Bool)
     (k : StoreKeeps whose old a) → b ≡ with_entries es a → (sync ≡ false → AllByRecursion TellsDecided es)
@@ -171,7 +172,7 @@ module _ (m : Meaning) (h : History) (n : ℕ) (node new : NodeValue) (old store
   abbrev loose : List Entry
   loose = f.shown.keeps.loose
 
-  pub serves : Serves m h n loose new out
+  pub serves : IsSafeStep m h n loose new out
   serves = g.serves h n loose
       (record {
         lawful = f.lawful;
@@ -189,11 +190,11 @@ module _ (m : Meaning) (h : History) (n : ℕ) (node new : NodeValue) (old store
 module _ (m : Meaning) (h : History) (n : ℕ) (node new : NodeValue) (old store : StoreValue)
     (i : Input) (out : OutboxValue)
     (f : NodeFits m h n (ReplicaHolds m node old h.genesis n) (disks old)) (heard : InputFits h i)
-    (g : ActsSafely m (λ k. InputFits k i) node new nothing out) (on : TellsOn node new out.entries) where
+    (g : ActsSafely m (λ k. InputFits k i) node new nothing out) (on : StillRestoresNode node new out.entries) where
   abbrev unsynced : List Entry
   unsynced = f.shown.keeps.loose
 
-  abbrev served : Serves m h n unsynced new out
+  abbrev served : IsSafeStep m h n unsynced new out
   served = serves m h n node new old store i out f heard g
 
   -- after any exit of the put every image fits
@@ -241,7 +242,7 @@ module _ (m : Meaning) (h : History) (n : ℕ) (node new : NodeValue) (old store
       near = entries.near;
     }
 
-    told : IsTold h.genesis.alpha k.keeps.standing k.keeps.loose new
+    told : IsRestorable h.genesis.alpha k.keeps.standing k.keeps.loose new
     told = k.told h.genesis.alpha node new f.shown.told on
 
     loose_rest : (j : ℕ) → AllByRecursion (Rests (later h (take j (batch_of n sent)))) k.keeps.loose

@@ -28,7 +28,7 @@ use Rattle.lk_store_format.proofs.Mixed.{format-append}
 use Rattle.lk_store_format.proofs.Spelling.{spelled-append, spelled_long, all-append}
 use Rattle.lk_log.specs.Images.{Image, IsLive, MayLeaveBoth, seen}
 use Rattle.lk_log.specs.StoreValue.{StoreValue, pick, disks}
-use Rattle.lk_log.specs.Stores.{HoldsEntries, IsOlder, KeepsAtLeast, KeepsItsFile, MayBegin, next_base}
+use Rattle.lk_log.specs.Stores.{HoldsEntries, IsOlder, KeepsAtLeast, KeepsItsFile, FitsBase, next_base}
 use Rattle.lk_log.proofs.StoreLaws.{all_stand, header_more, plain_append, holds_keeps, live_unique, one_standing}
 use Rattle.lk_log.proofs.StoreLaws.{seen_left, synced_live, of_every}
 use Rattle.lk_state.specs.Meanings.{Meaning}
@@ -47,9 +47,9 @@ use Rattle.lk_node.specs.Keeping.{TellsDecided, IsKnown, StoreKeeps, ReplicaHold
 use Rattle.lk_node.specs.Leavings.{header_of, acceptor_of, DisksFit, AllCover}
 use Rattle.lk_node.specs.NodeValue.{NodeValue}
 use Rattle.lk_node.specs.Packing.{standing_of, with_snapshot}
-use Rattle.lk_node.specs.Reaching.{EntriesLieNear, TellsOf, TellsOn, HoldsNear}
-use Rattle.lk_node.specs.Served.{text}
-use Rattle.lk_node.specs.Serving.{with_entries, ActsSafely}
+use Rattle.lk_node.specs.Reaching.{EntriesLieNear, RestoresNode, StillRestoresNode, HoldsNear}
+use Rattle.lk_node.specs.BorneOut.{text}
+use Rattle.lk_node.specs.SafeSteps.{with_entries, ActsSafely}
 use Rattle.lk_node.proofs.Nodes.{with_all_behind, near_behind, told_behind, told_synced}
 use Rattle.lk_recovery.specs.Compacting.{IsDue, IsSameStore, Rebases}
 use Rattle.lk_replica.specs.Groups.{as_synced, as_released, needs_sync_after, StoreKeepsInGroup, RemembersInGroup}
@@ -89,7 +89,7 @@ as_synced_holds s ks ls h =
         synced = (λ i. h.on.synced i ++ h.on.unsynced i) ∙ sym (spelled-append ks ls);
         unsynced = refl;
         fit = subst (AllByRecursion IsStored) (sym all) h.on.fit;
-        placed = subst (λ (l : List Stored). is_misplaced l ≡ false) (sym all) h.on.placed;
+        base_first = subst (λ (l : List Stored). is_misplaced l ≡ false) (sym all) h.on.base_first;
         sound = subst (λ (l : List Stored). is_mixed l ≡ false) (sym all) h.on.sound;
         older = subst (IsOlder s.other_disk) (sym (generation_more ks ls some)) h.on.older;
       };
@@ -283,7 +283,8 @@ module _ (whose : HeaderValue) (old store : StoreValue) (a b : AcceptorState) (o
     known = λ w known news. tt;
     told = λ ahead node now t on. record {
       near = tt;
-      tells = subst (λ (z : StandingValue). TellsOf ahead z now) (sym (with_all_behind k.loose out.entries k.standing))
+      tells = subst (λ (z : StandingValue). RestoresNode ahead z now) (sym
+          (with_all_behind k.loose out.entries k.standing))
           (on ahead (with_all k.loose k.standing) t.tells).1;
     };
   }
@@ -299,7 +300,7 @@ known_before m h n node s true f w known none = absurd (cc none)
 module _ (m : Meaning) (h : History) (n : ℕ) (node new : NodeValue) (old store : StoreValue) (needs_sync : Bool)
     (i : Input) (out : OutboxValue)
     (f : GroupFits m h n node old needs_sync) (heard : InputFits h i)
-    (g : ActsSafely m (λ k. InputFits k i) node new nothing out) (on : TellsOn node new out.entries)
+    (g : ActsSafely m (λ k. InputFits k i) node new nothing out) (on : StillRestoresNode node new out.entries)
     (is : out.rebase ≡ false)
     (added : HoldsEntries store f.shown.keeps.entries (plain f.shown.keeps.loose ++ plain out.entries)) where
   abbrev mine : HeaderValue
@@ -363,10 +364,10 @@ module _ (m : Meaning) (h : History) (n : ℕ) (node new : NodeValue) (old store
       known_more mine old store node.acceptor.state new.acceptor.state out is b.written b.unsynced w needs_sync after
       refl f.shown.keeps.loose (known_before m h n node old needs_sync f w known) news
 
-  tells_now : TellsOf h.genesis.alpha (with_all (f.shown.keeps.loose ++ out.entries) f.shown.keeps.standing) new
+  tells_now : RestoresNode h.genesis.alpha (with_all (f.shown.keeps.loose ++ out.entries) f.shown.keeps.standing) new
   tells_now =
       let k = f.shown.keeps in
-      subst (λ (z : StandingValue). TellsOf h.genesis.alpha z new)
+      subst (λ (z : StandingValue). RestoresNode h.genesis.alpha z new)
       (sym (with_all_behind k.loose out.entries k.standing))
       (on h.genesis.alpha (with_all k.loose k.standing) f.shown.tells).1
 
@@ -409,7 +410,7 @@ module _ (m : Meaning) (h : History) (n : ℕ) (node new : NodeValue) (old store
 module _ (m : Meaning) (h : History) (n : ℕ) (node new : NodeValue) (old store : StoreValue) (needs_sync : Bool)
     (i : Input) (out : OutboxValue)
     (s : GroupStays m h n node old needs_sync) (heard : InputFits h i)
-    (g : ActsSafely m (λ k. InputFits k i) node new nothing out) (on : TellsOn node new out.entries) where
+    (g : ActsSafely m (λ k. InputFits k i) node new nothing out) (on : StillRestoresNode node new out.entries) where
   abbrev pretended : NodeFits m h n (ReplicaHolds m node (as_released needs_sync old) h.genesis n)
       (disks (as_released needs_sync old))
   pretended = group_fits m h n node old needs_sync s.fits
@@ -645,7 +646,7 @@ module _ (m : Meaning) (h : History) (n : ℕ) (node stepped : NodeValue) (mid n
     (i : Input) (out : OutboxValue)
     (f : NodeFits m h n (ReplicaHolds m node mid h.genesis n) (disks mid)) (heard : InputFits h i)
     (g : ActsSafely m (λ k. InputFits k i) node stepped nothing out) (is : out.rebase ≡ true)
-    (may : MayBegin (standing_of stepped)) (close : HoldsNear stepped)
+    (may : FitsBase (standing_of stepped)) (close : HoldsNear stepped)
     (holds : HoldsEntries new (Base (next_base mid (standing_of stepped)) ∷ []) []) where
   pub based_goes : (sent : List LetterValue) → AreOf sent out.letters
       → GroupLeavesFit m h n (with_snapshot stepped) new (needs_sync_after needs_sync out) out.notes (batch_of n sent)
@@ -780,7 +781,7 @@ as_gathered m genesis k node s true r h n f =
         };
         known = λ none. absurd (cc none);
         held = f.shown.held;
-        tells = subst (λ (z : StandingValue). TellsOf h.genesis.alpha z node)
+        tells = subst (λ (z : StandingValue). RestoresNode h.genesis.alpha z node)
             (one_told s now.entries was.entries now.loose was.loose now.standing was.standing now.holds now.stands
             was.holds was.stands) f.shown.told.tells;
         near = λ none. absurd (cc none);

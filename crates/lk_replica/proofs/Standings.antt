@@ -9,7 +9,7 @@ use Rattle.lk_agreement_laws.specs.Acceptors.{AcceptorState}
 use Rattle.lk_acceptor.specs.States.{acceptor_with}
 use Rattle.lk_node.specs.Leavings.{acceptor_of}
 use Rattle.lk_node.specs.Keeping.{TellsDecided}
-use Rattle.lk_node.specs.Serving.{with_entries}
+use Rattle.lk_node.specs.SafeSteps.{with_entries}
 
 -- one more entry is to a standing what it is to an acceptor
 pub entry_is : (s : StandingValue) (e : Entry) → acceptor_of (with_plain e s) ≡ acceptor_with e (acceptor_of s)

@@ -149,7 +149,7 @@ pub record TakenSoFar (m : Meaning) (IsText : List ℕ → Type 0) (begun_as : R
   pub letters : letters_of said ≡ g.letters
   pub no_notes : g.notes ≡ []
   pub done : List Input
-  pub joined : done ++ rest ≡ all
+  pub parts : done ++ rest ≡ all
   pub gathered : IsGatheredFrom m IsText begun_as done now g.needs_sync said
   pub recalls : (genesis : Genesis) (n : ℕ) → ReplicaRemembers begun_as.node begun_as.store genesis n
       → RemembersInGroup now.node now.store g.needs_sync genesis n
@@ -178,7 +178,7 @@ nothing_taken m IsText r all = record {
   letters = refl;
   no_notes = refl;
   done = [];
-  joined = refl;
+  parts = refl;
   gathered = record { gathers = (refl, refl, refl, refl); alive = inl refl };
   recalls = λ genesis n k. begun r.node r.store genesis n k;
   covered = λ genesis n k x d listed. absurd (omega (arith, listed.1));
@@ -294,7 +294,7 @@ module _ (m : Meaning) (IsText : List ℕ → Type 0) (begun_as : ReplicaValue) 
           ∙ (λ k. s.letters k ++ append-nil one.letters k) ∙ sym said_is;
       no_notes = refl;
       done = s.done ++ i ∷ [];
-      joined = append_assoc s.done (i ∷ []) rest ∙ s.joined;
+      parts = append_assoc s.done (i ∷ []) rest ∙ s.parts;
       gathered = record {
         gathers = subst (λ (l : List Note). GathersAll m IsText begun_as.node begun_as.store false
             (s.done ++ i ∷ []) now.node now.store new.needs_sync (s.said ++ (l, one.letters) ∷ [])) (sym own_notes)
@@ -409,7 +409,7 @@ goes_to_the_end m IsText begun_as all now q g steps rest s none is_synced room g
 
 -- the inputs that were gathered are a beginning of what was given
 pub given_begins : (done rest all : List Input) → done ++ rest ≡ all → map heard_by (done ++ rest) ≡ map heard_by all
-given_begins done rest all joined = ap (map heard_by) joined
+given_begins done rest all parts = ap (map heard_by) parts
 
 -- the calls of the device so far, and of a part that was refused
 pub refused_further : (m : Meaning) (IsText : List ℕ → Type 0) (begun_as : ReplicaValue) (all : List Input)
@@ -427,7 +427,7 @@ pub refused_in_all : (m : Meaning) (IsText : List ℕ → Type 0) (begun_as : Re
 refused_in_all m IsText begun_as all now new g steps rest number s why = record {
   inputs = s.done;
   rest = rest;
-  are = ap (map heard_by) s.joined;
+  are = ap (map heard_by) s.parts;
   mid = now;
   needs_sync = g.needs_sync;
   steps = s.said;
@@ -450,7 +450,7 @@ taken_in_all m IsText begun_as all now new g steps rest sent s none is_synced al
       letters ∙ all_sent n s.said ∙ ap sent_of (sym parts),
       record {
         inputs = s.done;
-        are = ap (map heard_by) (sym (append-nil s.done) ∙ ap (λ (l : List Input). s.done ++ l) (sym none) ∙ s.joined);
+        are = ap (map heard_by) (sym (append-nil s.done) ∙ ap (λ (l : List Input). s.done ++ l) (sym none) ∙ s.parts);
         mid = now;
         needs_sync = g.needs_sync;
         steps = s.said;

@@ -37,8 +37,8 @@ use Rattle.lk_node.specs.Holdings.{Holding}
 use Rattle.lk_node.specs.Keeping.{TellsDecided, IsKnown, IsHeld, ReplicaHolds}
 use Rattle.lk_node.specs.Leavings.{header_of, acceptor_of, DisksFit, AllCover}
 use Rattle.lk_node.specs.NodeValue.{NodeValue}
-use Rattle.lk_node.specs.Reaching.{EntriesLieNear, TellsOf}
-use Rattle.lk_node.specs.Serving.{with_entries}
+use Rattle.lk_node.specs.Reaching.{EntriesLieNear, RestoresNode}
+use Rattle.lk_node.specs.SafeSteps.{with_entries}
 
 -- the store, with all bytes of its live file synced
 abbrev pub as_synced : StoreValue → StoreValue
@@ -81,7 +81,7 @@ pub record HoldsInGroup (m : Meaning) (node : NodeValue) (store : StoreValue) (n
   pub keeps : StoreKeepsInGroup (header_of genesis n) store needs_sync node.acceptor.state
   pub known : needs_sync ≡ false → AllByRecursion (IsKnown x.paxos) keeps.loose
   pub held : IsHeld m node genesis x
-  pub tells : TellsOf genesis.alpha (with_all keeps.loose keeps.standing) node
+  pub tells : RestoresNode genesis.alpha (with_all keeps.loose keeps.standing) node
   pub near : needs_sync ≡ false → EntriesLieNear genesis.alpha keeps.standing keeps.loose
 
 -- in this history, which contains what the group has said so far, the node fits as if everything that waits were
@@ -161,6 +161,18 @@ pub record LeavesInGroup (m : Meaning) (Heard : History → Type 0) (most : ℕ)
   pub covers : (genesis : Genesis) (n : ℕ) (x : NodeMessage) → RemembersInGroup node store needs_sync genesis n
       → AllCover m genesis n (disks store) x → AllCover m genesis n after x
   pub room : StaysWithin most (disks store) after
+
+-- what making room preserves in a group: in a history, the node fits as before; its store has what its acceptor holds;
+-- and whatever was covered once everything that waits is synced is so still
+pub record RoomKeepsGroup (m : Meaning) (node : NodeValue) (store : StoreValue) (needs_sync : Bool)
+    (new : NodeValue) (after : StoreValue) (waits : Bool) : Type 0 where
+  pub fits : (h : History) (n : ℕ) → GroupFits m h n node store needs_sync → GroupFits m h n new after waits
+  pub stays : (h : History) (n : ℕ) → GroupStays m h n node store needs_sync → GroupStays m h n new after waits
+  pub recalls : (genesis : Genesis) (n : ℕ) → RemembersInGroup node store needs_sync genesis n
+      → RemembersInGroup new after waits genesis n
+  pub still : (genesis : Genesis) (n : ℕ) (x : NodeMessage) → RemembersInGroup node store needs_sync genesis n
+      → AllCover m genesis n (disks (as_released needs_sync store)) x
+      → AllCover m genesis n (disks (as_released waits after)) x
 
 -- What a step preserves in a group: in a history in which nothing of the group is sent, the node still fits; its store
 -- has what its acceptor holds; and everything that the group has said is covered once everything that waits is synced.

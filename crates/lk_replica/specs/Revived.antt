@@ -12,7 +12,7 @@ use Rattle.lk_node.specs.Executing.{NothingToRun}
 use Rattle.lk_node.specs.NodeValue.{NodeValue}
 use Rattle.lk_recovery.specs.Compacting.{Renews}
 use Rattle.lk_node_interface.specs.Faults.{failures_by, RefusedAfter}
-use Rattle.lk_recovery.specs.Revivals.{TakesUp, IsLastOld, CallsOfRevival, IsRefusedFor}
+use Rattle.lk_recovery.specs.Revivals.{RestartsAs, IsLastOld, CallsOfRevival, IsRefusedFor}
 use Rattle.lk_replica.specs.ReplicaValue.{ReplicaValue}
 
 -- the replica goes on as the node of this header: neither it nor its store has failed, its node has not halted, it has
@@ -31,7 +31,7 @@ pub record Revives (m : Meaning) (IsText : List ℕ → Type 0) (disks : Side �
     (r : ReplicaValue) (notes : List Note) : Type 0 where
   pub node : NodeValue
   pub store : StoreValue
-  pub takes : TakesUp m IsText disks whose node store notes
+  pub takes : RestartsAs m IsText disks whose node store notes
   pub renews : Renews node store r.node r.store
   pub further : IsLastOld (seen disks) → ⊥
   pub alive : r.failed ≡ false

@@ -32,6 +32,7 @@ use Rattle.lk_node_interface.specs.Faults.{IsOfCalls}
 use Rattle.lk_node_interface.specs.Faults.{IsNumberOfCalls, WantsNoMemory}
 use Rattle.lk_node_interface.specs.declared.fault.ReplicaFault.{ReplicaFault}
 use Rattle.lk_node_interface.specs.declared.fault.ReplicaFault.TheVariants as fault
+use Rattle.lk_replica.specs.Posts.{AreOf}
 use Rattle.lk_replica.specs.ReplicaValue.{ReplicaValue}
 use Rattle.lk_node.specs.NodeValue.{NodeValue}
 use Rattle.lk_node.specs.Steps.{Steps}
@@ -159,6 +160,17 @@ pub record IsCutShort (Honest Metered : Type 0) (most : ℕ) (node : NodeValue) 
   pub stays : Honest → IfSpared Left e
   pub halts : e ≡ fault.Halted → new.halted ≡ true
   pub awake : node.halted ≡ false → (fault_number e ≡ 14 → ⊥) → new.halted ≡ false
+
+-- What a step that is done keeps. goes: in each history that contains the input and that its node fits, the rules of
+-- Paxos permitted its notes and letters, and the node still fits. syncs: its letters are covered by what is synced.
+pub record StepKeeps (m : Meaning) (Heard : History → Type 0) (node : NodeValue) (store : StoreValue)
+    (out : OutboxValue) (new : NodeValue) (after : StoreValue) : Type 0 where
+  pub goes : (h : History) (n : ℕ) → NodeFits m h n (ReplicaHolds m node store h.genesis n) (disks store) → Heard h
+      → (sent : List LetterValue) → AreOf sent out.letters
+      → LeavesFit m h n (ReplicaHolds m new after h.genesis n) (disks after) out.notes (batch_of n sent)
+  pub syncs : (genesis : Genesis) (n : ℕ) (x : NodeMessage) → ReplicaRemembers node store genesis n
+      → (d : Datagram) → Contains (batch_of n out.letters) d → Spells (said_by genesis n x) d.bytes
+      → AllCover m genesis n (disks after) x
 
 -- the same of a step alone: the files are no longer than that if the live one was shorter than what makes a rebase due
 pub record StepLeavesDisks (m : Meaning) (Heard : History → Type 0) (most : ℕ) (node : NodeValue) (store : StoreValue)

@@ -17,7 +17,7 @@ use Rattle.lk_node_interface.specs.Faults.{IsStoreFault, fault_number, RefusedAf
 use Rattle.lk_node_interface.specs.declared.fault.ReplicaFault.{ReplicaFault}
 use Rattle.lk_node_interface.specs.declared.fault.ReplicaFault.TheVariants as fault
 use Rattle.lk_recovery.specs.Compacting.{Rebases}
-use Rattle.lk_recovery.specs.Rebased.{HasSwitchedFiles, StandsOnBase, StaysSafe}
+use Rattle.lk_recovery.specs.Rebased.{HasSwitchedFiles, MatchesBase, StaysSafe}
 use Rattle.lk_replica.specs.Groups.{SyncsIfNeeded, Appends, gather_calls}
 use Rattle.lk_replica.specs.Taking.{Puts, write_calls}
 
@@ -48,7 +48,7 @@ pub record HasWritten (m : Meaning) (Metered : Type 0) (node : NodeValue) (store
 pub record StaysWritten (node : NodeValue) (store : StoreValue) (out : OutboxValue) (new : NodeValue)
     (after : StoreValue) : Type 0 where
   pub store_alive : after.failed ≡ false
-  pub stands : out.rebase ≡ true → StandsOnBase node store new after × HoldsNear node
+  pub stands : out.rebase ≡ true → MatchesBase node store new after × HoldsNear node
   pub rests : out.rebase ≡ false → new ≡ node
 
 -- ---- in a group

@@ -3,8 +3,8 @@ ghost use Rattle.std.specs.Prelude.{◌≡◌, ◌+◌, ◌≤◌, ◌<◌, fals
 ghost use Rattle.lk_types.specs.Limits.{max_base, max_count};
 ghost use Rattle.lk_log.specs.StoreValue.{disks};
 ghost use Rattle.lk_replica.specs.Compacted.{IsNotCompacted};
-ghost use Rattle.lk_recovery.specs.Rebased.{StandsOnBase, HasSwitchedFiles, LeavesDisks};
-ghost use Rattle.lk_node_interface.specs.Faults.{fault_number, RaisesFailures};
+ghost use Rattle.lk_recovery.specs.Rebased.{MatchesBase, HasSwitchedFiles, LeavesDisks};
+ghost use Rattle.lk_node_interface.specs.Faults.{fault_number, CountsFailures};
 
 use crate::replica::Replica;
 use lk_disk::LogDisk;
@@ -23,7 +23,7 @@ impl<M: Machine, D: LogDisk + Drop> Replica<M, D> {
         ensures done { D.is_honest
             → OnOk result (HasSwitchedFiles M.meaning D.is_metered self.old.node self.old.store
             self.new.node self.new.store) }
-        ensures becomes { OnOk result (StandsOnBase self.old.node self.old.store self.new.node self.new.store) }
+        ensures becomes { OnOk result (MatchesBase self.old.node self.old.store self.new.node self.new.store) }
         ensures alive { OnOk result (self.new.failed ≡ false) }
         // What is on the disks, however it ends: neither file has grown, except up to the size of a Base.
         ensures disks { D.is_honest
@@ -38,7 +38,7 @@ impl<M: Machine, D: LogDisk + Drop> Replica<M, D> {
         ensures last { max_count ≤ self.old.store.generation
             → (self.new.store ≡ self.old.store) × IsErrOf result ReplicaFault.Failed }
         // It fails with `Device` exactly if a call of the device has failed.
-        ensures cause { RaisesFailures self.old.store.failures self.new.store.failures result }
+        ensures cause { CountsFailures self.old.store.failures self.new.store.failures result }
     {
         if self.failed {
             return Err(ReplicaFault::Failed);

@@ -15,12 +15,12 @@ ghost use Rattle.lk_node.specs.Calls.{InputFits, NodeFits};
 ghost use Rattle.lk_node.specs.Executing.{NothingToRun};
 ghost use Rattle.lk_node.specs.Histories.{History, Genesis};
 ghost use Rattle.lk_node.specs.Keeping.{ReplicaHolds};
-ghost use Rattle.lk_node.specs.Leavings.{DisksFit, AllCover};
-ghost use Rattle.lk_node_interface.specs.Faults.{RaisesFailures, fault_number};
+ghost use Rattle.lk_node.specs.Leavings.{AllCover};
+ghost use Rattle.lk_node_interface.specs.Faults.{CountsFailures, fault_number};
 ghost use Rattle.lk_replica.specs.Groups.{Adds, IsGroupCovered, LeavesInGroup, KeepsGroup, MakesRoom, StepsToFile};
-ghost use Rattle.lk_replica.specs.Groups.{IsGathered, IsGroupSynced, IsRefusedInGroup, sync_calls, as_released};
-ghost use Rattle.lk_replica.specs.Groups.{needs_sync_after, with_step, SyncsIfNeeded, RemembersInGroup, GroupFits};
-ghost use Rattle.lk_replica.specs.Groups.{GroupLeavesFit, StepKeepsGroup, StepLeavesInGroup, GroupStays};
+ghost use Rattle.lk_replica.specs.Groups.{IsGathered, IsGroupSynced, IsRefusedInGroup, sync_calls};
+ghost use Rattle.lk_replica.specs.Groups.{with_step, SyncsIfNeeded, RemembersInGroup, GroupFits};
+ghost use Rattle.lk_replica.specs.Groups.{GroupLeavesFit, RoomKeepsGroup, StepKeepsGroup, StepLeavesInGroup};
 ghost use Rattle.lk_replica.specs.Groups.{FitsOnceSynced, LeavesFitOnceSynced};
 ghost use Rattle.lk_replica.specs.Posts.{AreOf, CarriesAll, TellsSends};
 ghost use Rattle.lk_recovery.specs.Rebased.{IsNotWritten, StaysAlive};
@@ -93,10 +93,10 @@ impl Group {
 
     /// Returns the last step, and removes its notes from the group; its letters stay. `before` is how many letters the
     /// group had before it. Call this after each step: it takes all notes that the group has.
-    pub fn take_step(&mut self, alloc: Global, before: usize) -> Step
+    pub fn drain_step(&mut self, alloc: Global, before: usize) -> Step
         ensures notes { result.notes.items ≡ self.old.notes }
         ensures sends { result.sends ≡ length self.old.letters - before }
-        ensures rest { self.new ≡ record self.old { notes = [] } }
+        ensures others { self.new ≡ record self.old { notes = [] } }
     {
         Step {
             notes: mem::replace(&mut self.notes, Vec::new(alloc)),
@@ -158,7 +158,7 @@ pub fn sync_or_flush<D: LogDisk + Drop>(
     ensures alive { store.old.failed ≡ false → OnOk result (store.new.failed ≡ false) }
     ensures file { KeepsItsFile store.old store.new }
     ensures format { store.new.format ≡ 2 }
-    ensures cause { RaisesFailures store.old.failures store.new.failures result }
+    ensures cause { CountsFailures store.old.failures store.new.failures result }
 {
     if !needs_sync {
         store.flush()?;
@@ -184,7 +184,7 @@ fn write_to_file<M: Machine, D: LogDisk + Drop>(
     ensures refused { IfErr result (IsNotGathered D.is_honest D.is_metered store.old store.new) }
     ensures halted { node.new.halted ≡ node.old.halted }
     ensures format { store.new.format ≡ 2 }
-    ensures cause { RaisesFailures store.old.failures store.new.failures result }
+    ensures cause { CountsFailures store.old.failures store.new.failures result }
 {
     if outbox.rebase {
         sync_or_flush(store, needs_sync)?;
@@ -219,7 +219,7 @@ fn step_to_file<M: Machine, D: LogDisk + Drop>(
         (IsCutShort D.is_honest D.is_metered 1 node.old store.old node.new store.new
         (KeepsItsFile store.old store.new) ⊤) }
     ensures format { store.new.format ≡ 2 }
-    ensures cause { RaisesFailures store.old.failures store.new.failures result }
+    ensures cause { CountsFailures store.old.failures store.new.failures result }
 {
     let outbox = node.step(input)?;
     write_to_file(node, store, &outbox, needs_sync)?;
@@ -233,23 +233,10 @@ fn make_room<M: Machine, D: LogDisk + Drop>(
     needs_sync: bool,
 ) -> Result<bool, ReplicaFault>
     requires { store.old.format ≡ 2 }
-    ensures fits { D.is_honest → (h : History) (n : ℕ) → GroupFits M.meaning h n node.old store.old needs_sync
-        → IfOk result (λ w. GroupFits M.meaning h n node.new store.new w) }
-    ensures ends { D.is_honest → (h : History) (n : ℕ) → GroupStays M.meaning h n node.old store.old needs_sync
-        → DisksFit M.meaning h n (disks store.new) }
-    ensures stays { D.is_honest → (h : History) (n : ℕ) → GroupStays M.meaning h n node.old store.old needs_sync
-        → IfOk result (λ w. GroupStays M.meaning h n node.new store.new w) }
-    ensures still { D.is_honest → (genesis : Genesis) (n : ℕ) (x : NodeMessage)
-        → RemembersInGroup node.old store.old needs_sync genesis n
-        → AllCover M.meaning genesis n (disks (as_released needs_sync store.old)) x
-        → IfOk result (λ w. AllCover M.meaning genesis n (disks (as_released w store.new)) x) }
-    ensures covers { D.is_honest → (genesis : Genesis) (n : ℕ) (x : NodeMessage)
-        → RemembersInGroup node.old store.old needs_sync genesis n → AllCover M.meaning genesis n (disks store.old) x
-        → AllCover M.meaning genesis n (disks store.new) x }
-    ensures recalls { D.is_honest → (genesis : Genesis) (n : ℕ)
-        → RemembersInGroup node.old store.old needs_sync genesis n
-        → IfOk result (λ w. RemembersInGroup node.new store.new w genesis n) }
-    ensures room { D.is_honest → StaysWithin max_base (disks store.old) (disks store.new) }
+    ensures keeps { D.is_honest
+        → IfOk result (RoomKeepsGroup M.meaning node.old store.old needs_sync node.new store.new) }
+    ensures disks { D.is_honest
+        → LeavesInGroup M.meaning (λ h. ⊤) max_base node.old store.old needs_sync (disks store.new) }
     ensures exact { D.is_honest
         → IfOk result (MakesRoom D.is_metered node.old store.old needs_sync node.new store.new) }
     ensures alive { OnOk result (StaysAlive node.old store.old node.new store.new) }
@@ -260,7 +247,7 @@ fn make_room<M: Machine, D: LogDisk + Drop>(
     // Then the live file has room for a step.
     ensures small { D.is_honest → OnOk result (length (contents store.new.live_disk) < 131072) }
     ensures format { store.new.format ≡ 2 }
-    ensures cause { RaisesFailures store.old.failures store.new.failures result }
+    ensures cause { CountsFailures store.old.failures store.new.failures result }
 {
     let due = is_rebase_due(node, store)?;
     if !due {
@@ -299,7 +286,7 @@ fn step_in_group<M: Machine, D: LogDisk + Drop>(
     ensures alive { OnOk result ((store.new.failed ≡ false) × (node.new.halted ≡ false)) }
     ensures refused { IfErr result (IsCutShort D.is_honest D.is_metered 2 node.old store.old node.new store.new ⊤ ⊤) }
     ensures format { store.new.format ≡ 2 }
-    ensures cause { RaisesFailures store.old.failures store.new.failures result }
+    ensures cause { CountsFailures store.old.failures store.new.failures result }
 {
     let needs_sync = make_room(node, store, group.needs_sync)?;
     let outbox = step_to_file(node, store, input, needs_sync)?;
@@ -349,7 +336,7 @@ impl<M: Machine, D: LogDisk + Drop> Replica<M, D> {
         ensures failed { self.old.failed ≡ true → IsErrOf result ReplicaFault.Failed }
         ensures alive { OnOk result
             ((self.new.failed ≡ false) × (self.new.store.failed ≡ false) × (self.new.node.halted ≡ false)) }
-        ensures cause { RaisesFailures self.old.store.failures self.new.store.failures result }
+        ensures cause { CountsFailures self.old.store.failures self.new.store.failures result }
     {
         if self.failed {
             return Err(ReplicaFault::Failed);
@@ -393,7 +380,7 @@ impl<M: Machine, D: LogDisk + Drop> Replica<M, D> {
         ensures refused { IfErr result
             (λ e. IsRefusedInGroup D.is_honest D.is_metered self.old self.new (fault_number e)) }
         ensures alive { OnOk result (self.new.failed ≡ false) }
-        ensures cause { RaisesFailures self.old.store.failures self.new.store.failures result }
+        ensures cause { CountsFailures self.old.store.failures self.new.store.failures result }
     {
         self.sync_group(group.needs_sync())?;
         let all = are_sent(group.letters(), post);

@@ -86,7 +86,7 @@ impl<M: Machine> MemoryReplica for Replica<M, MemoryDisk> {
         'inputs: for input in inputs {
             let before = group.letters().len();
             self.gather(input, &mut group)?;
-            let step = group.take_step(alloc, before);
+            let step = group.drain_step(alloc, before);
             self.keep(&mut steps, step)?;
         }
         self.sync_group(group.needs_sync())?;

@@ -1,29 +1,22 @@
 // The replica: a node and its store.
-ghost use Rattle.std.specs.Prelude.{◌≡◌, ℕ, ◌+◌, ◌<◌, ◌≤◌, ◌++◌, List, true, false, Contains, IfOk, IfErr, OnOk};
+ghost use Rattle.std.specs.Prelude.{◌≡◌, ◌+◌, ◌<◌, ◌≤◌, true, false, IfOk, IfErr, OnOk};
 ghost use Rattle.std.specs.Prelude.{IsErrAnd, IsErrOf, ◌↔◌};
 ghost use Rattle.lk_types.specs.Limits.{max_count};
 ghost use Rattle.lk_disk.specs.declared.device.Side.{Side};
 ghost use Rattle.lk_disk.specs.Meters.{trapped};
 ghost use Rattle.lk_log.specs.StoreValue.{StoreValue, disks};
 ghost use Rattle.lk_log.specs.Stores.{KeepsItsFile};
-ghost use Rattle.lk_node_interface.specs.Letters.{LetterValue, batch_of};
 ghost use Rattle.lk_node.specs.NodeValue.{NodeValue};
 ghost use Rattle.lk_recovery.specs.Compacting.{AreLeft, AreSame, IsDue, KeepsOrSwitchesFiles, RebasesWhereDue};
-ghost use Rattle.lk_messages.specs.Grammar.{Spells};
-ghost use Rattle.lk_agreement_laws.specs.Datagrams.{NodeMessage, Datagram as DatagramValue, said_by};
-ghost use Rattle.lk_node.specs.Calls.{InputFits, NodeFits, LeavesFit};
+ghost use Rattle.lk_node.specs.Calls.{InputFits};
 ghost use Rattle.lk_node.specs.Executing.{NothingToRun};
-ghost use Rattle.lk_node.specs.Histories.{History, Genesis};
-ghost use Rattle.lk_node.specs.Keeping.{ReplicaHolds};
-ghost use Rattle.lk_node.specs.Leavings.{AllCover};
-ghost use Rattle.lk_replica.specs.Posts.{AreOf, GivesLetters, SendsAs, RefusesSends};
+ghost use Rattle.lk_replica.specs.Posts.{GivesLetters, SendsAs, RefusesSends};
 ghost use Rattle.lk_node.specs.Steps.{Steps};
 ghost use Rattle.lk_replica.specs.Taking.{Writes, CallsOfStep, GivesBy, IsRefused, IsCutShort, StaysUp, StepsOn};
-ghost use Rattle.lk_replica.specs.Taking.{StepsToDisk, StepLeavesDisks};
+ghost use Rattle.lk_replica.specs.Taking.{StepKeeps, StepLeavesDisks, StepsToDisk};
 ghost use Rattle.lk_recovery.specs.Rebased.{LeavesDisks, IsNotWritten};
 ghost use Rattle.lk_replica.specs.Writing.{HasWritten, StaysWritten, LeavesWritten};
-ghost use Rattle.lk_node_interface.specs.Faults.{fault_number, RaisesFailures, IfGoesOn, WantsNoMemory};
-ghost use Rattle.lk_recovery.specs.Remembering.{ReplicaRemembers};
+ghost use Rattle.lk_node_interface.specs.Faults.{fault_number, CountsFailures, IfGoesOn, WantsNoMemory};
 ghost use Rattle.lk_recovery.specs.Rooms.{max_after};
 
 use crate::delivering::deliver;
@@ -89,7 +82,7 @@ impl<M: Machine, D: LogDisk + Drop> Replica<M, D> {
         ensures sends { IfErr result
             (λ e. RefusesSends (fault_number e) post.old post.new (P.failures post.old) (P.failures post.new)) }
         // It fails with `Device` exactly if a call of the device has failed.
-        ensures cause { RaisesFailures self.old.store.failures self.new.store.failures result }
+        ensures cause { CountsFailures self.old.store.failures self.new.store.failures result }
         ensures failed { self.old.failed ≡ true → IsErrOf result ReplicaFault.Failed }
         // If a rebase is due at generation 2^48, it fails with `Failed`, even if it is out of memory, or with `Device`
         // if the device fails.
@@ -201,7 +194,7 @@ fn write_to_disk<M: Machine, D: LogDisk + Drop>(
     ensures halted { node.new.halted ≡ node.old.halted }
     ensures format { store.new.format ≡ 2 }
     ensures last { max_count ≤ store.old.generation → OnOk result (outbox.now.rebase ≡ false) }
-    ensures cause { RaisesFailures store.old.failures store.new.failures result }
+    ensures cause { CountsFailures store.old.failures store.new.failures result }
 {
     if outbox.rebase {
         write_base(node, store)?;
@@ -220,16 +213,9 @@ fn step_to_disk<M: Machine, D: LogDisk + Drop>(
     input: Input,
 ) -> Result<Outbox, ReplicaFault>
     requires { store.old.format ≡ 2 }
-    ensures goes { D.is_honest → (h : History) (n : ℕ)
-        → NodeFits M.meaning h n (ReplicaHolds M.meaning node.old store.old h.genesis n) (disks store.old)
-        → InputFits h input.entry
-        → IfOk result (λ o. (sent : List LetterValue) → AreOf sent o.letters
-        → LeavesFit M.meaning h n (ReplicaHolds M.meaning node.new store.new h.genesis n)
-        (disks store.new) o.notes (batch_of n sent)) }
-    ensures syncs { D.is_honest → (genesis : Genesis) (n : ℕ) (x : NodeMessage)
-        → ReplicaRemembers node.old store.old genesis n
-        → IfOk result (λ o. (d : DatagramValue) → Contains (batch_of n o.letters) d
-        → Spells (said_by genesis n x) d.bytes → AllCover M.meaning genesis n (disks store.new) x) }
+    ensures keeps { D.is_honest
+        → IfOk result (λ o. StepKeeps M.meaning
+        (λ h. InputFits h input.entry) node.old store.old o node.new store.new) }
     ensures exact { D.is_honest
         → IfOk result (λ o. StepsToDisk M.meaning M.IsText D.is_metered node.old store.old
         input.entry o node.new store.new) }
@@ -243,7 +229,7 @@ fn step_to_disk<M: Machine, D: LogDisk + Drop>(
     ensures format { store.new.format ≡ 2 }
     // At generation 2^48 it takes no step that has to rebase.
     ensures last { max_count ≤ store.old.generation → IfOk result (λ o. o.rebase ≡ false) }
-    ensures cause { RaisesFailures store.old.failures store.new.failures result }
+    ensures cause { CountsFailures store.old.failures store.new.failures result }
 {
     let outbox = node.step(input)?;
     write_to_disk(node, store, &outbox)?;
@@ -257,16 +243,9 @@ fn rebase_and_step<M: Machine, D: LogDisk + Drop>(
     input: Input,
 ) -> Result<Outbox, ReplicaFault>
     requires { store.old.format ≡ 2 }
-    ensures goes { D.is_honest → (h : History) (n : ℕ)
-        → NodeFits M.meaning h n (ReplicaHolds M.meaning node.old store.old h.genesis n) (disks store.old)
-        → InputFits h input.entry
-        → IfOk result (λ o. (sent : List LetterValue) → AreOf sent o.letters
-        → LeavesFit M.meaning h n (ReplicaHolds M.meaning node.new store.new h.genesis n)
-        (disks store.new) o.notes (batch_of n sent)) }
-    ensures syncs { D.is_honest → (genesis : Genesis) (n : ℕ) (x : NodeMessage)
-        → ReplicaRemembers node.old store.old genesis n
-        → IfOk result (λ o. (d : DatagramValue) → Contains (batch_of n o.letters) d
-        → Spells (said_by genesis n x) d.bytes → AllCover M.meaning genesis n (disks store.new) x) }
+    ensures keeps { D.is_honest
+        → IfOk result (λ o. StepKeeps M.meaning
+        (λ h. InputFits h input.entry) node.old store.old o node.new store.new) }
     ensures exact { D.is_honest
         → IfOk result (λ o. (mid : NodeValue) × (between : StoreValue) × RebasesWhereDue node.old store.old mid between
         × (stepped : NodeValue) × Steps M.meaning M.IsText mid input.entry stepped o
@@ -281,7 +260,7 @@ fn rebase_and_step<M: Machine, D: LogDisk + Drop>(
     ensures format { store.new.format ≡ 2 }
     ensures last { D.is_honest → max_count ≤ store.old.generation → IsDue node.old store.old
         → IsErrAnd result (λ e. WantsNoMemory (fault_number e)) }
-    ensures cause { RaisesFailures store.old.failures store.new.failures result }
+    ensures cause { CountsFailures store.old.failures store.new.failures result }
 {
     rebase_if_due(node, store)?;
     let outbox = step_to_disk(node, store, input)?;

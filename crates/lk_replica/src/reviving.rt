@@ -13,7 +13,7 @@ ghost use Rattle.lk_node.specs.Keeping.{ReplicaHolds};
 ghost use Rattle.lk_node.specs.Leavings.{header_of, DisksFit, AllCover};
 ghost use Rattle.lk_recovery.specs.Revivals.{IsRefusedFor, CallsOfRevival, NarrowsOrRenews};
 ghost use Rattle.lk_replica.specs.Revived.{Revives, MayGoOn};
-ghost use Rattle.lk_node.specs.Served.{text};
+ghost use Rattle.lk_node.specs.BorneOut.{text};
 
 use crate::memory_replica::Revived;
 use crate::replica::Replica;

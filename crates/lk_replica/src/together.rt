@@ -1,7 +1,7 @@
 // Parts of a group: keeping the result of each step, and the sync at the end.
 ghost use Rattle.std.specs.Prelude.{◌≡◌, ◌∷◌, ◌++◌, [], false, IfErr, OnOk, ⊤};
 ghost use Rattle.lk_log.specs.StoreValue.{disks};
-ghost use Rattle.lk_node_interface.specs.Faults.{RaisesFailures, fault_number};
+ghost use Rattle.lk_node_interface.specs.Faults.{CountsFailures, fault_number};
 ghost use Rattle.lk_replica.specs.Groups.{IsRefusedInGroup, IsGroupSynced, LeavesInGroup};
 ghost use Rattle.lk_replica.specs.Together.{IsNotKept};
 
@@ -37,7 +37,7 @@ impl<M: Machine, D: LogDisk + Drop> Replica<M, D> {
         ensures refused { IfErr result
             (λ e. IsRefusedInGroup D.is_honest D.is_metered self.old self.new (fault_number e)) }
         ensures alive { OnOk result (self.new.failed ≡ false) }
-        ensures cause { RaisesFailures self.old.store.failures self.new.store.failures result }
+        ensures cause { CountsFailures self.old.store.failures self.new.store.failures result }
     {
         if self.failed {
             return Err(ReplicaFault::Failed);

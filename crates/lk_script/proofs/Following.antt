@@ -26,7 +26,8 @@ module _ {R : Type 0} (b : Behaviour R) where
       → AreExecuted b events old new
   all_passed events k old new f =
       subst (λ w. AreExecuted b events old w) (sym f.stops.1)
-      (subst (λ es. AreExecuted b es old f.last) (ap (λ n. take n events) f.stops.0 ∙ take-length events) f.passes)
+      (subst (λ es. AreExecuted b es old f.last) (ap (λ n. take n events) f.stops.0 ∙ take-length events)
+      f.are_executed)
 
   -- ---- one event
 
@@ -35,10 +36,10 @@ module _ {R : Type 0} (b : Behaviour R) where
       → ((r : Refused) → result ≡ Ok (Some r) → IsRefused b old e r new × (after ≡ before))
       → IfOk result (λ refused. (k : ℕ) × Follows b old (e ∷ []) k refused new × (after ≡ before + k))
   once e (Ok None) old new before after does refused = let did = does refl in
-      (1, record { last = new; passes = (new, did.0, refl); stops = (refl, refl) }, did.1)
+      (1, record { last = new; are_executed = (new, did.0, refl); stops = (refl, refl) }, did.1)
   once e (Ok (Some r)) old new before after does refused =
       let cut = refused r refl in
-      (0, record { last = old; passes = refl; stops = (e, refl, cut.0) }, omega (arith, cut.1))
+      (0, record { last = old; are_executed = refl; stops = (e, refl, cut.0) }, omega (arith, cut.1))
   once e (Err x) old new before after does refused = tt
 
   -- ---- the same event many times
@@ -65,7 +66,7 @@ module _ {R : Type 0} (b : Behaviour R) where
         → IsRefused b mid e r new → Follows b old (replicate times e) i (Some r) new
     cut_short times i old mid new r below p refused = record {
       last = mid;
-      passes = subst (λ es. AreExecuted b es old mid) (sym (take-replicate i times e (omega (arith, below)))) p;
+      are_executed = subst (λ es. AreExecuted b es old mid) (sym (take-replicate i times e (omega (arith, below)))) p;
       stops = (e, at times i below, refused);
     }
 
@@ -74,6 +75,6 @@ module _ {R : Type 0} (b : Behaviour R) where
         → Follows b old (replicate times e) times None new
     done times old new p = record {
       last = new;
-      passes = subst (λ es. AreExecuted b es old new) (sym (take-replicate times times e (omega arith))) p;
+      are_executed = subst (λ es. AreExecuted b es old new) (sym (take-replicate times times e (omega arith))) p;
       stops = (sym (length-replicate times e), refl);
     }

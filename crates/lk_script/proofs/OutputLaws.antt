@@ -14,7 +14,7 @@ use Rattle.lk_messages.specs.declared.message.Content.TheVariants as content
 use Rattle.lk_messages.specs.declared.message.Message.{Message}
 use Rattle.lk_messages.specs.Grammar.{spelling, Spells}
 use Rattle.lk_messages.proofs.Spellings.{one_message}
-use Rattle.lk_members.specs.Effects.{Command, RequestValue, Request, Placed, in_effect, is_at_most, IsLast}
+use Rattle.lk_members.specs.Effects.{Command, RequestValue, Request, PositionedEntry, in_effect, is_at_most, IsLast}
 use Rattle.lk_members.proofs.Memberships.{numbers_take_effect_once}
 use Rattle.lk_locks.specs.Lists.{table_of, table_answer}
 use Rattle.lk_replica.specs.Behaviours.{Behaviour}
@@ -38,13 +38,13 @@ some_same e = cc
 reply_once : (L : List Command) (client number : ℕ) (a b : Answer) → IsReply L client number a
     → IsReply L client number b → a ≡ b
 reply_once L client number a b x y =
-    let places : x.place ≡ y.place =
-    numbers_take_effect_once L x.place y.place x.request y.request x.stands y.stands x.effective y.effective
+    let places : x.entry ≡ y.entry =
+    numbers_take_effect_once L x.entry y.entry x.request y.request x.is_listed y.is_listed x.effective y.effective
     (x.of_client ∙ sym y.of_client) (x.of_number ∙ sym y.of_number) in
     let requests : x.request ≡ y.request =
-    some_same (sym x.effective ∙ ap (λ (p : Placed). in_effect p.before p.entry) places ∙ y.effective) in
-    some_same (sym x.answered ∙ ap (λ (r : RequestValue). table_answer r.client r.op (table_of x.place.before)) requests
-    ∙ ap (λ (p : Placed). table_answer y.request.client y.request.op (table_of p.before)) places ∙ y.answered)
+    some_same (sym x.effective ∙ ap (λ (p : PositionedEntry). in_effect p.before p.entry) places ∙ y.effective) in
+    some_same (sym x.answered ∙ ap (λ (r : RequestValue). table_answer r.client r.op (table_of x.entry.before)) requests
+    ∙ ap (λ (p : PositionedEntry). table_answer y.request.client y.request.op (table_of p.before)) places ∙ y.answered)
 
 -- the greatest number is not below one that was used
 last_not_below : (L : List Command) (client m n : ℕ) → IsLast L client m → IsLast L client n → n ≤ m

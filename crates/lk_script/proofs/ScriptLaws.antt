@@ -26,7 +26,7 @@ use Rattle.lk_script_lines.specs.declared.fault.ScriptFault.{ScriptFault}
 use Rattle.lk_script_lines.specs.declared.fault.ScriptFault.TheVariants.{Read, Write, ScriptMemory, Ended}
 use Rattle.lk_script_lines.specs.declared.fault.LineFault.{LineFault}
 use Rattle.lk_script_lines.specs.declared.fault.LineFault.TheVariants.{NoMemory, NotUnderstood}
-use Rattle.lk_script.specs.TableServers.{HasServed, Fits}
+use Rattle.lk_script.specs.TableServers.{HasExecuted, Fits}
 use Rattle.lk_script.specs.declared.mode.Mode.{Mode}
 use Rattle.lk_script.specs.declared.mode.Mode.TheVariants as mode
 use Rattle.lk_script.specs.declared.table_server.TableServer.{TableServer}
@@ -36,9 +36,9 @@ use Rattle.lk_script.proofs.Following.{GoesOn, all_passed}
 -- a line where a table is set up
 pub some_line : {R : Type 0} (b : Behaviour R) (s : Script R) (server new : TableServer) (line text : List ℕ)
     → Fits s (mode.Table server) → new.cluster ≡ server.cluster
-    → ((L : List Command) → HasServed L server
+    → ((L : List Command) → HasExecuted L server
     → (bytes : List ℕ) × (printed : List ℕ) × (after : List Command) × SpellsBytes line bytes
-    × Prints server.cluster L bytes printed after × (text ≡ printed ++ 10 ∷ []) × HasServed after new)
+    × Prints server.cluster L bytes printed after × (text ≡ printed ++ 10 ∷ []) × HasExecuted after new)
     → (after : Script R) × Takes b s line text after × Fits after (mode.Table new)
 some_line b begun server new line text fits same printed = absurd fits
 some_line b (table cluster L) server new line text fits same printed =
@@ -51,7 +51,7 @@ some_line b (table cluster L) server new line text fits same printed =
 some_line b (world scene done) server new line text fits same printed = absurd fits
 
 -- the line that sets something up
-pub none_line : {R : Type 0} (b : Behaviour R) (s : Script R) (new : Mode R) (line text : List ℕ) → Fits s mode.Begun
+pub none_line : {R : Type 0} (b : Behaviour R) (s : Script R) (new : Mode R) (line text : List ℕ) → Fits s mode.Unset
     → (after : Script R) × Takes b begun line [] after × Fits after new → text ≡ []
     → (after : Script R) × Takes b s line text after × Fits after new
 none_line b begun new line text fits set_up empty =
@@ -66,7 +66,7 @@ no_first line no_table no_world (inl t) = no_table t.0 t.1
 no_first line no_table no_world (inr w) = no_world w.0 w.1 w.2 w.3
 
 -- a line that is not understood, by what is set up
-pub no_begin : {R : Type 0} (s : Script R) (line : List ℕ) → Fits s mode.Begun → (IsFirstLine line → ⊥)
+pub no_begin : {R : Type 0} (s : Script R) (line : List ℕ) → Fits s mode.Unset → (IsFirstLine line → ⊥)
     → IsUnderstood s line → ⊥
 no_begin begun line fits none u = none u
 no_begin (table cluster L) line fits none u = absurd fits
@@ -131,7 +131,7 @@ pub record SoFar {R : Type 0} (b : Behaviour R) (input : List ℕ) (before writt
 
 -- nothing, and one text after another, that a writer took
 pub starts : {R : Type 0} (b : Behaviour R) (input : List ℕ) (before left : Option (List ℕ)) → left ≡ Some input
-    → SoFar b input before before left mode.Begun 1
+    → SoFar b input before before left mode.Unset 1
 starts b input before left is = record {
   front = [];
   rest = input;
@@ -275,7 +275,7 @@ module _ {R : Type 0} (b : Behaviour R) (before written left : Option (List ℕ)
   abbrev pub Known : Option (List ℕ) → Type 0
   Known o = IfSome o (λ (input : List ℕ). SoFar b input before written left server number)
 
-pub known_starts : {R : Type 0} (b : Behaviour R) (o before : Option (List ℕ)) → Known b before before o mode.Begun 1 o
+pub known_starts : {R : Type 0} (b : Behaviour R) (o before : Option (List ℕ)) → Known b before before o mode.Unset 1 o
 known_starts b None before = tt
 known_starts b (Some input) before = starts b input before (Some input) refl
 

@@ -10,20 +10,23 @@ use Rattle.lk_types.specs.declared.command.Op.{Op}
 use Rattle.lk_types.specs.declared.command.Op.TheVariants.{Table, Join, Leave, Raise}
 use Rattle.lk_messages.specs.declared.message.NodeMessage.{NodeMessage}
 use Rattle.lk_messages.specs.declared.message.NodeMessage.TheVariants as message
-use Rattle.lk_members.specs.Effects.{Command, RequestValue, Noop, Request, Placed, placed, in_effect, IsLast}
+use Rattle.lk_members.specs.Effects.{Command, RequestValue, Noop, Request, PositionedEntry, positioned, in_effect}
+use Rattle.lk_members.specs.Effects.{IsLast}
 use Rattle.lk_members.specs.Rosters.{Genesis, roster_of}
 use Rattle.lk_members.specs.Windows.{roster_after}
-use Rattle.lk_members.proofs.Memberships.{AllByRecursion-push, placed_entries_stand, in_effect_after, IsLast-new}
+use Rattle.lk_members.proofs.Memberships.{AllByRecursion-push, entries_follow_their_predecessors, in_effect_after}
+use Rattle.lk_members.proofs.Memberships.{IsLast-new}
 use Rattle.lk_state.specs.Meanings.{Running, Raising}
 use Rattle.lk_state.specs.Sessions.{session_of, is_new}
-use Rattle.lk_state.specs.States.{WholeValue, op_answer, session_in, text_of, reply, reply_of, last_served, whole_after}
+use Rattle.lk_state.specs.States.{WholeValue, op_answer, session_in, text_of, reply, reply_of, last_session}
+use Rattle.lk_state.specs.States.{whole_after}
 use Rattle.lk_state.specs.States.{SumsUp as StandsFor}
 use Rattle.lk_state.specs.Runs.{seen_as}
 use Rattle.lk_state.specs.declared.session.Session.{Session}
 use Rattle.lk_state.specs.declared.whole.Seen.{Seen}
 use Rattle.lk_state.specs.declared.whole.Seen.TheVariants as seen
 use Rattle.lk_state.proofs.Wholes.{same_is, passed_is, seen_last, takes_effect_above_last, last_is_greatest}
-use Rattle.lk_state.proofs.Wholes.{last_is_replied, replies_stand}
+use Rattle.lk_state.proofs.Wholes.{last_is_replied, replies_come_from_entries}
 use Rattle.lk_locks.specs.Lists.{table_of, table_answer}
 use Rattle.lk_locks.specs.Meaning.{table_meaning}
 use Rattle.lk_locks.proofs.Tables.{answer-text_of}
@@ -32,13 +35,13 @@ use Rattle.lk_node_interface.proofs.ReplyLaws.{answer_same, passed_same}
 use Rattle.lk_script.specs.Replies.{IsReply, with_request}
 use Rattle.lk_script.specs.TableMode.{is_for_table, Replies}
 use Rattle.lk_script.specs.TableMode.Replies.{answers, passes}
-use Rattle.lk_script.specs.TableServers.{AsksTable, IsFirst, HasServed, executed_of}
+use Rattle.lk_script.specs.TableServers.{AsksTable, IsFirst, HasExecuted, executed_of}
 use Rattle.lk_script.specs.declared.table_server.TableServer.{TableServer}
 
 -- ---- before any request
 
 module _ (genesis : Genesis) (server : TableServer) (whole : StandsFor table_meaning genesis [] server.whole) where
-  pub begins : IsFirst server.cluster genesis → HasServed [] server
+  pub begins : IsFirst server.cluster genesis → HasExecuted [] server
   begins first = record { genesis = genesis; first = first; asked = tt; whole = whole }
 
   pub nothing_executed : executed_of server ≡ 0
@@ -73,12 +76,12 @@ table_answer-op_answer genesis before client Raise commands table =
     ap Some (sym (answer-text_of before commands client Raising))
 
 -- an entry that takes effect, with its answer
-abbrev read_answer : Genesis → Placed → RequestValue → Answer
+abbrev read_answer : Genesis → PositionedEntry → RequestValue → Answer
 read_answer genesis p q =
     op_answer table_meaning (roster_of genesis p.before) (text_of table_meaning p.before) q.client q.op
 
-module _ (genesis : Genesis) (L : List Command) (asked : AllByRecursion AsksTable L) (p : Placed)
-    (stands : Contains (placed L) p) where
+module _ (genesis : Genesis) (L : List Command) (asked : AllByRecursion AsksTable L) (p : PositionedEntry)
+    (stands : Contains (positioned L) p) where
   reply_at : (client number : ℕ) (a : Answer) (o : Option RequestValue) → in_effect p.before p.entry ≡ o
       → session_in table_meaning (roster_of genesis p.before) (text_of table_meaning p.before) o
       ≡ Some (record { client = client; number = number; answer = a }) → IsReply L client number a
@@ -87,12 +90,12 @@ module _ (genesis : Genesis) (L : List Command) (asked : AllByRecursion AsksTabl
       let s : Session = record { client = q.client; number = q.number; answer = read_answer genesis p q } in
       let t : Session = record { client = client; number = number; answer = a } in
       let is : s ≡ t = same s t e in
-      let behind = placed_entries_stand L p stands in
+      let behind = entries_follow_their_predecessors L p stands in
       let parts = parts_of p.before p.entry behind.0 (subst (AllByRecursion AsksTable) behind.1 asked) in
       let ask : AsksTable (Request q) = subst AsksTable (in_effect_after p.before p.entry q effective).0 parts.1 in
       record {
-        place = p;
-        stands = stands;
+        entry = p;
+        is_listed = stands;
         request = q;
         effective = effective;
         of_client = ap (λ (x : Session). x.client) is;
@@ -107,13 +110,13 @@ module _ (genesis : Genesis) (L : List Command) (asked : AllByRecursion AsksTabl
 reply_is_plain : (genesis : Genesis) (L : List Command) (client number : ℕ) (a : Answer) → AllByRecursion AsksTable L
     → reply table_meaning genesis L client number ≡ Some a → IsReply L client number a
 reply_is_plain genesis L client number a asked e =
-    let found = replies_stand table_meaning genesis L client number a e in
+    let found = replies_come_from_entries table_meaning genesis L client number a e in
     reply_at genesis L asked found.0 found.1 client number a (in_effect found.0.before found.0.entry) refl found.2
 
 -- ---- a request that does not take effect adds nothing
 
-module _ (L : List Command) (r : RequestValue) (server : TableServer) (sums : HasServed L server) where
-  last : last_served table_meaning sums.genesis L r.client ≡ session_of r.client server.whole.sessions
+module _ (L : List Command) (r : RequestValue) (server : TableServer) (sums : HasExecuted L server) where
+  last : last_session table_meaning sums.genesis L r.client ≡ session_of r.client server.whole.sessions
   last = sym (seen_last table_meaning sums.genesis L server.whole r.client sums.whole)
 
   not_counted : (s : Session) → session_of r.client server.whole.sessions ≡ Some s → r.number ≤ s.number
@@ -122,15 +125,15 @@ module _ (L : List Command) (r : RequestValue) (server : TableServer) (sums : Ha
       takes_effect_above_last table_meaning sums.genesis L r ∙ rw (last ∙ is, le-ltb s.number r.number below) refl
 
   unchanged : (m : NodeMessage) (s : Session) → session_of r.client server.whole.sessions ≡ Some s
-      → r.number ≤ s.number → Replies L r m → Replies (with_request L r) r m × HasServed (with_request L r) server
+      → r.number ≤ s.number → Replies L r m → Replies (with_request L r) r m × HasExecuted (with_request L r) server
   unchanged m s is below replies =
       let same : with_request L r ≡ L = rw (not_counted s is below) refl in
-      subst (λ (K : List Command). Replies K r m × HasServed K server) (sym same) (replies, sums)
+      subst (λ (K : List Command). Replies K r m × HasExecuted K server) (sym same) (replies, sums)
 
   -- the number of the client's last one again
   pub again : (a : Answer) → seen_as (session_of r.client server.whole.sessions) r.number ≡ seen.Same a
       → Replies (with_request L r) r (message.Answer (record { client = r.client; number = r.number; answer = a }))
-      × HasServed (with_request L r) server
+      × HasExecuted (with_request L r) server
   again a e =
       let s = same_is (session_of r.client server.whole.sessions) r.number a e in
       let greatest = last_is_greatest table_meaning sums.genesis L r.client s.0 (last ∙ s.1) in
@@ -143,7 +146,7 @@ module _ (L : List Command) (r : RequestValue) (server : TableServer) (sums : Ha
   -- a number below it
   pub passed : (number : ℕ) → seen_as (session_of r.client server.whole.sessions) r.number ≡ seen.Passed number
       → Replies (with_request L r) r (message.Passed (record { client = r.client; number = r.number; last = number }))
-      × HasServed (with_request L r) server
+      × HasExecuted (with_request L r) server
   passed number e =
       let s = passed_is (session_of r.client server.whole.sessions) r.number number e in
       let greatest = last_is_greatest table_meaning sums.genesis L r.client s.0 (last ∙ s.1) in
@@ -154,11 +157,11 @@ module _ (L : List Command) (r : RequestValue) (server : TableServer) (sums : Ha
   -- either of them
   pub kept : (told : NodeMessage)
       → kept_reply r.client r.number (seen_as (session_of r.client server.whole.sessions) r.number) ≡ Some told
-      → Replies (with_request L r) r told × HasServed (with_request L r) server
+      → Replies (with_request L r) r told × HasExecuted (with_request L r) server
   kept told e = by_seen (seen_as (session_of r.client server.whole.sessions) r.number) refl e
     where
       Comes : NodeMessage → Type 0
-      Comes m = Replies (with_request L r) r m × HasServed (with_request L r) server
+      Comes m = Replies (with_request L r) r m × HasExecuted (with_request L r) server
 
       by_seen : (x : Seen) → seen_as (session_of r.client server.whole.sessions) r.number ≡ x
           → kept_reply r.client r.number x ≡ Some told → Comes told
@@ -177,8 +180,8 @@ pub runs : (L : List Command) (r : RequestValue) (a : Answer) (old new : TableSe
     → StandsFor table_meaning genesis (L ++ Request r ∷ []) new.whole)
     → ((genesis : Genesis) (L : List Command) → StandsFor table_meaning genesis L old.whole
     → answered ≡ reply_of table_meaning genesis (L ++ Request r ∷ []) (in_effect L (Request r)))
-    → HasServed L old → Replies (with_request L r) r
-    (message.Answer (record { client = r.client; number = r.number; answer = a })) × HasServed (with_request L r) new
+    → HasExecuted L old → Replies (with_request L r) r
+    (message.Answer (record { client = r.client; number = r.number; answer = a })) × HasExecuted (with_request L r) new
 runs L r a old new answered fits table above is same behind replied sums =
     let effective : in_effect L (Request r) ≡ Some r = takes_effect_above_last table_meaning sums.genesis L r
     ∙ rw (last L r old sums, above) refl in
@@ -189,7 +192,7 @@ runs L r a old new answered fits table above is same behind replied sums =
     sym (replied sums.genesis L sums.whole ∙ ap (reply_of table_meaning sums.genesis (L ++ Request r ∷ [])) effective)
     ∙ is in
     let m : NodeMessage = message.Answer (record { client = r.client; number = r.number; answer = a }) in
-    subst (λ (K : List Command). Replies K r m × HasServed K new) (sym longer) (
+    subst (λ (K : List Command). Replies K r m × HasExecuted K new) (sym longer) (
       answers a (IsLast-new L r (in_effect_after L (Request r) r effective).1)
           (reply_is_plain sums.genesis (L ++ Request r ∷ []) r.client r.number a asked told),
       record { genesis = sums.genesis; first = first; asked = asked; whole = behind sums.genesis L sums.whole },

@@ -24,7 +24,7 @@ pub record IsFirst (cluster : ℕ) (genesis : Genesis) : Type 0 where
   pub members : genesis.members ≡ record { node = 1; port = 1 } ∷ []
 
 -- the server's state is that of the list, which has requests for the lock table only
-pub record HasServed (L : List Command) (server : TableServer) : Type 0 where
+pub record HasExecuted (L : List Command) (server : TableServer) : Type 0 where
   pub genesis : Genesis
   pub first : IsFirst server.cluster genesis
   pub asked : AllByRecursion AsksTable L
@@ -36,18 +36,18 @@ executed_of server = server.whole.roster.executed
 
 -- what a script has set up so far, as the program keeps it
 abbrev pub Fits : {R : Type 0} → Script R → Mode R → Type 0
-Fits begun mode.Begun = ⊤
+Fits begun mode.Unset = ⊤
 Fits begun (mode.Table server) = ⊥
 Fits begun (mode.World run) = ⊥
-Fits (table cluster L) mode.Begun = ⊥
-Fits (table cluster L) (mode.Table server) = (server.cluster ≡ cluster) × HasServed L server
+Fits (table cluster L) mode.Unset = ⊥
+Fits (table cluster L) (mode.Table server) = (server.cluster ≡ cluster) × HasExecuted L server
 Fits (table cluster L) (mode.World run) = ⊥
-Fits (world scene done) mode.Begun = ⊥
+Fits (world scene done) mode.Unset = ⊥
 Fits (world scene done) (mode.Table server) = ⊥
 Fits (world scene done) (mode.World run) = (run.world ≡ scene) × (run.done ≡ done)
 
 -- how many positions, or events, were done for a script so far
 abbrev pub done_in : {R : Type 0} → Mode R → ℕ
-done_in mode.Begun = 0
+done_in mode.Unset = 0
 done_in (mode.Table server) = executed_of server
 done_in (mode.World run) = run.done

@@ -8,7 +8,7 @@ use lk_replica::MemoryReplica;
 #[derive(Drop)]
 pub enum Mode<R: MemoryReplica> {
     /// Nothing yet.
-    Begun,
+    Unset,
     /// One lock table.
     Table(TableServer),
     /// A world of replicas.

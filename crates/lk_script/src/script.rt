@@ -107,7 +107,7 @@ fn take_line<M: MemoryReplica>(
     ensures paces { done_in mode.new ≤ done_in mode.old + 65535 }
 {
     match mode {
-        Mode::Begun => {
+        Mode::Unset => {
             *mode = begin_mode(alloc, line)?;
             buffers.text.clear();
             Ok(None)
@@ -199,7 +199,7 @@ pub fn run_script<M: MemoryReplica, R: BufRead, W: Write>(
 {
     let mut line = Vec::new(alloc);
     let mut buffers = Buffers::new(alloc);
-    let mut mode = Mode::<M>::Begun;
+    let mut mode = Mode::<M>::Unset;
     for number in 1..u32::MAX {
         if !next_line(reader, &mut line)? {
             write_last(alloc, &mode, writer)?;

@@ -65,12 +65,12 @@ impl TableServer {
     ghost use Rattle.lk_script.specs.Replies.{with_request};
     ghost use Rattle.lk_script.specs.TableMode.{Replies, Prints};
     ghost use Rattle.lk_script_lines.specs.HexLines.{SpellsBytes};
-    ghost use Rattle.lk_script.specs.TableServers.{HasServed, executed_of};
+    ghost use Rattle.lk_script.specs.TableServers.{HasExecuted, executed_of};
 
     /// Returns the server of a cluster before any request.
     pub fn new(alloc: Global, cluster: u64) -> TableServer
         ensures cluster { result.cluster ≡ cluster }
-        ensures empty { HasServed [] result }
+        ensures empty { HasExecuted [] result }
         ensures executed { executed_of result ≡ 0 }
     {
         let genesis = Genesis::of(cluster, 1, &[Member::default()]).unwrap();
@@ -83,10 +83,10 @@ impl TableServer {
         requires room { executed_of self.old < max_count }
         requires table { is_for_table request.now.op ≡ true }
         requires new { is_new (session_of request.now.client self.old.whole.sessions) request.now.number ≡ true }
-        ensures ok { IfOk result (λ a. (L : List CommandValue) → HasServed L self.old
+        ensures ok { IfOk result (λ a. (L : List CommandValue) → HasExecuted L self.old
             → Replies (with_request L request.now) request.now
             (reply.Answer (record { client = request.now.client; number = request.now.number; answer = a }))
-            × HasServed (with_request L request.now) self.new) }
+            × HasExecuted (with_request L request.now) self.new) }
         ensures cluster { self.new.cluster ≡ self.old.cluster }
         ensures paces { executed_of self.new ≤ executed_of self.old + 1 }
     {
@@ -100,8 +100,8 @@ impl TableServer {
     pub fn reply(&mut self, request: &Request) -> Result<NodeMessage, NoMemory>
         requires room { executed_of self.old < max_count }
         requires table { is_for_table request.now.op ≡ true }
-        ensures ok { IfOk result (λ m. (L : List CommandValue) → HasServed L self.old
-            → Replies (with_request L request.now) request.now m × HasServed (with_request L request.now) self.new) }
+        ensures ok { IfOk result (λ m. (L : List CommandValue) → HasExecuted L self.old
+            → Replies (with_request L request.now) request.now m × HasExecuted (with_request L request.now) self.new) }
         ensures cluster { self.new.cluster ≡ self.old.cluster }
         ensures paces { executed_of self.new ≤ executed_of self.old + 1 }
     {
@@ -123,9 +123,9 @@ impl TableServer {
         requires { executed_of self.old < max_count }
         ensures ok { OnOk result
             ((bytes : List ℕ) (L : List CommandValue)
-            → Spells (from_client self.old.cluster request.now) bytes → HasServed L self.old
+            → Spells (from_client self.old.cluster request.now) bytes → HasExecuted L self.old
             → (after : List CommandValue) × Prints self.old.cluster L bytes buffers.new.text.items after
-            × HasServed after self.new) }
+            × HasExecuted after self.new) }
         ensures cluster { self.new.cluster ≡ self.old.cluster }
         ensures paces { executed_of self.new ≤ executed_of self.old + 1 }
     {
@@ -144,10 +144,10 @@ impl TableServer {
     // request`, or `bad` if it does not parse.
     fn print(&mut self, buffers: &mut Buffers) -> Result<(), NoMemory>
         requires { executed_of self.old < max_count }
-        ensures ok { OnOk result ((L : List CommandValue) → HasServed L self.old
+        ensures ok { OnOk result ((L : List CommandValue) → HasExecuted L self.old
             → (after : List CommandValue)
             × Prints self.old.cluster L buffers.old.bytes.items buffers.new.text.items after
-            × HasServed after self.new) }
+            × HasExecuted after self.new) }
         ensures cluster { self.new.cluster ≡ self.old.cluster }
         ensures paces { executed_of self.new ≤ executed_of self.old + 1 }
     {
@@ -161,10 +161,10 @@ impl TableServer {
     /// Executes a line of table mode, a datagram in hex, and replaces the text with what it prints.
     pub fn print_line(&mut self, line: &[u8], buffers: &mut Buffers) -> Result<(), LineFault>
         requires { executed_of self.old < max_count }
-        ensures ok { OnOk result ((L : List CommandValue) → HasServed L self.old
+        ensures ok { OnOk result ((L : List CommandValue) → HasExecuted L self.old
             → (bytes : List ℕ) × (printed : List ℕ) × (after : List CommandValue) × SpellsBytes line.now bytes
             × Prints self.old.cluster L bytes printed after
-            × (buffers.new.text.items ≡ printed ++ 10 ∷ []) × HasServed after self.new) }
+            × (buffers.new.text.items ≡ printed ++ 10 ∷ []) × HasExecuted after self.new) }
         ensures not_understood { IsErrOf result LineFault.NotUnderstood → (bytes : List ℕ)
             → SpellsBytes line.now bytes → ⊥ }
         ensures cluster { self.new.cluster ≡ self.old.cluster }

@@ -1,5 +1,5 @@
 pub mod HexSpelling
 mod WordLaws
-mod TurnLaws
+mod InputLaws
 mod GenesisLaws
 pub mod LineLaws

@@ -7,7 +7,7 @@ use Rattle.lk_types.specs.declared.command.Op.TheVariants.{Table, Join, Leave, R
 use Rattle.lk_sim.specs.declared.event.Event.{Event}
 use Rattle.lk_sim.specs.declared.event.Event.TheVariants as event
 use Rattle.lk_sim.specs.declared.event.GroupInput.{GroupInput}
-use Rattle.lk_sim.specs.declared.event.GroupInput.TheVariants as turn
+use Rattle.lk_sim.specs.declared.event.GroupInput.TheVariants as input
 
 -- numbers, each after a space
 abbrev pub then_numbers : List ℕ → List ℕ
@@ -22,10 +22,10 @@ op_words (Leave node) = codes "leave" ++ then_numbers (node ∷ [])
 op_words Raise = codes "raise" ++ then_numbers (2 ∷ [])
 
 -- the turns of a group, each after a space
-abbrev pub then_turns : List GroupInput → List ℕ
-then_turns [] = []
-then_turns (turn.Tick ∷ turns) = codes " t" ++ then_turns turns
-then_turns (turn.Deliver k ∷ turns) = then_numbers (k ∷ []) ++ then_turns turns
+abbrev pub then_inputs : List GroupInput → List ℕ
+then_inputs [] = []
+then_inputs (input.Tick ∷ inputs) = codes " t" ++ then_inputs inputs
+then_inputs (input.Deliver k ∷ inputs) = then_numbers (k ∷ []) ++ then_inputs inputs
 
 -- the line of an event
 abbrev pub line_of : Event → List ℕ
@@ -35,7 +35,7 @@ line_of (event.Tick n) = codes "tick" ++ then_numbers (n ∷ [])
 line_of (event.Compact n) = codes "compact" ++ then_numbers (n ∷ [])
 line_of (event.Client n r) = (codes "client" ++ then_numbers (n ∷ r.client ∷ r.number ∷ [])) ++ 32 ∷ op_words r.op
 line_of (event.Deliver k) = codes "deliver" ++ then_numbers (k ∷ [])
-line_of (event.Group n turns) = (codes "group" ++ then_numbers (n ∷ [])) ++ then_turns turns.items
+line_of (event.Group n inputs) = (codes "group" ++ then_numbers (n ∷ [])) ++ then_inputs inputs.items
 line_of (event.Inject n bytes) = (codes "inject" ++ then_numbers (n ∷ [])) ++ 32 ∷ encode_lower bytes.items
 line_of (event.Stop n x y) = codes "stop" ++ then_numbers (n ∷ x ∷ y ∷ [])
 line_of (event.FailAt n count) = codes "fail" ++ then_numbers (n ∷ count ∷ [])

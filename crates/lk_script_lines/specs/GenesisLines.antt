@@ -18,4 +18,4 @@ pub record IsGenesisLine (line : List ℕ) (cluster alpha : ℕ) (members : List
   pub words : List ℕ
   pub line_is : line ≡ codes "genesis" ++ 32 ∷ words
   pub spelled : SpellsGenesis words cluster alpha members
-  pub begins : genesis_fault alpha members ≡ None
+  pub has_no_fault : genesis_fault alpha members ≡ None

@@ -8,7 +8,7 @@ use Rattle.lk_word_parsers.specs.Operations.{SpellsOp}
 use Rattle.lk_sim.specs.declared.event.Event.{Event}
 use Rattle.lk_sim.specs.declared.event.Event.TheVariants as event
 use Rattle.lk_sim.specs.declared.event.GroupInput.{GroupInput}
-use Rattle.lk_sim.specs.declared.event.GroupInput.TheVariants as turn
+use Rattle.lk_sim.specs.declared.event.GroupInput.TheVariants as input
 use Rattle.lk_script_lines.specs.declared.event_verb.EventVerb.{EventVerb}
 use Rattle.lk_script_lines.specs.declared.event_verb.EventVerb.TheVariants as verb
 use Rattle.lk_script_lines.specs.declared.instruction.Instruction.{Instruction}
@@ -53,25 +53,26 @@ abbrev pub AsksToDeliver : List ℕ → Instruction → Type 0
 AsksToDeliver words o = (k : ℕ) × IsWord 1 max_count k words × (o ≡ Once (event.Deliver k))
 
 -- `t`, or `K`
-abbrev pub IsTurnWord : GroupInput → List ℕ → Type 0
-IsTurnWord turn.Tick word = word ≡ codes "t"
-IsTurnWord (turn.Deliver k) word = IsWord 1 max_count k word
+abbrev pub IsInputWord : GroupInput → List ℕ → Type 0
+IsInputWord input.Tick word = word ≡ codes "t"
+IsInputWord (input.Deliver k) word = IsWord 1 max_count k word
 
 -- parts of a group in words, one or more, separated by spaces
-pub data SpellsTurns : List ℕ → List GroupInput → Type 0 where
-  one : (t : GroupInput) (word : List ℕ) → IsTurnWord t word → SpellsTurns word (t ∷ [])
-  more : (t : GroupInput) (word rest : List ℕ) (turns : List GroupInput) → IsTurnWord t word → SpellsTurns rest turns
-      → SpellsTurns (word ++ 32 ∷ rest) (t ∷ turns)
+pub data SpellsInputs : List ℕ → List GroupInput → Type 0 where
+  one : (t : GroupInput) (word : List ℕ) → IsInputWord t word → SpellsInputs word (t ∷ [])
+  more : (t : GroupInput) (word rest : List ℕ) (inputs : List GroupInput) → IsInputWord t word
+      → SpellsInputs rest inputs
+      → SpellsInputs (word ++ 32 ∷ rest) (t ∷ inputs)
 
 -- the node takes these together
 abbrev pub Groups : ℕ → List GroupInput → Event → Type 0
-Groups n turns (event.Group m taken) = (m ≡ n) × (taken.items ≡ turns)
-Groups n turns e = ⊥
+Groups n inputs (event.Group m taken) = (m ≡ n) × (taken.items ≡ inputs)
+Groups n inputs e = ⊥
 
 -- `N WORD ..`
 abbrev pub AsksForGroup : List ℕ → Instruction → Type 0
-AsksForGroup words o = (n : ℕ) × (rest : List ℕ) × (turns : List GroupInput) × (e : Event) × NodeLeads n rest words
-    × SpellsTurns rest turns × Groups n turns e × (o ≡ Once e)
+AsksForGroup words o = (n : ℕ) × (rest : List ℕ) × (inputs : List GroupInput) × (e : Event) × NodeLeads n rest words
+    × SpellsInputs rest inputs × Groups n inputs e × (o ≡ Once e)
 
 -- `C NUMBER OP`
 abbrev pub SpellsRequest : List ℕ → RequestValue → Type 0

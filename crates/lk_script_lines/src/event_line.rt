@@ -3,7 +3,7 @@
 ghost use Rattle.std.specs.Prelude.{◌≡◌, ◌++◌, ◌∷◌, [], IfOk, OnOk, string_bytes};
 ghost use Rattle.std.specs.Fmt.{decimal};
 ghost use Rattle.hex.specs.Hex.{encode_lower};
-ghost use Rattle.lk_script_lines.specs.EventLines.{then_numbers, op_words, then_turns, line_of};
+ghost use Rattle.lk_script_lines.specs.EventLines.{then_numbers, op_words, then_inputs, line_of};
 ghost use Rattle.lk_sim.specs.declared.event.Event.TheVariants.{Client};
 
 use lk_sim::{Event, GroupInput};
@@ -86,12 +86,12 @@ fn add_client(
     add_op(alloc, text, &request.op)
 }
 
-// Appends the turns of a group, each after a space: `t` for a tick, or the place of a datagram.
-fn add_turns(alloc: Global, text: &mut Vec<u8>, turns: &[GroupInput]) -> Result<(), NoMemory>
-    ensures { OnOk result (text.new.items ≡ text.old.items ++ then_turns turns.now) }
+// Appends the inputs of a group, each after a space: `t` for a tick, or the number of a datagram.
+fn add_inputs(alloc: Global, text: &mut Vec<u8>, inputs: &[GroupInput]) -> Result<(), NoMemory>
+    ensures { OnOk result (text.new.items ≡ text.old.items ++ then_inputs inputs.now) }
 {
-    for turn in turns {
-        match turn {
+    for input in inputs {
+        match input {
             GroupInput::Tick => add(text, " t")?,
             GroupInput::Deliver(k) => add_numbers(alloc, text, &[*k as u64])?,
         }
@@ -117,9 +117,9 @@ fn add_event(alloc: Global, text: &mut Vec<u8>, event: &Event) -> Result<(), NoM
         Event::Compact(node) => add_verb(alloc, text, "compact", *node),
         Event::Client(node, request) => add_client(alloc, text, u64::from(node.get()), request),
         Event::Deliver(k) => add_words(alloc, text, "deliver", &[*k as u64]),
-        Event::Group(node, turns) => {
+        Event::Group(node, inputs) => {
             add_verb(alloc, text, "group", *node)?;
-            add_turns(alloc, text, turns)
+            add_inputs(alloc, text, inputs)
         }
         Event::Inject(node, bytes) => {
             add_verb(alloc, text, "inject", *node)?;

@@ -14,8 +14,8 @@ ghost use Rattle.lk_script_lines.specs.WorldLines.{SpellsAfterVerb, SpellsInstru
 
 use crate::event_verb::EventVerb;
 use crate::fault::LineFault;
+use crate::input_words::read_inputs;
 use crate::instruction::Instruction;
-use crate::turn_words::read_turns;
 use crate::world_words::{first_number, number_of};
 use lk_sim::Event;
 use lk_types::limits::{MAX_CLIENT, MAX_COUNT, MAX_NODE};
@@ -206,9 +206,9 @@ fn read_group(alloc: Global, words: &[u8]) -> Result<Instruction, LineFault>
     let Some((number, words)) = first_number(words, 1, LAST_NODE) else {
         return Err(LineFault::NotUnderstood);
     };
-    let turns = read_turns(alloc, words)?;
+    let inputs = read_inputs(alloc, words)?;
     let node = NodeNo::of(number as u32).unwrap();
-    Ok(Instruction::Once(Event::Group(node, turns)))
+    Ok(Instruction::Once(Event::Group(node, inputs)))
 }
 
 // Returns the instruction, or `NotUnderstood` if there is none.

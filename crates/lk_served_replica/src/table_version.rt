@@ -81,7 +81,8 @@ impl TableVersion {
     }
 }
 
-// Returns whether the machine of this packed text was raised, or `None` if it is out of memory.
+// Returns whether the machine of this packed text was raised, or `None` if it is out of memory. It raises a copy: only
+// a raised machine answers AlreadyRaised.
 fn is_raised_text<M: Machine>(alloc: Global, text: &[u8]) -> Option<bool>
     ensures { IfSome result (λ is. IsTrue is ↔ WasRaised M.meaning text.now) }
 {
@@ -92,7 +93,8 @@ fn is_raised_text<M: Machine>(alloc: Global, text: &[u8]) -> Option<bool>
     Some(matches!(machine.raise(), Answer::AlreadyRaised))
 }
 
-// Returns the packed text of the machine in a packed state, or `None` if it is out of memory.
+// Returns the packed text of the machine in a packed state, of which a copy can be raised, or `None` if it is out of
+// memory.
 fn machine_text<M: Machine>(alloc: Global, state: &[u8]) -> Option<BytesMut>
     ensures { IfSome result (λ t. (w : WholeValue) → Packs M.IsText w state.now → t.items ≡ w.text) }
 {

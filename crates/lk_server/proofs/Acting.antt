@@ -32,7 +32,8 @@ module _ {R : Type 0} (Shows : R → ProbedState → Type 0) (tells : Type 0) (a
       → IsSameNetwork readmitted.addresses learned.addresses
       → learned ≡ record readmitted { addresses = learned.addresses }
       → now ≡ learned.ticks → AsksOne tells now learned.node learned.addresses new.addresses
-      (send_state_at learned.own learned) (send_state_at new.own new) → IsSameNetwork learned.addresses new.addresses
+      (send_state_at learned.own_letters learned) (send_state_at new.own_letters new)
+      → IsSameNetwork learned.addresses new.addresses
       → (tells → new.incoming ≡ learned.incoming)
       → new ≡ record learned {
         addresses = new.addresses;
@@ -41,14 +42,14 @@ module _ {R : Type 0} (Shows : R → ProbedState → Type 0) (tells : Type 0) (a
         incoming = new.incoming;
       }
       → HandlesProbes Shows tells asked reported old new
-  acted replies answered_so readmits heard readmitted_so learns known learned_so own asks kept still new_so =
+  acted replies answered_so readmits heard readmitted_so learns known learned_so own_letters asks kept still new_so =
       let book : replied.addresses ≡ old.addresses = ap (λ (s : ServerValue R). s.addresses) answered_so in
       let again : learned ≡ record replied { addresses = learned.addresses } = learned_so
       ∙ ap (λ (s : ServerValue R). record s { addresses = learned.addresses }) readmitted_so in
       let node : learned.node ≡ old.node = ap (λ (s : ServerValue R). s.node) again
       ∙ ap (λ (s : ServerValue R). s.node) answered_so in
-      let tray : send_state_at learned.own learned ≡ send_state_at replied.own replied =
-      ap (λ (s : ServerValue R). send_state_at s.own s) again in
+      let tray : send_state_at learned.own_letters learned ≡ send_state_at replied.own_letters replied =
+      ap (λ (s : ServerValue R). send_state_at s.own_letters s) again in
       let since : learned ≡ record old {
         addresses = learned.addresses;
         sent = replied.sent;
@@ -56,11 +57,12 @@ module _ {R : Type 0} (Shows : R → ProbedState → Type 0) (tells : Type 0) (a
         incoming = replied.incoming;
       } =
       again ∙ ap (λ (s : ServerValue R). record s { addresses = learned.addresses }) answered_so in
-      let time : now ≡ old.ticks = own ∙ ap (λ (s : ServerValue R). s.ticks) since in
+      let time : now ≡ old.ticks = own_letters ∙ ap (λ (s : ServerValue R). s.ticks) since in
       let asked_at : AsksOne tells old.ticks learned.node learned.addresses new.addresses
-      (send_state_at learned.own learned) (send_state_at new.own new) =
-      subst (λ (n : ℕ). AsksOne tells n learned.node learned.addresses new.addresses (send_state_at learned.own learned)
-      (send_state_at new.own new)) time asks in
+      (send_state_at learned.own_letters learned) (send_state_at new.own_letters new) =
+      subst (λ (n : ℕ). AsksOne tells n learned.node learned.addresses new.addresses
+      (send_state_at learned.own_letters learned)
+      (send_state_at new.own_letters new)) time asks in
       record {
         replied = replied;
         replies = replies;
@@ -69,7 +71,7 @@ module _ {R : Type 0} (Shows : R → ProbedState → Type 0) (tells : Type 0) (a
         learned = learned.addresses;
         learns = learns;
         asks = subst₂ (λ (n : ℕ) (t : SendState). AsksOne tells old.ticks n learned.addresses new.addresses t
-            (send_state_at new.own new)) node tray asked_at;
+            (send_state_at new.own_letters new)) node tray asked_at;
         network = (
           kept.0 ∙ known.0 ∙ heard.0 ∙ ap (λ (b : AddressBook). b.hosts) book,
           kept.1 ∙ known.1 ∙ heard.1 ∙ ap (λ (b : AddressBook). b.seals) book,

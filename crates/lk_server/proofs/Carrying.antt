@@ -72,19 +72,27 @@ trays tells node book old new (l ∷ letters) whose by all = (
 
 -- the letters that are kept stand behind those that were
 grows_one : (tells : Type 0) (node : ℕ) (book : AddressBook) (old new : SendState) (l : LetterValue) (is_sent : Bool)
-    → Becomes tells node book old l is_sent new → Grows old.own new.own
-grows_one tells node book old new l true (inl keeps) = record { added = l ∷ []; is = keeps.own }
-grows_one tells node book old new l true (inr sends) = record { added = []; is = sends.own ∙ sym (append-nil old.own) }
-grows_one tells node book old new l false loses = record { added = []; is = loses.own ∙ sym (append-nil old.own) }
+    → Becomes tells node book old l is_sent new → Grows old.own_letters new.own_letters
+grows_one tells node book old new l true (inl keeps) = record { added = l ∷ []; is = keeps.own_letters }
+grows_one tells node book old new l true (inr sends) = record {
+  added = [];
+  is = sends.own_letters
+      ∙ sym (append-nil old.own_letters);
+}
+grows_one tells node book old new l false loses = record {
+  added = [];
+  is = loses.own_letters
+      ∙ sym (append-nil old.own_letters);
+}
 
 pub grows_on : {old mid new : List LetterValue} → Grows old mid → Grows mid new → Grows old new
 grows_on {old = old} a b =
     record { added = a.added ++ b.added; is = b.is ∙ ap (λ l. l ++ b.added) a.is ∙ append_assoc old a.added b.added }
 
 pub grows_by : (tells : Type 0) (node : ℕ) (book : AddressBook) (old new : SendState) (letters : List LetterValue)
-    → CarriesAll (Becomes tells node book) old letters new → Grows old.own new.own
+    → CarriesAll (Becomes tells node book) old letters new → Grows old.own_letters new.own_letters
 grows_by tells node book old new [] all =
-    record { added = []; is = ap (λ (t : SendState). t.own) all ∙ sym (append-nil old.own) }
+    record { added = []; is = ap (λ (t : SendState). t.own_letters) all ∙ sym (append-nil old.own_letters) }
 grows_by tells node book old new (l ∷ letters) all =
     grows_on (grows_one tells node book old all.1 l all.0 all.2) (grows_by tells node book all.1 new letters all.3)
 
@@ -110,8 +118,9 @@ module _ {R : Type 0} (S : Sayings R) (G : Gatherings R) (tells : Type 0) (old n
       → OnOk r (GivesLetters (CarriesLetter tells) before after
       (λ letters. (first : R) (given : List (Option (List ℕ))) → G first given group mine
       → S first given letters new.replica))
-      → new.node ≡ before.node → new.addresses ≡ before.addresses → send_state_of before ≡ send_state_at old.own old
-      → send_state_of after ≡ send_state_at new.own new → OnOk r (DeliversAllLetters S G tells group old new)
+      → new.node ≡ before.node → new.addresses ≡ before.addresses → send_state_of before
+      ≡ send_state_at old.own_letters old
+      → send_state_of after ≡ send_state_at new.own_letters new → OnOk r (DeliversAllLetters S G tells group old new)
   hands_on_all mine is (Err e) said whose by first last = tt
   hands_on_all mine is (Ok x) said whose by begun last = λ from given was sent failures.
       let all = trays tells new.node new.addresses before after said.letters whose by said.carried in
@@ -119,30 +128,32 @@ module _ {R : Type 0} (S : Sayings R) (G : Gatherings R) (tells : Type 0) (old n
       (send_state_of after))
       begun all in
       let carried = subst (λ (t : SendState). CarriesAll (Becomes tells new.node new.addresses)
-      (send_state_at old.own old) said.letters t) last met in
-      let same : send_state_at old.own old ≡ send_state_at old.own from =
-      λ i. record { own = old.own; sent = sym sent i; failures = sym failures i } in
+      (send_state_at old.own_letters old) said.letters t) last met in
+      let same : send_state_at old.own_letters old ≡ send_state_at old.own_letters from =
+      λ i. record { own_letters = old.own_letters; sent = sym sent i; failures = sym failures i } in
       record {
         letters = said.letters;
         says = said.holds from.replica given (subst (λ (x : R). G from.replica given group x) (sym is) was);
-        kept = grows_by tells new.node new.addresses (send_state_at old.own old)
-            (send_state_at new.own new) said.letters carried;
+        kept = grows_by tells new.node new.addresses (send_state_at old.own_letters old)
+            (send_state_at new.own_letters new) said.letters carried;
         carried = subst (λ (t : SendState). CarriesAll (Becomes tells new.node new.addresses) t said.letters
-            (send_state_at new.own new)) same carried;
+            (send_state_at new.own_letters new)) same carried;
       }
 
   -- one that was refused
   pub says_nothing : {T E : Type 0} (r : Result T E)
       → OnErr r ((first : R) (given : List (Option (List ℕ))) → G first given group old.replica
       → S first given [] new.replica) → OnErr r (after ≡ before)
-      → send_state_of before ≡ send_state_at old.own old → send_state_of after ≡ send_state_at new.own new
+      → send_state_of before ≡ send_state_at old.own_letters old → send_state_of after
+      ≡ send_state_at new.own_letters new
       → OnErr r (SaysNothing S G group old new)
   says_nothing (Ok x) silent unsent first last = tt
   says_nothing (Err e) silent unsent first last =
-      let same : send_state_at new.own new ≡ send_state_at old.own old = sym last ∙ ap send_state_of unsent ∙ first in
+      let same : send_state_at new.own_letters new ≡ send_state_at old.own_letters old = sym last
+      ∙ ap send_state_of unsent ∙ first in
       record {
         silent = silent;
-        own = ap (λ (t : SendState). t.own) same;
+        own_letters = ap (λ (t : SendState). t.own_letters) same;
         sent = ap (λ (t : SendState). t.sent) same;
         failures = ap (λ (t : SendState). t.failures) same;
       }

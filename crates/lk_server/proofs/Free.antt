@@ -16,7 +16,7 @@ use Rattle.lk_auth.specs.Vouching.{IsSealedByClient}
 use Rattle.lk_auth.proofs.VouchLaws.{is_vouched, is_of_who_it_names}
 use Rattle.lk_node.specs.NodeValue.{NodeValue}
 use Rattle.lk_node.specs.Steps.{IsForeign}
-use Rattle.lk_server.specs.Premises.{IsNoNodeMessage, IsToldByANode, IsToldOrAsked, IsUnsealed}
+use Rattle.lk_server.specs.Premises.{IsNoNodeMessage, IsFromANode, IsToldOrAsked, IsUnsealed}
 
 -- a message of kind 9 is a request
 of_kind_9 : (c : Content) → kind c ≡ 9 → (r : Request) × (c ≡ content.Request r)
@@ -40,7 +40,7 @@ free bytes (inl none) m spells =
     absurd cc
 free bytes (inr is) m spells = of_kind_9 m.content (sym (ap (λ (l : List ℕ). slice_index l 3) spells.1) ∙ is)
 
-pub told_by_a_node : (s : Seals) (frame : List ℕ) → key_list s.nodes ≢ [] → IsToldByANode s frame
+pub told_by_a_node : (s : Seals) (frame : List ℕ) → key_list s.nodes ≢ [] → IsFromANode s frame
 told_by_a_node s frame some = elim (is_vouched s frame some) [
   | inl sealed ↦ inl sealed
   | inr other ↦ inr (free (heard s frame) other)
@@ -62,12 +62,12 @@ asked : (s : Seals) (frame bytes : List ℕ) → IsNoNodeMessage bytes
 asked s frame bytes free (inl none) m spells =
     let empty : [] ≡ spelling m = sym none ∙ spells.1 in
     absurd cc
-asked s frame bytes free (inr own) m spells =
+asked s frame bytes free (inr own_letters) m spells =
     let request = free m spells in
     let fits = subst IsContent request.1 spells.0.1 in
     let names : client_in bytes ≡ request.0.client = ap client_in spells.1
     ∙ request_names m request.0 request.1 fits.0 in
-    (request.0, request.1, subst (λ (n : ℕ). IsSealedByClient s n frame bytes) names own)
+    (request.0, request.1, subst (λ (n : ℕ). IsSealedByClient s n frame bytes) names own_letters)
 
 pub told_or_asked : (s : Seals) (frame : List ℕ) → key_list s.nodes ≢ []
     → key_list s.clients ≢ [] → IsToldOrAsked s frame
@@ -75,7 +75,7 @@ told_or_asked s frame some masters = elim (told_by_a_node s frame some) [
   | inl told ↦ inl told
   | inr none_says ↦ elim (is_of_who_it_names s frame some masters) [
     | inl told ↦ inl told
-    | inr own ↦ inr (asked s frame (heard s frame) none_says own)
+    | inr own_letters ↦ inr (asked s frame (heard s frame) none_says own_letters)
   ]
 ]
 

@@ -9,7 +9,8 @@ use Rattle.lk_node_interface.specs.Letters.{LetterValue}
 use Rattle.lk_replica.specs.Groups.{GroupValue}
 use Rattle.lk_transport.specs.Addresses.{AddressBook, Filter, filter_of, IsSameFilter}
 use Rattle.lk_served_replica.specs.Groups.{Sayings, Gatherings, GathersMore, SaysNoMore}
-use Rattle.lk_server.specs.Gatherings.{TakesAll, EndsWithin, TakesOwn, EndsOwn, TakesHeard, EndsHeard, TakesSocket}
+use Rattle.lk_server.specs.Gatherings.{AddsAll, EndsWithin, AddsOwnLetters, EndsOwnLetters, AddsHeard, EndsHeard}
+use Rattle.lk_server.specs.Gatherings.{AddsFromSocket}
 use Rattle.lk_server.specs.Gatherings.{EndsSocket, AreFound, Finds}
 use Rattle.lk_pacing.specs.declared.turn_input.TurnInput.{TurnInput}
 use Rattle.lk_pacing.specs.declared.turn_input.TurnInput.TheVariants.{Nothing, Filtered, Something}
@@ -132,24 +133,26 @@ drop_all (suc n) [] le = refl
 drop_all (suc n) (x ∷ xs) le = drop_all n xs (omega (arith, le))
 
 -- so many letters were taken
-pub own_full : (own taken left : List LetterValue) (n : ℕ) → own ≡ taken ++ left → length taken ≡ n
-    → (take n own ≡ taken) × (drop n own ≡ left)
-own_full own taken left n parts long = (
+pub own_full : (own_letters taken left : List LetterValue) (n : ℕ) → own_letters ≡ taken ++ left → length taken ≡ n
+    → (take n own_letters ≡ taken) × (drop n own_letters ≡ left)
+own_full own_letters taken left n parts long = (
   subst₂ (λ (k : ℕ) (o : List LetterValue). take k o ≡ taken) long (sym parts) (take_front taken left),
   subst₂ (λ (k : ℕ) (o : List LetterValue). drop k o ≡ left) long (sym parts) (drop_front taken left),
 )
 
 -- all of them were
-pub own_all : (own taken left : List LetterValue) (n : ℕ) → own ≡ taken ++ left → left ≡ [] → length taken ≤ n
-    → (take n own ≡ taken) × (drop n own ≡ left)
-own_all own taken left n parts none short =
-    let is : own ≡ taken = parts ∙ ap (λ (l : List LetterValue). taken ++ l) none ∙ append-nil taken in (
+pub own_all : (own_letters taken left : List LetterValue) (n : ℕ) → own_letters ≡ taken ++ left → left ≡ []
+    → length taken ≤ n
+    → (take n own_letters ≡ taken) × (drop n own_letters ≡ left)
+own_all own_letters taken left n parts none short =
+    let is : own_letters ≡ taken = parts ∙ ap (λ (l : List LetterValue). taken ++ l) none ∙ append-nil taken in (
       subst (λ (o : List LetterValue). take n o ≡ taken) (sym is) (take_all n taken short),
       subst (λ (o : List LetterValue). drop n o ≡ left) (sym is) (drop_all n taken short ∙ sym none),
     )
 
-pub some_own : (own taken left : List LetterValue) (l : LetterValue) → own ≡ (taken ++ l ∷ []) ++ left → own ≢ []
-some_own own taken left l parts none =
+pub some_own : (own_letters taken left : List LetterValue) (l : LetterValue) → own_letters
+    ≡ (taken ++ l ∷ []) ++ left → own_letters ≢ []
+some_own own_letters taken left l parts none =
     omega (arith, ap length (sym none ∙ parts), length-append (taken ++ l ∷ []) left, length-append taken (l ∷ []))
 
 -- what was heard, one datagram after another
@@ -254,7 +257,7 @@ module _ {R : Type 0} (G : Gatherings R) where
 
   -- nothing is taken
   pub takes_nothing : (group now : GroupValue) (old new : ServerValue R) → now ≡ group → new ≡ old
-      → TakesAll G [] group now old new
+      → AddsAll G [] group now old new
   takes_nothing group now old new is same = record {
     gathers = λ first given was.
         subst (λ (l : List (Option (List ℕ))). G first l now new.replica) (sym (append-nil given))
@@ -269,7 +272,7 @@ module _ {R : Type 0} (G : Gatherings R) where
       → GathersMore G (Some bytes ∷ []) group now old.replica new.replica
       → new.received ≡ one_more old.received → new.pace ≡ old.pace
       → ticks_after new.pace new.received ≡ false → new.ticks ≡ old.ticks
-      → TakesAll G (bytes ∷ []) group now old new
+      → AddsAll G (bytes ∷ []) group now old new
   takes_one bytes group now old new gathers count pace is untimed = record {
     gathers = subst (λ (l : List (Option (List ℕ))). GathersMore G l group now old.replica new.replica)
         (sym (alone old.pace (one_more old.received) bytes
@@ -286,7 +289,7 @@ module _ {R : Type 0} (G : Gatherings R) where
   pub takes_tick : (bytes : List ℕ) (group one now : GroupValue) (old new : ServerValue R) (mid : R)
       → GathersMore G (Some bytes ∷ []) group one old.replica mid → GathersMore G (None ∷ []) one now mid new.replica
       → new.received ≡ one_more old.received → new.pace ≡ old.pace → ticks_after new.pace new.received ≡ true
-      → (before : ℕ) → before ≡ old.ticks → new.ticks ≡ one_more_tick before → TakesAll G (bytes ∷ []) group now old new
+      → (before : ℕ) → before ≡ old.ticks → new.ticks ≡ one_more_tick before → AddsAll G (bytes ∷ []) group now old new
   takes_tick bytes group one now old new mid gathers ticks count pace is before untimed timed = record {
     gathers = subst (λ (l : List (Option (List ℕ))). GathersMore G l group now old.replica new.replica)
         (sym (with_tick old.pace (one_more old.received) bytes
@@ -304,7 +307,7 @@ module _ {R : Type 0} (G : Gatherings R) where
 
   -- datagrams, and more
   pub takes_more : (xs ys : List (List ℕ)) (group one now : GroupValue) (old mid new : ServerValue R)
-      → TakesAll G xs group one old mid → TakesAll G ys one now mid new → TakesAll G (xs ++ ys) group now old new
+      → AddsAll G xs group one old mid → AddsAll G ys one now mid new → AddsAll G (xs ++ ys) group now old new
   takes_more xs ys group one now old mid new a b = record {
     gathers = λ first given was.
         subst (λ (l : List (Option (List ℕ))). G first l now new.replica)
@@ -321,7 +324,7 @@ module _ {R : Type 0} (G : Gatherings R) where
   -- of a server that was the same
   pub takes_from : (xs : List (List ℕ)) (group now : GroupValue) (old begun new : ServerValue R)
       → begun.replica ≡ old.replica → begun.received ≡ old.received → begun.pace ≡ old.pace → begun.ticks ≡ old.ticks
-      → TakesAll G xs group now begun new → TakesAll G xs group now old new
+      → AddsAll G xs group now begun new → AddsAll G xs group now old new
   takes_from xs group now old begun new replica received pace time t = record {
     gathers = subst₂ (λ (r : R) (l : List (Option (List ℕ))). GathersMore G l group now r new.replica) replica
         (inputs_from old begun xs pace received) t.gathers;
@@ -332,17 +335,17 @@ module _ {R : Type 0} (G : Gatherings R) where
 
   pub socket_more : (tells : Type 0) (xs ys : List (SocketAddr × List ℕ)) (group one now : GroupValue)
       (old mid new : ServerValue R) → mid.cluster ≡ old.cluster
-      → TakesSocket G tells xs group one old mid → TakesSocket G tells ys one now mid new
-      → TakesSocket G tells (xs ++ ys) group now old new
+      → AddsFromSocket G tells xs group one old mid → AddsFromSocket G tells ys one now mid new
+      → AddsFromSocket G tells (xs ++ ys) group now old new
   socket_more tells xs ys group one now old mid new cluster a b =
       let filter = a.takes.network.1 in
       record {
         takes = record {
-          takes = subst (λ (ds : List (List ℕ)). TakesAll G ds group now old new)
+          takes = subst (λ (ds : List (List ℕ)). AddsAll G ds group now old new)
               (heard_more (filter_of old.addresses) xs ys)
               (takes_more (datagrams_in [] (all_filtered (filter_of old.addresses) xs))
               (datagrams_in [] (all_filtered (filter_of old.addresses) ys)) group one now old mid new a.takes.takes
-              (subst (λ (s : Filter). TakesAll G (datagrams_in [] (all_filtered s ys)) one now mid new) filter
+              (subst (λ (s : Filter). AddsAll G (datagrams_in [] (all_filtered s ys)) one now mid new) filter
               b.takes.takes));
           heard = subst (λ (cs : List (SocketAddr × List ℕ)). RecordsSenders old.cluster cs old.addresses new.addresses)
               (sym (taken_more (filter_of old.addresses) xs ys))
@@ -362,9 +365,9 @@ module _ {R : Type 0} (G : Gatherings R) where
       → RecordsSender old.cluster x.1 x.0 old.addresses mid.addresses → IsSameFilter old.addresses mid.addresses
       → new.addresses ≡ mid.addresses → mid.replica ≡ old.replica → mid.received ≡ old.received
       → mid.pace ≡ old.pace → mid.ticks ≡ old.ticks
-      → TakesAll G (x.1 ∷ []) group now mid new → TakesHeard G (frame ∷ []) group now old new
+      → AddsAll G (x.1 ∷ []) group now mid new → AddsHeard G (frame ∷ []) group now old new
   heard_one frame x group now old mid new is apart hears network book replica received pace time takes = record {
-    takes = subst (λ (cs : List (SocketAddr × List ℕ)). TakesAll G (datagrams_in [] cs) group now old new)
+    takes = subst (λ (cs : List (SocketAddr × List ℕ)). AddsAll G (datagrams_in [] cs) group now old new)
         (sym (taken_one (filter_of old.addresses) frame x is apart))
         (takes_from (x.1 ∷ []) group now old mid new replica received pace time takes);
     heard = subst (λ (cs : List (SocketAddr × List ℕ)). RecordsSenders old.cluster cs old.addresses new.addresses)
@@ -377,7 +380,7 @@ module _ {R : Type 0} (G : Gatherings R) where
       (group now : GroupValue) (old mid new : ServerValue R) → e ≡ Some frame
       → (tells → old.incoming ≡ listed e ++ mid.incoming) → mid ≡ record old { incoming = mid.incoming }
       → is_filtered_out (filter_of mid.addresses) frame ≡ true
-      → new ≡ mid → now ≡ group → TakesSocket G tells (frame ∷ []) group now old new
+      → new ≡ mid → now ≡ group → AddsFromSocket G tells (frame ∷ []) group now old new
   socket_beside tells e frame group now old mid new is comes others beside same still =
       let as_was : new ≡ record old { incoming = mid.incoming } = same ∙ others in
       let aside : is_filtered_out (filter_of old.addresses) frame ≡ true =
@@ -388,7 +391,7 @@ module _ {R : Type 0} (G : Gatherings R) where
       record {
         takes = record {
           takes =
-              subst (λ (cs : List (SocketAddr × List ℕ)). TakesAll G (datagrams_in [] cs) group now old new) (sym gone)
+              subst (λ (cs : List (SocketAddr × List ℕ)). AddsAll G (datagrams_in [] cs) group now old new) (sym gone)
               (takes_from [] group now old mid new (ap (λ (s : ServerValue R). s.replica) others)
               (ap (λ (s : ServerValue R). s.received) others) (ap (λ (s : ServerValue R). s.pace) others)
               (ap (λ (s : ServerValue R). s.ticks) others) (takes_nothing group now mid new still same));
@@ -406,9 +409,9 @@ module _ {R : Type 0} (G : Gatherings R) where
       (group now : GroupValue) (old mid new : ServerValue R) → e ≡ Some frame
       → (tells → old.incoming ≡ listed e ++ mid.incoming) → mid ≡ record old { incoming = mid.incoming }
       → new.incoming ≡ mid.incoming
-      → TakesHeard G (frame ∷ []) group now mid new → TakesSocket G tells (frame ∷ []) group now old new
+      → AddsHeard G (frame ∷ []) group now mid new → AddsFromSocket G tells (frame ∷ []) group now old new
   socket_one tells e frame group now old mid new is comes others incoming heard =
-      let h = subst (λ (s : ServerValue R). TakesHeard G (frame ∷ []) group now s new) others heard in
+      let h = subst (λ (s : ServerValue R). AddsHeard G (frame ∷ []) group now s new) others heard in
       record {
         takes = record {
           takes =
@@ -428,7 +431,7 @@ module _ {R : Type 0} (G : Gatherings R) where
 
   -- no frame
   pub socket_nothing : (tells : Type 0) (group now : GroupValue) (old new : ServerValue R) → now ≡ group → new ≡ old
-      → TakesSocket G tells [] group now old new
+      → AddsFromSocket G tells [] group now old new
   socket_nothing tells group now old new is same = record {
     takes = record {
       takes = takes_nothing group now old new is same;
@@ -441,9 +444,9 @@ module _ {R : Type 0} (G : Gatherings R) where
 
   -- and no further one
   pub socket_still : (tells : Type 0) (xs : List (SocketAddr × List ℕ)) (group one now : GroupValue)
-      (old mid new : ServerValue R) → TakesSocket G tells xs group one old mid → now ≡ one
+      (old mid new : ServerValue R) → AddsFromSocket G tells xs group one old mid → now ≡ one
       → record new { incoming = mid.incoming } ≡ mid → (tells → new.incoming ≡ mid.incoming)
-      → TakesSocket G tells xs group now old new
+      → AddsFromSocket G tells xs group now old new
   socket_still tells xs group one now old mid new a is same none =
       let book : new.addresses ≡ mid.addresses = ap (λ (s : ServerValue R). s.addresses) same in
       record {
@@ -465,36 +468,38 @@ module _ {R : Type 0} (G : Gatherings R) where
 
   -- all letters that waited were taken
   pub own_stops : (taken : List LetterValue) (group one now : GroupValue) (old mid new : ServerValue R)
-      → old.own ≡ taken ++ mid.own → length taken ≤ 63 → TakesAll G (datagrams_in taken []) group one old mid
-      → mid.own ≡ [] → new ≡ mid → now ≡ one → TakesOwn G 63 group now old new
+      → old.own_letters ≡ taken ++ mid.own_letters → length taken ≤ 63
+      → AddsAll G (datagrams_in taken []) group one old mid
+      → mid.own_letters ≡ [] → new ≡ mid → now ≡ one → AddsOwnLetters G 63 group now old new
   own_stops taken group one now old mid new parts few t none same is =
-      let all = own_all old.own taken mid.own 63 parts none few in
+      let all = own_all old.own_letters taken mid.own_letters 63 parts none few in
       record {
-        takes = subst (λ (ls : List LetterValue). TakesAll G (datagrams_in ls []) group now old new) (sym all.0)
-            (subst₂ (λ (x : GroupValue) (s : ServerValue R). TakesAll G (datagrams_in taken []) group x old s) (sym is)
+        takes = subst (λ (ls : List LetterValue). AddsAll G (datagrams_in ls []) group now old new) (sym all.0)
+            (subst₂ (λ (x : GroupValue) (s : ServerValue R). AddsAll G (datagrams_in taken []) group x old s) (sym is)
             (sym same) t);
-        left = ap (λ (s : ServerValue R). s.own) same ∙ sym all.1;
+        left = ap (λ (s : ServerValue R). s.own_letters) same ∙ sym all.1;
       }
 
   -- so many were
   pub own_fills : (taken : List LetterValue) (group now : GroupValue) (old new : ServerValue R)
-      → old.own ≡ taken ++ new.own → length taken ≡ 63 → TakesAll G (datagrams_in taken []) group now old new
-      → TakesOwn G 63 group now old new
+      → old.own_letters ≡ taken ++ new.own_letters → length taken ≡ 63
+      → AddsAll G (datagrams_in taken []) group now old new
+      → AddsOwnLetters G 63 group now old new
   own_fills taken group now old new parts many t =
-      let all = own_full old.own taken new.own 63 parts many in
+      let all = own_full old.own_letters taken new.own_letters 63 parts many in
       record {
-        takes = subst (λ (ls : List LetterValue). TakesAll G (datagrams_in ls []) group now old new)
+        takes = subst (λ (ls : List LetterValue). AddsAll G (datagrams_in ls []) group now old new)
             (sym all.0) t;
         left = sym all.1;
       }
 
   -- one more
   pub own_goes : (taken : List LetterValue) (l : LetterValue) (group one now : GroupValue)
-      (old mid new : ServerValue R) → TakesAll G (datagrams_in taken []) group one old mid
-      → TakesAll G (l.bytes ∷ []) one now mid new
-      → TakesAll G (datagrams_in (taken ++ l ∷ []) []) group now old new
+      (old mid new : ServerValue R) → AddsAll G (datagrams_in taken []) group one old mid
+      → AddsAll G (l.bytes ∷ []) one now mid new
+      → AddsAll G (datagrams_in (taken ++ l ∷ []) []) group now old new
   own_goes taken l group one now old mid new a b =
-      subst (λ (ds : List (List ℕ)). TakesAll G ds group now old new) (own_more taken l)
+      subst (λ (ds : List (List ℕ)). AddsAll G ds group now old new) (own_more taken l)
       (takes_more (datagrams_in taken []) (l.bytes ∷ []) group one now old mid new a b)
 
 -- ---- what ends it
@@ -537,7 +542,7 @@ module _ {R : Type 0} (S : Sayings R) (G : Gatherings R) where
   }
 
   pub ends_more : (xs ys : List (List ℕ)) (group one : GroupValue) (old mid new : ServerValue R)
-      → TakesAll G xs group one old mid → EndsWithin S G ys one mid new → EndsWithin S G (xs ++ ys) group old new
+      → AddsAll G xs group one old mid → EndsWithin S G ys one mid new → EndsWithin S G (xs ++ ys) group old new
   ends_more xs ys group one old mid new a e = record {
     given = all_inputs old.pace old.received xs ++ e.given;
     front = (
@@ -604,7 +609,7 @@ module _ {R : Type 0} (S : Sayings R) (G : Gatherings R) where
 
   pub ends_further : (tells : Type 0) (xs ys : List (SocketAddr × List ℕ)) (group one : GroupValue)
       (old mid new : ServerValue R) → mid.cluster ≡ old.cluster
-      → TakesSocket G tells xs group one old mid → EndsSocket S G tells ys one mid new
+      → AddsFromSocket G tells xs group one old mid → EndsSocket S G tells ys one mid new
       → EndsSocket S G tells (xs ++ ys) group old new
   ends_further tells xs ys group one old mid new cluster a b =
       let filter = a.takes.network.1 in
@@ -630,18 +635,19 @@ module _ {R : Type 0} (S : Sayings R) (G : Gatherings R) where
 
   -- a letter has ended it
   pub own_breaks : (taken : List LetterValue) (l : LetterValue) (group one : GroupValue) (old mid new : ServerValue R)
-      → old.own ≡ taken ++ mid.own → length taken + 1 ≤ 63 → mid.own ≡ l ∷ new.own
-      → TakesAll G (datagrams_in taken []) group one old mid → EndsWithin S G (l.bytes ∷ []) one mid new
-      → EndsOwn S G 63 group old new
+      → old.own_letters ≡ taken ++ mid.own_letters → length taken + 1 ≤ 63 → mid.own_letters ≡ l ∷ new.own_letters
+      → AddsAll G (datagrams_in taken []) group one old mid → EndsWithin S G (l.bytes ∷ []) one mid new
+      → EndsOwnLetters S G 63 group old new
   own_breaks taken l group one old mid new parts few first a e =
-      let all_parts : old.own ≡ (taken ++ l ∷ []) ++ new.own = parts ∙ ap (λ (o : List LetterValue). taken ++ o) first
-      ∙ sym (append_assoc taken (l ∷ []) new.own) in
-      let all = own_full old.own (taken ++ l ∷ []) new.own (length (taken ++ l ∷ [])) all_parts refl in
+      let all_parts : old.own_letters ≡ (taken ++ l ∷ []) ++ new.own_letters = parts
+      ∙ ap (λ (o : List LetterValue). taken ++ o) first
+      ∙ sym (append_assoc taken (l ∷ []) new.own_letters) in
+      let all = own_full old.own_letters (taken ++ l ∷ []) new.own_letters (length (taken ++ l ∷ [])) all_parts refl in
       record {
         count = length (taken ++ l ∷ []);
         at_most = omega (arith, few, length-append taken (l ∷ []));
         some = λ is. absurd (omega (arith, is, length-append taken (l ∷ [])));
-        waited = some_own old.own taken new.own l all_parts;
+        waited = some_own old.own_letters taken new.own_letters l all_parts;
         ends = subst (λ (ls : List LetterValue). EndsWithin S G (datagrams_in ls []) group old new) (sym all.0)
             (subst (λ (ds : List (List ℕ)). EndsWithin S G ds group old new) (own_more taken l)
             (ends_more (datagrams_in taken []) (l.bytes ∷ []) group one old mid new a e));

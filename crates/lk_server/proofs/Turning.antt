@@ -8,14 +8,15 @@ use Rattle.lk_node_interface.specs.Letters.{LetterValue}
 use Rattle.lk_replica.specs.Groups.{GroupValue}
 use Rattle.lk_transport.specs.Addresses.{AddressBook, Filter, filter_of, IsSameFilter}
 use Rattle.lk_served_replica.specs.Groups.{Sayings, Gatherings, GathersMore, SaysNoMore}
-use Rattle.lk_server.specs.Gatherings.{AreFound, Finds, TakesAll, EndsWithin, TakesOwn, EndsOwn, TakesSocket}
-use Rattle.lk_server.specs.Gatherings.{EndsSocket, TakesWaiting, TakesGroup, EndsGroup, DeliversAllLetters, SaysNothing}
+use Rattle.lk_server.specs.Gatherings.{AreFound, Finds, AddsAll, EndsWithin, AddsOwnLetters, EndsOwnLetters}
+use Rattle.lk_server.specs.Gatherings.{AddsFromSocket}
+use Rattle.lk_server.specs.Gatherings.{EndsSocket, AddsWaiting, AddsGroup, EndsGroup, DeliversAllLetters, SaysNothing}
 use Rattle.lk_pacing.specs.Paces.{MayFollow}
 use Rattle.lk_auth.specs.Seals.{heard}
 use Rattle.lk_transport.specs.Posts.{RecordsSenders, is_filtered_out, all_filtered}
 use Rattle.lk_server.specs.Servers.{ServerValue, DeliversLetters, DeliversNothing, HasReceived, IsSameServer, Turn}
 use Rattle.lk_server.specs.Servers.{LastTurn}
-use Rattle.lk_server.specs.Servers.{IsIdle, Given, GivenPrefix, TakesFirst, all_inputs, all_ticks, counted}
+use Rattle.lk_server.specs.Servers.{IsIdle, Given, GivenPrefix, LettersFirst, all_inputs, all_ticks, counted}
 use Rattle.lk_server.specs.Servers.{datagrams_in}
 use Rattle.lk_server.specs.Servers.{one_more_tick}
 use Rattle.lk_pacing.specs.declared.turn_input.TurnInput.{TurnInput}
@@ -56,20 +57,20 @@ given_none : (pace : Pace) (received : ℕ) (ds : List (List ℕ)) → ds ≡ []
 given_none pace received ds none = subst (λ (l : List (List ℕ)). Given pace received l (None ∷ [])) (sym none) refl
 
 -- what comes after a first one is something
-pub some_datagrams : (s : Filter) (own : List LetterValue) (d : SocketAddr × List ℕ)
-    (more : List (SocketAddr × List ℕ)) → own ≡ [] → is_filtered_out s d ≡ false
-    → datagrams_in own (all_filtered s (d ∷ more)) ≢ []
-some_datagrams s own d more none apart is =
+pub some_datagrams : (s : Filter) (own_letters : List LetterValue) (d : SocketAddr × List ℕ)
+    (more : List (SocketAddr × List ℕ)) → own_letters ≡ [] → is_filtered_out s d ≡ false
+    → datagrams_in own_letters (all_filtered s (d ∷ more)) ≢ []
+some_datagrams s own_letters d more none apart is =
     let both : heard s.seals d.1 ∷ map (λ (x : SocketAddr × List ℕ). x.1) (all_filtered s more) ≡ [] =
     sym (ap (λ (o : List LetterValue). datagrams_in o (all_filtered s (d ∷ more))) none
     ∙ ap (λ (cs : List (SocketAddr × List ℕ)). datagrams_in [] cs) (taken_first s d more apart)) ∙ is in
     cc both
 
 -- of no letters none are taken
-take_none : (n : ℕ) (own : List LetterValue) → own ≡ [] → take n own ≡ []
+take_none : (n : ℕ) (own_letters : List LetterValue) → own_letters ≡ [] → take n own_letters ≡ []
 take_none zero [] none = refl
 take_none (suc n) [] none = refl
-take_none n (l ∷ own) none = absurd (cc none)
+take_none n (l ∷ own_letters) none = absurd (cc none)
 
 -- it is the same server of which nothing else has changed
 pub same_by : {R : Type 0} (old new : ServerValue R)
@@ -78,7 +79,7 @@ pub same_by : {R : Type 0} (old new : ServerValue R)
       failed = new.failed;
       received = new.received;
       ticks = new.ticks;
-      own = new.own;
+      own_letters = new.own_letters;
       addresses = new.addresses;
       incoming = new.incoming;
     } → IsSameServer old new
@@ -90,7 +91,7 @@ same_by old new others = record {
 
 -- what is taken of the frames that came is what may be taken
 received_first : {R : Type 0} (tells : Type 0) (frames : List (SocketAddr × List ℕ)) (old new : ServerValue R)
-    → HasReceived tells frames old new → TakesFirst tells (all_filtered (filter_of old.addresses) frames) old
+    → HasReceived tells frames old new → LettersFirst tells (all_filtered (filter_of old.addresses) frames) old
 received_first tells frames old new r = record {
   alone = elim r.alone [
     | inl none ↦ inl none
@@ -120,31 +121,32 @@ module _ {R : Type 0} (S : Sayings R) (G : Gatherings R) (tells : Type 0) where
 
   -- frames of the socket, where no letter of the node to itself waits
   pub socket_group : (frame : SocketAddr × List ℕ) (frames : List (SocketAddr × List ℕ)) (group now : GroupValue)
-      (old new : ServerValue R) → old.own ≡ [] → new.own ≡ old.own → length frames ≤ 63
+      (old new : ServerValue R) → old.own_letters ≡ [] → new.own_letters ≡ old.own_letters → length frames ≤ 63
       → is_filtered_out (filter_of old.addresses) frame ≡ false
-      → TakesSocket G tells (frame ∷ frames) group now old new → TakesWaiting G tells (frame ∷ frames) group now old new
-  socket_group frame frames group now old new none own few apart t = record {
+      → AddsFromSocket G tells (frame ∷ frames) group now old new → AddsWaiting G tells
+      (frame ∷ frames) group now old new
+  socket_group frame frames group now old new none own_letters few apart t = record {
     received = record {
       alone = inl none;
       few = omega (arith, few);
       comes = t.comes;
       waited = λ telling empty is. absurd (cc is);
     };
-    takes = subst (λ (o : List LetterValue). TakesAll G
+    takes = subst (λ (o : List LetterValue). AddsAll G
         (datagrams_in (take 64 o) (all_filtered (filter_of old.addresses) (frame ∷ frames))) group now old new)
         (sym none) t.takes.takes;
-    some = some_datagrams (filter_of old.addresses) (take 64 old.own) frame frames
+    some = some_datagrams (filter_of old.addresses) (take 64 old.own_letters) frame frames
         (ap (λ (o : List LetterValue). take 64 o) none) apart;
-    left = own ∙ none ∙ sym (ap (λ (o : List LetterValue). drop 64 o) none);
+    left = own_letters ∙ none ∙ sym (ap (λ (o : List LetterValue). drop 64 o) none);
     heard = t.takes.heard;
     network = t.takes.network;
   }
 
   pub socket_ends : (frame : SocketAddr × List ℕ) (frames : List (SocketAddr × List ℕ)) (group : GroupValue)
-      (old new : ServerValue R) → old.own ≡ [] → new.own ≡ old.own → length frames ≤ 63
+      (old new : ServerValue R) → old.own_letters ≡ [] → new.own_letters ≡ old.own_letters → length frames ≤ 63
       → is_filtered_out (filter_of old.addresses) frame ≡ false → EndsSocket S G tells (frame ∷ frames) group old new
       → EndsGroup S G tells (frame ∷ frames) group old new
-  socket_ends frame frames group old new none own few apart t =
+  socket_ends frame frames group old new none own_letters few apart t =
       let e = subst (λ (o : List LetterValue). EndsWithin S G
       (datagrams_in (take 0 o) (all_filtered (filter_of old.addresses) (frame ∷ frames))) group old new)
       (sym none) t.ends.ends in
@@ -160,80 +162,84 @@ module _ {R : Type 0} (S : Sayings R) (G : Gatherings R) (tells : Type 0) where
         given = e.given;
         first = record {
           whole = all_inputs old.pace old.received
-              (datagrams_in (take 0 old.own) (all_filtered (filter_of old.addresses) (frame ∷ frames)));
+              (datagrams_in (take 0 old.own_letters) (all_filtered (filter_of old.addresses) (frame ∷ frames)));
           may = given_some old.pace old.received
-              (datagrams_in (take 0 old.own) (all_filtered (filter_of old.addresses) (frame ∷ frames)))
-              (some_datagrams (filter_of old.addresses) (take 0 old.own) frame frames
+              (datagrams_in (take 0 old.own_letters) (all_filtered (filter_of old.addresses) (frame ∷ frames)))
+              (some_datagrams (filter_of old.addresses) (take 0 old.own_letters) frame frames
               (ap (λ (o : List LetterValue). take 0 o) none) apart);
           front = e.front;
         };
         silent = e.silent;
         ticks = e.ticks;
-        left = own ∙ none ∙ sym (ap (λ (o : List LetterValue). drop 0 o) none);
+        left = own_letters ∙ none ∙ sym (ap (λ (o : List LetterValue). drop 0 o) none);
         heard = t.ends.heard;
         network = t.ends.network;
       }
 
   -- letters of the node to itself: a first one, and further ones
-  own_received : (l : LetterValue) (rest : List LetterValue) (old new : ServerValue R) → old.own ≡ l ∷ rest
+  own_received : (l : LetterValue) (rest : List LetterValue) (old new : ServerValue R) → old.own_letters ≡ l ∷ rest
       → new.incoming ≡ old.incoming → HasReceived tells [] old new
-  own_received l rest old new own still = record {
+  own_received l rest old new own_letters still = record {
     alone = inr refl;
     few = omega arith;
     comes = λ telling. sym still;
-    waited = λ telling empty is. absurd (let both : l ∷ rest ≡ [] = sym own ∙ empty in cc both);
+    waited = λ telling empty is. absurd (let both : l ∷ rest ≡ [] = sym own_letters ∙ empty in cc both);
   }
 
-  pub own_group : (l : LetterValue) (group one now : GroupValue) (old mid new : ServerValue R) → old.own ≡ l ∷ mid.own
+  pub own_group : (l : LetterValue) (group one now : GroupValue) (old mid new : ServerValue R) → old.own_letters
+      ≡ l ∷ mid.own_letters
       → new.addresses ≡ old.addresses → new.incoming ≡ old.incoming
-      → TakesAll G (l.bytes ∷ []) group one old mid → TakesOwn G 63 one now mid new
-      → TakesWaiting G tells [] group now old new
-  own_group l group one now old mid new own book still first further = record {
-    received = own_received l mid.own old new own still;
-    takes = subst (λ (o : List LetterValue). TakesAll G (datagrams_in (take 64 o) []) group now old new) (sym own)
-        (takes_more G (l.bytes ∷ []) (datagrams_in (take 63 mid.own) []) group one now old mid new first further.takes);
-    some = λ is. let both : l.bytes ∷ datagrams_in (take 63 mid.own) [] ≡ [] =
-        sym (ap (λ (o : List LetterValue). datagrams_in (take 64 o) []) own) ∙ is in cc both;
-    left = further.left ∙ sym (ap (λ (o : List LetterValue). drop 64 o) own);
+      → AddsAll G (l.bytes ∷ []) group one old mid → AddsOwnLetters G 63 one now mid new
+      → AddsWaiting G tells [] group now old new
+  own_group l group one now old mid new own_letters book still first further = record {
+    received = own_received l mid.own_letters old new own_letters still;
+    takes = subst (λ (o : List LetterValue). AddsAll G (datagrams_in (take 64 o) []) group now old new)
+        (sym own_letters)
+        (takes_more G (l.bytes ∷ []) (datagrams_in
+        (take 63 mid.own_letters) []) group one now old mid new first further.takes);
+    some = λ is. let both : l.bytes ∷ datagrams_in (take 63 mid.own_letters) [] ≡ [] =
+        sym (ap (λ (o : List LetterValue). datagrams_in (take 64 o) []) own_letters) ∙ is in cc both;
+    left = further.left ∙ sym (ap (λ (o : List LetterValue). drop 64 o) own_letters);
     heard = book;
     network = (ap (λ (b : AddressBook). b.hosts) book, ap (λ (b : AddressBook). filter_of b) book);
   }
 
   -- so many of them have ended it
   own_ends_at : (count : ℕ) (l : LetterValue) (rest : List LetterValue) (group : GroupValue) (old new : ServerValue R)
-      → old.own ≡ l ∷ rest → new.addresses ≡ old.addresses → new.incoming ≡ old.incoming → suc count ≤ 64
+      → old.own_letters ≡ l ∷ rest → new.addresses ≡ old.addresses → new.incoming ≡ old.incoming → suc count ≤ 64
       → EndsWithin S G (datagrams_in (take (suc count) (l ∷ rest)) []) group old new
-      → new.own ≡ drop (suc count) (l ∷ rest) → EndsGroup S G tells [] group old new
-  own_ends_at count l rest group old new own book still few ends left =
+      → new.own_letters ≡ drop (suc count) (l ∷ rest) → EndsGroup S G tells [] group old new
+  own_ends_at count l rest group old new own_letters book still few ends left =
       let e = subst (λ (o : List LetterValue). EndsWithin S G (datagrams_in (take (suc count) o) []) group old new)
-      (sym own) ends in
+      (sym own_letters) ends in
       record {
-        received = own_received l rest old new own still;
+        received = own_received l rest old new own_letters still;
         count = suc count;
         letters = record { at_most = few; some = λ is. absurd (omega (arith, is)) };
         given = e.given;
         first = record {
-          whole = all_inputs old.pace old.received (datagrams_in (take (suc count) old.own) []);
-          may = given_some old.pace old.received (datagrams_in (take (suc count) old.own) [])
+          whole = all_inputs old.pace old.received (datagrams_in (take (suc count) old.own_letters) []);
+          may = given_some old.pace old.received (datagrams_in (take (suc count) old.own_letters) [])
               (λ is. let both : l.bytes ∷ datagrams_in (take count rest) [] ≡ [] =
-              sym (ap (λ (o : List LetterValue). datagrams_in (take (suc count) o) []) own) ∙ is in cc both);
+              sym (ap (λ (o : List LetterValue). datagrams_in (take (suc count) o) []) own_letters) ∙ is in cc both);
           front = e.front;
         };
         silent = e.silent;
         ticks = e.ticks;
-        left = left ∙ sym (ap (λ (o : List LetterValue). drop (suc count) o) own);
+        left = left ∙ sym (ap (λ (o : List LetterValue). drop (suc count) o) own_letters);
         heard = book;
         network = (ap (λ (b : AddressBook). b.hosts) book, ap (λ (b : AddressBook). filter_of b) book);
       }
 
   -- the first has
-  pub own_ends_first : (l : LetterValue) (group : GroupValue) (old new : ServerValue R) → old.own ≡ l ∷ new.own
+  pub own_ends_first : (l : LetterValue) (group : GroupValue) (old new : ServerValue R) → old.own_letters
+      ≡ l ∷ new.own_letters
       → new.addresses ≡ old.addresses → new.incoming ≡ old.incoming
       → EndsWithin S G (l.bytes ∷ []) group old new → EndsGroup S G tells [] group old new
-  own_ends_first l group old new own book still ends =
-      own_ends_at 0 l new.own group old new own book still (omega arith)
+  own_ends_first l group old new own_letters book still ends =
+      own_ends_at 0 l new.own_letters group old new own_letters book still (omega arith)
       (subst (λ (o : List LetterValue). EndsWithin S G (datagrams_in (l ∷ o) []) group old new)
-      (sym (none new.own)) ends) (sym (all new.own))
+      (sym (none new.own_letters)) ends) (sym (all new.own_letters))
     where
       none : (o : List LetterValue) → take 0 o ≡ []
       none [] = refl
@@ -244,21 +250,23 @@ module _ {R : Type 0} (S : Sayings R) (G : Gatherings R) (tells : Type 0) where
       all (x ∷ o) = refl
 
   -- a further one has
-  pub own_ends : (l : LetterValue) (group one : GroupValue) (old mid new : ServerValue R) → old.own ≡ l ∷ mid.own
+  pub own_ends : (l : LetterValue) (group one : GroupValue) (old mid new : ServerValue R) → old.own_letters
+      ≡ l ∷ mid.own_letters
       → new.addresses ≡ old.addresses → new.incoming ≡ old.incoming
-      → TakesAll G (l.bytes ∷ []) group one old mid → EndsOwn S G 63 one mid new → EndsGroup S G tells [] group old new
-  own_ends l group one old mid new own book still first further =
-      own_ends_at further.count l mid.own group old new own book still (omega (arith, further.at_most))
+      → AddsAll G (l.bytes ∷ []) group one old mid → EndsOwnLetters S G 63 one mid new
+      → EndsGroup S G tells [] group old new
+  own_ends l group one old mid new own_letters book still first further =
+      own_ends_at further.count l mid.own_letters group old new own_letters book still (omega (arith, further.at_most))
       (ends_more S G (l.bytes ∷ [])
-      (datagrams_in (take further.count mid.own) []) group one old mid new first further.ends) further.left
+      (datagrams_in (take further.count mid.own_letters) []) group one old mid new first further.ends) further.left
 
   -- ---- the tick of a turn
 
   -- none is due: what waits is all
   pub without_tick : (frames : List (SocketAddr × List ℕ)) (group now : GroupValue) (old new : ServerValue R)
-      → TakesWaiting G tells frames group now old new → TakesGroup G tells frames group now old new
+      → AddsWaiting G tells frames group now old new → AddsGroup G tells frames group now old new
   without_tick frames group now old new t =
-      let ds = datagrams_in (take 64 old.own) (all_filtered (filter_of old.addresses) frames) in
+      let ds = datagrams_in (take 64 old.own_letters) (all_filtered (filter_of old.addresses) frames) in
       record {
         received = t.received;
         given = all_inputs old.pace old.received ds;
@@ -273,10 +281,10 @@ module _ {R : Type 0} (S : Sayings R) (G : Gatherings R) (tells : Type 0) where
 
   -- one is, behind what waits
   module _ (frames : List (SocketAddr × List ℕ)) (group one : GroupValue) (old mid new : ServerValue R)
-      (clock : old.pace ≡ Clock) (t : TakesWaiting G tells frames group one old mid)
+      (clock : old.pace ≡ Clock) (t : AddsWaiting G tells frames group one old mid)
       (same : new ≡ record mid { replica = new.replica; failed = new.failed; ticks = new.ticks }) where
     abbrev waited : List (List ℕ)
-    waited = datagrams_in (take 64 old.own) (all_filtered (filter_of old.addresses) frames)
+    waited = datagrams_in (take 64 old.own_letters) (all_filtered (filter_of old.addresses) frames)
 
     abbrev ticked : List (Option (List ℕ))
     ticked = all_inputs old.pace old.received waited ++ None ∷ []
@@ -288,8 +296,8 @@ module _ {R : Type 0} (S : Sayings R) (G : Gatherings R) (tells : Type 0) where
     tick_received =
         received_on tells frames old mid new (λ telling. ap (λ (s : ServerValue R). s.incoming) same) t.received
 
-    tick_left : new.own ≡ drop 64 old.own
-    tick_left = ap (λ (s : ServerValue R). s.own) same ∙ t.left
+    tick_left : new.own_letters ≡ drop 64 old.own_letters
+    tick_left = ap (λ (s : ServerValue R). s.own_letters) same ∙ t.left
 
     tick_heard : RecordsSenders old.cluster (all_filtered (filter_of old.addresses) frames) old.addresses new.addresses
     tick_heard = subst (λ (b : AddressBook). RecordsSenders old.cluster
@@ -305,7 +313,7 @@ module _ {R : Type 0} (S : Sayings R) (G : Gatherings R) (tells : Type 0) where
         ∙ sym (ticks_more old.ticks (all_inputs old.pace old.received waited) (None ∷ []))
 
     pub tick_behind : (now : GroupValue) → new.ticks ≡ one_more_tick mid.ticks
-        → GathersMore G (None ∷ []) one now mid.replica new.replica → TakesGroup G tells frames group now old new
+        → GathersMore G (None ∷ []) one now mid.replica new.replica → AddsGroup G tells frames group now old new
     tick_behind now timed ticks = record {
       received = tick_received;
       given = ticked;
@@ -342,7 +350,8 @@ module _ {R : Type 0} (S : Sayings R) (G : Gatherings R) (tells : Type 0) where
 
   -- it is alone: a replica is given nothing of what came in these frames
   module _ (found : TurnInput) (frames : List (SocketAddr × List ℕ)) (group one : GroupValue)
-      (old mid new : ServerValue R) (own : old.own ≡ []) (f : Finds tells found frames old mid) (begun : one ≡ group)
+      (old mid new : ServerValue R) (own_letters : old.own_letters ≡ []) (f : Finds tells found frames old mid)
+      (begun : one ≡ group)
       (same : new ≡ record mid { replica = new.replica; failed = new.failed; ticks = new.ticks }) where
     none_taken : all_filtered (filter_of old.addresses) frames ≡ []
     none_taken = found_none (filter_of old.addresses) found frames f.are
@@ -350,16 +359,16 @@ module _ {R : Type 0} (S : Sayings R) (G : Gatherings R) (tells : Type 0) where
     mine : mid.replica ≡ old.replica
     mine = ap (λ (s : ServerValue R). s.replica) f.same
 
-    own_is : (n : ℕ) → take n old.own ≡ []
-    own_is n = take_none n old.own own
+    own_is : (n : ℕ) → take n old.own_letters ≡ []
+    own_is n = take_none n old.own_letters own_letters
 
-    no_datagrams : (n : ℕ) → datagrams_in (take n old.own) (all_filtered (filter_of old.addresses) frames) ≡ []
-    no_datagrams n = ap (λ (cs : List (SocketAddr × List ℕ)). datagrams_in (take n old.own) cs) none_taken
+    no_datagrams : (n : ℕ) → datagrams_in (take n old.own_letters) (all_filtered (filter_of old.addresses) frames) ≡ []
+    no_datagrams n = ap (λ (cs : List (SocketAddr × List ℕ)). datagrams_in (take n old.own_letters) cs) none_taken
         ∙ ap (λ (o : List LetterValue). datagrams_in o []) (own_is n)
 
     alone_received : HasReceived tells frames old new
     alone_received = record {
-      alone = inl own;
+      alone = inl own_letters;
       few = found_few (filter_of old.addresses) found frames f.are;
       comes = λ telling. f.comes telling
           ∙ ap (λ (l : List (SocketAddr × List ℕ)). frames ++ l) (sym (ap (λ (s : ServerValue R). s.incoming) same));
@@ -376,24 +385,25 @@ module _ {R : Type 0} (S : Sayings R) (G : Gatherings R) (tells : Type 0) where
     alone_outside : IsSameFilter old.addresses new.addresses
     alone_outside = (ap (λ (b : AddressBook). b.hosts) alone_book, ap (λ (b : AddressBook). filter_of b) alone_book)
 
-    alone_own : new.own ≡ []
-    alone_own = ap (λ (s : ServerValue R). s.own) same ∙ ap (λ (s : ServerValue R). s.own) f.same ∙ own
+    alone_own : new.own_letters ≡ []
+    alone_own = ap (λ (s : ServerValue R). s.own_letters) same ∙ ap (λ (s : ServerValue R). s.own_letters) f.same
+        ∙ own_letters
 
     alone_counted : new.ticks ≡ one_more_tick mid.ticks → new.ticks ≡ all_ticks old.ticks (None ∷ [])
     alone_counted timed = timed ∙ ap (λ (n : ℕ). one_more_tick n) (ap (λ (s : ServerValue R). s.ticks) f.same)
 
     pub tick_alone : (now : GroupValue) → new.ticks ≡ one_more_tick mid.ticks
-        → GathersMore G (None ∷ []) one now mid.replica new.replica → TakesGroup G tells frames group now old new
+        → GathersMore G (None ∷ []) one now mid.replica new.replica → AddsGroup G tells frames group now old new
     tick_alone now timed ticks = record {
       received = alone_received;
       given = None ∷ [];
       may = given_none old.pace old.received
-          (datagrams_in (take 64 old.own) (all_filtered (filter_of old.addresses) frames)) (no_datagrams 64);
+          (datagrams_in (take 64 old.own_letters) (all_filtered (filter_of old.addresses) frames)) (no_datagrams 64);
       gathers = subst₂ (λ (x : GroupValue) (r : R). GathersMore G (None ∷ []) x now r new.replica) begun mine ticks;
       counted = ap (λ (s : ServerValue R). s.received) same ∙ ap (λ (s : ServerValue R). s.received) f.same
           ∙ sym (ap (λ (ds : List (List ℕ)). counted old.received ds) (no_datagrams 64));
       ticks = alone_counted timed;
-      left = alone_own ∙ sym (ap (λ (o : List LetterValue). drop 64 o) own);
+      left = alone_own ∙ sym (ap (λ (o : List LetterValue). drop 64 o) own_letters);
       heard = alone_heard;
       network = alone_outside;
     }
@@ -406,12 +416,12 @@ module _ {R : Type 0} (S : Sayings R) (G : Gatherings R) (tells : Type 0) where
       letters = record { at_most = omega arith; some = λ is. absurd (omega (arith, is)) };
       given = None ∷ [];
       first = given_all old.pace old.received
-          (datagrams_in (take 64 old.own) (all_filtered (filter_of old.addresses) frames)) (None ∷ [])
+          (datagrams_in (take 64 old.own_letters) (all_filtered (filter_of old.addresses) frames)) (None ∷ [])
           (given_none old.pace old.received
-          (datagrams_in (take 64 old.own) (all_filtered (filter_of old.addresses) frames)) (no_datagrams 64));
+          (datagrams_in (take 64 old.own_letters) (all_filtered (filter_of old.addresses) frames)) (no_datagrams 64));
       silent = subst₂ (λ (x : GroupValue) (r : R). SaysNoMore S G (None ∷ []) x r new.replica) begun mine silent;
       ticks = alone_counted timed;
-      left = alone_own ∙ sym (ap (λ (o : List LetterValue). drop 64 o) own);
+      left = alone_own ∙ sym (ap (λ (o : List LetterValue). drop 64 o) own_letters);
       heard = alone_heard;
       network = alone_outside;
     }
@@ -436,18 +446,18 @@ module _ {R : Type 0} (S : Sayings R) (G : Gatherings R) (tells : Type 0) where
     -- this was found, and nothing of it was taken
     abbrev pub HasFound : TurnInput → GroupValue → GroupValue → ServerValue R → ServerValue R → Type 0
     HasFound found group one old mid =
-        (old.own ≡ []) × (frames : List (SocketAddr × List ℕ)) × Finds tells found frames old mid
+        (old.own_letters ≡ []) × (frames : List (SocketAddr × List ℕ)) × Finds tells found frames old mid
         × (one ≡ group) × Keeps frames
 
     -- this waited, and was taken
     abbrev pub HasWaiting : GroupValue → GroupValue → ServerValue R → ServerValue R → Type 0
     HasWaiting group one old mid =
-        (frames : List (SocketAddr × List ℕ)) × TakesWaiting G tells frames group one old mid × Keeps frames
+        (frames : List (SocketAddr × List ℕ)) × AddsWaiting G tells frames group one old mid × Keeps frames
 
     -- this was taken in a turn
     abbrev pub HasTaken : GroupValue → GroupValue → ServerValue R → ServerValue R → Type 0
     HasTaken group now old new =
-        (frames : List (SocketAddr × List ℕ)) × TakesGroup G tells frames group now old new × Keeps frames
+        (frames : List (SocketAddr × List ℕ)) × AddsGroup G tells frames group now old new × Keeps frames
 
     -- no tick is due
     pub untimely_takes : (group one : GroupValue) (old mid : ServerValue R) → HasWaiting group one old mid
@@ -463,7 +473,7 @@ module _ {R : Type 0} (S : Sayings R) (G : Gatherings R) (tells : Type 0) where
       n.1,
       alone_received found n.1 group one old mid mid n.0 n.2 n.3 refl,
       record {
-        own = n.0;
+        own_letters = n.0;
         none = found_none (filter_of old.addresses) found n.1 n.2.are;
         clock =
             λ empty. sym pace ∙ by_clock (filter_of old.addresses) mid.pace found n.1 due isnt nothing n.2.are empty;
@@ -512,13 +522,13 @@ module _ {R : Type 0} (S : Sayings R) (G : Gatherings R) (tells : Type 0) where
   -- ---- what is handed on
 
   -- a replica that says nothing more
-  abbrev pub hands_none : (given : List (Option (List ℕ))) (own : List LetterValue) (old new : ServerValue R)
-      → DeliversNothing S given own old new → DeliversLetters S tells given own old new
-  hands_none given own old new h = record {
+  abbrev pub hands_none : (given : List (Option (List ℕ))) (own_letters : List LetterValue) (old new : ServerValue R)
+      → DeliversNothing S given own_letters old new → DeliversLetters S tells given own_letters old new
+  hands_none given own_letters old new h = record {
     letters = [];
     says = h.says;
-    kept = record { added = []; is = h.own ∙ sym (append-nil own) };
-    carried = λ i. record { own = h.own i; sent = h.sent i; failures = h.failures i };
+    kept = record { added = []; is = h.own_letters ∙ sym (append-nil own_letters) };
+    carried = λ i. record { own_letters = h.own_letters i; sent = h.sent i; failures = h.failures i };
   }
 
   -- ---- a turn
@@ -530,7 +540,7 @@ module _ {R : Type 0} (S : Sayings R) (G : Gatherings R) (tells : Type 0) where
       record { cluster = same.cluster ∙ cluster; node = same.node ∙ node; pace = same.pace ∙ pace }
 
   pub turn_of : (frames : List (SocketAddr × List ℕ)) (group now : GroupValue) (old mid new : ServerValue R)
-      → G old.replica [] group old.replica → TakesGroup G tells frames group now old mid
+      → G old.replica [] group old.replica → AddsGroup G tells frames group now old mid
       → DeliversAllLetters S G tells now mid new
       → mid.sent ≡ old.sent → mid.socket_failures ≡ old.socket_failures → IsSameServer old mid
       → new.addresses ≡ mid.addresses → new.received ≡ mid.received → new.ticks ≡ mid.ticks
@@ -540,7 +550,7 @@ module _ {R : Type 0} (S : Sayings R) (G : Gatherings R) (tells : Type 0) where
     takes = received_first tells frames old mid t.received;
     given = t.given;
     may = t.may;
-    hands_on = subst (λ (own : List LetterValue). DeliversLetters S tells t.given own old new) t.left
+    hands_on = subst (λ (own_letters : List LetterValue). DeliversLetters S tells t.given own_letters old new) t.left
         (hands old t.given (t.gathers old.replica [] begins) (sym sent) (sym failures));
     counted = received ∙ t.counted;
     ticks = untimed ∙ t.ticks;
@@ -552,7 +562,7 @@ module _ {R : Type 0} (S : Sayings R) (G : Gatherings R) (tells : Type 0) where
 
   -- the end of the group has ended it
   pub last_of : (frames : List (SocketAddr × List ℕ)) (group now : GroupValue) (old mid new : ServerValue R)
-      → G old.replica [] group old.replica → TakesGroup G tells frames group now old mid → SaysNothing S G now mid new
+      → G old.replica [] group old.replica → AddsGroup G tells frames group now old mid → SaysNothing S G now mid new
       → mid.sent ≡ old.sent → mid.socket_failures ≡ old.socket_failures → IsSameServer old mid
       → new.addresses ≡ mid.addresses → new.ticks ≡ mid.ticks → IsSameServer mid new → new.failed ≡ true
       → LastTurn S tells (all_filtered (filter_of old.addresses) frames) old new
@@ -562,10 +572,10 @@ module _ {R : Type 0} (S : Sayings R) (G : Gatherings R) (tells : Type 0) where
     letters = record { at_most = omega arith; some = λ is. absurd (omega (arith, is)) };
     given = t.given;
     first = given_all old.pace old.received
-        (datagrams_in (take 64 old.own) (all_filtered (filter_of old.addresses) frames)) t.given t.may;
-    hands_on = hands_none t.given (drop 64 old.own) old new (record {
+        (datagrams_in (take 64 old.own_letters) (all_filtered (filter_of old.addresses) frames)) t.given t.may;
+    hands_on = hands_none t.given (drop 64 old.own_letters) old new (record {
       says = none.silent old.replica t.given (t.gathers old.replica [] begins);
-      own = none.own ∙ t.left;
+      own_letters = none.own_letters ∙ t.left;
       sent = none.sent ∙ sent;
       failures = none.failures ∙ failures;
     });
@@ -588,8 +598,8 @@ module _ {R : Type 0} (S : Sayings R) (G : Gatherings R) (tells : Type 0) where
     letters = e.letters;
     given = e.given;
     first = e.first;
-    hands_on = hands_none e.given (drop e.count old.own) old new
-        (record { says = e.silent old.replica [] begins; own = e.left; sent = sent; failures = failures });
+    hands_on = hands_none e.given (drop e.count old.own_letters) old new
+        (record { says = e.silent old.replica [] begins; own_letters = e.left; sent = sent; failures = failures });
     silent = refl;
     ticks = e.ticks;
     heard = e.heard;
@@ -601,21 +611,22 @@ module _ {R : Type 0} (S : Sayings R) (G : Gatherings R) (tells : Type 0) where
 
   pub tick_of : {T E : Type 0} (r : Result T E) (group now : GroupValue) (old mid new : ServerValue R)
       → G old.replica [] group old.replica → GathersMore G (None ∷ []) group now old.replica mid.replica
-      → mid.own ≡ old.own → mid.sent ≡ old.sent → mid.socket_failures ≡ old.socket_failures
-      → OnOk r (DeliversAllLetters S G tells now mid new) → OnOk r (DeliversLetters S tells (None ∷ []) old.own old new)
-  tick_of (Ok x) group now old mid new begins gathers own sent failures hands =
-      subst (λ (o : List LetterValue). DeliversLetters S tells (None ∷ []) o old new) own
+      → mid.own_letters ≡ old.own_letters → mid.sent ≡ old.sent → mid.socket_failures ≡ old.socket_failures
+      → OnOk r (DeliversAllLetters S G tells now mid new) → OnOk r (DeliversLetters S tells
+      (None ∷ []) old.own_letters old new)
+  tick_of (Ok x) group now old mid new begins gathers own_letters sent failures hands =
+      subst (λ (o : List LetterValue). DeliversLetters S tells (None ∷ []) o old new) own_letters
       (hands old (None ∷ []) (gathers old.replica [] begins) (sym sent) (sym failures))
-  tick_of (Err e) group now old mid new begins gathers own sent failures hands = tt
+  tick_of (Err e) group now old mid new begins gathers own_letters sent failures hands = tt
 
   pub tick_ends : {T E : Type 0} (r : Result T E) (group now : GroupValue) (old mid new : ServerValue R)
       → G old.replica [] group old.replica → GathersMore G (None ∷ []) group now old.replica mid.replica
-      → mid.own ≡ old.own → mid.sent ≡ old.sent → mid.socket_failures ≡ old.socket_failures
-      → OnErr r (SaysNothing S G now mid new) → OnErr r (DeliversNothing S (None ∷ []) old.own old new)
-  tick_ends (Ok x) group now old mid new begins gathers own sent failures none = tt
-  tick_ends (Err e) group now old mid new begins gathers own sent failures none = record {
+      → mid.own_letters ≡ old.own_letters → mid.sent ≡ old.sent → mid.socket_failures ≡ old.socket_failures
+      → OnErr r (SaysNothing S G now mid new) → OnErr r (DeliversNothing S (None ∷ []) old.own_letters old new)
+  tick_ends (Ok x) group now old mid new begins gathers own_letters sent failures none = tt
+  tick_ends (Err e) group now old mid new begins gathers own_letters sent failures none = record {
     says = none.silent old.replica (None ∷ []) (gathers old.replica [] begins);
-    own = none.own ∙ own;
+    own_letters = none.own_letters ∙ own_letters;
     sent = none.sent ∙ sent;
     failures = none.failures ∙ failures;
   }
@@ -623,7 +634,7 @@ module _ {R : Type 0} (S : Sayings R) (G : Gatherings R) (tells : Type 0) where
   -- the tick itself has ended it
   pub tick_silent : (group : GroupValue) (old new : ServerValue R) → G old.replica [] group old.replica
       → SaysNoMore S G (None ∷ []) group old.replica new.replica
-      → new.own ≡ old.own → new.sent ≡ old.sent → new.socket_failures ≡ old.socket_failures
-      → DeliversNothing S (None ∷ []) old.own old new
-  tick_silent group old new begins silent own sent failures =
-      record { says = silent old.replica [] begins; own = own; sent = sent; failures = failures }
+      → new.own_letters ≡ old.own_letters → new.sent ≡ old.sent → new.socket_failures ≡ old.socket_failures
+      → DeliversNothing S (None ∷ []) old.own_letters old new
+  tick_silent group old new begins silent own_letters sent failures =
+      record { says = silent old.replica [] begins; own_letters = own_letters; sent = sent; failures = failures }

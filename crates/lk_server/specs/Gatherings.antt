@@ -40,7 +40,7 @@ ChangesAtLetter old new =
       failed = new.failed;
       received = new.received;
       ticks = new.ticks;
-      own = new.own;
+      own_letters = new.own_letters;
     }
 
 abbrev pub ChangesAtFrame : {R : Type 0} → ServerValue R → ServerValue R → Type 0
@@ -71,7 +71,7 @@ ChangesInGroup old new =
       failed = new.failed;
       received = new.received;
       ticks = new.ticks;
-      own = new.own;
+      own_letters = new.own_letters;
       addresses = new.addresses;
       incoming = new.incoming;
     }
@@ -79,53 +79,53 @@ ChangesInGroup old new =
 module _ {R : Type 0} (Gathers : Gatherings R) where
   -- these datagrams were taken into the group one after another, each counted, and where ticks go by datagrams a tick
   -- after every 64th, which is counted too
-  pub record TakesAll (datagrams : List (List ℕ)) (group now : GroupValue) (old new : ServerValue R) : Type 0 where
+  pub record AddsAll (datagrams : List (List ℕ)) (group now : GroupValue) (old new : ServerValue R) : Type 0 where
     pub gathers : GathersMore Gathers (all_inputs old.pace old.received datagrams) group now old.replica new.replica
     pub counted : new.received ≡ counted old.received datagrams
     pub ticks : new.ticks ≡ all_ticks old.ticks (all_inputs old.pace old.received datagrams)
     pub pace : new.pace ≡ old.pace
 
   -- the first letters of the node to itself were taken, at most this many
-  pub record TakesOwn (most : ℕ) (group now : GroupValue) (old new : ServerValue R) : Type 0 where
-    pub takes : TakesAll (datagrams_in (take most old.own) []) group now old new
-    pub left : new.own ≡ drop most old.own
+  pub record AddsOwnLetters (most : ℕ) (group now : GroupValue) (old new : ServerValue R) : Type 0 where
+    pub takes : AddsAll (datagrams_in (take most old.own_letters) []) group now old new
+    pub left : new.own_letters ≡ drop most old.own_letters
 
   -- the content of these frames was taken, and their senders' addresses were recorded
-  pub record TakesHeard (frames : List (SocketAddr × List ℕ)) (group now : GroupValue)
+  pub record AddsHeard (frames : List (SocketAddr × List ℕ)) (group now : GroupValue)
       (old new : ServerValue R) : Type 0 where
-    pub takes : TakesAll (datagrams_in [] (all_filtered (filter_of old.addresses) frames)) group now old new
+    pub takes : AddsAll (datagrams_in [] (all_filtered (filter_of old.addresses) frames)) group now old new
     pub heard : RecordsSenders old.cluster (all_filtered (filter_of old.addresses) frames) old.addresses new.addresses
     pub network : IsSameFilter old.addresses new.addresses
 
   -- their content was taken, and exactly these frames came from the socket, in order
-  pub record TakesSocket (tells : Type 0) (frames : List (SocketAddr × List ℕ)) (group now : GroupValue)
+  pub record AddsFromSocket (tells : Type 0) (frames : List (SocketAddr × List ℕ)) (group now : GroupValue)
       (old new : ServerValue R) : Type 0 where
-    pub takes : TakesHeard frames group now old new
+    pub takes : AddsHeard frames group now old new
     pub comes : tells → old.incoming ≡ frames ++ new.incoming
 
   -- what waits is taken: letters of the node to itself, or these frames of the socket
-  pub record TakesWaiting (tells : Type 0) (frames : List (SocketAddr × List ℕ)) (group now : GroupValue)
+  pub record AddsWaiting (tells : Type 0) (frames : List (SocketAddr × List ℕ)) (group now : GroupValue)
       (old new : ServerValue R) : Type 0 where
     pub received : HasReceived tells frames old new
-    pub takes : TakesAll (datagrams_in (take 64 old.own) (all_filtered (filter_of old.addresses) frames)) group now old
-        new
-    pub some : datagrams_in (take 64 old.own) (all_filtered (filter_of old.addresses) frames) ≢ []
-    pub left : new.own ≡ drop 64 old.own
+    pub takes : AddsAll (datagrams_in (take 64 old.own_letters) (all_filtered (filter_of old.addresses) frames))
+        group now old new
+    pub some : datagrams_in (take 64 old.own_letters) (all_filtered (filter_of old.addresses) frames) ≢ []
+    pub left : new.own_letters ≡ drop 64 old.own_letters
     pub heard : RecordsSenders old.cluster (all_filtered (filter_of old.addresses) frames) old.addresses new.addresses
     pub network : IsSameFilter old.addresses new.addresses
 
   -- what is taken in a turn: what waits, and a tick where one is due
-  pub record TakesGroup (tells : Type 0) (frames : List (SocketAddr × List ℕ)) (group now : GroupValue)
+  pub record AddsGroup (tells : Type 0) (frames : List (SocketAddr × List ℕ)) (group now : GroupValue)
       (old new : ServerValue R) : Type 0 where
     pub received : HasReceived tells frames old new
     pub given : List (Option (List ℕ))
     pub may : Given old.pace old.received
-        (datagrams_in (take 64 old.own) (all_filtered (filter_of old.addresses) frames)) given
+        (datagrams_in (take 64 old.own_letters) (all_filtered (filter_of old.addresses) frames)) given
     pub gathers : GathersMore Gathers given group now old.replica new.replica
     pub counted : new.received
-        ≡ counted old.received (datagrams_in (take 64 old.own) (all_filtered (filter_of old.addresses) frames))
+        ≡ counted old.received (datagrams_in (take 64 old.own_letters) (all_filtered (filter_of old.addresses) frames))
     pub ticks : new.ticks ≡ all_ticks old.ticks given
-    pub left : new.own ≡ drop 64 old.own
+    pub left : new.own_letters ≡ drop 64 old.own_letters
     pub heard : RecordsSenders old.cluster (all_filtered (filter_of old.addresses) frames) old.addresses new.addresses
     pub network : IsSameFilter old.addresses new.addresses
 
@@ -138,13 +138,13 @@ module _ {R : Type 0} (Says : Sayings R) (Gathers : Gatherings R) where
     pub ticks : new.ticks ≡ all_ticks old.ticks given
 
   -- the replica ended at the first letters of the node to itself, of which it took this many
-  pub record EndsOwn (most : ℕ) (group : GroupValue) (old new : ServerValue R) : Type 0 where
+  pub record EndsOwnLetters (most : ℕ) (group : GroupValue) (old new : ServerValue R) : Type 0 where
     pub count : ℕ
     pub at_most : count ≤ most
     pub some : count ≢ 0
-    pub waited : old.own ≢ []
-    pub ends : EndsWithin (datagrams_in (take count old.own) []) group old new
-    pub left : new.own ≡ drop count old.own
+    pub waited : old.own_letters ≢ []
+    pub ends : EndsWithin (datagrams_in (take count old.own_letters) []) group old new
+    pub left : new.own_letters ≡ drop count old.own_letters
 
   -- the replica ended at the content of these frames
   pub record EndsHeard (frames : List (SocketAddr × List ℕ)) (group : GroupValue)
@@ -164,13 +164,13 @@ module _ {R : Type 0} (Says : Sayings R) (Gathers : Gatherings R) where
       (old new : ServerValue R) : Type 0 where
     pub received : HasReceived tells frames old new
     pub count : ℕ
-    pub letters : TakesLetters count old.own
+    pub letters : TakesLetters count old.own_letters
     pub given : List (Option (List ℕ))
     pub first : GivenPrefix old.pace old.received
-        (datagrams_in (take count old.own) (all_filtered (filter_of old.addresses) frames)) given
+        (datagrams_in (take count old.own_letters) (all_filtered (filter_of old.addresses) frames)) given
     pub silent : SaysNoMore Says Gathers given group old.replica new.replica
     pub ticks : new.ticks ≡ all_ticks old.ticks given
-    pub left : new.own ≡ drop count old.own
+    pub left : new.own_letters ≡ drop count old.own_letters
     pub heard : RecordsSenders old.cluster (all_filtered (filter_of old.addresses) frames) old.addresses new.addresses
     pub network : IsSameFilter old.addresses new.addresses
 
@@ -180,7 +180,7 @@ module _ {R : Type 0} (Says : Sayings R) (Gathers : Gatherings R) where
   pub record SaysNothing (group : GroupValue) (old new : ServerValue R) : Type 0 where
     pub silent : (start : R) (given : List (Option (List ℕ))) → Gathers start given group old.replica
         → Says start given [] new.replica
-    pub own : new.own ≡ old.own
+    pub own_letters : new.own_letters ≡ old.own_letters
     pub sent : new.sent ≡ old.sent
     pub failures : new.socket_failures ≡ old.socket_failures
 
@@ -190,4 +190,4 @@ module _ {R : Type 0} (Says : Sayings R) (Gathers : Gatherings R) where
   DeliversAllLetters tells group old new =
       (start : ServerValue R) (given : List (Option (List ℕ))) → Gathers start.replica given group old.replica
       → start.sent ≡ old.sent → start.socket_failures ≡ old.socket_failures
-      → DeliversLetters Says tells given old.own start new
+      → DeliversLetters Says tells given old.own_letters start new

@@ -16,8 +16,8 @@ IsNoNodeMessage bytes = (m : Message) → Spells m bytes → (r : Request) × (m
 
 -- what is taken from a frame was sealed for this node by someone who has a key of the nodes, or it is no node's
 -- message
-abbrev pub IsToldByANode : Seals → List ℕ → Type 0
-IsToldByANode s frame = IsSealedBy (key_list s.nodes) (to_node s s.node) frame (heard s frame)
+abbrev pub IsFromANode : Seals → List ℕ → Type 0
+IsFromANode s frame = IsSealedBy (key_list s.nodes) (to_node s s.node) frame (heard s frame)
     ⊎ IsNoNodeMessage (heard s frame)
 
 -- what is taken from a frame is a request of the client under whose key it was sealed, or it spells nothing

@@ -21,7 +21,7 @@ pub record HandlesProbes {R : Type 0} (Shows : R → ProbedState → Type 0) (te
   pub learned : AddressBook
   pub learns : LearnsKept reported readmitted learned
   pub asks : AsksOne tells old.ticks old.node learned new.addresses
-      (send_state_at replied.own replied) (send_state_at new.own new)
+      (send_state_at replied.own_letters replied) (send_state_at new.own_letters new)
   pub network : IsSameNetwork old.addresses new.addresses
   pub still : tells → new.incoming ≡ old.incoming
   pub same : new ≡ record old {

@@ -42,7 +42,8 @@ pub record RepliesToProbe {R : Type 0} (Shows : R → ProbedState → Type 0) (t
   pub shows : Shows old.replica shown
   pub bytes : List ℕ
   pub reports : IsReportTo old.node old.addresses.seals.genesis old.ticks shown a.probe bytes
-  pub replies : Replies tells old.addresses.seals a bytes (send_state_at old.own old) (send_state_at new.own new)
+  pub replies : Replies tells old.addresses.seals a bytes (send_state_at old.own_letters old)
+      (send_state_at new.own_letters new)
   pub still : tells → new.incoming ≡ old.incoming
   pub same : new ≡ record old { sent = new.sent; socket_failures = new.socket_failures; incoming = new.incoming }
 

@@ -20,7 +20,7 @@ pub record ServerValue (R : Type 0) : Type 0 where
   pub pace : Pace
   pub replica : R
   -- the letters of the node to itself that it has not taken yet
-  pub own : List LetterValue
+  pub own_letters : List LetterValue
   -- from where others wrote, the hosts, the keys, and which genesis is known at which address
   pub addresses : AddressBook
   -- how many datagrams came, and how many ticks its replica was given
@@ -35,7 +35,7 @@ pub record ServerValue (R : Type 0) : Type 0 where
   pub incoming : List (SocketAddr × List ℕ)
 
 -- it serves as this node of this cluster, with this pace, these hosts and these keys
-pub record ServesAs {R : Type 0} (c n : ℕ) (p : Pace) (known : Network) (s : ServerValue R) : Type 0 where
+pub record IsConfiguredAs {R : Type 0} (c n : ℕ) (p : Pace) (known : Network) (s : ServerValue R) : Type 0 where
   pub cluster : s.cluster ≡ c
   pub node : s.node ≡ n
   pub pace : s.pace ≡ p
@@ -44,7 +44,7 @@ pub record ServesAs {R : Type 0} (c n : ℕ) (p : Pace) (known : Network) (s : S
 
 -- nobody has written to it yet, not even itself, and it has counted no tick
 pub record HasHeardNobody {R : Type 0} (s : ServerValue R) : Type 0 where
-  pub own : s.own ≡ []
+  pub own_letters : s.own_letters ≡ []
   pub received : s.received ≡ 0
   pub ticks : s.ticks ≡ 0
   pub clients : (c : ℕ) → IsClient c → client_at s.addresses c ≡ None
@@ -56,7 +56,7 @@ pub record Runs {R : Type 0} (r : R) (ended : Bool) (s : ServerValue R) : Type 0
   pub failed : s.failed ≡ ended
 
 -- it serves on a socket that has sent these datagrams, with this many failed sends and these datagrams to come
-pub record ServesOn {R : Type 0} (datagrams : List (SocketAddr × List ℕ)) (count : ℕ)
+pub record HasSocket {R : Type 0} (datagrams : List (SocketAddr × List ℕ)) (count : ℕ)
     (next : List (SocketAddr × List ℕ)) (s : ServerValue R) : Type 0 where
   pub sent : s.sent ≡ datagrams
   pub failures : s.socket_failures ≡ count
@@ -105,7 +105,8 @@ Given pace received (bytes ∷ more) given =
 
 -- the datagrams that a turn takes: letters of the node to itself, and what came from the socket
 abbrev pub datagrams_in : List LetterValue → List (SocketAddr × List ℕ) → List (List ℕ)
-datagrams_in own came = map (λ (l : LetterValue). l.bytes) own ++ map (λ (c : SocketAddr × List ℕ). c.1) came
+datagrams_in own_letters came =
+    map (λ (l : LetterValue). l.bytes) own_letters ++ map (λ (c : SocketAddr × List ℕ). c.1) came
 
 -- it is a prefix of the other list
 abbrev pub IsPrefix : {X : Type 0} → List X → List X → Type 0
@@ -127,26 +128,26 @@ pub record Grows (old new : List LetterValue) : Type 0 where
 
 -- what the letters may change, given the kept letters of the node to itself
 abbrev pub send_state_at : {R : Type 0} → List LetterValue → ServerValue R → SendState
-send_state_at own s = record { own = own; sent = s.sent; failures = s.socket_failures }
+send_state_at own_letters s = record { own_letters = own_letters; sent = s.sent; failures = s.socket_failures }
 
 -- the replica took exactly this input as one group and produced these letters; each was kept, sent to its destination,
 -- or lost by a failed send, in order, and nothing else was sent or kept. `own` are the earlier letters of the node to
 -- itself, without those that were taken
 pub record DeliversLetters {R : Type 0} (Says : R → List (Option (List ℕ)) → List LetterValue → R
     → Type 0) (tells : Type 0)
-    (given : List (Option (List ℕ))) (own : List LetterValue) (old new : ServerValue R) : Type 0 where
+    (given : List (Option (List ℕ))) (own_letters : List LetterValue) (old new : ServerValue R) : Type 0 where
   pub letters : List LetterValue
   pub says : Says old.replica given letters new.replica
-  pub kept : Grows own new.own
-  pub carried : CarriesAll (Becomes tells new.node new.addresses) (send_state_at own old) letters
-      (send_state_at new.own new)
+  pub kept : Grows own_letters new.own_letters
+  pub carried : CarriesAll (Becomes tells new.node new.addresses) (send_state_at own_letters old) letters
+      (send_state_at new.own_letters new)
 
 -- the replica took exactly this input and produced nothing: no letter was kept or sent. `stood` are the earlier
 -- letters of the node to itself
 pub record DeliversNothing {R : Type 0} (Says : R → List (Option (List ℕ)) → List LetterValue → R → Type 0)
     (given : List (Option (List ℕ))) (stood : List LetterValue) (old new : ServerValue R) : Type 0 where
   pub says : Says old.replica given [] new.replica
-  pub own : new.own ≡ stood
+  pub own_letters : new.own_letters ≡ stood
   pub sent : new.sent ≡ old.sent
   pub failures : new.socket_failures ≡ old.socket_failures
 
@@ -158,23 +159,23 @@ pub record DeliversNothing {R : Type 0} (Says : R → List (Option (List ℕ)) �
 -- come, if the socket tells that
 pub record HasReceived {R : Type 0} (tells : Type 0) (frames : List (SocketAddr × List ℕ))
     (old new : ServerValue R) : Type 0 where
-  pub alone : (old.own ≡ []) ⊎ (frames ≡ [])
+  pub alone : (old.own_letters ≡ []) ⊎ (frames ≡ [])
   pub few : length frames ≤ 64
   pub comes : tells → old.incoming ≡ frames ++ new.incoming
-  pub waited : tells → old.own ≡ [] → frames ≡ [] → old.incoming ≡ []
+  pub waited : tells → old.own_letters ≡ [] → frames ≡ [] → old.incoming ≡ []
 
 -- what may be taken of the socket: nothing where letters of the node to itself wait, at most 64 datagrams, and the
 -- first of what is to come if the socket tells that
-pub record TakesFirst {R : Type 0} (tells : Type 0) (came : List (SocketAddr × List ℕ))
+pub record LettersFirst {R : Type 0} (tells : Type 0) (came : List (SocketAddr × List ℕ))
     (old : ServerValue R) : Type 0 where
-  pub alone : (old.own ≡ []) ⊎ (came ≡ [])
+  pub alone : (old.own_letters ≡ []) ⊎ (came ≡ [])
   pub few : length came ≤ 64
-  pub comes : tells → old.own ≡ [] → IsPrefix came (all_filtered (filter_of old.addresses) old.incoming)
+  pub comes : tells → old.own_letters ≡ [] → IsPrefix came (all_filtered (filter_of old.addresses) old.incoming)
 
 -- so many letters of the node to itself are taken: at most 64, and at least one where some wait
-pub record TakesLetters (count : ℕ) (own : List LetterValue) : Type 0 where
+pub record TakesLetters (count : ℕ) (own_letters : List LetterValue) : Type 0 where
   pub at_most : count ≤ 64
-  pub some : count ≡ 0 → own ≡ []
+  pub some : count ≡ 0 → own_letters ≡ []
 
 -- it is the server of the same node, and its ticks go by the same
 pub record IsSameServer {R : Type 0} (old new : ServerValue R) : Type 0 where
@@ -187,11 +188,11 @@ pub record IsSameServer {R : Type 0} (old new : ServerValue R) : Type 0 where
 -- whoever sent what came was heard, and it goes on
 pub record Turn {R : Type 0} (Says : R → List (Option (List ℕ)) → List LetterValue → R → Type 0) (tells : Type 0)
     (came : List (SocketAddr × List ℕ)) (old new : ServerValue R) : Type 0 where
-  pub takes : TakesFirst tells came old
+  pub takes : LettersFirst tells came old
   pub given : List (Option (List ℕ))
-  pub may : Given old.pace old.received (datagrams_in (take 64 old.own) came) given
-  pub hands_on : DeliversLetters Says tells given (drop 64 old.own) old new
-  pub counted : new.received ≡ counted old.received (datagrams_in (take 64 old.own) came)
+  pub may : Given old.pace old.received (datagrams_in (take 64 old.own_letters) came) given
+  pub hands_on : DeliversLetters Says tells given (drop 64 old.own_letters) old new
+  pub counted : new.received ≡ counted old.received (datagrams_in (take 64 old.own_letters) came)
   pub ticks : new.ticks ≡ all_ticks old.ticks given
   pub heard : RecordsSenders old.cluster came old.addresses new.addresses
   pub same : IsSameServer old new
@@ -201,12 +202,12 @@ pub record Turn {R : Type 0} (Says : R → List (Option (List ℕ)) → List Let
 -- node to itself were taken, and the last datagram that arrived has ended it; nothing of the group is sent
 pub record LastTurn {R : Type 0} (Says : R → List (Option (List ℕ)) → List LetterValue → R → Type 0) (tells : Type 0)
     (came : List (SocketAddr × List ℕ)) (old new : ServerValue R) : Type 0 where
-  pub takes : TakesFirst tells came old
+  pub takes : LettersFirst tells came old
   pub count : ℕ
-  pub letters : TakesLetters count old.own
+  pub letters : TakesLetters count old.own_letters
   pub given : List (Option (List ℕ))
-  pub first : GivenPrefix old.pace old.received (datagrams_in (take count old.own) came) given
-  pub hands_on : DeliversLetters Says tells given (drop count old.own) old new
+  pub first : GivenPrefix old.pace old.received (datagrams_in (take count old.own_letters) came) given
+  pub hands_on : DeliversLetters Says tells given (drop count old.own_letters) old new
   pub silent : hands_on.letters ≡ []
   pub ticks : new.ticks ≡ all_ticks old.ticks given
   pub heard : RecordsSenders old.cluster came old.addresses new.addresses
@@ -218,7 +219,7 @@ pub record LastTurn {R : Type 0} (Says : R → List (Option (List ℕ)) → List
 -- these frames. By datagrams a turn in which no frame comes is never idle: it is a tick
 pub record IsIdle {R : Type 0} (tells : Type 0) (frames : List (SocketAddr × List ℕ))
     (old new : ServerValue R) : Type 0 where
-  pub own : old.own ≡ []
+  pub own_letters : old.own_letters ≡ []
   pub none : all_filtered (filter_of old.addresses) frames ≡ []
   pub clock : frames ≡ [] → old.pace ≡ Clock
   pub comes : tells → old.incoming ≡ frames ++ new.incoming

@@ -9,14 +9,15 @@ ghost use Rattle.std.specs.declared.net.socket_addr.SocketAddr.{SocketAddr as Ad
 ghost use Rattle.lk_node_interface.specs.Letters.{LetterValue};
 ghost use Rattle.lk_node.specs.Calls.{heard_by};
 ghost use Rattle.lk_served_replica.specs.Groups.{GathersMore, SaysNoMore};
-ghost use Rattle.lk_server.specs.Gatherings.{Finds, TakesAll, EndsWithin, TakesOwn, EndsOwn, TakesWaiting, TakesGroup};
+ghost use Rattle.lk_server.specs.Gatherings.{Finds, AddsAll, EndsWithin, AddsOwnLetters, EndsOwnLetters, AddsWaiting};
+ghost use Rattle.lk_server.specs.Gatherings.{AddsGroup};
 ghost use Rattle.lk_server.specs.Gatherings.{EndsGroup, ChangesAtDatagram, ChangesAtLetter, ChangesInGroup};
 ghost use Rattle.lk_transport.specs.Kept.{KeepsOf};
 ghost use Rattle.lk_server.specs.Servers.{HasReceived, IsIdle, one_more_tick};
 
 use crate::group_fault::GroupFault;
 use crate::server::Server;
-use crate::watching::{log_changes, log_served};
+use crate::watching::{log_catch_up, log_changes};
 use lk_node_interface::{Input, Letter};
 use lk_pacing::tick_timer::TickTimer;
 use lk_pacing::turn_input::TurnInput;
@@ -35,11 +36,11 @@ pub(crate) const FURTHER: u64 = 63;
 impl<R: ServedReplica, S: DatagramSocket + Drop> Server<R, S> {
     // Removes the first letter of the node to itself.
     fn next_letter(&mut self) -> Option<Letter>
-        ensures some { IfSome result (λ l. self.old.own ≡ l ∷ self.new.own) }
-        ensures none { IsNone result → (self.old.own ≡ []) × (self.new ≡ self.old) }
-        ensures others { self.new ≡ record self.old { own = self.new.own } }
+        ensures some { IfSome result (λ l. self.old.own_letters ≡ l ∷ self.new.own_letters) }
+        ensures none { IsNone result → (self.old.own_letters ≡ []) × (self.new ≡ self.old) }
+        ensures others { self.new ≡ record self.old { own_letters = self.new.own_letters } }
     {
-        self.post.next_own()
+        self.post.next_own_letter()
     }
 
     // Limits how long a receive waits for the next datagram; it may take up to 10 ms longer.
@@ -72,7 +73,7 @@ impl<R: ServedReplica, S: DatagramSocket + Drop> Server<R, S> {
         self.events.note_installed(came, &before, &after);
         self.table = self.table.after_step(&before, &after);
         log_changes(log, came, &before, &after);
-        log_served(log, came, group.letters().len().saturating_sub(said));
+        log_catch_up(log, came, group.letters().len().saturating_sub(said));
         match gathered {
             Ok(()) => Ok(()),
             Err(fault) => Err(GroupFault::of(&fault)),
@@ -103,7 +104,7 @@ impl<R: ServedReplica, S: DatagramSocket + Drop> Server<R, S> {
         group: &mut Group,
         log: &L,
     ) -> Result<(), GroupFault>
-        ensures takes { OnOk result (TakesAll R.Gathers (datagram.entry ∷ []) group.old group.new self.old self.new) }
+        ensures takes { OnOk result (AddsAll R.Gathers (datagram.entry ∷ []) group.old group.new self.old self.new) }
         ensures ends { OnErr result (EndsWithin R.Says R.Gathers (datagram.entry ∷ []) group.old self.old self.new) }
         ensures others { ChangesAtDatagram self.old self.new }
         ensures broken { OnErr result (self.new.failed ≡ true) }
@@ -119,12 +120,12 @@ impl<R: ServedReplica, S: DatagramSocket + Drop> Server<R, S> {
     // Adds the first letter of the node to itself to the group. Returns whether one was waiting.
     fn add_own_letter<L: Log>(&mut self, group: &mut Group, log: &L) -> Result<bool, GroupFault>
         ensures takes { IfOk result
-            (λ some. some ≡ true → (l : LetterValue) × (self.old.own ≡ l ∷ self.new.own)
-            × TakesAll R.Gathers (l.bytes ∷ []) group.old group.new self.old self.new) }
+            (λ some. some ≡ true → (l : LetterValue) × (self.old.own_letters ≡ l ∷ self.new.own_letters)
+            × AddsAll R.Gathers (l.bytes ∷ []) group.old group.new self.old self.new) }
         ensures none { IfOk result
-            (λ some. some ≡ false → (self.old.own ≡ []) × (self.new ≡ self.old) × (group.new ≡ group.old)) }
+            (λ some. some ≡ false → (self.old.own_letters ≡ []) × (self.new ≡ self.old) × (group.new ≡ group.old)) }
         ensures ends { OnErr result
-            ((l : LetterValue) × (self.old.own ≡ l ∷ self.new.own)
+            ((l : LetterValue) × (self.old.own_letters ≡ l ∷ self.new.own_letters)
             × EndsWithin R.Says R.Gathers (l.bytes ∷ []) group.old self.old self.new) }
         ensures others { ChangesAtLetter self.old self.new }
         ensures broken { OnErr result (self.new.failed ≡ true) }
@@ -133,15 +134,15 @@ impl<R: ServedReplica, S: DatagramSocket + Drop> Server<R, S> {
             return Ok(false);
         };
         let datagram = Datagram::of(&letter.bytes);
-        let came = Arrival::own(&datagram);
+        let came = Arrival::of_letter(&datagram);
         self.add_datagram(datagram, &came, group, log)?;
         Ok(true)
     }
 
     // Adds further letters of the node to itself to the group, in order, at most 63.
     fn add_own_letters<L: Log>(&mut self, group: &mut Group, log: &L) -> Result<(), GroupFault>
-        ensures takes { OnOk result (TakesOwn R.Gathers 63 group.old group.new self.old self.new) }
-        ensures ends { OnErr result (EndsOwn R.Says R.Gathers 63 group.old self.old self.new) }
+        ensures takes { OnOk result (AddsOwnLetters R.Gathers 63 group.old group.new self.old self.new) }
+        ensures ends { OnErr result (EndsOwnLetters R.Says R.Gathers 63 group.old self.old self.new) }
         ensures others { ChangesAtLetter self.old self.new }
         ensures broken { OnErr result (self.new.failed ≡ true) }
     {
@@ -166,11 +167,11 @@ impl<R: ServedReplica, S: DatagramSocket + Drop> Server<R, S> {
         ensures takes { IfOk result
             (λ found. found ≡ TurnInput.Something
             → (frames : List (Address × List ℕ))
-            × TakesWaiting R.Gathers S.is_observable frames group.old group.new self.old self.new
+            × AddsWaiting R.Gathers S.is_observable frames group.old group.new self.old self.new
             × KeepsOf self.old.node self.old.addresses.seals frames buffer.old buffer.new) }
         ensures none { IfOk result
             (λ found. (found ≡ TurnInput.Something → ⊥)
-            → (self.old.own ≡ []) × (frames : List (Address × List ℕ))
+            → (self.old.own_letters ≡ []) × (frames : List (Address × List ℕ))
             × Finds S.is_observable found frames self.old self.new × (group.new ≡ group.old)
             × KeepsOf self.old.node self.old.addresses.seals frames buffer.old buffer.new) }
         ensures ends { OnErr result
@@ -197,7 +198,7 @@ impl<R: ServedReplica, S: DatagramSocket + Drop> Server<R, S> {
     ) -> Result<bool, GroupFault>
         ensures takes { IfOk result
             (λ some. some ≡ true → (frames : List (Address × List ℕ))
-            × TakesGroup R.Gathers S.is_observable frames group.old group.new self.old self.new
+            × AddsGroup R.Gathers S.is_observable frames group.old group.new self.old self.new
             × KeepsOf self.old.node self.old.addresses.seals frames buffer.old buffer.new) }
         ensures idle { IfOk result
             (λ some. some ≡ false → (frames : List (Address × List ℕ))

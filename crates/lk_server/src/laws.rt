@@ -8,13 +8,13 @@ ghost use Rattle.lk_node.specs.NodeValue.{NodeValue};
 ghost use Rattle.lk_node.specs.Steps.{IsForeign};
 ghost use Rattle.lk_transport.specs.Askers.{BringsProbe};
 ghost use Rattle.lk_transport.specs.declared.received_probe.ReceivedProbe.{ReceivedProbe};
-ghost use Rattle.lk_server.specs.Premises.{IsToldByANode, IsToldOrAsked, IsProbedByANode, IsProbedByWhomItNames};
+ghost use Rattle.lk_server.specs.Premises.{IsFromANode, IsToldOrAsked, IsProbedByANode, IsProbedByWhomItNames};
 ghost use Rattle.lk_server.specs.Premises.{IsUnsealed};
 
 /// If the nodes have a key, whatever a server takes from a frame was sealed for this node by someone who has one of
 /// the nodes' keys, or it is no node's message: it is a client's request, or it does not parse.
 pub fn is_told_by_a_node()
-    ensures { (s : Seals) (frame : List ℕ) → key_list s.nodes ≢ [] → IsToldByANode s frame }
+    ensures { (s : Seals) (frame : List ℕ) → key_list s.nodes ≢ [] → IsFromANode s frame }
 {}
 
 /// If nodes and clients have keys, a request that a server takes from a frame was sealed by someone who has the key of

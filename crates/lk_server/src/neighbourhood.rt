@@ -87,7 +87,7 @@ impl<R: ServedReplica, S: DatagramSocket + Drop> Server<R, S> {
     // Probes one address for the genesis of its node, if that is due at this count of ticks. A failed send is counted.
     pub(crate) fn probe_next(&mut self, now: u64)
         ensures asks { AsksOne S.is_observable now self.old.node self.old.addresses self.new.addresses
-            (send_state_at self.old.own self.old) (send_state_at self.new.own self.new) }
+            (send_state_at self.old.own_letters self.old) (send_state_at self.new.own_letters self.new) }
         ensures network { IsSameNetwork self.old.addresses self.new.addresses }
         ensures still { S.is_observable → self.new.incoming ≡ self.old.incoming }
         ensures others { self.new

@@ -9,7 +9,7 @@ ghost use Rattle.lk_transport.specs.Kept.{KeepsOf};
 ghost use Rattle.lk_served_replica.specs.Refusals.{IsOfGroups};
 ghost use Rattle.lk_server.specs.Servers.{DeliversLetters, DeliversNothing, HasHeardNobody, HasReceived, IsSameServer};
 ghost use Rattle.lk_server.specs.Servers.{LastTurn};
-ghost use Rattle.lk_server.specs.Servers.{Runs, ServesAs, ServesOn, TakesTurn, Turn, one_more_tick};
+ghost use Rattle.lk_server.specs.Servers.{Runs, IsConfiguredAs, HasSocket, TakesTurn, Turn, one_more_tick};
 
 use crate::group_fault::GroupFault;
 use crate::ignored::IgnoredCounts;
@@ -69,7 +69,7 @@ impl<R: ServedReplica, S: DatagramSocket + Drop> Model for Server<R, S> {
       node = s.post.node;
       pace = s.pace;
       replica = s.replica;
-      own = s.post.own;
+      own_letters = s.post.own_letters;
       addresses = s.post.addresses;
       received = s.received;
       ticks = s.ticks;
@@ -91,9 +91,9 @@ impl<R: ServedReplica, S: DatagramSocket + Drop> Server<R, S> {
         replica: R,
         socket: S,
     ) -> Server<R, S>
-        ensures node { ServesAs cluster node pace network result }
+        ensures node { IsConfiguredAs cluster node pace network result }
         ensures replica { Runs replica (R.failed replica) result }
-        ensures socket { ServesOn (S.sent socket) (S.failures socket) (S.incoming socket) result }
+        ensures socket { HasSocket (S.sent socket) (S.failures socket) (S.incoming socket) result }
         ensures unheard { HasHeardNobody result }
     {
         Server {
@@ -218,8 +218,8 @@ impl<R: ServedReplica, S: DatagramSocket + Drop> Server<R, S> {
         // The replica took a tick and nothing else. Each of its letters was sent, kept, lost by a failed send, or
         // dropped since no address is known for it, and nothing else was sent.
         ensures hands_on { OnOk result (DeliversLetters R.Says S.is_observable
-            (None ∷ []) self.old.own self.old self.new) }
-        ensures ends { OnErr result (DeliversNothing R.Says (None ∷ []) self.old.own self.old self.new) }
+            (None ∷ []) self.old.own_letters self.old self.new) }
+        ensures ends { OnErr result (DeliversNothing R.Says (None ∷ []) self.old.own_letters self.old self.new) }
         ensures addresses { self.new.addresses ≡ self.old.addresses }
         ensures same { IsSameServer self.old self.new }
         ensures received { self.new.received ≡ self.old.received }
@@ -235,7 +235,7 @@ impl<R: ServedReplica, S: DatagramSocket + Drop> Server<R, S> {
     /// Takes what is waiting as one group: the first letters of the node to itself, or else what arrives at the socket.
     /// Returns whether its replica was given anything. Unlike `node_turn` it reads no clock, and adds no tick for time
     /// that has passed.
-    pub fn serve_next<L: Log>(
+    pub fn take_waiting<L: Log>(
         &mut self,
         buffer: &mut ReceiveBuffer,
         log: &L,
@@ -249,7 +249,8 @@ impl<R: ServedReplica, S: DatagramSocket + Drop> Server<R, S> {
             ((frames : List (Address × List ℕ)) × HasReceived S.is_observable frames self.old self.new
             × LastTurn R.Says S.is_observable (all_filtered (filter_of self.old.addresses) frames) self.old self.new) }
         ensures none { IfOk result
-            (λ came. came ≡ false → (self.old.own ≡ []) × (found : TurnInput) × (frames : List (Address × List ℕ))
+            (λ came. came ≡ false → (self.old.own_letters ≡ [])
+            × (found : TurnInput) × (frames : List (Address × List ℕ))
             × Finds S.is_observable found frames self.old self.new
             × KeepsOf self.old.node self.old.addresses.seals frames buffer.old buffer.new) }
         // Where nodes live and the keys do not change.

@@ -7,7 +7,7 @@ ghost use Rattle.std.specs.Prelude.{◌≡◌, ◌≤◌, ◌++◌, ℕ, List, �
 ghost use Rattle.std.specs.Prelude.{IfOk};
 ghost use Rattle.std.specs.declared.net.socket_addr.SocketAddr.{SocketAddr as Address};
 ghost use Rattle.lk_transport.specs.Addresses.{filter_of, IsSameFilter};
-ghost use Rattle.lk_server.specs.Gatherings.{Finds, TakesHeard, EndsHeard, TakesSocket, EndsSocket, TakesWaiting};
+ghost use Rattle.lk_server.specs.Gatherings.{Finds, AddsHeard, EndsHeard, AddsFromSocket, EndsSocket, AddsWaiting};
 ghost use Rattle.lk_server.specs.Gatherings.{EndsGroup, ChangesAtFrame, ChangesAtSocket};
 ghost use Rattle.lk_transport.specs.ReceiveBuffers.{listed};
 ghost use Rattle.lk_transport.specs.Posts.{RecordsSender, is_filtered_out};
@@ -98,7 +98,7 @@ impl<R: ServedReplica, S: DatagramSocket + Drop> Server<R, S> {
             (λ found. found ≡ TurnInput.Something
             → (frame : Address × List ℕ) × (buffer.old.last ≡ Some frame)
             × (is_filtered_out (filter_of self.old.addresses) frame ≡ false)
-            × TakesHeard R.Gathers (frame ∷ []) group.old group.new self.old self.new) }
+            × AddsHeard R.Gathers (frame ∷ []) group.old group.new self.old self.new) }
         ensures beside { IfOk result
             (λ found. found ≡ TurnInput.Filtered
             → (frame : Address × List ℕ) × (buffer.old.last ≡ Some frame)
@@ -150,7 +150,7 @@ impl<R: ServedReplica, S: DatagramSocket + Drop> Server<R, S> {
         ensures takes { IfOk result
             (λ found. found ≡ TurnInput.Something
             → (frame : Address × List ℕ) × (is_filtered_out (filter_of self.old.addresses) frame ≡ false)
-            × TakesSocket R.Gathers S.is_observable (frame ∷ []) group.old group.new self.old self.new
+            × AddsFromSocket R.Gathers S.is_observable (frame ∷ []) group.old group.new self.old self.new
             × KeepsOf self.old.node self.old.addresses.seals (frame ∷ []) buffer.old buffer.new) }
         ensures none { IfOk result
             (λ found. (found ≡ TurnInput.Something → ⊥)
@@ -177,7 +177,7 @@ impl<R: ServedReplica, S: DatagramSocket + Drop> Server<R, S> {
     ) -> Result<bool, GroupFault>
         ensures takes { IfOk result
             (λ came. came ≡ true → (frame : Address × List ℕ)
-            × TakesSocket R.Gathers S.is_observable (frame ∷ []) group.old group.new self.old self.new
+            × AddsFromSocket R.Gathers S.is_observable (frame ∷ []) group.old group.new self.old self.new
             × KeepsOf self.old.node self.old.addresses.seals (frame ∷ []) buffer.old buffer.new) }
         ensures none { IfOk result
             (λ came. came ≡ false → (S.is_observable → self.new.incoming ≡ self.old.incoming)
@@ -211,7 +211,7 @@ impl<R: ServedReplica, S: DatagramSocket + Drop> Server<R, S> {
     ) -> Result<(), GroupFault>
         ensures takes { OnOk result
             ((frames : List (Address × List ℕ)) × (length frames ≤ 63)
-            × TakesSocket R.Gathers S.is_observable frames group.old group.new self.old self.new
+            × AddsFromSocket R.Gathers S.is_observable frames group.old group.new self.old self.new
             × KeepsOf self.old.node self.old.addresses.seals frames buffer.old buffer.new) }
         ensures ends { OnErr result
             ((frames : List (Address × List ℕ)) × (length frames ≤ 63)
@@ -235,15 +235,15 @@ impl<R: ServedReplica, S: DatagramSocket + Drop> Server<R, S> {
         group: &mut Group,
         log: &L,
     ) -> Result<TurnInput, GroupFault>
-        requires { self.old.own ≡ [] }
+        requires { self.old.own_letters ≡ [] }
         ensures takes { IfOk result
             (λ found. found ≡ TurnInput.Something
             → (frames : List (Address × List ℕ))
-            × TakesWaiting R.Gathers S.is_observable frames group.old group.new self.old self.new
+            × AddsWaiting R.Gathers S.is_observable frames group.old group.new self.old self.new
             × KeepsOf self.old.node self.old.addresses.seals frames buffer.old buffer.new) }
         ensures none { IfOk result
             (λ found. (found ≡ TurnInput.Something → ⊥)
-            → (self.old.own ≡ []) × (frames : List (Address × List ℕ))
+            → (self.old.own_letters ≡ []) × (frames : List (Address × List ℕ))
             × Finds S.is_observable found frames self.old self.new × (group.new ≡ group.old)
             × KeepsOf self.old.node self.old.addresses.seals frames buffer.old buffer.new) }
         ensures ends { OnErr result

@@ -76,7 +76,7 @@ fn log_known<L: Log>(log: &L, before: Option<NodeNo>, after: Option<NodeNo>) {
 
 // Logs a compaction of the store, and an installed snapshot of another node.
 fn log_store<L: Log>(log: &L, before: &ReplicaStatus, after: &ReplicaStatus) {
-    // an installed snapshot raises the generation too, without a compaction
+    // an installed snapshot adds one to the generation too, without a compaction
     let rebases = after.generation.saturating_sub(before.generation);
     let is_installed = after.snapshot.get() > before.executed.get();
     if rebases > u64::from(is_installed) {
@@ -95,7 +95,7 @@ pub fn log_changes<L: Log>(log: &L, came: &Arrival, before: &ReplicaStatus, afte
 }
 
 /// Logs how many datagrams the replica produced at another node's Want, if that is what came.
-pub fn log_served<L: Log>(log: &L, came: &Arrival, said: usize) {
+pub fn log_catch_up<L: Log>(log: &L, came: &Arrival, said: usize) {
     if let Arrival::Want(node) = came {
         debug!(log; "datagrams for the Want of node {}: {said}", node.get());
     }

@@ -19,7 +19,7 @@ use Rattle.lk_agreement_laws.proofs.Histories.{asked_fits}
 use Rattle.lk_node_interface.specs.declared.note.Note.{Note}
 use Rattle.lk_node_interface.specs.declared.note.Note.TheVariants as note
 use Rattle.lk_node.specs.Histories.{History, Genesis, Datagram, RequestValue}
-use Rattle.lk_node.specs.Served.{BearsOut}
+use Rattle.lk_node.specs.BorneOut.{BearsOut}
 use Rattle.lk_node.specs.Holdings.{Holding}
 use Rattle.lk_node.specs.Leavings.{DisksFit}
 use Rattle.lk_sim_nodes.specs.Told.{NotesReplies}

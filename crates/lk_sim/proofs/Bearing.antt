@@ -8,14 +8,14 @@ use Rattle.lk_messages.specs.Values.{PartValue}
 use Rattle.lk_members.proofs.Memberships.{members_stay}
 use Rattle.lk_state.specs.Meanings.{Meaning}
 use Rattle.lk_state.proofs.Wholes.{replies_stay}
-use Rattle.lk_agreement_laws.specs.Chosen.{command_at, Chosen, IsBeginning}
+use Rattle.lk_agreement_laws.specs.Chosen.{command_at, Chosen, IsPrefix}
 use Rattle.lk_agreement_laws.specs.Soundness.{Sound}
 use Rattle.lk_agreement_laws.proofs.Histories.{chosen_agree}
 use Rattle.lk_agreement_laws.proofs.Histories.{cons_cases, contains_more}
 use Rattle.lk_node_interface.specs.declared.note.Note.{Note}
 use Rattle.lk_node_interface.specs.declared.note.Note.TheVariants as note
 use Rattle.lk_node.specs.Histories.{History, Genesis, Datagram, Command}
-use Rattle.lk_node.specs.Served.{text, BearsOut, BearsOutPart, BearsOutMessage}
+use Rattle.lk_node.specs.BorneOut.{text, BearsOut, BearsOutPart, BearsOutMessage}
 
 get_front : {X : Type 0} (xs ys : List X) (k : ℕ) (v : X) → slice_get xs k ≡ Some v → slice_get (xs ++ ys) k ≡ Some v
 get_front [] ys k v h = absurd cc
@@ -63,17 +63,17 @@ message_longer m h L rest (kinds.Elsewhere e) b = b
 message_longer m h L rest (kinds.Lead c e) b = b
 
 pub begins_all : {X : Type 0} (Bears : List Command → X → Type 0)
-    → ((L rest : List Command) (x : X) → Bears L x → Bears (L ++ rest) x) → (L M : List Command) → IsBeginning L M
+    → ((L rest : List Command) (x : X) → Bears L x → Bears (L ++ rest) x) → (L M : List Command) → IsPrefix L M
     → (x : X) → Bears L x → Bears M x
 begins_all Bears longer L M b x is = subst (λ l. Bears l x) b.1 (longer L b.0 x is)
 
-begins_on : (L M N : List Command) → IsBeginning L M → IsBeginning M N → IsBeginning L N
+begins_on : (L M N : List Command) → IsPrefix L M → IsPrefix M N → IsPrefix L N
 begins_on L M N b c = (b.0 ++ c.0, sym (append_assoc L b.0 c.0) ∙ ap (λ l. l ++ c.0) b.1 ∙ c.1)
 
 -- of things that are each borne out by some chosen list all are borne out by one, which goes on a given one
 module _ (genesis : Genesis) (sent : List Datagram) (sound : Sound genesis sent) where
   longest : (L K : List Command) → Chosen genesis sent L → Chosen genesis sent K
-      → (M : List Command) × Chosen genesis sent M × IsBeginning L M × IsBeginning K M
+      → (M : List Command) × Chosen genesis sent M × IsPrefix L M × IsPrefix K M
   longest L K l k = elim (chosen_agree genesis sent sound L K l k) [
     | inl b ↦ (K, k, b, ([], append-nil K))
     | inr b ↦ (L, l, ([], append-nil L), b)
@@ -83,7 +83,7 @@ module _ (genesis : Genesis) (sent : List Datagram) (sound : Sound genesis sent)
       → ((L rest : List Command) (x : X) → Bears L x → Bears (L ++ rest) x)
       → (xs : List X) → ((x : X) → Contains xs x → (K : List Command) × Chosen genesis sent K × Bears K x)
       → (L : List Command) → Chosen genesis sent L
-      → (M : List Command) × Chosen genesis sent M × IsBeginning L M × ((x : X) → Contains xs x → Bears M x)
+      → (M : List Command) × Chosen genesis sent M × IsPrefix L M × ((x : X) → Contains xs x → Bears M x)
   all_borne Bears longer [] each L l = (L, l, ([], append-nil L), λ x c. absurd (omega (arith, c.1)))
   all_borne Bears longer (y ∷ ys) each L l =
       let k = each y (0, omega arith, refl) in

@@ -18,7 +18,7 @@ use Rattle.lk_sim_nodes.specs.Seats.{At, SeatFits, SeatGoes, stopped_on, fallen_
 use Rattle.lk_replica.specs.Behaviours.{Behaviour, TrapsAlone, disks_by}
 use Rattle.lk_sim_nodes.specs.Ends.{Breaks, StaysDown, FailsToCompact, IsToldEnd, end_by, end_at}
 use Rattle.lk_sim_nodes.specs.Sends.{stop_among, after_sends}
-use Rattle.lk_sim.specs.Events.{AreOwn, Adds, EndsByFault, Comes, IsGiven, IsBack, ComesUp, GoesOnCompacted}
+use Rattle.lk_sim.specs.Events.{AreOfNodes, Adds, EndsByFault, Comes, IsGiven, IsBack, ComesUp, GoesOnCompacted}
 use Rattle.lk_sim.specs.Events.{IsCompacted}
 use Rattle.lk_sim.specs.Events.{IsHalted, LeftBy, LeftByRevival}
 use Rattle.lk_sim_nodes.specs.Outcomes.{HasEndedByFault, HasTaken, HasRevived, HasCompacted, HasStoppedOutOfMemory}
@@ -73,39 +73,39 @@ module _ {R : Type 0} (b : Behaviour R) (old new : Scene R) where
 
   -- a node that went on, up to an armed stop at a send if there was one
   went : (r : R) (t next : Seat R) (o : Option (List ℕ)) (asked mine told : List Note) (batch : List Datagram)
-      (how : Option End) (stop : Option ℕ) → (k : HasTaken b r o t mine batch how stop) → AreOwn mine
+      (how : Option End) (stop : Option ℕ) → (k : HasTaken b r o t mine batch how stop) → AreOfNodes mine
       → Adds old new ((asked ++ mine) ++ told) batch → NotesReplies batch told → new.ended ≡ how
       → next.number ≡ t.number
       → Rests b stop t next → Comes b old new r next o asked
-  went r t next o asked mine told batch how None k own adds tells ended number rests = inl (record {
+  went r t next o asked mine told batch how None k of_nodes adds tells ended number rests = inl (record {
     replica = k.replica;
     notes = mine;
     told = told;
     batch = batch;
     takes = subst (λ l. b.Takes r o k.replica (Ok (mine, l))) (sym k.sends.2) k.takes;
     calls = k.calls;
-    passes = k.passes;
+    calls_succeed = k.calls_succeed;
     no_stop = subst (λ l. stop_among (b.memory k.replica).meter.trap (length l) ≡ None) (sym k.sends.2) k.sends.0;
     up = ap (λ (z : Seat R). z.life) rests ∙ k.up
         ∙ ap Up (k.sends.1 ∙ ap (λ l. after_sends b (length l) k.replica) (sym k.sends.2));
-    own = own;
+    of_nodes = of_nodes;
     tells = tells;
     adds = adds;
     ended = ended ∙ k.ended;
   })
-  went r t next o asked mine told batch how (Some bytes) k own adds tells ended number rests = inr (inl (record {
+  went r t next o asked mine told batch how (Some bytes) k of_nodes adds tells ended number rests = inr (inl (record {
     replica = k.replica;
     notes = mine;
     told = told;
     batch = k.all;
     takes = k.takes;
     calls = k.calls;
-    passes = k.passes;
+    calls_succeed = k.calls_succeed;
     sends = k.sends.0;
     bytes = bytes;
     stop = k.sends.1;
     down = rests ∙ ap (λ (z : Life R). Down (stopped_on bytes bytes (device_in b z))) (k.up ∙ ap Up k.sends.2);
-    own = own;
+    of_nodes = of_nodes;
     tells = subst (λ l. NotesReplies l told) k.sends.3 tells;
     adds = subst (λ l. Adds old new ((asked ++ mine) ++ told) l) k.sends.3 adds;
     ended = ended ∙ k.ended ∙ ap (λ z. end_at (Some bytes) z) (sym number);
@@ -114,20 +114,22 @@ module _ {R : Type 0} (b : Behaviour R) (old new : Scene R) where
   -- a node that was given something
   pub given : (Shows : R → Genesis → ℕ → Holding → Type 0) (m : Meaning) (i n : ℕ) (s t : Seat R) (r : R)
       (o : Option (List ℕ)) (asked mine : List Note) (batch : List Datagram) (how : Option End) (stop : Option ℕ)
-      → At old.seats i s → s.number ≡ n → s.life ≡ Up r → t.number ≡ s.number → ((q : R) → t.life ≡ Up q → AreOwn mine)
+      → At old.seats i s → s.number ≡ n → s.life ≡ Up r → t.number ≡ s.number
+      → ((q : R) → t.life ≡ Up q → AreOfNodes mine)
       → HasConcluded Shows b m (record old { seats = set old.seats i t }) i new asked mine batch how stop
       → IsToldEnd how
       → HasTaken b r o t mine batch how stop ⊎ HasEndedByFault (Breaks b r o) t mine batch how stop
       → IsGiven b old new n o asked
-  given Shows m i n s t r o asked mine batch how stop at is up number own k tellable cases = record {
+  given Shows m i n s t r o asked mine batch how stop at is up number of_nodes k tellable cases = record {
     seat = s;
     number = is;
     replica = r;
     up = up;
     next = k.next;
-    turns = record { index = i; at = at; number = on ∙ number; seats = k.seats ∙ set_twice old.seats i t k.next };
+    replaces = record { index = i; at = at; number = on ∙ number; seats = k.seats ∙ set_twice old.seats i t k.next };
     comes_to = elim cases [
-      | inl q ↦ went r t k.next o asked mine k.told batch how stop q (own q.after q.up) adds k.tells k.ended on rests
+      | inl q ↦ went r t k.next o asked mine k.told batch how stop q
+          (of_nodes q.after q.up) adds k.tells k.ended on rests
       | inr f ↦ inr (inr (falls
           (Breaks b r o) t k.next asked mine k.told batch how stop adds k.tells k.ended on rests tellable f))
     ];
@@ -147,19 +149,19 @@ module _ {R : Type 0} (b : Behaviour R) (old new : Scene R) where
 
   pub comes : (t next : Seat R) (d : Memory) (n : ℕ) (mine told : List Note) (batch : List Datagram)
       (how : Option End) (stop : Option ℕ)
-      → t.number ≡ n → next.number ≡ t.number → Rests b stop t next → ((q : R) → t.life ≡ Up q → AreOwn mine)
+      → t.number ≡ n → next.number ≡ t.number → Rests b stop t next → ((q : R) → t.life ≡ Up q → AreOfNodes mine)
       → Adds old new (([] ++ mine) ++ told) batch → NotesReplies batch told → new.ended ≡ how → IsToldEnd how
       → HasRevived b d (header_of old.genesis n) t mine batch how stop
       ⊎ HasEndedByFault (StaysDown b d (header_of old.genesis n)) t mine batch how stop → ComesUp b old new next d
-  comes t next d n mine told batch how stop number on rests own a tells ended tellable cases = elim cases [
+  comes t next d n mine told batch how stop number on rests of_nodes a tells ended tellable cases = elim cases [
     | inl k ↦ inl (record {
       replica = k.replica;
       up = ap (λ (z : Seat R). z.life) (subst (λ z. Rests b z t next) k.no_stop rests) ∙ k.up;
       notes = mine;
       revives = subst (λ z. b.Revives d (header_of old.genesis z) (Ok (k.replica, mine))) (sym (on ∙ number)) k.revives;
       calls = k.calls;
-      passes = k.passes;
-      own = own k.replica k.up;
+      calls_succeed = k.calls_succeed;
+      of_nodes = of_nodes k.replica k.up;
       adds = record {
         genesis = a.genesis;
         sent = a.sent ∙ ap (λ l. old.sent ++ l) k.no_batch;
@@ -177,11 +179,11 @@ module _ {R : Type 0} (b : Behaviour R) (old new : Scene R) where
   pub back : (Shows : R → Genesis → ℕ → Holding → Type 0) (m : Meaning) (i n : ℕ) (s t : Seat R) (d : Memory)
       (mine : List Note) (batch : List Datagram) (how : Option End) (stop : Option ℕ)
       → At old.seats i s → s.number ≡ n → s.life ≡ Down d → t.number ≡ s.number
-      → ((q : R) → t.life ≡ Up q → AreOwn mine)
+      → ((q : R) → t.life ≡ Up q → AreOfNodes mine)
       → HasConcluded Shows b m (record old { seats = set old.seats i t }) i new [] mine batch how stop → IsToldEnd how
       → HasRevived b d (header_of old.genesis s.number) t mine batch how stop
       ⊎ HasEndedByFault (StaysDown b d (header_of old.genesis s.number)) t mine batch how stop → IsBack b old new n
-  back Shows m i n s t d mine batch how stop at is down number own k tellable cases =
+  back Shows m i n s t d mine batch how stop at is down number of_nodes k tellable cases =
       let same : k.seat ≡ t = at_same (set old.seats i t) i k.seat t k.at (at_set_here old.seats i t at.0) in
       let on : k.next.number ≡ t.number = k.number ∙ ap (λ (z : Seat R). z.number) same in
       record {
@@ -190,9 +192,15 @@ module _ {R : Type 0} (b : Behaviour R) (old new : Scene R) where
         device = d;
         down = down;
         next = k.next;
-        turns = record { index = i; at = at; number = on ∙ number; seats = k.seats ∙ set_twice old.seats i t k.next };
+        replaces = record {
+          index = i;
+          at = at;
+          number = on ∙ number;
+          seats = k.seats
+              ∙ set_twice old.seats i t k.next;
+        };
         comes = comes t k.next d s.number mine k.told batch how stop number on
-            (subst (λ z. Rests b stop z k.next) same k.rests) own
+            (subst (λ z. Rests b stop z k.next) same k.rests) of_nodes
             (record { genesis = k.adds.genesis; sent = k.adds.sent; trace = k.adds.trace })
             k.tells k.ended tellable cases;
       }
@@ -207,7 +215,7 @@ module _ {R : Type 0} (b : Behaviour R) (old new : Scene R) where
     | inl k ↦ inl (record {
       replica = k.replica;
       compacts = k.compacts;
-      passes = k.passes;
+      calls_succeed = k.calls_succeed;
       up = ap (λ (z : Seat R). z.life) (subst (λ z. Rests b z t next) k.no_stop rests) ∙ k.up;
       adds = record {
         genesis = a.genesis;
@@ -236,7 +244,13 @@ module _ {R : Type 0} (b : Behaviour R) (old new : Scene R) where
         replica = r;
         up = up;
         next = k.next;
-        turns = record { index = i; at = at; number = on ∙ number; seats = k.seats ∙ set_twice old.seats i t k.next };
+        replaces = record {
+          index = i;
+          at = at;
+          number = on ∙ number;
+          seats = k.seats
+              ∙ set_twice old.seats i t k.next;
+        };
         comes_to = packs t k.next r mine k.told batch how stop on (subst (λ z. Rests b stop z k.next) same k.rests)
             (record { genesis = k.adds.genesis; sent = k.adds.sent; trace = k.adds.trace })
             k.tells k.ended tellable cases;
@@ -253,7 +267,7 @@ module _ {R : Type 0} (b : Behaviour R) (old new : Scene R) where
         seat = s;
         number = is;
         next = k.next;
-        turns = record {
+        replaces = record {
           index = i;
           at = at;
           number = k.number ∙ ap (λ (z : Seat R). z.number) same ∙ number;
@@ -322,7 +336,7 @@ module _ {R : Type 0} (old : Scene R) (Left : Life R → Memory → Type 0) (End
     seat = s;
     number = is;
     next = t;
-    turns = record { index = i; at = at; number = number; seats = refl };
+    replaces = record { index = i; at = at; number = number; seats = refl };
     device = k.left;
     left = left;
     down = k.down;

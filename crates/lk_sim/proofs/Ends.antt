@@ -51,7 +51,8 @@ module _ {R : Type 0} (b : Behaviour R) where
   brings_told old new (event.Compact n) k = elim k.comes_to [ inl p ↦ nothing_told new p.ended | inr f ↦ f.told ]
   brings_told old new (event.Client n r) k = nothing_told new k.ended
   brings_told old new (event.Deliver i) k = given_told old new k.node (Some k.datagram.bytes) [] k.given
-  brings_told old new (event.Group n turns) k = together_told old new n (map (given_by old.sent) turns.items) k
+  brings_told old new (event.Group n group_inputs) k = together_told old new n (map
+      (given_by old.sent) group_inputs.items) k
   brings_told old new (event.Inject n bytes) k = given_told old new n (Some bytes.items) (asked_note k.request) k.given
   brings_told old new (event.Stop n x y) k = nothing_told new k.ended
   brings_told old new (event.FailAt n count) k = nothing_told new k.ended
@@ -71,7 +72,7 @@ module _ {R : Type 0} (b : Behaviour R) where
   wants_told old new (event.Client m r) k told = same_told old new k told
   wants_told old new (event.Deliver i) k told =
       elim k [ inl same ↦ same_told old new same told | inr h ↦ told_as new.ended old.ended h.4.ended told ]
-  wants_told old new (event.Group m turns) k told =
+  wants_told old new (event.Group m group_inputs) k told =
       elim k [ inl same ↦ same_told old new same.0 told | inr h ↦ told_as new.ended old.ended h.ended told ]
   wants_told old new (event.Inject m bytes) k told =
       elim k [ inl same ↦ same_told old new same.0 told | inr h ↦ told_as new.ended old.ended h.ended told ]
@@ -97,4 +98,5 @@ module _ {R : Type 0} (b : Behaviour R) where
   pub run_told : (old new : Scene R) (es : List Event) (how : RunEnd) → Runs b old es how new
       → IsToldEnd old.ended → IsToldEnd new.ended
   run_told old new es how k told =
-      stops_told es how.done how.refused k.last new k.stops (passes_told (take how.done es) old k.last k.passes told)
+      stops_told es how.done how.refused k.last new k.stops (passes_told
+      (take how.done es) old k.last k.are_executed told)

@@ -8,7 +8,7 @@ use Rattle.lk_disk.specs.declared.device.Side.{Side}
 use Rattle.lk_messages.specs.declared.message.NodeMessage.TheVariants as kinds
 use Rattle.lk_state.specs.Meanings.{Meaning}
 use Rattle.lk_state.specs.States.{WholeValue, SumsUp}
-use Rattle.lk_agreement_laws.specs.Chosen.{command_at, Chosen, ChosenAt, IsBeginning}
+use Rattle.lk_agreement_laws.specs.Chosen.{command_at, Chosen, ChosenAt, IsPrefix}
 use Rattle.lk_agreement_laws.specs.Snapshots.{IsSlice}
 use Rattle.lk_agreement_laws.specs.Soundness.{Sound}
 use Rattle.lk_agreement_laws.proofs.Histories.{entry_chosen, one_chosen, chosen_agree, chosen_was_accepted}
@@ -61,7 +61,7 @@ module _ {R : Type 0} (Shows : R → Genesis → ℕ → Holding → Type 0) (di
         (beginning_slice genesis sent (text m genesis) w.list p.position p.offset p.bytes w.chosen b.reaches b.slice);
   }
 
-  pub agree : (L K : List Command) → Chosen genesis sent L → Chosen genesis sent K → IsBeginning L K ⊎ IsBeginning K L
+  pub agree : (L K : List Command) → Chosen genesis sent L → Chosen genesis sent K → IsPrefix L K ⊎ IsPrefix K L
   agree L K l k = chosen_agree genesis sent sound L K l k
 
   -- what is chosen was asked

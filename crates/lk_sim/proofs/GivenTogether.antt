@@ -21,7 +21,7 @@ use Rattle.lk_replica.specs.Together.{Said, sent_of, parts_of, EachLeavesFit}
 use Rattle.lk_replica.specs.declared.taken.Step.{Step}
 use Rattle.lk_sim_nodes.specs.Ends.{BreaksTogether, IsToldEnd, end_at}
 use Rattle.lk_sim_nodes.specs.Sends.{after_sends, stop_among}
-use Rattle.lk_sim.specs.Events.{Adds, AreAllOwn, EndsByFault, ComesTogether, IsGivenTogether, LeftByGroup}
+use Rattle.lk_sim.specs.Events.{Adds, AreAllOfNodes, EndsByFault, ComesTogether, IsGivenTogether, LeftByGroup}
 use Rattle.lk_sim.specs.Groups.{WasSentTo, WereSentTo, AreNotesOf, given_by}
 use Rattle.lk_sim_nodes.specs.Outcomes.{HasTakenTogether, HasFallenTogether, Rests}
 use Rattle.lk_sim.specs.Concluded.{HasConcludedSteps, HasGivenUp}
@@ -34,7 +34,7 @@ use Rattle.lk_sim.specs.Traces.{happened}
 use Rattle.lk_sim.specs.Worlds.{WorldInvariant}
 use Rattle.lk_sim_nodes.specs.declared.end.End.{End}
 use Rattle.lk_sim.specs.declared.event.GroupInput.{GroupInput}
-use Rattle.lk_sim.specs.declared.event.GroupInput.TheVariants as turn
+use Rattle.lk_sim.specs.declared.event.GroupInput.TheVariants as group_input
 use Rattle.lk_sim_nodes.specs.declared.seat.Seat.{Seat}
 use Rattle.lk_sim_nodes.specs.declared.seat.Life.{Life}
 use Rattle.lk_sim_nodes.specs.declared.seat.Life.TheVariants.{Up, Down}
@@ -63,12 +63,12 @@ all_heard Shows disks m genesis seats sent trace w (Heard bytes ∷ is) were = (
   all_heard Shows disks m genesis seats sent trace w is were.1,
 )
 
--- the turns of a group bring what was sent
+-- the inputs of a group bring what was sent
 was_brought : (sent : List Datagram) (n : ℕ) (t : GroupInput) (i : Input) → IsFor sent n t
     → heard_by i ≡ given_by sent t → WasSentTo sent i
 was_brought sent n t Tick is same = tt
-was_brought sent n turn.Tick (Heard bytes) is same = absurd cc
-was_brought sent n (turn.Deliver k) (Heard bytes) is same =
+was_brought sent n group_input.Tick (Heard bytes) is same = absurd cc
+was_brought sent n (group_input.Deliver k) (Heard bytes) is same =
     let brought : Some bytes ≡ Some is.0.bytes = same ∙ ap (λ o. given_of o) is.1 in
     (is.0, datagram_listed sent k is.0 is.1, cc brought)
   where
@@ -76,12 +76,13 @@ was_brought sent n (turn.Deliver k) (Heard bytes) is same =
     given_of None = None
     given_of (Some d) = Some d.bytes
 
-pub were_brought : (sent : List Datagram) (n : ℕ) (turns : List GroupInput) (is : List Input) → AreFor sent n turns
-    → map heard_by is ≡ map (given_by sent) turns → WereSentTo sent is
-were_brought sent n turns [] for_it same = tt
+pub were_brought : (sent : List Datagram) (n : ℕ) (group_inputs : List GroupInput) (is : List Input)
+    → AreFor sent n group_inputs
+    → map heard_by is ≡ map (given_by sent) group_inputs → WereSentTo sent is
+were_brought sent n group_inputs [] for_it same = tt
 were_brought sent n [] (i ∷ is) for_it same = absurd cc
-were_brought sent n (t ∷ turns) (i ∷ is) for_it same =
-    (was_brought sent n t i for_it.0 (cc same), were_brought sent n turns is for_it.1 (cc same))
+were_brought sent n (t ∷ group_inputs) (i ∷ is) for_it same =
+    (was_brought sent n t i for_it.0 (cc same), were_brought sent n group_inputs is for_it.1 (cc same))
 
 -- ---- what it has done
 
@@ -90,9 +91,9 @@ module _ {R : Type 0} (b : Behaviour R) (old new : Scene R) where
   went_together : (r : R) (t next : Seat R) (given : List (Option (List ℕ))) (steps : List Step) (notes : List Note)
       (batch : List Datagram) (how : Option End) (stop : Option ℕ)
       → (k : HasTakenTogether b r given t steps batch how stop)
-      → AreAllOwn (parts_of steps k.all) → AreNotesOf (parts_of steps batch) notes → Adds old new notes batch
+      → AreAllOfNodes (parts_of steps k.all) → AreNotesOf (parts_of steps batch) notes → Adds old new notes batch
       → new.ended ≡ how → next.number ≡ t.number → Rests b stop t next → ComesTogether b old new r next given
-  went_together r t next given steps notes batch how None k own tells adds ended number rests =
+  went_together r t next given steps notes batch how None k of_nodes tells adds ended number rests =
       let whole : batch ≡ sent_of (parts_of steps k.all) = k.sends.2 ∙ k.whole in
       inl (record {
         replica = k.replica;
@@ -100,30 +101,30 @@ module _ {R : Type 0} (b : Behaviour R) (old new : Scene R) where
         notes = notes;
         takes = k.takes;
         calls = k.calls;
-        passes = k.passes;
+        calls_succeed = k.calls_succeed;
         no_stop = subst (λ (l : List Datagram). stop_among (b.memory k.replica).meter.trap (length l) ≡ None) k.whole
             k.sends.0;
         up = ap (λ (z : Seat R). z.life) rests ∙ k.up
             ∙ ap Up (k.sends.1 ∙ ap (λ (l : List Datagram). after_sends b (length l) k.replica) k.whole);
-        own = own;
+        of_nodes = of_nodes;
         tells = subst (λ (l : List Datagram). AreNotesOf (parts_of steps l) notes) k.sends.2 tells;
         adds = subst (λ (l : List Datagram). Adds old new notes l) whole adds;
         ended = ended ∙ k.ended;
       })
-  went_together r t next given steps notes batch how (Some bytes) k own tells adds ended number rests =
+  went_together r t next given steps notes batch how (Some bytes) k of_nodes tells adds ended number rests =
       inr (inl (record {
         replica = k.replica;
         said = parts_of steps k.all;
         notes = notes;
         takes = k.takes;
         calls = k.calls;
-        passes = k.passes;
+        calls_succeed = k.calls_succeed;
         sends = k.sends.0;
         bytes = bytes;
         stop = subst (λ (l : List Datagram). stop_among (b.memory k.replica).meter.trap (length l)
             ≡ Some (k.sends.0, bytes)) k.whole k.sends.1;
         down = rests ∙ ap (λ (z : Life R). Down (stopped_on bytes bytes (device_in b z))) (k.up ∙ ap Up k.sends.2);
-        own = own;
+        of_nodes = of_nodes;
         tells = subst (λ (l : List Said). AreNotesOf l notes)
             (ap (parts_of steps) k.sends.3 ∙ parts_cut steps k.all k.sends.0) tells;
         adds = subst (λ (l : List Datagram). Adds old new notes l) (k.sends.3 ∙ ap (take k.sends.0) k.whole) adds;
@@ -151,20 +152,20 @@ module _ {R : Type 0} (b : Behaviour R) (old new : Scene R) where
   pub given_together : (Shows : R → Genesis → ℕ → Holding → Type 0) (m : Meaning) (i n : ℕ) (s t : Seat R) (r : R)
       (given : List (Option (List ℕ))) (steps : List Step) (batch : List Datagram) (how : Option End) (stop : Option ℕ)
       → At old.seats i s → s.number ≡ n → s.life ≡ Up r → t.number ≡ s.number
-      → ((k : HasTakenTogether b r given t steps batch how stop) → AreAllOwn (parts_of steps k.all))
+      → ((k : HasTakenTogether b r given t steps batch how stop) → AreAllOfNodes (parts_of steps k.all))
       → HasConcludedSteps Shows b m (record old { seats = set old.seats i t }) i new steps batch how stop
       → IsToldEnd how
       → HasTakenTogether b r given t steps batch how stop
       ⊎ HasFallenTogether (BreaksTogether b r given) t steps batch how stop → IsGivenTogether b old new n given
-  given_together Shows m i n s t r given steps batch how stop at is up number own k tellable cases = record {
+  given_together Shows m i n s t r given steps batch how stop at is up number of_nodes k tellable cases = record {
     seat = s;
     number = is;
     replica = r;
     up = up;
     next = k.next;
-    turns = record { index = i; at = at; number = on ∙ number; seats = k.seats ∙ set_twice old.seats i t k.next };
+    replaces = record { index = i; at = at; number = on ∙ number; seats = k.seats ∙ set_twice old.seats i t k.next };
     comes_to = elim cases [
-      | inl q ↦ went_together r t k.next given steps k.notes batch how stop q (own q) k.tells adds k.ended on rests
+      | inl q ↦ went_together r t k.next given steps k.notes batch how stop q (of_nodes q) k.tells adds k.ended on rests
       | inr f ↦ inr (inr (fell_together
           (BreaksTogether b r given) t k.next steps k.notes batch how stop f k.tells adds k.ended on rests tellable))
     ];
@@ -311,17 +312,21 @@ module _ {R : Type 0} (Shows : R → Genesis → ℕ → Holding → Type 0) (b 
 
 -- ---- what the steps note is their own
 
-own_too : (steps : List Step) (some others : List Datagram) → AreAllOwn (parts_of steps some)
-    → AreAllOwn (parts_of steps others)
-own_too [] some others own = tt
-own_too (s ∷ steps) some others own = (own.0, own_too steps (drop s.sends some) (drop s.sends others) own.1)
+own_too : (steps : List Step) (some others : List Datagram) → AreAllOfNodes (parts_of steps some)
+    → AreAllOfNodes (parts_of steps others)
+own_too [] some others of_nodes = tt
+own_too (s ∷ steps) some others of_nodes = (
+  of_nodes.0,
+  own_too steps (drop s.sends some)
+      (drop s.sends others) of_nodes.1,
+)
 
 pub all_own : {R : Type 0} (Shows : R → Genesis → ℕ → Holding → Type 0) (disks : R → Side → Disk) (m : Meaning)
     (genesis : Genesis) (seats : List (Seat R)) (sent : List Datagram) (trace notes : List Note)
     → WorldInvariant Shows disks m genesis seats sent trace → (i : ℕ) (s : Seat R) → At seats i s
     → (is : List Input) (r q : R) (steps : List Step) (batch all : List Datagram) → s.life ≡ Up r → WereSentTo sent is
     → EachLeavesFit Shows disks m s.number r is q (parts_of steps batch) → AreNotesOf (parts_of steps batch) notes
-    → AreAllOwn (parts_of steps all)
+    → AreAllOfNodes (parts_of steps all)
 all_own Shows disks m genesis seats sent trace notes w i s at is r q steps batch all up were goes tells =
     own_too steps batch all (group_own Shows disks m genesis i is r q
     (parts_of steps batch) seats sent trace notes s w at up were goes tells)

@@ -14,7 +14,7 @@ use Rattle.lk_node.specs.Holdings.{Holding}
 pub use Rattle.lk_replica.specs.Together.{Said, sent_of, said_by_steps, EachLeavesFit}
 pub use Rattle.lk_replica.proofs.TakenTogether.{goes_all}
 pub use Rattle.lk_sim.specs.Groups.{WasSentTo, WereSentTo, AreNotesOf}
-use Rattle.lk_sim.specs.Events.{AreAllOwn}
+use Rattle.lk_sim.specs.Events.{AreAllOfNodes}
 use Rattle.lk_sim_nodes.specs.Seats.{At}
 use Rattle.lk_sim.specs.Traces.{happened}
 use Rattle.lk_sim.specs.Worlds.{WorldInvariant}
@@ -97,9 +97,9 @@ module _ {R : Type 0} (Shows : R → Genesis → ℕ → Holding → Type 0) (di
   pub group_own : (is : List Input) (r q : R) (said : List Said) (seats : List (Seat R)) (sent : List Datagram)
       (trace notes : List Note) (s : Seat R)
       → WorldInvariant Shows disks m genesis seats sent trace → At seats i s → s.life ≡ Up r → WereSentTo sent is
-      → EachLeavesFit Shows disks m s.number r is q said → AreNotesOf said notes → AreAllOwn said
+      → EachLeavesFit Shows disks m s.number r is q said → AreNotesOf said notes → AreAllOfNodes said
   group_own [] r q said seats sent trace notes s w at up were goes told =
-      subst (λ (l : List Said). AreAllOwn l) (sym goes.0) tt
+      subst (λ (l : List Said). AreAllOfNodes l) (sym goes.0) tt
   group_own (x ∷ is) r q said seats sent trace notes s w at up were goes told =
       let mid = goes.0 in
       let one = goes.1 in
@@ -117,7 +117,7 @@ module _ {R : Type 0} (Shows : R → Genesis → ℕ → Holding → Type 0) (di
       (trace ++ (one.0 ++ names.0)) names.1 (seat_with s.number mid) next
       (at_set_here seats i (seat_with s.number mid) at.0) refl
       (still_sent_to sent one.1 is were.1) goes.6 names.4 in
-      subst (λ (l : List Said). AreAllOwn l) (sym goes.3) ((λ n c. (g.noted n c).0), all)
+      subst (λ (l : List Said). AreAllOfNodes l) (sym goes.3) ((λ n c. (g.noted n c).0), all)
     where
       fits : (x : Input) → WasSentTo sent x → InputFits (happened genesis sent trace) x
       fits Tick was = tt

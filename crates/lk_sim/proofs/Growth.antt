@@ -10,7 +10,7 @@ use Rattle.lk_agreement_laws.proofs.Histories.{still_slice}
 use Rattle.lk_node_interface.specs.declared.note.Note.{Note}
 use Rattle.lk_node_interface.specs.declared.note.Note.TheVariants as note
 use Rattle.lk_node.specs.Histories.{History, Genesis, Datagram, Command, Noop, Request, RequestValue, WasAsked}
-use Rattle.lk_node.specs.Served.{text, BearsOut}
+use Rattle.lk_node.specs.BorneOut.{text, BearsOut}
 use Rattle.lk_node.specs.Holdings.{Holding, HoldingFits}
 use Rattle.lk_node.specs.Leavings.{DisksFit}
 

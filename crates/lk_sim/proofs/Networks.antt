@@ -15,7 +15,8 @@ use Rattle.lk_node.specs.Holdings.{Holding}
 use Rattle.lk_node.specs.Leavings.{DisksFit}
 use Rattle.lk_sim_nodes.specs.Rooms.{AreShort}
 use Rattle.lk_sim.specs.Events.{Adds}
-use Rattle.lk_sim.specs.Networks.{MayCome, IsRequestIn, AreAsking, MayHear, TellsOf, Appears, Restarts, Rests, GoesOn}
+use Rattle.lk_sim.specs.Networks.{MayCome, IsRequestIn, AreAsking, MayHear, RecordsReplies, Appears, Restarts, Rests}
+use Rattle.lk_sim.specs.Networks.{GoesOn}
 use Rattle.lk_sim.specs.Networks.{Ends, Stops, Steps, StepsAll, nothing}
 use Rattle.lk_sim.specs.Scenes.{Scene}
 use Rattle.lk_sim_nodes.specs.Seats.{UpFits, SeatFits, SeatGoes, At}
@@ -60,7 +61,8 @@ heard genesis sent trace (Some bytes) o may asks = heard_bytes genesis sent trac
 -- ---- what may go out reads
 
 pub tells_all : (batch : List Datagram) (told : List Note)
-    → ((d : Datagram) → Contains batch d → (m : _) × Spells m d.bytes) → TellsOf batch told → NotesReplies batch told
+    → ((d : Datagram) → Contains batch d → (m : _) × Spells m d.bytes) → RecordsReplies batch told
+    → NotesReplies batch told
 tells_all [] told reads tells = tells
 tells_all (d ∷ batch) told reads (inl t) =
     (t.0, t.1, t.2, t.3, tells_all batch t.1 (λ x c. reads x (contains_more d batch x c)) t.4)
@@ -99,7 +101,7 @@ module _ {R : Type 0} (Shows : R → Genesis → ℕ → Holding → Type 0) (di
   restarts : (old new : Scene R) → HoldsOf old → Restarts Shows disks m old new → HoldsOf new
   restarts old new w a =
       let h = happened old.genesis old.sent old.trace in
-      let f = w.seated a.turns.index a.seat a.turns.at in
+      let f = w.seated a.replaces.index a.seat a.replaces.at in
       let g = a.restarts.goes h refl (lawful Shows disks m old.genesis old.seats old.sent old.trace w)
       (f.down a.device a.down) in
       let seat_goes : SeatGoes Shows disks m h a.next a.notes [] = record {
@@ -107,13 +109,13 @@ module _ {R : Type 0} (Shows : R → Genesis → ℕ → Holding → Type 0) (di
         up = a.up;
         goes =
             subst (λ k. LeavesFit m h k (Shows a.replica old.genesis k) (disks a.replica) a.notes [])
-            (sym a.turns.number) g;
+            (sym a.replaces.number) g;
         room = a.restarts.short (f.room a.device a.down);
       } in
-      let went = went_on Shows disks m old.genesis old.seats old.sent old.trace w a.turns.index a.seat a.next
-      a.turns.at a.turns.number a.notes [] [] seat_goes refl in
-      moved old new (set old.seats a.turns.index a.next) a.notes [] a.turns.seats a.adds
-      (subst (λ l. WorldInvariant Shows disks m old.genesis (set old.seats a.turns.index a.next) (old.sent ++ [])
+      let went = went_on Shows disks m old.genesis old.seats old.sent old.trace w a.replaces.index a.seat a.next
+      a.replaces.at a.replaces.number a.notes [] [] seat_goes refl in
+      moved old new (set old.seats a.replaces.index a.next) a.notes [] a.replaces.seats a.adds
+      (subst (λ l. WorldInvariant Shows disks m old.genesis (set old.seats a.replaces.index a.next) (old.sent ++ [])
       (old.trace ++ l)) (append-nil a.notes) went)
 
   -- of a node that is down, the history is lawful, and its disks fit it
@@ -127,14 +129,14 @@ module _ {R : Type 0} (Shows : R → Genesis → ℕ → Holding → Type 0) (di
   rests : (old new : Scene R) → HoldsOf old → Rests m old new → HoldsOf new
   rests old new w a =
       let h = happened old.genesis old.sent old.trace in
-      let f = w.seated a.turns.index a.seat a.turns.at in
+      let f = w.seated a.replaces.index a.seat a.replaces.at in
       let left = a.rests.ends h refl (lawful Shows disks m old.genesis old.seats old.sent old.trace w)
       (f.down a.device a.down) in
-      moved_silent old new (set old.seats a.turns.index a.next) a.turns.seats a.adds
-      (went_down Shows disks m old.genesis old.seats old.sent old.trace w a.turns.index a.seat a.next
-      a.turns.at a.turns.number
+      moved_silent old new (set old.seats a.replaces.index a.next) a.replaces.seats a.adds
+      (went_down Shows disks m old.genesis old.seats old.sent old.trace w a.replaces.index a.seat a.next
+      a.replaces.at a.replaces.number
       (down_fits Shows disks m h (w.states a.seat.number) a.next a.left a.still
-      (subst (λ k. DisksFit m h k (disk_of a.left)) (sym a.turns.number) left)
+      (subst (λ k. DisksFit m h k (disk_of a.left)) (sym a.replaces.number) left)
       (a.rests.short (f.room a.device a.down))))
 
   module _ (old new : Scene R) (w : HoldsOf old) (a : Stops disks old new) where
@@ -142,13 +144,13 @@ module _ {R : Type 0} (Shows : R → Genesis → ℕ → Holding → Type 0) (di
     before = happened old.genesis old.sent old.trace
 
     fit : SeatFits Shows disks m before (w.states a.seat.number) a.seat
-    fit = w.seated a.turns.index a.seat a.turns.at
+    fit = w.seated a.replaces.index a.seat a.replaces.at
 
     stopped_by : (was : Side → Disk) → ((s : Side) → (k : ℕ) × (disk_of a.left s ≡ after_stop k (was s)))
         → DisksFit m before a.seat.number was → AreShort was
         → SeatFits Shows disks m before (w.states a.seat.number) a.next
     stopped_by was kept f short = down_fits Shows disks m before (w.states a.seat.number) a.next a.left a.down
-        (subst (λ k. DisksFit m before k (disk_of a.left)) (sym a.turns.number)
+        (subst (λ k. DisksFit m before k (disk_of a.left)) (sym a.replaces.number)
         (stopped_fit m before a.seat.number was (disk_of a.left) kept f)) (kept_short was (disk_of a.left) kept short)
 
     of_life : (life : Life R) → a.seat.life ≡ life → SeatFits Shows disks m before (w.states a.seat.number) a.next
@@ -156,9 +158,9 @@ module _ {R : Type 0} (Shows : R → Genesis → ℕ → Holding → Type 0) (di
     of_life (Down d) is = stopped_by (disk_of d) (a.was_down d is) (fit.down d is) (fit.room d is)
 
     stops : HoldsOf new
-    stops = moved_silent old new (set old.seats a.turns.index a.next) a.turns.seats a.adds
-        (went_down Shows disks m old.genesis old.seats old.sent old.trace w a.turns.index a.seat a.next a.turns.at
-        a.turns.number (of_life a.seat.life refl))
+    stops = moved_silent old new (set old.seats a.replaces.index a.next) a.replaces.seats a.adds
+        (went_down Shows disks m old.genesis old.seats old.sent old.trace w a.replaces.index a.seat a.next a.replaces.at
+        a.replaces.number (of_life a.seat.life refl))
 
   -- what a step began with, once what was asked is noted
   module _ (old : Scene R) (w : HoldsOf old) (o : Option RequestValue) where
@@ -185,21 +187,22 @@ module _ {R : Type 0} (Shows : R → Genesis → ℕ → Holding → Type 0) (di
       let now = since old w a.request in
       let hears = heard old.genesis old.sent old.trace a.came a.request a.may a.asks in
       let g = a.goes.goes (happened old.genesis old.sent trace)
-      (node_before old w a.request a.turns.index a.seat a.turns.at a.before a.was) hears in
+      (node_before old w a.request a.replaces.index a.seat a.replaces.at a.before a.was) hears in
       let seat_goes : SeatGoes Shows disks m (happened old.genesis old.sent trace) a.next a.notes a.batch = record {
         replica = a.after;
         up = a.up;
         goes = subst (λ k. LeavesFit m (happened old.genesis old.sent trace) k (Shows a.after old.genesis k)
-            (disks a.after) a.notes a.batch) (sym a.turns.number) g;
-        room = a.goes.short (fits_before old w a.request a.turns.index a.seat a.turns.at a.before a.was).room;
+            (disks a.after) a.notes a.batch) (sym a.replaces.number) g;
+        room = a.goes.short (fits_before old w a.request a.replaces.index a.seat a.replaces.at a.before a.was).room;
       } in
       let tells = tells_all a.batch a.told
       (λ d c. let p = g.may d c in (said_by old.genesis n p.message, p.spelled)) a.tells in
-      let went = went_on Shows disks m old.genesis old.seats old.sent trace now a.turns.index a.seat a.next a.turns.at
-      a.turns.number a.notes a.told a.batch seat_goes tells in
-      moved old new (set old.seats a.turns.index a.next)
-      ((asked_note a.request ++ a.notes) ++ a.told) a.batch a.turns.seats a.adds
-      (subst (λ l. WorldInvariant Shows disks m old.genesis (set old.seats a.turns.index a.next) (old.sent
+      let went = went_on Shows disks m old.genesis old.seats old.sent trace now a.replaces.index a.seat a.next
+      a.replaces.at
+      a.replaces.number a.notes a.told a.batch seat_goes tells in
+      moved old new (set old.seats a.replaces.index a.next)
+      ((asked_note a.request ++ a.notes) ++ a.told) a.batch a.replaces.seats a.adds
+      (subst (λ l. WorldInvariant Shows disks m old.genesis (set old.seats a.replaces.index a.next) (old.sent
       ++ a.batch) l)
       (append_assoc old.trace (asked_note a.request) (a.notes ++ a.told)
       ∙ ap (λ l. old.trace ++ l) (sym (append_assoc (asked_note a.request) a.notes a.told))) went)
@@ -210,13 +213,14 @@ module _ {R : Type 0} (Shows : R → Genesis → ℕ → Holding → Type 0) (di
       let h = happened old.genesis old.sent trace in
       let now = since old w a.request in
       let hears = heard old.genesis old.sent old.trace a.came a.request a.may a.asks in
-      let left = a.ends.ends h (node_before old w a.request a.turns.index a.seat a.turns.at a.before a.was) hears in
-      let room = a.ends.short (fits_before old w a.request a.turns.index a.seat a.turns.at a.before a.was).room in
-      moved_still old new (set old.seats a.turns.index a.next) (asked_note a.request) a.turns.seats a.adds
-      (went_down Shows disks m old.genesis old.seats old.sent trace now a.turns.index a.seat a.next
-      a.turns.at a.turns.number
+      let left = a.ends.ends h
+      (node_before old w a.request a.replaces.index a.seat a.replaces.at a.before a.was) hears in
+      let room = a.ends.short (fits_before old w a.request a.replaces.index a.seat a.replaces.at a.before a.was).room in
+      moved_still old new (set old.seats a.replaces.index a.next) (asked_note a.request) a.replaces.seats a.adds
+      (went_down Shows disks m old.genesis old.seats old.sent trace now a.replaces.index a.seat a.next
+      a.replaces.at a.replaces.number
       (down_fits Shows disks m h (now.states a.seat.number) a.next a.left a.down
-      (subst (λ k. DisksFit m h k (disk_of a.left)) (sym a.turns.number) left) room))
+      (subst (λ k. DisksFit m h k (disk_of a.left)) (sym a.replaces.number) left) room))
 
   -- a step keeps all that holds
   pub step_holds : (old new : Scene R) → HoldsOf old → Steps Shows disks m old new → HoldsOf new

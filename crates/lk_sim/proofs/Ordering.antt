@@ -11,13 +11,13 @@ use Rattle.std.proofs.lemmas.List.{take-append-le}
 use Rattle.std.proofs.lemmas.List.Elements.{Contains-append_cases, Contains-append_left}
 use Rattle.std.proofs.lemmas.List.Folds.{find-append}
 use Rattle.lk_types.specs.declared.answer.Answer.{Answer}
-use Rattle.lk_members.specs.Effects.{is_older, in_effect, placed}
+use Rattle.lk_members.specs.Effects.{is_older, in_effect, positioned}
 use Rattle.lk_members.specs.Rosters.{roster_of}
 use Rattle.lk_state.specs.Meanings.{Meaning}
 use Rattle.lk_state.specs.declared.session.Session.{Session}
 use Rattle.lk_state.specs.States.{session_in, text_of, ledger, reply}
 use Rattle.lk_state.proofs.Wholes.{by_pushes, ledger-push}
-use Rattle.lk_agreement_laws.specs.Chosen.{command_at, Chosen, IsBeginning}
+use Rattle.lk_agreement_laws.specs.Chosen.{command_at, Chosen, IsPrefix}
 use Rattle.lk_agreement_laws.specs.Soundness.{Sound}
 use Rattle.lk_agreement_laws.proofs.Histories.{command_within, entry_chosen, one_chosen, chosen_agree, still_chosen}
 use Rattle.lk_node_interface.specs.declared.note.Note.{Note}
@@ -60,7 +60,7 @@ AreInEffect m genesis L =
     → IsEffectiveBefore L (suc (length L)) client number
 
 nothing_in_effect : (m : Meaning) (genesis : Genesis) → AreInEffect m genesis []
-unfolding ledger placed
+unfolding ledger positioned
 nothing_in_effect m genesis client number a e = absurd cc
 
 module _ (m : Meaning) (genesis : Genesis) (L : List Command) (client number : ℕ) where
@@ -161,7 +161,7 @@ module _ (m : Meaning) (genesis : Genesis) (sent : List Datagram) (sound : Sound
           absurd (unasked (has_entry K i (Request r) (u.1 ∙ ap Some same))))
     ]
 
-    begins : IsBeginning K L
+    begins : IsPrefix K L
     begins = elim (chosen_agree genesis sent sound K L k l) [
       | inl b ↦ b
       | inr b ↦ absurd (omega (

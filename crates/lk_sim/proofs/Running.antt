@@ -53,10 +53,10 @@ injected_refused b old new n bytes r k = elim k [
 ]
 
 -- a group that was refused is a refused event
-pub group_refused : {R : Type 0} (b : Behaviour R) (old new : Scene R) (n : ℕ) (turns : Vec GroupInput Global)
+pub group_refused : {R : Type 0} (b : Behaviour R) (old new : Scene R) (n : ℕ) (group_inputs : Vec GroupInput Global)
     (r : Refused)
-    → IsNotGrouped b old n turns.items r new → IsRefused b old (event.Group n turns) r new
-group_refused b old new n turns r k = elim k [
+    → IsNotGrouped b old n group_inputs.items r new → IsRefused b old (event.Group n group_inputs) r new
+group_refused b old new n group_inputs r k = elim k [
   | inl why ↦ inl why
   | inr wants ↦ inr wants
 ]
@@ -103,7 +103,8 @@ module _ {R : Type 0} (b : Behaviour R) where
   brings_grows old new (event.Compact n) k = elim k.comes_to [ inl p ↦ ([], p.adds.sent) | inr f ↦ ([], f.adds.sent) ]
   brings_grows old new (event.Client n r) k = (k.datagram ∷ [], k.adds.sent)
   brings_grows old new (event.Deliver i) k = given_grows old new k.node (Some k.datagram.bytes) [] k.given
-  brings_grows old new (event.Group n turns) k = together_grows old new n (map (given_by old.sent) turns.items) k
+  brings_grows old new (event.Group n group_inputs) k = together_grows old new n (map
+      (given_by old.sent) group_inputs.items) k
   brings_grows old new (event.Inject n bytes) k =
       given_grows old new n (Some bytes.items) (asked_note k.request) k.given
   brings_grows old new (event.Stop n x y) k = ([], k.adds.sent)
@@ -120,7 +121,7 @@ module _ {R : Type 0} (b : Behaviour R) where
   wants_grow old new (event.Compact m) k = ([], k.adds.sent)
   wants_grow old new (event.Client m r) k = nothing_more old new k
   wants_grow old new (event.Deliver i) k = elim k [ inl same ↦ nothing_more old new same | inr h ↦ ([], h.4.adds.sent) ]
-  wants_grow old new (event.Group m turns) k =
+  wants_grow old new (event.Group m group_inputs) k =
       elim k [ inl same ↦ nothing_more old new same.0 | inr h ↦ ([], h.adds.sent) ]
   wants_grow old new (event.Inject m bytes) k =
       elim k [ inl same ↦ nothing_more old new same.0 | inr h ↦ ([], h.adds.sent) ]
@@ -146,5 +147,5 @@ module _ {R : Type 0} (b : Behaviour R) where
 
   pub run_grows : (old new : Scene R) (es : List Event) (how : RunEnd) → Runs b old es how new → Grows old new
   run_grows old new es how k =
-      both_grow old k.last new (passes_grow (take how.done es) old k.last k.passes)
+      both_grow old k.last new (passes_grow (take how.done es) old k.last k.are_executed)
       (stops_grow es how.done how.refused k.last new k.stops)

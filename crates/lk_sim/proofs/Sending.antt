@@ -13,7 +13,7 @@ use Rattle.lk_messages.specs.declared.message.Content.TheVariants as content
 use Rattle.lk_messages.proofs.Spellings.{one_message}
 use Rattle.lk_state.specs.Meanings.{Meaning}
 use Rattle.lk_agreement_laws.specs.Datagrams.{NodeMessage, Vote, Accept, said_by, HasSent, WasSent}
-use Rattle.lk_agreement_laws.specs.Nodes.{PaxosState, PaxosFits, MaySend, MayPostAll}
+use Rattle.lk_agreement_laws.specs.Nodes.{PaxosState, PaxosFits, MaySend, MaySendDatagrams}
 use Rattle.lk_agreement_laws.specs.Chosen.{Chosen}
 use Rattle.lk_agreement_laws.specs.Worlds.{PaxosWorld, with_paxos, with_sent, WorldFits}
 use Rattle.lk_agreement_laws.proofs.Histories.{still_chosen, still_stems}
@@ -22,7 +22,7 @@ use Rattle.lk_agreement_laws.proofs.Histories.{with_paxos_fits, batch_fits, cove
 use Rattle.lk_node_interface.specs.declared.note.Note.{Note}
 use Rattle.lk_node_interface.specs.declared.note.Note.TheVariants as note
 use Rattle.lk_node.specs.Histories.{History, Genesis, Datagram, Command, RequestValue, WasAsked, later}
-use Rattle.lk_node.specs.Served.{BearsOut, BearsOutMessage}
+use Rattle.lk_node.specs.BorneOut.{BearsOut, BearsOutMessage}
 use Rattle.lk_node.specs.Holdings.{Holding}
 use Rattle.lk_node.specs.Leavings.{DisksFit}
 use Rattle.lk_node.specs.Calls.{LeavesFit}
@@ -87,7 +87,7 @@ module _ {R : Type 0} (Shows : R → Genesis → ℕ → Holding → Type 0) (di
   here : now.states n ≡ y
   here = same_state n y (w.states n) (n == n) refl
 
-  may : MayPostAll genesis sent n (now.states n) batch
+  may : MaySendDatagrams genesis sent n (now.states n) batch
   may d c =
       let p = g.may d c in
       record {
@@ -221,10 +221,10 @@ module _ {R : Type 0} (Shows : R → Genesis → ℕ → Holding → Type 0) (di
   of_datagram : (d : Datagram) → Contains batch d → (K : List Command) × Chosen genesis sent K × BearsDatagram K d
   of_datagram d c =
       let p = g.may d c in (
-        p.served.under,
-        p.served.chosen,
-        λ k x said. subst (λ z. BearsOutMessage m (happened genesis sent trace) p.served.under z)
-            (said_alike genesis n k p.message x d.bytes p.spelled said).1 p.served.bears,
+        p.borne_out.under,
+        p.borne_out.chosen,
+        λ k x said. subst (λ z. BearsOutMessage m (happened genesis sent trace) p.borne_out.under z)
+            (said_alike genesis n k p.message x d.bytes p.spelled said).1 p.borne_out.bears,
       )
 
   of_told : (x : Note) → Contains told x
@@ -234,9 +234,9 @@ module _ {R : Type 0} (Shows : R → Genesis → ℕ → Holding → Type 0) (di
       let p = g.may t.0 t.2 in
       let same : t.1.content ≡ content.Node n p.message =
       ap (λ k. k.content) (one_message _ _ t.0.bytes t.3 p.spelled) in (
-        p.served.under,
-        p.served.chosen,
-        bears_told m (happened genesis sent trace) p.served.under n p.message t.0.bytes p.spelled p.served.bears x
+        p.borne_out.under,
+        p.borne_out.chosen,
+        bears_told m (happened genesis sent trace) p.borne_out.under n p.message t.0.bytes p.spelled p.borne_out.bears x
             (subst (λ k. Contains (told_by k) x) same t.4),
       )
 

@@ -7,12 +7,12 @@ use Rattle.lk_agreement_laws.specs.Chosen.{Chosen}
 use Rattle.lk_node.specs.Histories.{Genesis}
 use Rattle.lk_node.specs.Holdings.{Holding}
 use Rattle.lk_node.specs.Leavings.{header_of, StandsAs}
-use Rattle.lk_node.specs.Served.{text}
+use Rattle.lk_node.specs.BorneOut.{text}
 use Rattle.lk_replica.specs.Behaviours.{Behaviour, disks_by}
 use Rattle.lk_recovery.specs.Compacting.{AllStandAt}
 use Rattle.lk_sim.specs.Events.{IsExecuted, IsCompacted, GoesOnCompacted}
 use Rattle.lk_sim_nodes.specs.Seats.{disks_of, At}
-use Rattle.lk_sim.specs.Packed.{StandsPacked, LeavesPacked}
+use Rattle.lk_sim.specs.Packed.{HasPackedState, LeavesPackedState}
 use Rattle.lk_sim.specs.Scenes.{Scene}
 use Rattle.lk_sim.specs.Worlds.{WorldInvariant}
 use Rattle.lk_sim.specs.declared.event.Event.{Event}
@@ -31,22 +31,22 @@ module _ {R : Type 0} (b : Behaviour R) (Shows : R → Genesis → ℕ → Holdi
   stands_packed : (old new : Scene R) → WorldInvariant Shows (disks_by b) m old.genesis old.seats old.sent old.trace
       → (n : ℕ)
       → (k : IsCompacted b old new n) → GoesOnCompacted b old new k.replica k.next
-      → StandsPacked whole (disks_by b) m new n
+      → HasPackedState whole (disks_by b) m new n
   stands_packed old new w n k p = record {
-    index = k.turns.index;
+    index = k.replaces.index;
     seat = k.next;
-    at = subst (λ l. At l k.turns.index k.next) (sym k.turns.seats)
-        (at_set_here old.seats k.turns.index k.next k.turns.at.0);
-    number = k.turns.number ∙ k.number;
+    at = subst (λ l. At l k.replaces.index k.next) (sym k.replaces.seats)
+        (at_set_here old.seats k.replaces.index k.next k.replaces.at.0);
+    number = k.replaces.number ∙ k.number;
     replica = p.replica;
     up = p.up;
     stands = λ image may.
-        let u = (w.seated k.turns.index k.seat k.turns.at).up k.replica k.up in
+        let u = (w.seated k.replaces.index k.seat k.replaces.at).up k.replica k.up in
         let g = law k.replica p.replica old.genesis k.seat.number u.holding u.shown p.compacts image
         (subst (λ z. MayLeaveBoth (disks_of (disks_by b) z) image) p.up may) in (
           g.0,
           subst₂ (λ (z : Genesis) (j : ℕ). StandsAs (header_of z j) (text m z []) image g.0) (sym p.adds.genesis)
-              (sym k.turns.number) g.1,
+              (sym k.replaces.number) g.1,
           (
             g.2,
             (
@@ -62,7 +62,7 @@ module _ {R : Type 0} (b : Behaviour R) (Shows : R → Genesis → ℕ → Holdi
 
   -- an event that is done leaves such disks where a node compacted
   pub leaves_packed : (old new : Scene R) → WorldInvariant Shows (disks_by b) m old.genesis old.seats old.sent old.trace
-      → (e : Event) → IsExecuted b old e new → LeavesPacked whole (disks_by b) m e new
+      → (e : Event) → IsExecuted b old e new → LeavesPackedState whole (disks_by b) m e new
   leaves_packed old new w (event.Start n) k = tt
   leaves_packed old new w (event.Restart n) k = tt
   leaves_packed old new w (event.Tick n) k = tt
@@ -72,7 +72,7 @@ module _ {R : Type 0} (b : Behaviour R) (Shows : R → Genesis → ℕ → Holdi
   ]
   leaves_packed old new w (event.Client n r) k = tt
   leaves_packed old new w (event.Deliver i) k = tt
-  leaves_packed old new w (event.Group n turns) k = tt
+  leaves_packed old new w (event.Group n group_inputs) k = tt
   leaves_packed old new w (event.Inject n bytes) k = tt
   leaves_packed old new w (event.Stop n x y) k = tt
   leaves_packed old new w (event.FailAt n count) k = tt

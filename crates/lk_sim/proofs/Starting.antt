@@ -14,7 +14,7 @@ use Rattle.lk_agreement_laws.proofs.Histories.{still_stems}
 use Rattle.lk_agreement_laws.proofs.Histories.{start_fits}
 use Rattle.lk_node_interface.specs.declared.note.Note.{Note}
 use Rattle.lk_node.specs.Histories.{History, Genesis, Datagram}
-use Rattle.lk_node.specs.Served.{text}
+use Rattle.lk_node.specs.BorneOut.{text}
 use Rattle.lk_node.specs.Holdings.{Holding}
 use Rattle.lk_node.specs.Leavings.{header_of, DisksFit}
 use Rattle.lk_sim.specs.Traces.{happened}

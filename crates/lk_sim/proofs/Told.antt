@@ -14,7 +14,7 @@ use Rattle.lk_agreement_laws.proofs.Histories.{only, contains_more}
 use Rattle.lk_node_interface.specs.declared.note.Note.{Note}
 use Rattle.lk_node_interface.specs.declared.note.Note.TheVariants as note
 use Rattle.lk_node.specs.Histories.{History, Datagram, Command}
-use Rattle.lk_node.specs.Served.{IsOfNode, BearsOut, BearsOutMessage}
+use Rattle.lk_node.specs.BorneOut.{IsOfNode, BearsOut, BearsOutMessage}
 use Rattle.lk_sim_nodes.specs.Told.{told_by_node, told_by, NotesReplies}
 use Rattle.lk_sim.specs.Traces.{told_of, told_in}
 

@@ -16,7 +16,7 @@ use Rattle.lk_node_interface.specs.declared.note.Note.{Note}
 use Rattle.lk_node_interface.specs.declared.note.Note.TheVariants as note
 use Rattle.lk_node.specs.Histories.{Datagram, Genesis, RequestValue}
 use Rattle.lk_node.specs.Leavings.{header_of}
-use Rattle.lk_node.specs.Served.{IsOfNode}
+use Rattle.lk_node.specs.BorneOut.{IsOfNode}
 use Rattle.lk_replica.specs.Behaviours.{Behaviour}
 use Rattle.lk_replica.specs.Together.{Said, sent_of}
 use Rattle.lk_sim_nodes.specs.Ends.{Breaks, BreaksTogether, StaysDown, FailsToCompact, IsOtherFault, IsOutOfMemory}
@@ -48,8 +48,8 @@ pub record ReplacesSeat {R : Type 0} (old new : List (Seat R)) (s t : Seat R) : 
   pub seats : new ≡ set old index t
 
 -- each of these notes is of what a node counted or executed
-abbrev pub AreOwn : List Note → Type 0
-AreOwn notes = (x : Note) → Contains notes x → IsOfNode x
+abbrev pub AreOfNodes : List Note → Type 0
+AreOfNodes notes = (x : Note) → Contains notes x → IsOfNode x
 
 -- these notes and datagrams were added
 pub record Adds {R : Type 0} (old new : Scene R) (notes : List Note) (batch : List Datagram) : Type 0 where
@@ -82,10 +82,10 @@ pub record GoesOn {R : Type 0} (b : Behaviour R) (old new : Scene R) (r : R) (t 
   pub batch : List Datagram
   pub takes : b.Takes r o replica (Ok (notes, batch))
   pub calls : ℕ
-  pub passes : CallsSucceed (b.memory r).meter (b.memory replica).meter calls
+  pub calls_succeed : CallsSucceed (b.memory r).meter (b.memory replica).meter calls
   pub no_stop : stop_among (b.memory replica).meter.trap (length batch) ≡ None
   pub up : t.life ≡ Up (after_sends b (length batch) replica)
-  pub own : AreOwn notes
+  pub of_nodes : AreOfNodes notes
   pub tells : NotesReplies batch told
   pub adds : Adds old new ((asked ++ notes) ++ told) batch
   pub ended : new.ended ≡ None
@@ -99,12 +99,12 @@ pub record StopsSending {R : Type 0} (b : Behaviour R) (old new : Scene R) (r : 
   pub batch : List Datagram
   pub takes : b.Takes r o replica (Ok (notes, batch))
   pub calls : ℕ
-  pub passes : CallsSucceed (b.memory r).meter (b.memory replica).meter calls
+  pub calls_succeed : CallsSucceed (b.memory r).meter (b.memory replica).meter calls
   pub sends : ℕ
   pub bytes : ℕ
   pub stop : stop_among (b.memory replica).meter.trap (length batch) ≡ Some (sends, bytes)
   pub down : t.life ≡ Down (stopped_on bytes bytes (b.memory replica))
-  pub own : AreOwn notes
+  pub of_nodes : AreOfNodes notes
   pub tells : NotesReplies (take sends batch) told
   pub adds : Adds old new ((asked ++ notes) ++ told) (take sends batch)
   pub ended : new.ended ≡ Some (Stopped t.number)
@@ -122,7 +122,7 @@ pub record IsGiven {R : Type 0} (b : Behaviour R) (old new : Scene R) (n : ℕ) 
   pub replica : R
   pub up : seat.life ≡ Up replica
   pub next : Seat R
-  pub turns : ReplacesSeat old.seats new.seats seat next
+  pub replaces : ReplacesSeat old.seats new.seats seat next
   pub comes_to : Comes b old new replica next o asked
 
 -- the node to which the datagram is addressed took its bytes
@@ -136,8 +136,8 @@ pub record IsDelivered {R : Type 0} (b : Behaviour R) (old new : Scene R) (k : �
 -- ---- a node takes a group
 
 -- each step itself notes what it counted and executed, and nothing else
-abbrev pub AreAllOwn : List Said → Type 0
-AreAllOwn said = AllByRecursion (λ (x : Said). AreOwn x.0) said
+abbrev pub AreAllOfNodes : List Said → Type 0
+AreAllOfNodes said = AllByRecursion (λ (x : Said). AreOfNodes x.0) said
 
 -- it goes on: all calls of its device have passed, no armed stop happened at a send, and what the steps noted and sent
 -- was added, step by step, with the answers and passes noted as they were sent
@@ -148,10 +148,10 @@ pub record GoesOnTogether {R : Type 0} (b : Behaviour R) (old new : Scene R) (r 
   pub notes : List Note
   pub takes : b.TakesAll r given replica (Ok said)
   pub calls : ℕ
-  pub passes : CallsSucceed (b.memory r).meter (b.memory replica).meter calls
+  pub calls_succeed : CallsSucceed (b.memory r).meter (b.memory replica).meter calls
   pub no_stop : stop_among (b.memory replica).meter.trap (length (sent_of said)) ≡ None
   pub up : t.life ≡ Up (after_sends b (length (sent_of said)) replica)
-  pub own : AreAllOwn said
+  pub of_nodes : AreAllOfNodes said
   pub tells : AreNotesOf said notes
   pub adds : Adds old new notes (sent_of said)
   pub ended : new.ended ≡ None
@@ -164,12 +164,12 @@ pub record StopsTogether {R : Type 0} (b : Behaviour R) (old new : Scene R) (r :
   pub notes : List Note
   pub takes : b.TakesAll r given replica (Ok said)
   pub calls : ℕ
-  pub passes : CallsSucceed (b.memory r).meter (b.memory replica).meter calls
+  pub calls_succeed : CallsSucceed (b.memory r).meter (b.memory replica).meter calls
   pub sends : ℕ
   pub bytes : ℕ
   pub stop : stop_among (b.memory replica).meter.trap (length (sent_of said)) ≡ Some (sends, bytes)
   pub down : t.life ≡ Down (stopped_on bytes bytes (b.memory replica))
-  pub own : AreAllOwn said
+  pub of_nodes : AreAllOfNodes said
   pub tells : AreNotesOf (cut_short sends said) notes
   pub adds : Adds old new notes (take sends (sent_of said))
   pub ended : new.ended ≡ Some (Stopped t.number)
@@ -189,7 +189,7 @@ pub record IsGivenTogether {R : Type 0} (b : Behaviour R) (old new : Scene R) (n
   pub replica : R
   pub up : seat.life ≡ Up replica
   pub next : Seat R
-  pub turns : ReplacesSeat old.seats new.seats seat next
+  pub replaces : ReplacesSeat old.seats new.seats seat next
   pub comes_to : ComesTogether b old new replica next given
 
 -- the node took these bytes, and a request in them was noted as asked
@@ -217,8 +217,8 @@ pub record IsRevived {R : Type 0} (b : Behaviour R) (old new : Scene R) (t : Sea
   pub notes : List Note
   pub revives : b.Revives device (header_of old.genesis t.number) (Ok (replica, notes))
   pub calls : ℕ
-  pub passes : CallsSucceed device.meter (b.memory replica).meter calls
-  pub own : AreOwn notes
+  pub calls_succeed : CallsSucceed device.meter (b.memory replica).meter calls
+  pub of_nodes : AreOfNodes notes
   pub adds : Adds old new notes []
   pub ended : new.ended ≡ None
 
@@ -228,7 +228,7 @@ ComesUp b old new t device =
     IsRevived b old new t device ⊎ EndsByFault (StaysDown b device (header_of old.genesis t.number)) old new t []
 
 -- a node was added, and started with empty disks
-pub record IsBegun {R : Type 0} (b : Behaviour R) (old new : Scene R) (n : ℕ) : Type 0 where
+pub record IsAdded {R : Type 0} (b : Behaviour R) (old new : Scene R) (n : ℕ) : Type 0 where
   pub seat : Seat R
   pub number : seat.number ≡ n
   pub seats : new.seats ≡ old.seats ++ seat ∷ []
@@ -241,7 +241,7 @@ pub record IsBack {R : Type 0} (b : Behaviour R) (old new : Scene R) (n : ℕ) :
   pub device : Memory
   pub down : seat.life ≡ Down device
   pub next : Seat R
-  pub turns : ReplacesSeat old.seats new.seats seat next
+  pub replaces : ReplacesSeat old.seats new.seats seat next
   pub comes : ComesUp b old new next device
 
 -- ---- a node compacts
@@ -251,7 +251,7 @@ pub record IsBack {R : Type 0} (b : Behaviour R) (old new : Scene R) (n : ℕ) :
 pub record GoesOnCompacted {R : Type 0} (b : Behaviour R) (old new : Scene R) (r : R) (t : Seat R) : Type 0 where
   pub replica : R
   pub compacts : b.Compacts r replica (Ok tt)
-  pub passes : CallsSucceed (b.memory r).meter (b.memory replica).meter rebase_calls
+  pub calls_succeed : CallsSucceed (b.memory r).meter (b.memory replica).meter rebase_calls
   pub up : t.life ≡ Up replica
   pub adds : Adds old new [] []
   pub ended : new.ended ≡ None
@@ -263,7 +263,7 @@ pub record IsCompacted {R : Type 0} (b : Behaviour R) (old new : Scene R) (n : �
   pub replica : R
   pub up : seat.life ≡ Up replica
   pub next : Seat R
-  pub turns : ReplacesSeat old.seats new.seats seat next
+  pub replaces : ReplacesSeat old.seats new.seats seat next
   pub comes_to : GoesOnCompacted b old new replica next ⊎ EndsByFault (FailsToCompact b replica) old new next []
 
 -- ---- a node goes down, or its device will fail
@@ -275,7 +275,7 @@ pub record GoesDown {R : Type 0} (b : Behaviour R) (old new : Scene R) (n x y : 
   pub replica : R
   pub up : seat.life ≡ Up replica
   pub next : Seat R
-  pub turns : ReplacesSeat old.seats new.seats seat next
+  pub replaces : ReplacesSeat old.seats new.seats seat next
   pub down : next.life ≡ Down (stopped_on x y (b.memory replica))
   pub adds : Adds old new [] []
   pub ended : new.ended ≡ None
@@ -285,7 +285,7 @@ pub record HasTrap {R : Type 0} (b : Behaviour R) (old new : Scene R) (n : ℕ) 
   pub seat : Seat R
   pub number : seat.number ≡ n
   pub next : Seat R
-  pub turns : ReplacesSeat old.seats new.seats seat next
+  pub replaces : ReplacesSeat old.seats new.seats seat next
   pub trapped : IsTrapped b seat next trap
   pub adds : Adds old new [] []
   pub ended : new.ended ≡ None
@@ -294,13 +294,14 @@ pub record HasTrap {R : Type 0} (b : Behaviour R) (old new : Scene R) (n : ℕ) 
 
 -- the result of each event
 abbrev pub HasEffect : {R : Type 0} → Behaviour R → Scene R → Event → Scene R → Type 0
-HasEffect b old (event.Start n) new = IsBegun b old new n
+HasEffect b old (event.Start n) new = IsAdded b old new n
 HasEffect b old (event.Restart n) new = IsBack b old new n
 HasEffect b old (event.Tick n) new = IsGiven b old new n None []
 HasEffect b old (event.Compact n) new = IsCompacted b old new n
 HasEffect b old (event.Client n r) new = IsAsked old new n r
 HasEffect b old (event.Deliver k) new = IsDelivered b old new k
-HasEffect b old (event.Group n turns) new = IsGivenTogether b old new n (map (given_by old.sent) turns.items)
+HasEffect b old (event.Group n group_inputs) new =
+    IsGivenTogether b old new n (map (given_by old.sent) group_inputs.items)
 HasEffect b old (event.Inject n bytes) new = IsInjected b old new n bytes.items
 HasEffect b old (event.Stop n x y) new = GoesDown b old new n x y
 HasEffect b old (event.FailAt n count) new = HasTrap b old new n (Fail count)
@@ -313,26 +314,26 @@ IsExecuted b old e new = IsPermitted old e × HasEffect b old e new
 -- ---- what running out of memory leaves
 
 -- the result of a call takes memory: the call ran out of memory, or there is something to note or send
-abbrev pub TakesMemory : Result (List Note × List Datagram) ℕ → Memory → Type 0
-TakesMemory (Ok told) left = told.0 ≡ [] → told.1 ≡ [] → ⊥
-TakesMemory (Err number) left = IsOutOfMemory number left
+abbrev pub NeedsMemory : Result (List Note × List Datagram) ℕ → Memory → Type 0
+NeedsMemory (Ok told) left = told.0 ≡ [] → told.1 ≡ [] → ⊥
+NeedsMemory (Err number) left = IsOutOfMemory number left
 
 -- such a call of the replica left this device
 abbrev pub LeftBy : {R : Type 0} → Behaviour R → Option (List ℕ) → Life R → Memory → Type 0
 LeftBy {R = R} b o life left =
     (r q : R) × (came : Result (List Note × List Datagram) ℕ) × (life ≡ Up r) × b.Takes r o q came
-    × (left ≡ b.memory q) × TakesMemory came left
+    × (left ≡ b.memory q) × NeedsMemory came left
 
 -- what a group came to takes memory: it was refused when out of memory, or there is what a step noted or sent
-abbrev pub TakesMemoryTogether : Result (List Said) ℕ → Memory → Type 0
-TakesMemoryTogether (Ok said) left = said ≡ [] → ⊥
-TakesMemoryTogether (Err number) left = IsOutOfMemory number left
+abbrev pub GroupNeedsMemory : Result (List Said) ℕ → Memory → Type 0
+GroupNeedsMemory (Ok said) left = said ≡ [] → ⊥
+GroupNeedsMemory (Err number) left = IsOutOfMemory number left
 
 -- such a call for a group left this device
 abbrev pub LeftByGroup : {R : Type 0} → Behaviour R → List (Option (List ℕ)) → Life R → Memory → Type 0
 LeftByGroup {R = R} b given life left =
     (r q : R) × (came : Result (List Said) ℕ) × (life ≡ Up r) × b.TakesAll r given q came × (left ≡ b.memory q)
-    × TakesMemoryTogether came left
+    × GroupNeedsMemory came left
 
 -- this is the device of a restart whose result takes memory: it ran out of memory, or there is something to note
 abbrev pub IsOf : {R : Type 0} → Behaviour R → Result (R × List Note) (ℕ × Memory) → Memory → Type 0
@@ -362,7 +363,7 @@ pub record IsHalted {R : Type 0} (Left : Life R → Memory → Type 0) (old new 
   pub seat : Seat R
   pub number : seat.number ≡ n
   pub next : Seat R
-  pub turns : ReplacesSeat old.seats new.seats seat next
+  pub replaces : ReplacesSeat old.seats new.seats seat next
   pub device : Memory
   pub left : Left seat.life device
   pub down : next.life ≡ Down (stopped_on 0 0 device)
@@ -378,8 +379,9 @@ WantsInjection b old n bytes new =
 -- what running out of memory leaves of a group: nothing has changed, as there was no room for the inputs of a group
 -- that is not empty; or the node has stopped in a call that takes memory
 abbrev pub WantsGroup : {R : Type 0} → Behaviour R → Scene R → ℕ → List GroupInput → Scene R → Type 0
-WantsGroup b old n turns new =
-    ((new ≡ old) × (0 < length turns)) ⊎ IsHalted (LeftByGroup b (map (given_by old.sent) turns)) old new n
+WantsGroup b old n group_inputs new =
+    ((new ≡ old) × (0 < length group_inputs))
+    ⊎ IsHalted (LeftByGroup b (map (given_by old.sent) group_inputs)) old new n
 
 -- what running out of memory leaves of an event: nothing was noted or sent, and the node that was stepping, compacting
 -- or restarting has stopped. If no node was stepping yet, or on a Start, nothing has changed. A Stop and the setting of
@@ -394,7 +396,7 @@ Wants b old (event.Client n r) new = new ≡ old
 Wants b old (event.Deliver k) new =
     (new ≡ old) ⊎ ((n : ℕ) × (d : Datagram) × (datagram_at old.sent k ≡ Some d) × (d.to ≡ party.Node n)
     × IsHalted (LeftBy b (Some d.bytes)) old new n)
-Wants b old (event.Group n turns) new = WantsGroup b old n turns.items new
+Wants b old (event.Group n group_inputs) new = WantsGroup b old n group_inputs.items new
 Wants b old (event.Inject n bytes) new = WantsInjection b old n bytes.items new
 Wants b old (event.Stop n x y) new = ⊥
 Wants b old (event.FailAt n count) new = ⊥
@@ -413,9 +415,9 @@ IsNotInjected b old n bytes r new =
 
 -- what a rejected group leaves
 abbrev pub IsNotGrouped : {R : Type 0} → Behaviour R → Scene R → ℕ → List GroupInput → Refused → Scene R → Type 0
-IsNotGrouped b old n turns r new =
-    (NoGroup old.seats old.sent n turns r × (new ≡ old))
-    ⊎ ((r ≡ WorldMemory) × MayGroup old n turns × WantsGroup b old n turns new)
+IsNotGrouped b old n group_inputs r new =
+    (NoGroup old.seats old.sent n group_inputs r × (new ≡ old))
+    ⊎ ((r ≡ WorldMemory) × MayGroup old n group_inputs × WantsGroup b old n group_inputs new)
 
 -- ---- what every event keeps
 

@@ -13,7 +13,7 @@ use Rattle.lk_agreement_laws.specs.Chosen.{command_at}
 use Rattle.lk_node_interface.specs.declared.note.Note.{Note}
 use Rattle.lk_node_interface.specs.declared.note.Note.TheVariants as note
 use Rattle.lk_node.specs.Histories.{Genesis, Datagram, Command, Request, RequestValue}
-use Rattle.lk_node.specs.Served.{BearsOutPart}
+use Rattle.lk_node.specs.BorneOut.{BearsOutPart}
 
 pub record Explains (m : Meaning) (genesis : Genesis) (sent : List Datagram) (trace : List Note)
     (L : List Command) : Type 0 where

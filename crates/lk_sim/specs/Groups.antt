@@ -9,7 +9,7 @@ use Rattle.lk_replica.specs.Together.{Said}
 use Rattle.lk_sim.specs.Refusals.{datagram_at}
 use Rattle.lk_sim_nodes.specs.Told.{NotesReplies}
 use Rattle.lk_sim.specs.declared.event.GroupInput.{GroupInput}
-use Rattle.lk_sim.specs.declared.event.GroupInput.TheVariants as turn
+use Rattle.lk_sim.specs.declared.event.GroupInput.TheVariants as group_input
 
 -- ---- what a node takes
 
@@ -17,10 +17,10 @@ abbrev pub bytes_of : Option Datagram → Option (List ℕ)
 bytes_of None = None
 bytes_of (Some d) = Some d.bytes
 
--- the input of a turn: the datagram's bytes, none at a tick
+-- what an input of a group gives: the datagram's bytes, none at a tick
 abbrev pub given_by : List Datagram → GroupInput → Option (List ℕ)
-given_by sent turn.Tick = None
-given_by sent (turn.Deliver k) = bytes_of (datagram_at sent k)
+given_by sent group_input.Tick = None
+given_by sent (group_input.Deliver k) = bytes_of (datagram_at sent k)
 
 -- bytes, as they are copied
 abbrev pub copied : Option (Vec ℕ Global) → Option (List ℕ)

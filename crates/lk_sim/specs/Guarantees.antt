@@ -1,7 +1,7 @@
 -- What is guaranteed of every world, whatever has happened in it.
 use Rattle.std.specs.Prelude.{◌≡◌, ℕ, ◌⊎◌, Some, List}
 use Rattle.lk_agreement_laws.specs.Ballots.{BallotValue}
-use Rattle.lk_agreement_laws.specs.Chosen.{command_at, Chosen, IsBeginning}
+use Rattle.lk_agreement_laws.specs.Chosen.{command_at, Chosen, IsPrefix}
 use Rattle.lk_agreement_laws.specs.Datagrams.{Genesis, Datagram, Vote, Accept, HasSent, WasSent}
 use Rattle.lk_node.specs.Histories.{Command}
 use Rattle.lk_replica.specs.Behaviours.{Behaviour, disks_by}
@@ -31,7 +31,7 @@ pub record WorldGuarantee {R : Type 0} (b : Behaviour R) (whole : R → WholeVal
   pub explained : (L : List Command) × Chosen w.genesis w.sent L × Explains m w.genesis w.sent w.trace L
   -- of two chosen lists one is a prefix of the other
   pub agree : (L K : List Command) → Chosen w.genesis w.sent L → Chosen w.genesis w.sent K
-      → IsBeginning L K ⊎ IsBeginning K L
+      → IsPrefix L K ⊎ IsPrefix K L
   -- the trace has, in order, each answer that was sent
   pub told : NotesReplies w.sent (told_in w.trace)
   -- each node that is up has executed a chosen list

@@ -9,10 +9,10 @@ use Rattle.lk_members.specs.Rosters.{members}
 use Rattle.lk_members.specs.Majorities.{IsMajority}
 use Rattle.lk_state.specs.Meanings.{Meaning}
 use Rattle.lk_agreement_laws.specs.Acceptors.{CoversSent}
-use Rattle.lk_agreement_laws.specs.Chosen.{Chosen, IsBeginning}
+use Rattle.lk_agreement_laws.specs.Chosen.{Chosen, IsPrefix}
 use Rattle.lk_node.specs.Histories.{Genesis, Datagram, Command}
 use Rattle.lk_node.specs.Leavings.{header_of, acceptor_of, StandsAs}
-use Rattle.lk_node.specs.Served.{text}
+use Rattle.lk_node.specs.BorneOut.{text}
 use Rattle.lk_sim_nodes.specs.Seats.{At, disks_of}
 use Rattle.lk_sim_nodes.specs.declared.seat.Seat.{Seat}
 
@@ -34,7 +34,7 @@ pub record HasPacked (m : Meaning) (genesis : Genesis) (sent : List Datagram) (L
   pub chosen : Chosen genesis sent under
   pub position : length under ≡ x.position
   pub snapshot : x.snapshot ≡ text m genesis under
-  pub agrees : IsBeginning under L ⊎ IsBeginning L under
+  pub agrees : IsPrefix under L ⊎ IsPrefix L under
 
 -- it keeps the command of the position: the snapshot reaches it, or there is a vote for it
 abbrev pub KeepsCommand : Meaning → Genesis → List Datagram → List Command → ℕ → Command → StandingValue → Type 0

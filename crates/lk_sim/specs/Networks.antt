@@ -51,11 +51,12 @@ MayHear h None = Unit {0}
 MayHear h (Some bytes) = IsHeard h bytes
 
 -- these notes are, in order, those of the answers and passes among the datagrams; one that does not parse has none
-abbrev pub TellsOf : List Datagram → List Note → Type 0
-TellsOf [] notes = notes ≡ []
-TellsOf (d ∷ ds) notes =
-    ((m : Message) × (rest : List Note) × Spells m d.bytes × (notes ≡ told_by m.content ++ rest) × TellsOf ds rest)
-    ⊎ (((m : Message) → Spells m d.bytes → ⊥) × TellsOf ds notes)
+abbrev pub RecordsReplies : List Datagram → List Note → Type 0
+RecordsReplies [] notes = notes ≡ []
+RecordsReplies (d ∷ ds) notes =
+    ((m : Message) × (rest : List Note) × Spells m d.bytes × (notes ≡ told_by m.content ++ rest)
+    × RecordsReplies ds rest)
+    ⊎ (((m : Message) → Spells m d.bytes → ⊥) × RecordsReplies ds notes)
 
 -- ---- what a node does, in each history that it fits. `Shows` says what it holds, and `disks` what its disks hold
 
@@ -102,7 +103,7 @@ pub record Restarts {R : Type 0} (Shows : R → Genesis → ℕ → Holding → 
     (old new : Scene R) : Type 0 where
   pub seat : Seat R
   pub next : Seat R
-  pub turns : ReplacesSeat old.seats new.seats seat next
+  pub replaces : ReplacesSeat old.seats new.seats seat next
   pub device : Memory
   pub down : seat.life ≡ Down device
   pub replica : R
@@ -115,7 +116,7 @@ pub record Restarts {R : Type 0} (Shows : R → Genesis → ℕ → Holding → 
 pub record Rests {R : Type 0} (m : Meaning) (old new : Scene R) : Type 0 where
   pub seat : Seat R
   pub next : Seat R
-  pub turns : ReplacesSeat old.seats new.seats seat next
+  pub replaces : ReplacesSeat old.seats new.seats seat next
   pub device : Memory
   pub down : seat.life ≡ Down device
   pub left : Memory
@@ -128,7 +129,7 @@ pub record GoesOn {R : Type 0} (Shows : R → Genesis → ℕ → Holding → Ty
     (old new : Scene R) : Type 0 where
   pub seat : Seat R
   pub next : Seat R
-  pub turns : ReplacesSeat old.seats new.seats seat next
+  pub replaces : ReplacesSeat old.seats new.seats seat next
   pub before : R
   pub was : seat.life ≡ Up before
   pub after : R
@@ -141,7 +142,7 @@ pub record GoesOn {R : Type 0} (Shows : R → Genesis → ℕ → Holding → Ty
   pub told : List Note
   pub batch : List Datagram
   pub goes : GoesBy Shows disks m seat.number before came after notes batch
-  pub tells : TellsOf batch told
+  pub tells : RecordsReplies batch told
   pub adds : Adds old new ((asked_note request ++ notes) ++ told) batch
 
 -- it ended with that
@@ -149,7 +150,7 @@ pub record Ends {R : Type 0} (Shows : R → Genesis → ℕ → Holding → Type
     (old new : Scene R) : Type 0 where
   pub seat : Seat R
   pub next : Seat R
-  pub turns : ReplacesSeat old.seats new.seats seat next
+  pub replaces : ReplacesSeat old.seats new.seats seat next
   pub before : R
   pub was : seat.life ≡ Up before
   pub left : Memory
@@ -165,7 +166,7 @@ pub record Ends {R : Type 0} (Shows : R → Genesis → ℕ → Holding → Type
 pub record Stops {R : Type 0} (disks : R → Side → Disk) (old new : Scene R) : Type 0 where
   pub seat : Seat R
   pub next : Seat R
-  pub turns : ReplacesSeat old.seats new.seats seat next
+  pub replaces : ReplacesSeat old.seats new.seats seat next
   pub left : Memory
   pub down : next.life ≡ Down left
   pub was_up : (r : R) → seat.life ≡ Up r → (s : Side) → (k : ℕ) × (disk_of left s ≡ after_stop k (disks r s))

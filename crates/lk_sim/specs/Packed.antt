@@ -15,7 +15,7 @@ use Rattle.lk_sim_nodes.specs.declared.seat.Life.TheVariants.{Up}
 
 -- the node of this number is up, and whatever a stop may leave of its disks has a snapshot at the position up to which
 -- it has executed: the packed text of a chosen list of that length
-pub record StandsPacked {R : Type 0} (whole : R → WholeValue) (disks : R → Side → Disk) (m : Meaning)
+pub record HasPackedState {R : Type 0} (whole : R → WholeValue) (disks : R → Side → Disk) (m : Meaning)
     (w : Scene R) (n : ℕ) : Type 0 where
   pub index : ℕ
   pub seat : Seat R
@@ -27,6 +27,6 @@ pub record StandsPacked {R : Type 0} (whole : R → WholeValue) (disks : R → S
       (λ x. (x.position ≡ (whole replica).roster.executed) × IsPackedList m w.genesis w.sent x)
 
 -- a node that compacted is in this state, unless something has ended it
-abbrev pub LeavesPacked : {R : Type 0} → (R → WholeValue) → (R → Side → Disk) → Meaning → Event → Scene R → Type 0
-LeavesPacked whole disks m (event.Compact n) w = w.ended ≡ None → StandsPacked whole disks m w n
-LeavesPacked whole disks m _ w = Unit {0}
+abbrev pub LeavesPackedState : {R : Type 0} → (R → WholeValue) → (R → Side → Disk) → Meaning → Event → Scene R → Type 0
+LeavesPackedState whole disks m (event.Compact n) w = w.ended ≡ None → HasPackedState whole disks m w n
+LeavesPackedState whole disks m _ w = Unit {0}

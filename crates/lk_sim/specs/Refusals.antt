@@ -11,7 +11,7 @@ use Rattle.lk_sim_nodes.specs.Seats.{IsStarted, IsUp, IsDown, HasNo}
 use Rattle.lk_sim.specs.declared.event.Event.{Event}
 use Rattle.lk_sim.specs.declared.event.Event.TheVariants as event
 use Rattle.lk_sim.specs.declared.event.GroupInput.{GroupInput}
-use Rattle.lk_sim.specs.declared.event.GroupInput.TheVariants as turn
+use Rattle.lk_sim.specs.declared.event.GroupInput.TheVariants as group_input
 use Rattle.lk_sim_nodes.specs.declared.refused.Refused.{Refused}
 use Rattle.lk_sim_nodes.specs.declared.refused.Refused.TheVariants.{NoSuchNode, NotUp, AlreadyUp, NoSuchDatagram}
 use Rattle.lk_sim_nodes.specs.declared.refused.Refused.TheVariants.{Forged, WorldFull}
@@ -29,14 +29,14 @@ abbrev pub datagram_at : List Datagram → ℕ → Option Datagram
 datagram_at sent zero = None
 datagram_at sent (suc k) = slice_get sent k
 
--- the datagram of the turn exists, addressed to the node
+-- the datagram of the input exists, addressed to the node
 abbrev pub IsFor : List Datagram → ℕ → GroupInput → Type 0
-IsFor sent n turn.Tick = Unit {0}
-IsFor sent n (turn.Deliver k) = (d : Datagram) × (datagram_at sent k ≡ Some d) × (d.to ≡ party.Node n)
+IsFor sent n group_input.Tick = Unit {0}
+IsFor sent n (group_input.Deliver k) = (d : Datagram) × (datagram_at sent k ≡ Some d) × (d.to ≡ party.Node n)
 
 -- the same of each of these
 abbrev pub AreFor : List Datagram → ℕ → List GroupInput → Type 0
-AreFor sent n turns = AllByRecursion (IsFor sent n) turns
+AreFor sent n group_inputs = AllByRecursion (IsFor sent n) group_inputs
 
 -- ---- the reasons
 
@@ -46,11 +46,11 @@ NotStarted seats n NoSuchNode = HasNo seats n
 NotStarted seats n _ = ⊥
 
 -- the node must be up, and the world must have room for what it sends
-abbrev pub NoTurn : {R : Type 0} → List (Seat R) → List Datagram → ℕ → Refused → Type 0
-NoTurn seats sent n NoSuchNode = HasNo seats n
-NoTurn seats sent n NotUp = IsDown seats n
-NoTurn seats sent n WorldFull = IsUp seats n × IsFull sent
-NoTurn seats sent n _ = ⊥
+abbrev pub NoStep : {R : Type 0} → List (Seat R) → List Datagram → ℕ → Refused → Type 0
+NoStep seats sent n NoSuchNode = HasNo seats n
+NoStep seats sent n NotUp = IsDown seats n
+NoStep seats sent n WorldFull = IsUp seats n × IsFull sent
+NoStep seats sent n _ = ⊥
 
 -- a Start: the node was started before, or 16 nodes were
 abbrev pub NoStart : {R : Type 0} → List (Seat R) → ℕ → Refused → Type 0
@@ -66,7 +66,7 @@ NoClient seats sent n _ = ⊥
 
 -- a datagram must be addressed to a node that can take it; none is delivered to a client
 abbrev pub NoneBound : {R : Type 0} → List (Seat R) → List Datagram → Party → Refused → Type 0
-NoneBound seats sent (party.Node n) e = NoTurn seats sent n e
+NoneBound seats sent (party.Node n) e = NoStep seats sent n e
 NoneBound seats sent (party.Client c) e = e ≡ NoSuchDatagram
 
 -- the datagram must exist, and be deliverable
@@ -84,21 +84,21 @@ NoInjection seats sent n bytes _ = ⊥
 
 -- each datagram of a group must be addressed to its node
 abbrev pub NoGroup : {R : Type 0} → List (Seat R) → List Datagram → ℕ → List GroupInput → Refused → Type 0
-NoGroup seats sent n turns NoSuchNode = HasNo seats n
-NoGroup seats sent n turns NotUp = IsDown seats n
-NoGroup seats sent n turns NoSuchDatagram = IsUp seats n × (AreFor sent n turns → ⊥)
-NoGroup seats sent n turns WorldFull = IsUp seats n × AreFor sent n turns × IsFull sent
-NoGroup seats sent n turns _ = ⊥
+NoGroup seats sent n group_inputs NoSuchNode = HasNo seats n
+NoGroup seats sent n group_inputs NotUp = IsDown seats n
+NoGroup seats sent n group_inputs NoSuchDatagram = IsUp seats n × (AreFor sent n group_inputs → ⊥)
+NoGroup seats sent n group_inputs WorldFull = IsUp seats n × AreFor sent n group_inputs × IsFull sent
+NoGroup seats sent n group_inputs _ = ⊥
 
 -- the event is rejected for this reason, and not because memory ran out
 abbrev pub IsRejectedFor : {R : Type 0} → Scene R → Event → Refused → Type 0
 IsRejectedFor w (event.Start n) e = NoStart w.seats n e
 IsRejectedFor w (event.Restart n) e = NoRestart w.seats n e
-IsRejectedFor w (event.Tick n) e = NoTurn w.seats w.sent n e
+IsRejectedFor w (event.Tick n) e = NoStep w.seats w.sent n e
 IsRejectedFor w (event.Compact n) e = NoneUp w.seats n e
 IsRejectedFor w (event.Client n r) e = NoClient w.seats w.sent n e
 IsRejectedFor w (event.Deliver k) e = NoDelivery w.seats w.sent (datagram_at w.sent k) e
-IsRejectedFor w (event.Group n turns) e = NoGroup w.seats w.sent n turns.items e
+IsRejectedFor w (event.Group n group_inputs) e = NoGroup w.seats w.sent n group_inputs.items e
 IsRejectedFor w (event.Inject n bytes) e = NoInjection w.seats w.sent n bytes.items e
 IsRejectedFor w (event.Stop n x y) e = NoneUp w.seats n e
 IsRejectedFor w (event.FailAt n count) e = NotStarted w.seats n e
@@ -107,30 +107,30 @@ IsRejectedFor w (event.Arm n count bytes) e = NotStarted w.seats n e
 -- ---- what is not rejected for it
 
 -- the node is up, and the world has room
-abbrev pub MayTurn : {R : Type 0} → Scene R → ℕ → Type 0
-MayTurn w n = IsUp w.seats n × HasRoom w.sent
+abbrev pub MayStep : {R : Type 0} → Scene R → ℕ → Type 0
+MayStep w n = IsUp w.seats n × HasRoom w.sent
 
 -- the datagram at this place is addressed to a node that may take it
 abbrev pub MayDeliver : {R : Type 0} → Scene R → ℕ → Type 0
-MayDeliver w k = (d : Datagram) × (n : ℕ) × (datagram_at w.sent k ≡ Some d) × (d.to ≡ party.Node n) × MayTurn w n
+MayDeliver w k = (d : Datagram) × (n : ℕ) × (datagram_at w.sent k ≡ Some d) × (d.to ≡ party.Node n) × MayStep w n
 
--- the node may take a turn, and each datagram of the group is addressed to it
+-- the node may take a step, and each datagram of the group is addressed to it
 abbrev pub MayGroup : {R : Type 0} → Scene R → ℕ → List GroupInput → Type 0
-MayGroup w n turns = MayTurn w n × AreFor w.sent n turns
+MayGroup w n group_inputs = MayStep w n × AreFor w.sent n group_inputs
 
--- the node may take a turn, and the bytes are none that only a node sends
+-- the node may take a step, and the bytes are none that only a node sends
 abbrev pub MayInject : {R : Type 0} → Scene R → ℕ → List ℕ → Type 0
-MayInject w n bytes = MayTurn w n × (IsForged bytes → ⊥)
+MayInject w n bytes = MayStep w n × (IsForged bytes → ⊥)
 
 -- the event is rejected for no reason but running out of memory
 abbrev pub IsPermitted : {R : Type 0} → Scene R → Event → Type 0
 IsPermitted w (event.Start n) = HasNo w.seats n × (length w.seats < 16)
 IsPermitted w (event.Restart n) = IsDown w.seats n
-IsPermitted w (event.Tick n) = MayTurn w n
+IsPermitted w (event.Tick n) = MayStep w n
 IsPermitted w (event.Compact n) = IsUp w.seats n
 IsPermitted w (event.Client n r) = IsStarted w.seats n × HasRoom w.sent
 IsPermitted w (event.Deliver k) = MayDeliver w k
-IsPermitted w (event.Group n turns) = MayGroup w n turns.items
+IsPermitted w (event.Group n group_inputs) = MayGroup w n group_inputs.items
 IsPermitted w (event.Inject n bytes) = MayInject w n bytes.items
 IsPermitted w (event.Stop n x y) = IsUp w.seats n
 IsPermitted w (event.FailAt n count) = IsStarted w.seats n

@@ -21,5 +21,5 @@ StopsAt b events done (Some r) last new = (e : Event) × (slice_get events done 
 pub record Runs {R : Type 0} (b : Behaviour R) (old : Scene R) (events : List Event) (how : RunEnd)
     (new : Scene R) : Type 0 where
   pub last : Scene R
-  pub passes : AreExecuted b (take how.done events) old last
+  pub are_executed : AreExecuted b (take how.done events) old last
   pub stops : StopsAt b events how.done how.refused last new

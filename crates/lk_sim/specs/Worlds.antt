@@ -11,7 +11,7 @@ use Rattle.lk_agreement_laws.specs.Nodes.{PaxosState}
 use Rattle.lk_agreement_laws.specs.Worlds.{WorldFits}
 use Rattle.lk_node_interface.specs.declared.note.Note.{Note}
 use Rattle.lk_node.specs.Histories.{Genesis, Datagram, Command, RequestValue, WasAsked}
-use Rattle.lk_node.specs.Served.{BearsOut, BearsOutMessage}
+use Rattle.lk_node.specs.BorneOut.{BearsOut, BearsOutMessage}
 use Rattle.lk_node.specs.Holdings.{Holding}
 use Rattle.lk_sim.specs.Orders.{InTime}
 use Rattle.lk_sim.specs.Scenes.{Scene}

@@ -8,7 +8,7 @@ ghost use Rattle.lk_node.specs.Histories.{RequestValue};
 ghost use Rattle.lk_replica.specs.Behaviours.{disks_by};
 ghost use Rattle.lk_sim.specs.Events.{IsExecuted, IsInjected, IsNotInjected, IsRefused};
 ghost use Rattle.lk_sim.specs.Heard.{IsRequestIn, IsForged};
-ghost use Rattle.lk_sim.specs.Refusals.{datagram_at, HasRoom, NoTurn, NoDelivery, MayInject};
+ghost use Rattle.lk_sim.specs.Refusals.{datagram_at, HasRoom, NoStep, NoDelivery, MayInject};
 ghost use Rattle.lk_sim.specs.Rooms.{HasNoteRoom};
 ghost use Rattle.lk_sim_nodes.specs.Seats.{IsUpAt};
 ghost use Rattle.lk_sim.specs.Worlds.{PartsKeepInvariant, scene_of};
@@ -27,7 +27,7 @@ use lk_wire::{ContentRef, Datagram};
 // Returns the place of the node in `seats`, if it is up and the world has room for what it sends.
 fn find_ready<R: MemoryReplica>(parts: &WorldParts<R>, number: NodeNo) -> Result<usize, Refused>
     ensures ok { IfOk result (λ i. IsUpAt parts.now.seats.items i number × HasRoom parts.now.sent.items) }
-    ensures err { IfErr result (λ e. NoTurn parts.now.seats.items parts.now.sent.items number e) }
+    ensures err { IfErr result (λ e. NoStep parts.now.seats.items parts.now.sent.items number e) }
 {
     let i = find_up(&parts.seats, number)?;
     if !has_room(&parts.sent) {

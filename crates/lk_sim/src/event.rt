@@ -20,7 +20,7 @@ pub enum Event {
     Tick(NodeNo),
     /// A node that is up writes a snapshot of everything executed, which replaces the commands up to there.
     Compact(NodeNo),
-    /// A client sends a request: its datagram joins the list, addressed to the node.
+    /// A client sends a request: its datagram is added to the list, addressed to the node.
     Client(NodeNo, Request),
     /// The node to which the datagram at this place is addressed takes it. Places count from 1.
     Deliver(usize),

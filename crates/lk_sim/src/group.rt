@@ -1,4 +1,4 @@
-// Executes a group: one node takes several turns together, syncs once for all of them, and only then sends.
+// Executes a group: one node takes several inputs together, syncs once for all of them, and only then sends.
 ghost use Rattle.std.specs.Prelude.{◌≡◌, ◌↔◌, ℕ, ◌<◌, [], true, false, length, map, IsTrue, IfOk, IfErr, OnOk, OnErr};
 ghost use Rattle.lk_node.specs.Calls.{heard_by};
 ghost use Rattle.lk_replica.specs.Behaviours.{disks_by};
@@ -126,11 +126,11 @@ fn give_all<R: MemoryReplica>(
     Ok(())
 }
 
-// Whether the turn is a tick, or its datagram exists and is addressed to the node.
-fn is_for(sent: &[Datagram], number: NodeNo, turn: GroupInput) -> bool
-    ensures { IsTrue result ↔ IsFor sent.now number turn }
+// Whether the input is a tick, or its datagram exists and is addressed to the node.
+fn is_for(sent: &[Datagram], number: NodeNo, group_input: GroupInput) -> bool
+    ensures { IsTrue result ↔ IsFor sent.now number group_input }
 {
-    let GroupInput::Deliver(k) = turn else {
+    let GroupInput::Deliver(k) = group_input else {
         return true;
     };
     match datagram(sent, k) {
@@ -139,21 +139,23 @@ fn is_for(sent: &[Datagram], number: NodeNo, turn: GroupInput) -> bool
     }
 }
 
-// Whether this holds of every turn.
-fn are_for(sent: &[Datagram], number: NodeNo, turns: &[GroupInput]) -> bool
-    ensures { IsTrue result ↔ AreFor sent.now number turns.now }
+// Whether this holds of every input.
+fn are_for(sent: &[Datagram], number: NodeNo, group_inputs: &[GroupInput]) -> bool
+    ensures { IsTrue result ↔ AreFor sent.now number group_inputs.now }
 {
-    turns.iter().all(|turn| is_for(sent, number, *turn))
+    group_inputs
+        .iter()
+        .all(|group_input| is_for(sent, number, *group_input))
 }
 
-// Copies the bytes of the turn's datagram, as the group appends to the list that holds them. Returns `None` for a tick.
+// Copies the bytes of the input's datagram, as the group appends to the list that holds them; `None` for a tick.
 fn bytes_for<R: MemoryReplica>(
     parts: &WorldParts<R>,
-    turn: GroupInput,
+    group_input: GroupInput,
 ) -> Result<Option<Vec<u8>>, NoMemory>
-    ensures { IfOk result (λ o. copied o ≡ given_by parts.now.sent.items turn) }
+    ensures { IfOk result (λ o. copied o ≡ given_by parts.now.sent.items group_input) }
 {
-    let GroupInput::Deliver(k) = turn else {
+    let GroupInput::Deliver(k) = group_input else {
         return Ok(None);
     };
     match datagram(&parts.sent, k) {
@@ -162,17 +164,17 @@ fn bytes_for<R: MemoryReplica>(
     }
 }
 
-// Copies the bytes of the datagram of each turn, in order; `None` for a tick.
+// Copies the bytes of the datagram of each input, in order; `None` for a tick.
 fn bytes_for_all<R: MemoryReplica>(
     parts: &WorldParts<R>,
-    turns: &[GroupInput],
+    group_inputs: &[GroupInput],
 ) -> Result<Vec<Option<Vec<u8>>>, NoMemory>
-    ensures ok { IfOk result (λ l. map copied l.items ≡ map (given_by parts.now.sent.items) turns.now) }
-    ensures memory { OnErr result (0 < length turns.now) }
+    ensures ok { IfOk result (λ l. map copied l.items ≡ map (given_by parts.now.sent.items) group_inputs.now) }
+    ensures memory { OnErr result (0 < length group_inputs.now) }
 {
     let mut all = Vec::new(parts.alloc);
-    'turns: for turn in turns {
-        all.push(bytes_for(parts, *turn)?)?;
+    'group_inputs: for group_input in group_inputs {
+        all.push(bytes_for(parts, *group_input)?)?;
     }
     Ok(all)
 }
@@ -192,29 +194,29 @@ fn inputs_of<'a>(alloc: Global, all: &'a [Option<Vec<u8>>]) -> Result<Vec<Input<
     Ok(inputs)
 }
 
-/// Gives the turns to a node together. All of them are checked before the node takes the first.
+/// Gives the inputs to a node together. All of them are checked before the node takes the first.
 pub fn group<R: MemoryReplica>(
     parts: &mut WorldParts<R>,
     number: NodeNo,
-    turns: &[GroupInput],
+    group_inputs: &[GroupInput],
 ) -> Result<(), Refused>
     requires { PartsKeepInvariant R.Shows (disks_by R.behaves) R.meaning parts.old }
     ensures holds { PartsKeepInvariant R.Shows (disks_by R.behaves) R.meaning parts.new }
     ensures ok { OnOk result
-        (MayGroup (scene_of parts.old) number turns.now
+        (MayGroup (scene_of parts.old) number group_inputs.now
         × IsGivenTogether R.behaves (scene_of parts.old) (scene_of parts.new) number
-        (map (given_by parts.old.sent.items) turns.now)) }
+        (map (given_by parts.old.sent.items) group_inputs.now)) }
     ensures err { IfErr result
-        (λ e. IsNotGrouped R.behaves (scene_of parts.old) number turns.now e (scene_of parts.new)) }
+        (λ e. IsNotGrouped R.behaves (scene_of parts.old) number group_inputs.now e (scene_of parts.new)) }
 {
     let i = find_up(&parts.seats, number)?;
-    if !are_for(&parts.sent, number, turns) {
+    if !are_for(&parts.sent, number, group_inputs) {
         return Err(Refused::NoSuchDatagram);
     }
     if !has_room(&parts.sent) {
         return Err(Refused::WorldFull);
     }
-    let bytes = bytes_for_all(parts, turns)?;
+    let bytes = bytes_for_all(parts, group_inputs)?;
     let inputs = inputs_of(parts.alloc, &bytes)?;
     give_all(parts, i, inputs)?;
     Ok(())

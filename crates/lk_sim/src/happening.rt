@@ -30,7 +30,7 @@ pub fn happen<R: MemoryReplica>(parts: &mut WorldParts<R>, event: &Event) -> Res
         Event::Compact(number) => compact(parts, *number),
         Event::Client(number, request) => client(parts, *number, request),
         Event::Deliver(k) => deliver(parts, *k),
-        Event::Group(number, turns) => group(parts, *number, turns),
+        Event::Group(number, group_inputs) => group(parts, *number, group_inputs),
         Event::Inject(number, bytes) => inject(parts, *number, bytes),
         Event::Stop(number, x, y) => halt(parts, *number, *x, *y),
         Event::FailAt(number, count) => fail_at(parts, *number, *count),

@@ -1,7 +1,7 @@
 // Events that start, restart or stop a node, or set a trap at its device.
 ghost use Rattle.std.specs.Prelude.{◌≡◌, IfErr, OnOk, OnErr};
 ghost use Rattle.lk_replica.specs.Behaviours.{disks_by};
-ghost use Rattle.lk_sim.specs.Events.{IsExecuted, IsBegun, IsRefused, StartWants};
+ghost use Rattle.lk_sim.specs.Events.{IsExecuted, IsAdded, IsRefused, StartWants};
 ghost use Rattle.lk_sim_nodes.specs.Seats.{HasNo};
 ghost use Rattle.lk_sim.specs.Worlds.{PartsKeepInvariant, scene_of};
 ghost use Rattle.lk_sim.specs.declared.event.Event.TheVariants as event;
@@ -25,7 +25,7 @@ fn begin_node<R: MemoryReplica>(parts: &mut WorldParts<R>, number: NodeNo) -> Re
     requires unused { HasNo parts.old.seats.items number }
     requires holds { PartsKeepInvariant R.Shows (disks_by R.behaves) R.meaning parts.old }
     ensures holds { PartsKeepInvariant R.Shows (disks_by R.behaves) R.meaning parts.new }
-    ensures ok { OnOk result (IsBegun R.behaves (scene_of parts.old) (scene_of parts.new) number) }
+    ensures ok { OnOk result (IsAdded R.behaves (scene_of parts.old) (scene_of parts.new) number) }
     ensures err { OnErr result (scene_of parts.new ≡ scene_of parts.old) }
     // Memory ran out for the node's place, before its start, or for the result of its start.
     ensures wants { OnErr result (StartWants R.behaves parts.old.genesis number parts.old.seats) }

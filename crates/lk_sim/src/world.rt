@@ -39,7 +39,7 @@ impl<R: MemoryReplica> World<R> {
     ghost use Rattle.lk_disk.specs.declared.device.Side.TheVariants.{A, B};
     ghost use Rattle.lk_sim_nodes.specs.Seats.{disks_of, At, HasNo};
     ghost use Rattle.lk_sim_nodes.specs.Left.{left_of};
-    ghost use Rattle.lk_sim.specs.Packed.{LeavesPacked};
+    ghost use Rattle.lk_sim.specs.Packed.{LeavesPackedState};
     ghost use Rattle.lk_sim.specs.Guarantees.{WorldGuarantee};
     ghost use Rattle.lk_sim.specs.Runs.{Runs};
     ghost use Rattle.lk_sim_nodes.specs.declared.seat.Seat.{Seat as SeatValue};
@@ -71,7 +71,7 @@ impl<R: MemoryReplica> World<R> {
         ensures grows { Grows self.old self.new }
         ensures guaranteed { WorldGuarantee R.behaves R.whole R.meaning self.new }
         // After a compaction, whatever a stop may leave of the node's disks has a snapshot of everything executed.
-        ensures packed { OnOk result (LeavesPacked R.whole (disks_by R.behaves) R.meaning event self.new) }
+        ensures packed { OnOk result (LeavesPackedState R.whole (disks_by R.behaves) R.meaning event self.new) }
     {
         let result = happen(&mut self.parts, &event);
         self.facts();

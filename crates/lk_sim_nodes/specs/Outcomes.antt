@@ -55,7 +55,7 @@ pub record HasTaken {R : Type 0} (b : Behaviour R) (r : R) (o : Option (List ℕ
   pub all : List Datagram
   pub takes : b.Takes r o replica (Ok (mine, all))
   pub calls : ℕ
-  pub passes : CallsSucceed (b.memory r).meter (b.memory replica).meter calls
+  pub calls_succeed : CallsSucceed (b.memory r).meter (b.memory replica).meter calls
   pub after : R
   pub up : s.life ≡ Up after
   pub sends : SentUpTo b stop replica after all batch
@@ -69,7 +69,7 @@ pub record HasTakenTogether {R : Type 0} (b : Behaviour R) (r : R) (given : List
   pub takes : b.TakesAll r given replica (Ok (parts_of steps all))
   pub whole : all ≡ sent_of (parts_of steps all)
   pub calls : ℕ
-  pub passes : CallsSucceed (b.memory r).meter (b.memory replica).meter calls
+  pub calls_succeed : CallsSucceed (b.memory r).meter (b.memory replica).meter calls
   pub after : R
   pub up : s.life ≡ Up after
   pub sends : SentUpTo b stop replica after all batch
@@ -88,7 +88,7 @@ pub record HasRevived {R : Type 0} (b : Behaviour R) (device : Memory) (header :
   pub up : s.life ≡ Up replica
   pub revives : b.Revives device header (Ok (replica, mine))
   pub calls : ℕ
-  pub passes : CallsSucceed device.meter (b.memory replica).meter calls
+  pub calls_succeed : CallsSucceed device.meter (b.memory replica).meter calls
   pub no_batch : batch ≡ []
   pub ended : how ≡ None
   pub no_stop : stop ≡ None
@@ -98,7 +98,7 @@ pub record HasCompacted {R : Type 0} (b : Behaviour R) (r : R) (s : Seat R) (min
     (how : Option End) (stop : Option ℕ) : Type 0 where
   pub replica : R
   pub compacts : b.Compacts r replica (Ok tt)
-  pub passes : CallsSucceed (b.memory r).meter (b.memory replica).meter rebase_calls
+  pub calls_succeed : CallsSucceed (b.memory r).meter (b.memory replica).meter rebase_calls
   pub up : s.life ≡ Up replica
   pub no_notes : mine ≡ []
   pub no_batch : batch ≡ []

@@ -12,7 +12,7 @@ ghost use Rattle.lk_sim_nodes.specs.Outcomes.{HasStoppedOutOfMemory};
 ghost use Rattle.lk_sim_nodes.specs.Seats.{SeatFits, SeatGoes};
 ghost use Rattle.lk_sim_nodes.specs.declared.seat.Life.TheVariants.{Up, Down};
 
-use crate::outcome::{Outcome, count_sends, ended_at, take_down};
+use crate::outcome::{Outcome, count_sends, ended_at, stop_node};
 use crate::seat::{Life, Seat, take_device};
 use lk_node_interface::Input;
 use lk_replica::{MemoryReplica, Taken};
@@ -62,7 +62,7 @@ pub fn step<R: MemoryReplica>(
         }
         Err(fault) => {
             let device = take_device(alloc, seat);
-            take_down(alloc, seat, device, fault)
+            stop_node(alloc, seat, device, fault)
         }
     }
 }
@@ -100,7 +100,7 @@ pub fn compact_node<R: MemoryReplica>(
         }),
         Err(fault) => {
             let device = take_device(alloc, seat);
-            take_down(alloc, seat, device, fault)
+            stop_node(alloc, seat, device, fault)
         }
     }
 }
@@ -141,6 +141,6 @@ pub fn revive<R: MemoryReplica>(
                 stop: None,
             })
         }
-        Err(refused) => take_down(alloc, seat, refused.device, refused.fault),
+        Err(refused) => stop_node(alloc, seat, refused.device, refused.fault),
     }
 }

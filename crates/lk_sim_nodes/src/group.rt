@@ -16,7 +16,7 @@ ghost use Rattle.lk_sim_nodes.specs.Seats.{SeatFits, device_in};
 ghost use Rattle.lk_sim_nodes.specs.declared.seat.Life.TheVariants.{Up};
 
 use crate::end::End;
-use crate::outcome::{Outcome, count_sends, ended_at, take_down};
+use crate::outcome::{Outcome, count_sends, ended_at, stop_node};
 use crate::seat::{Life, Seat, take_device};
 use lk_node_interface::Input;
 use lk_replica::{Datagram, MemoryReplica, Step, TakenAll};
@@ -93,7 +93,7 @@ pub fn step_all<R: MemoryReplica>(
         }
         Err(fault) => {
             let device = take_device(alloc, seat);
-            let outcome = take_down(alloc, seat, device, fault)?;
+            let outcome = stop_node(alloc, seat, device, fault)?;
             Ok(fallen(alloc, outcome))
         }
     }

@@ -59,7 +59,7 @@ fn is_wanting(fault: &ReplicaFault, device: &MemoryDisk) -> bool
 /// Takes the node down after a fault, with the disks as they are, or stops it and returns `NoMemory` if it ran out of
 /// memory. Either way the trap is gone, and the device forgets that it was starved. If the fault is that of an armed
 /// stop, the result says so, and the caller carries it out.
-pub fn take_down<R: MemoryReplica>(
+pub fn stop_node<R: MemoryReplica>(
     alloc: Global,
     seat: &mut Seat<R>,
     mut device: MemoryDisk,

@@ -9,26 +9,27 @@ use Rattle.std.proofs.lemmas.List.Folds.{find-append}
 use Rattle.std.proofs.lemmas.List.Elements.{Contains-append_left, Contains-append_right, Contains-push}
 use Rattle.std.proofs.lemmas.List.Elements.{Contains-push_cases}
 use Rattle.lk_types.specs.declared.answer.Answer.{Answer}
-use Rattle.lk_members.specs.Effects.{Command, RequestValue, Noop, Request, Placed, is_older, in_effect, placed}
+use Rattle.lk_members.specs.Effects.{Command, RequestValue, Noop, Request, PositionedEntry, is_older, in_effect}
+use Rattle.lk_members.specs.Effects.{positioned}
 use Rattle.lk_members.specs.Effects.{is_of_another, is_at_most, IsLast}
 use Rattle.lk_members.specs.Rosters.{Genesis}
-use Rattle.lk_members.proofs.Memberships.{placed-push, all_of_another-push, IsLast-push, IsLast-new}
+use Rattle.lk_members.proofs.Memberships.{positioned-push, all_of_another-push, IsLast-push, IsLast-new}
 use Rattle.lk_state.specs.Meanings.{Meaning}
 use Rattle.lk_state.specs.Sessions.{Session, is_at, is_new}
-use Rattle.lk_state.specs.States.{served, ledger, reply, last_served}
+use Rattle.lk_state.specs.States.{session_of_entry, ledger, reply, last_session}
 use Rattle.lk_state.proofs.StateLaws.{by_pushes, entered, served_here, ledger-push, is_older-is_new, session_or}
-use Rattle.lk_state.proofs.StateLaws.{last_served-push, nothing_last, last_served-session_of}
+use Rattle.lk_state.proofs.StateLaws.{last_session-push, nothing_last, last_session-session_of}
 use Rattle.lk_state.proofs.ReplyLaws.{session_now, reply_here, mine_is_asked}
 
 older-is_new_last : (m : Meaning) (genesis : Genesis) (L : List Command) (r : RequestValue)
-    → list_all (is_older r) L ≡ is_new (last_served m genesis L r.client) r.number
+    → list_all (is_older r) L ≡ is_new (last_session m genesis L r.client) r.number
 older-is_new_last m genesis L r =
     is_older-is_new m genesis L r
-    ∙ ap (λ (o : Option Session). is_new o r.number) (sym (last_served-session_of m genesis L r.client))
+    ∙ ap (λ (o : Option Session). is_new o r.number) (sym (last_session-session_of m genesis L r.client))
 
 -- a request takes effect after a list exactly where its number is above that of its client's last one that takes effect
 pub takes_effect_above_last : (m : Meaning) (genesis : Genesis) (L : List Command) (r : RequestValue)
-    → in_effect L (Request r) ≡ cond (is_new (last_served m genesis L r.client) r.number) (Some r) None
+    → in_effect L (Request r) ≡ cond (is_new (last_session m genesis L r.client) r.number) (Some r) None
 takes_effect_above_last m genesis L r = ap (λ (b : Bool). cond b (Some r) None) (older-is_new_last m genesis L r)
 
 -- ---- replies
@@ -81,15 +82,15 @@ abbrev is_numbered : ℕ → ℕ → Session → Bool
 is_numbered client number s = eqb s.client client && eqb s.number number
 
 -- a reply is what an entry that takes effect gets at its place
-pub replies_stand : (m : Meaning) (genesis : Genesis) (L : List Command) (client number : ℕ) (a : Answer)
+pub replies_come_from_entries : (m : Meaning) (genesis : Genesis) (L : List Command) (client number : ℕ) (a : Answer)
     → reply m genesis L client number ≡ Some a
-    → (p : Placed) × Contains (placed L) p
-    × (served m genesis p ≡ Some (record { client = client; number = number; answer = a }))
+    → (p : PositionedEntry) × Contains (positioned L) p
+    × (session_of_entry m genesis p ≡ Some (record { client = client; number = number; answer = a }))
 unfolding ledger
-replies_stand m genesis L client number a e =
+replies_come_from_entries m genesis L client number a e =
     let test : Session → Bool = is_numbered client number in
     let said = answer_of (find test (ledger m genesis L)) a e in
-    let place = found_in (λ (p : Placed). served m genesis p) test (placed L) said.0 said.1 in
+    let place = found_in (λ (p : PositionedEntry). session_of_entry m genesis p) test (positioned L) said.0 said.1 in
     let asked = and_parts (eqb said.0.client client) (eqb said.0.number number)
     (passes test (ledger m genesis L) said.0 said.1) in
     let same = same_session said.0 client number a (eqb-true said.0.client client asked.0)
@@ -128,26 +129,27 @@ reply-new m genesis L (Request r) s e =
 
 abbrev IsRepliedWhereServed : Meaning → Genesis → List Command → Type 0
 IsRepliedWhereServed m genesis L =
-    (p : Placed) (s : Session) → Contains (placed L) p → served m genesis p ≡ Some s
+    (p : PositionedEntry) (s : Session) → Contains (positioned L) p → session_of_entry m genesis p ≡ Some s
     → reply m genesis L s.client s.number ≡ Some s.answer
 
 replied_more : (m : Meaning) (genesis : Genesis) (L : List Command) (c : Command) → IsRepliedWhereServed m genesis L
     → IsRepliedWhereServed m genesis (L ++ c ∷ [])
 replied_more m genesis L c so_far p s stands is =
-    let last : Placed = record { before = L; entry = c } in
-    elim (Contains-push_cases (placed L) last p
-    (subst (λ (ps : List Placed). Contains ps p) (placed-push L c) stands)) [
+    let last : PositionedEntry = record { before = L; entry = c } in
+    elim (Contains-push_cases (positioned L) last p
+    (subst (λ (ps : List PositionedEntry). Contains ps p) (positioned-push L c) stands)) [
       | inl before ↦ reply-push m genesis L c s.client s.number s.answer (so_far p s before is)
-      | inr here ↦ reply-new m genesis L c s (ap (λ (q : Placed). served m genesis q) here ∙ is)
+      | inr here ↦ reply-new m genesis L c s (ap (λ (q : PositionedEntry). session_of_entry m genesis q) here ∙ is)
     ]
 
-nothing_placed : (p : Placed) → Contains (placed []) p → ⊥
-unfolding placed
+nothing_placed : (p : PositionedEntry) → Contains (positioned []) p → ⊥
+unfolding positioned
 nothing_placed p (k, lt, is) = omega arith
 
--- what an entry that takes effect is answered at its place is the reply of its client's number
-pub one_reply : (m : Meaning) (genesis : Genesis) (L : List Command) (p : Placed) (s : Session) → Contains (placed L) p
-    → served m genesis p ≡ Some s → reply m genesis L s.client s.number ≡ Some s.answer
+-- what an entry that takes effect is answered at its position is the reply of its client's number
+pub one_reply : (m : Meaning) (genesis : Genesis) (L : List Command) (p : PositionedEntry) (s : Session)
+    → Contains (positioned L) p → session_of_entry m genesis p ≡ Some s
+    → reply m genesis L s.client s.number ≡ Some s.answer
 one_reply m genesis = by_pushes (IsRepliedWhereServed m genesis)
     (λ p s stands is. absurd (nothing_placed p stands)) (replied_more m genesis)
 
@@ -167,32 +169,33 @@ last_is client last (Some t) s e =
     ]
 
 abbrev IsReplied : Meaning → Genesis → List Command → Type 0
-IsReplied m genesis L = (client : ℕ) (s : Session) → last_served m genesis L client ≡ Some s
+IsReplied m genesis L = (client : ℕ) (s : Session) → last_session m genesis L client ≡ Some s
     → reply m genesis L client s.number ≡ Some s.answer
 
 last_replied_more : (m : Meaning) (genesis : Genesis) (L : List Command) (c : Command) → IsReplied m genesis L
     → IsReplied m genesis (L ++ c ∷ [])
 last_replied_more m genesis L c so_far client s last =
-    elim (last_is client (last_served m genesis L client) (served_here m genesis L c) s
-    (sym (last_served-push m genesis L c client) ∙ last)) [
+    elim (last_is client (last_session m genesis L client) (served_here m genesis L c) s
+    (sym (last_session-push m genesis L c client) ∙ last)) [
       | inl now ↦ subst (λ (n : ℕ). reply m genesis (L ++ c ∷ []) n s.number ≡ Some s.answer) now.1
           (reply-new m genesis L c s now.0)
       | inr before ↦ reply-push m genesis L c client s.number s.answer (so_far client s before.0)
     ]
 
 nobody_last : (m : Meaning) (genesis : Genesis) (client : ℕ) (s : Session)
-    → last_served m genesis [] client ≡ Some s → ⊥
+    → last_session m genesis [] client ≡ Some s → ⊥
 nobody_last m genesis client s e = let none = nothing_last m genesis client in cc
 
 -- what a client's last request that takes effect was answered is its reply
 pub last_is_replied : (m : Meaning) (genesis : Genesis) (L : List Command) (client : ℕ) (s : Session)
-    → last_served m genesis L client ≡ Some s → reply m genesis L client s.number ≡ Some s.answer
+    → last_session m genesis L client ≡ Some s → reply m genesis L client s.number ≡ Some s.answer
 last_is_replied m genesis =
     by_pushes (IsReplied m genesis) (λ client s e. absurd (nobody_last m genesis client s e))
     (last_replied_more m genesis)
 
 abbrev IsGreatest : Meaning → Genesis → List Command → Type 0
-IsGreatest m genesis L = (client : ℕ) (s : Session) → last_served m genesis L client ≡ Some s → IsLast L client s.number
+IsGreatest m genesis L =
+    (client : ℕ) (s : Session) → last_session m genesis L client ≡ Some s → IsLast L client s.number
 
 new_is_greatest : (m : Meaning) (genesis : Genesis) (L : List Command) (c : Command) (s : Session)
     → served_here m genesis L c ≡ Some s → IsLast (L ++ c ∷ []) s.client s.number
@@ -208,7 +211,7 @@ new_is_greatest m genesis L (Request r) s e =
 
 -- an entry of the client that does not take effect has no greater number
 old_is_at_most : (m : Meaning) (genesis : Genesis) (L : List Command) (c : Command) (client : ℕ) (s : Session)
-    → last_served m genesis L client ≡ Some s → is_at client (served_here m genesis L c) ≡ false
+    → last_session m genesis L client ≡ Some s → is_at client (served_here m genesis L c) ≡ false
     → is_at_most client s.number c ≡ true
 old_is_at_most m genesis L Noop client s last not_here = refl
 old_is_at_most m genesis L (Request r) client s last not_here =
@@ -219,8 +222,8 @@ old_is_at_most m genesis L (Request r) client s last not_here =
             | inl all ↦ let other : eqb r.client client ≡ false = rw all at not_here in absurd cc
             | inr some ↦
                 let is = eqb-true r.client client mine in
-                let old : is_new (last_served m genesis L client) r.number ≡ false =
-                ap (λ (n : ℕ). is_new (last_served m genesis L n) r.number) (sym is)
+                let old : is_new (last_session m genesis L client) r.number ≡ false =
+                ap (λ (n : ℕ). is_new (last_session m genesis L n) r.number) (sym is)
                 ∙ sym (older-is_new_last m genesis L r) ∙ some in
                 let below : nat_lt s.number r.number ≡ false = rw last at old in
                 let least = ltb-false s.number r.number below in
@@ -232,8 +235,8 @@ old_is_at_most m genesis L (Request r) client s last not_here =
 greatest_more : (m : Meaning) (genesis : Genesis) (L : List Command) (c : Command) → IsGreatest m genesis L
     → IsGreatest m genesis (L ++ c ∷ [])
 greatest_more m genesis L c so_far client s last =
-    elim (last_is client (last_served m genesis L client) (served_here m genesis L c) s
-    (sym (last_served-push m genesis L c client) ∙ last)) [
+    elim (last_is client (last_session m genesis L client) (served_here m genesis L c) s
+    (sym (last_session-push m genesis L c client) ∙ last)) [
       | inl now ↦ subst (λ (n : ℕ). IsLast (L ++ c ∷ []) n s.number) now.1 (new_is_greatest m genesis L c s now.0)
       | inr before ↦ IsLast-push L c client s.number (so_far client s before.0)
           (old_is_at_most m genesis L c client s before.0 before.1)
@@ -241,12 +244,12 @@ greatest_more m genesis L c so_far client s last =
 
 -- a client's last request that takes effect has the greatest number that it used
 pub last_is_greatest : (m : Meaning) (genesis : Genesis) (L : List Command) (client : ℕ) (s : Session)
-    → last_served m genesis L client ≡ Some s → IsLast L client s.number
+    → last_session m genesis L client ≡ Some s → IsLast L client s.number
 last_is_greatest m genesis =
     by_pushes (IsGreatest m genesis) (λ client s e. absurd (nobody_last m genesis client s e)) (greatest_more m genesis)
 
 abbrev IsUnused : Meaning → Genesis → List Command → Type 0
-IsUnused m genesis L = (client : ℕ) → last_served m genesis L client ≡ None → list_all (is_of_another client) L ≡ true
+IsUnused m genesis L = (client : ℕ) → last_session m genesis L client ≡ None → list_all (is_of_another client) L ≡ true
 
 none_came : (client : ℕ) (last o : Option Session) → session_or client last o ≡ None
     → (last ≡ None) × (is_at client o ≡ false)
@@ -258,7 +261,7 @@ none_came client last (Some t) e =
     ]
 
 first_would_take_effect : (m : Meaning) (genesis : Genesis) (L : List Command) (c : Command) (client : ℕ)
-    → last_served m genesis L client ≡ None → is_at client (served_here m genesis L c) ≡ false
+    → last_session m genesis L client ≡ None → is_at client (served_here m genesis L c) ≡ false
     → is_of_another client c ≡ true
 first_would_take_effect m genesis L Noop client none not_here = refl
 first_would_take_effect m genesis L (Request r) client none not_here =
@@ -267,7 +270,7 @@ first_would_take_effect m genesis L (Request r) client none not_here =
       | inl mine ↦
           let is = eqb-true r.client client mine in
           let all : list_all (is_older r) L ≡ true = older-is_new_last m genesis L r
-          ∙ ap (λ (n : ℕ). is_new (last_served m genesis L n) r.number) is
+          ∙ ap (λ (n : ℕ). is_new (last_session m genesis L n) r.number) is
           ∙ ap (λ (o : Option Session). is_new o r.number) none in
           let other : eqb r.client client ≡ false = rw all at not_here in
           absurd cc
@@ -276,12 +279,12 @@ first_would_take_effect m genesis L (Request r) client none not_here =
 unused_more : (m : Meaning) (genesis : Genesis) (L : List Command) (c : Command) → IsUnused m genesis L
     → IsUnused m genesis (L ++ c ∷ [])
 unused_more m genesis L c so_far client none =
-    let before = none_came client (last_served m genesis L client) (served_here m genesis L c)
-    (sym (last_served-push m genesis L c client) ∙ none) in
+    let before = none_came client (last_session m genesis L client) (served_here m genesis L c)
+    (sym (last_session-push m genesis L c client) ∙ none) in
     all_of_another-push client L c (so_far client before.0)
     (first_would_take_effect m genesis L c client before.0 before.1)
 
 -- a client of which no request takes effect has none in the list
 pub none_is_unused : (m : Meaning) (genesis : Genesis) (L : List Command) (client : ℕ)
-    → last_served m genesis L client ≡ None → list_all (is_of_another client) L ≡ true
+    → last_session m genesis L client ≡ None → list_all (is_of_another client) L ≡ true
 none_is_unused m genesis = by_pushes (IsUnused m genesis) (λ client none. refl) (unused_more m genesis)

@@ -7,7 +7,7 @@ use Rattle.std.specs.Option.{option_map, option_or}
 use Rattle.std.proofs.lemmas.Bool.{and_parts, cases_Bool, ltb-true, ne_eqb, eq-eqb}
 use Rattle.std.proofs.lemmas.List.Folds.{find-append, list_all-append}
 use Rattle.lk_types.specs.declared.answer.Answer.{Answer}
-use Rattle.lk_members.specs.Effects.{Command, RequestValue, Noop, Request, is_older, in_effect, placed}
+use Rattle.lk_members.specs.Effects.{Command, RequestValue, Noop, Request, is_older, in_effect, positioned}
 use Rattle.lk_members.specs.Rosters.{Genesis, roster_of}
 use Rattle.lk_members.specs.Windows.{newest_roster}
 use Rattle.lk_members.proofs.Memberships.{newest_roster-roster_after}
@@ -44,7 +44,7 @@ AsksNothing m genesis L =
     (r : RequestValue) → list_all (is_older r) L ≡ true → find (is_asked r) (ledger m genesis L) ≡ None
 
 nothing_asked : (m : Meaning) (genesis : Genesis) → AsksNothing m genesis []
-unfolding ledger placed
+unfolding ledger positioned
 nothing_asked m genesis r older = refl
 
 asks_more : (m : Meaning) (genesis : Genesis) (L : List Command) (c : Command) → AsksNothing m genesis L

@@ -9,8 +9,8 @@ use Rattle.std.proofs.lemmas.Bool.{eqb-false, eq-eqb, ne_eqb}
 use Rattle.std.proofs.lemmas.List.Sums.{prefix_len-le-length, prefix_len_is}
 use Rattle.std.proofs.lemmas.List.Edits.{length-insert}
 use Rattle.lk_types.specs.declared.answer.Answer.TheVariants.{Bad}
-use Rattle.lk_state.specs.Sessions.{Session, session_of, own, is_at, with_session, are_sessions_above, IsSession}
-use Rattle.lk_state.specs.Sessions.{AreSessions}
+use Rattle.lk_state.specs.Sessions.{Session, session_of, if_of_client, is_at, with_session, are_sessions_above}
+use Rattle.lk_state.specs.Sessions.{IsSession, AreSessions}
 
 -- how many stand before the client
 abbrev pub before : ℕ → List Session → ℕ
@@ -182,7 +182,7 @@ none_above client low (s ∷ l) le h =
 
 -- in rising sessions a client's stands after those of smaller clients, or nowhere
 pub session_of-before : (client low : ℕ) (l : List Session) → are_sessions_above low l ≡ true
-    → session_of client l ≡ own client (slice_get l (before client l))
+    → session_of client l ≡ if_of_client client (slice_get l (before client l))
 session_of-before client low [] h = refl
 session_of-before client low (s ∷ l) h =
     let parts = and_parts (nat_lt low s.client) (are_sessions_above s.client l) h in

@@ -7,16 +7,18 @@ use Rattle.std.proofs.lemmas.Bool.{cases_Bool, ltb-true, ltb-false, lt-ltb, eqb-
 use Rattle.std.proofs.lemmas.List.Sums.{fold-append}
 use Rattle.std.proofs.lemmas.List.Folds.{list_all-append}
 use Rattle.std.proofs.lemmas.List.Elements.{filter_map-append}
-use Rattle.lk_members.specs.Effects.{Command, RequestValue, Noop, Request, Placed, is_older, in_effect, placed, effects}
+use Rattle.lk_members.specs.Effects.{Command, RequestValue, Noop, Request, PositionedEntry, is_older, in_effect}
+use Rattle.lk_members.specs.Effects.{positioned, effects}
 use Rattle.lk_members.specs.Rosters.{Genesis, roster_of}
 use Rattle.lk_members.specs.Windows.{RosterValue, roster_after, newest_roster}
-use Rattle.lk_members.proofs.Memberships.{placed-push, added, effects-push, newest_roster-roster_after}
+use Rattle.lk_members.proofs.Memberships.{positioned-push, added, effects-push, newest_roster-roster_after}
 use Rattle.lk_members.proofs.Memberships.{roster_after-push}
 use Rattle.lk_state.specs.Meanings.{Meaning}
 use Rattle.lk_state.specs.Sessions.{Session, session_of, is_new, with_session}
-use Rattle.lk_state.specs.States.{WholeValue, next_text, op_answer, session_in, served, text_of, ledger, last_served}
+use Rattle.lk_state.specs.States.{WholeValue, next_text, op_answer, session_in, session_of_entry, text_of, ledger}
+use Rattle.lk_state.specs.States.{last_session}
 use Rattle.lk_state.specs.States.{sessions_of, whole_after}
-use Rattle.lk_state.specs.Runs.{in_effect_now, served_by, ran}
+use Rattle.lk_state.specs.Runs.{in_effect_now, after_request, ran}
 use Rattle.lk_state.proofs.SessionLaws.{do_rise, do_rise-with_session, each_is_its_clients}
 
 module _ {X : Type 0} (P : List X → Type 0) (step : (l : List X) (x : X) → P l → P (l ++ x ∷ [])) where
@@ -34,8 +36,9 @@ abbrev pub entered : Option Session → List Session
 entered None = []
 entered (Some s) = s ∷ []
 
-entered_is : (m : Meaning) (genesis : Genesis) (p : Placed) (o : Option Session) → served m genesis p ≡ o
-    → filter_map (λ (p : Placed). served m genesis p) (p ∷ []) ≡ entered o
+entered_is : (m : Meaning) (genesis : Genesis) (p : PositionedEntry) (o : Option Session)
+    → session_of_entry m genesis p ≡ o
+    → filter_map (λ (p : PositionedEntry). session_of_entry m genesis p) (p ∷ []) ≡ entered o
 entered_is m genesis p None e = rw e refl
 entered_is m genesis p (Some s) e = rw e refl
 
@@ -46,10 +49,10 @@ pub ledger-push : (m : Meaning) (genesis : Genesis) (L : List Command) (c : Comm
     → ledger m genesis (L ++ c ∷ []) ≡ ledger m genesis L ++ entered (served_here m genesis L c)
 unfolding ledger
 ledger-push m genesis L c =
-    let p : Placed = record { before = L; entry = c } in
-    ap (filter_map (λ (p : Placed). served m genesis p)) (placed-push L c)
-    ∙ filter_map-append (λ (p : Placed). served m genesis p) (placed L) (p ∷ [])
-    ∙ ap (λ (s : List Session). ledger m genesis L ++ s) (entered_is m genesis p (served m genesis p) refl)
+    let p : PositionedEntry = record { before = L; entry = c } in
+    ap (filter_map (λ (p : PositionedEntry). session_of_entry m genesis p)) (positioned-push L c)
+    ∙ filter_map-append (λ (p : PositionedEntry). session_of_entry m genesis p) (positioned L) (p ∷ [])
+    ∙ ap (λ (s : List Session). ledger m genesis L ++ s) (entered_is m genesis p (session_of_entry m genesis p) refl)
 
 -- the machine's text after a request that takes effect, or none
 abbrev pub text_behind : Meaning → List ℕ → Option RequestValue → List ℕ
@@ -183,7 +186,7 @@ module _ (sessions : List Session) (r q : RequestValue) where
       ]
 
 nothing_served : (m : Meaning) (genesis : Genesis) → sessions_of m genesis [] ≡ []
-unfolding ledger placed
+unfolding ledger positioned
 nothing_served m genesis = refl
 
 abbrev AreInEffectBySessions : Meaning → Genesis → List Command → Type 0
@@ -233,7 +236,7 @@ in_effect-in_effect_now m genesis L (Request r) = rw (is_older-is_new m genesis 
 
 roster_served : (genesis : Genesis) (L : List Command) (c : Command) (o : Option RequestValue) → in_effect L c ≡ o
     → (m : Meaning) (w : WholeValue) → w.roster ≡ roster_after genesis L
-    → roster_after genesis (L ++ c ∷ []) ≡ (served_by m w o).roster
+    → roster_after genesis (L ++ c ∷ []) ≡ (after_request m w o).roster
 unfolding roster_after
 roster_served genesis L c None e m w is = roster_after-push genesis L c genesis.in_range.0 ∙ rw (e, is) refl
 roster_served genesis L c (Some q) e m w is = roster_after-push genesis L c genesis.in_range.0 ∙ rw (e, is) refl
@@ -241,12 +244,12 @@ roster_served genesis L c (Some q) e m w is = roster_after-push genesis L c gene
 sessions_served : (m : Meaning) (genesis : Genesis) (L : List Command) (c : Command) (o : Option RequestValue)
     → in_effect L c ≡ o → (w : WholeValue)
     → newest_roster w.roster ≡ roster_of genesis L → w.sessions ≡ sessions_of m genesis L → w.text ≡ text_of m L
-    → sessions_of m genesis (L ++ c ∷ []) ≡ (served_by m w o).sessions
+    → sessions_of m genesis (L ++ c ∷ []) ≡ (after_request m w o).sessions
 sessions_served m genesis L c None e w r s t = sessions_of-push m genesis L c ∙ rw (e, s) refl
 sessions_served m genesis L c (Some q) e w r s t = sessions_of-push m genesis L c ∙ rw (e, s, r, t) refl
 
 text_served : (m : Meaning) (L : List Command) (c : Command) (o : Option RequestValue) → in_effect L c ≡ o
-    → (w : WholeValue) → w.text ≡ text_of m L → text_of m (L ++ c ∷ []) ≡ (served_by m w o).text
+    → (w : WholeValue) → w.text ≡ text_of m L → text_of m (L ++ c ∷ []) ≡ (after_request m w o).text
 text_served m L c None e w t = text_of-push m L c ∙ rw (e, t) refl
 text_served m L c (Some q) e w t = text_of-push m L c ∙ rw (e, t) refl
 
@@ -270,7 +273,7 @@ ran-whole_after m genesis L c =
     let roster = roster_served genesis L c o e m w refl in
     let sessions = sessions_served m genesis L c o e w plain refl refl in
     let text = text_served m L c o e w refl in
-    same_whole (served_by m w o) (whole_after m genesis (L ++ c ∷ [])) (sym roster) (sym sessions) (sym text)
+    same_whole (after_request m w o) (whole_after m genesis (L ++ c ∷ [])) (sym roster) (sym sessions) (sym text)
 
 -- ---- each client's last request
 
@@ -286,22 +289,22 @@ last_entered last client None = refl
 last_entered last client (Some s) = refl
 
 -- the client's last request after one entry more
-pub last_served-push : (m : Meaning) (genesis : Genesis) (L : List Command) (c : Command) (client : ℕ)
-    → last_served m genesis (L ++ c ∷ []) client
-    ≡ session_or client (last_served m genesis L client) (served_here m genesis L c)
-last_served-push m genesis L c client =
+pub last_session-push : (m : Meaning) (genesis : Genesis) (L : List Command) (c : Command) (client : ℕ)
+    → last_session m genesis (L ++ c ∷ []) client
+    ≡ session_or client (last_session m genesis L client) (served_here m genesis L c)
+last_session-push m genesis L c client =
     ap (fold (λ (last : Option Session) (s : Session). cond (eqb s.client client) (Some s) last) None)
     (ledger-push m genesis L c)
     ∙ fold-append (λ (last : Option Session) (s : Session). cond (eqb s.client client) (Some s) last) None
     (ledger m genesis L) (entered (served_here m genesis L c))
-    ∙ last_entered (last_served m genesis L client) client (served_here m genesis L c)
+    ∙ last_entered (last_session m genesis L client) client (served_here m genesis L c)
 
 last_more : (m : Meaning) (genesis : Genesis) (L : List Command) (c : Command)
-    → ((client : ℕ) → last_served m genesis L client ≡ session_of client (sessions_of m genesis L))
-    → (client : ℕ) → last_served m genesis (L ++ c ∷ []) client
+    → ((client : ℕ) → last_session m genesis L client ≡ session_of client (sessions_of m genesis L))
+    → (client : ℕ) → last_session m genesis (L ++ c ∷ []) client
     ≡ session_of client (sessions_of m genesis (L ++ c ∷ []))
 last_more m genesis L c so_far client =
-    last_served-push m genesis L c client
+    last_session-push m genesis L c client
     ∙ ap (λ (last : Option Session). session_or client last (served_here m genesis L c)) (so_far client)
     ∙ sym (kept (served_here m genesis L c))
     ∙ ap (session_of client) (sym (sessions_of-push m genesis L c))
@@ -312,15 +315,15 @@ last_more m genesis L c so_far client =
     kept None = refl
     kept (Some s) = session_of-with_session client s (sessions_of m genesis L)
 
-pub nothing_last : (m : Meaning) (genesis : Genesis) (client : ℕ) → last_served m genesis [] client ≡ None
-unfolding ledger placed
+pub nothing_last : (m : Meaning) (genesis : Genesis) (client : ℕ) → last_session m genesis [] client ≡ None
+unfolding ledger positioned
 nothing_last m genesis client = refl
 
 -- the session of a client is that of its last request that takes effect
-pub last_served-session_of : (m : Meaning) (genesis : Genesis) (L : List Command) (client : ℕ)
-    → last_served m genesis L client ≡ session_of client (sessions_of m genesis L)
-last_served-session_of m genesis =
-    by_pushes (λ L. (client : ℕ) → last_served m genesis L client ≡ session_of client (sessions_of m genesis L))
+pub last_session-session_of : (m : Meaning) (genesis : Genesis) (L : List Command) (client : ℕ)
+    → last_session m genesis L client ≡ session_of client (sessions_of m genesis L)
+last_session-session_of m genesis =
+    by_pushes (λ L. (client : ℕ) → last_session m genesis L client ≡ session_of client (sessions_of m genesis L))
     (λ client. rw (nothing_served m genesis) (nothing_last m genesis client)) (last_more m genesis)
 
 sessions_rise : (m : Meaning) (genesis : Genesis) (L : List Command) → do_rise (sessions_of m genesis L) ≡ true
@@ -335,23 +338,23 @@ sessions_rise m genesis =
 
 -- a session of the state of a list is its client's last request that takes effect
 pub sessions_are_last : (m : Meaning) (genesis : Genesis) (L : List Command) (s : Session)
-    → Contains (sessions_of m genesis L) s → last_served m genesis L s.client ≡ Some s
+    → Contains (sessions_of m genesis L) s → last_session m genesis L s.client ≡ Some s
 sessions_are_last m genesis L s here =
-    last_served-session_of m genesis L s.client
+    last_session-session_of m genesis L s.client
     ∙ each_is_its_clients (sessions_of m genesis L) s (sessions_rise m genesis L) here
 
 -- the session of a client in what stands
 pub seen_last : (m : Meaning) (genesis : Genesis) (L : List Command) (w : WholeValue) (client : ℕ)
-    → w ≡ whole_after m genesis L → session_of client w.sessions ≡ last_served m genesis L client
+    → w ≡ whole_after m genesis L → session_of client w.sessions ≡ last_session m genesis L client
 unfolding whole_after
 seen_last m genesis L w client e =
-    ap (λ (x : WholeValue). session_of client x.sessions) e ∙ sym (last_served-session_of m genesis L client)
+    ap (λ (x : WholeValue). session_of client x.sessions) e ∙ sym (last_session-session_of m genesis L client)
 
 -- ---- before any command
 
 pub nothing_ran : (m : Meaning) (genesis : Genesis)
     → whole_after m genesis [] ≡ record { roster = roster_after genesis []; sessions = []; text = m.first }
-unfolding whole_after ledger text_of effects placed
+unfolding whole_after ledger text_of effects positioned
 nothing_ran m genesis = refl
 
 -- what stands before any command

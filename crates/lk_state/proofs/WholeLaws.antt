@@ -16,7 +16,7 @@ use Rattle.lk_state.specs.Meanings.{Meaning, Running, Raising, KeepsTexts}
 use Rattle.lk_state.specs.Packed.{IsWhole}
 use Rattle.lk_state.specs.Sessions.{session_of, is_new}
 use Rattle.lk_state.specs.States.{WholeValue, op_answer, next_text, whole_after}
-use Rattle.lk_state.specs.Runs.{session_for, served_by, ran}
+use Rattle.lk_state.specs.Runs.{session_for, after_request, ran}
 use Rattle.lk_state.proofs.SessionLaws.{with_session-fits}
 use Rattle.lk_state.proofs.StateLaws.{by_pushes, ran-whole_after, nothing_ran}
 
@@ -57,7 +57,7 @@ module _ (IsText : List ℕ → Type 0) (m : Meaning) (keeps : KeepsTexts IsText
   op_fits r text client Raise c t = (keeps.answer client Raising text c t, keeps.next client Raising text c t)
 
   served_fits : (w : WholeValue) (r : RequestValue) → IsRequest r → IsWhole IsText w
-      → w.roster.executed < 281474976710656 → IsWhole IsText (served_by m w (Some r))
+      → w.roster.executed < 281474976710656 → IsWhole IsText (after_request m w (Some r))
   served_fits w r q f lt =
       let o = op_fits (newest_roster w.roster) w.text r.client r.op q.0 f.text in
       record {
@@ -67,7 +67,7 @@ module _ (IsText : List ℕ → Type 0) (m : Meaning) (keeps : KeepsTexts IsText
       }
 
   passed_whole : (w : WholeValue) → IsWhole IsText w → w.roster.executed < 281474976710656
-      → IsWhole IsText (served_by m w None)
+      → IsWhole IsText (after_request m w None)
   passed_whole w f lt = record { roster = passed_fits w.roster f.roster lt; sessions = f.sessions; text = f.text }
 
   ran_fits : (c : Command) (w : WholeValue) → IsCommand c → IsWhole IsText w → w.roster.executed < 281474976710656
@@ -75,7 +75,7 @@ module _ (IsText : List ℕ → Type 0) (m : Meaning) (keeps : KeepsTexts IsText
   ran_fits Noop w q f lt = passed_whole w f lt
   ran_fits (Request r) w q f lt = by_test (is_new (session_of r.client w.sessions) r.number)
     where
-      by_test : (t : Bool) → IsWhole IsText (served_by m w (cond t (Some r) None))
+      by_test : (t : Bool) → IsWhole IsText (after_request m w (cond t (Some r) None))
       by_test true = served_fits w r q f lt
       by_test false = passed_whole w f lt
 

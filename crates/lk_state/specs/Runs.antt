@@ -22,9 +22,9 @@ session_for m w r =
     record { client = r.client; number = r.number; answer = op_answer m (newest_roster w.roster) w.text r.client r.op }
 
 -- one position further, with a request that takes effect or with none
-abbrev pub served_by : Meaning → WholeValue → Option RequestValue → WholeValue
-served_by m w None = record { roster = moved_unchanged w.roster; sessions = w.sessions; text = w.text }
-served_by m w (Some r) =
+abbrev pub after_request : Meaning → WholeValue → Option RequestValue → WholeValue
+after_request m w None = record { roster = moved_unchanged w.roster; sessions = w.sessions; text = w.text }
+after_request m w (Some r) =
     record {
       roster = changed_by r.op w.roster;
       sessions = with_session (session_for m w r) w.sessions;
@@ -33,7 +33,7 @@ served_by m w (Some r) =
 
 -- the state after the command
 abbrev pub ran : Meaning → Command → WholeValue → WholeValue
-ran m command w = served_by m w (in_effect_now w.sessions command)
+ran m command w = after_request m w (in_effect_now w.sessions command)
 
 -- the answer to the command, if it takes effect
 abbrev pub run_answer : Meaning → Command → WholeValue → Option Answer

@@ -11,9 +11,9 @@ abbrev pub session_of : ℕ → List Session → Option Session
 session_of client sessions = find (λ s. s.client == client) sessions
 
 -- the session, if it is the client's
-abbrev pub own : ℕ → Option Session → Option Session
-own client None = None
-own client (Some s) = if s.client == client then Some s else None
+abbrev pub if_of_client : ℕ → Option Session → Option Session
+if_of_client client None = None
+if_of_client client (Some s) = if s.client == client then Some s else None
 
 -- there is a session, and it is the client's
 abbrev pub is_at : ℕ → Option Session → Bool

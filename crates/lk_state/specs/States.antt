@@ -3,7 +3,7 @@ use Rattle.std.specs.Prelude.{◌≡◌, ℕ, ◌&&◌, ◌==◌, if◌then◌el
 use Rattle.std.specs.List.{filter_map}
 use Rattle.std.specs.Option.{option_map}
 use Rattle.lk_types.specs.declared.answer.Answer.{Answer}
-use Rattle.lk_members.specs.Effects.{Command, RequestValue, Placed, placed, in_effect, effects}
+use Rattle.lk_members.specs.Effects.{Command, RequestValue, PositionedEntry, positioned, in_effect, effects}
 use Rattle.lk_members.specs.Rosters.{Genesis, PlainRoster, Op, Table, Join, Leave, Raise, join_answer, leave_answer}
 use Rattle.lk_members.specs.Rosters.{roster_of}
 use Rattle.lk_members.specs.Windows.{RosterValue, roster_after}
@@ -34,15 +34,16 @@ session_in m roster text None = None
 session_in m roster text (Some q) =
     Some (record { client = q.client; number = q.number; answer = op_answer m roster text q.client q.op })
 
--- the answer to an entry at its place, if it takes effect
-abbrev pub served : Meaning → Genesis → Placed → Option Session
-served m genesis p = session_in m (roster_of genesis p.before) (text_of m p.before) (in_effect p.before p.entry)
+-- the session of an entry at its position, if it takes effect
+abbrev pub session_of_entry : Meaning → Genesis → PositionedEntry → Option Session
+session_of_entry m genesis p = session_in m (roster_of genesis p.before) (text_of m p.before)
+    (in_effect p.before p.entry)
 
 -- the requests that take effect with their answers, in order
 unfoldable pub ledger : Meaning → Genesis → List Command → List Session
-ledger m genesis L = filter_map (λ p. served m genesis p) (placed L)
+ledger m genesis L = filter_map (λ p. session_of_entry m genesis p) (positioned L)
 
--- the answer to the client's request of this number at the place where it takes effect; none if it never does
+-- the answer to the client's request of this number at the position where it takes effect; none if it never does
 abbrev pub reply : Meaning → Genesis → List Command → ℕ → ℕ → Option Answer
 reply m genesis L client number =
     option_map (λ s. s.answer) (find (λ s. s.client == client && s.number == number) (ledger m genesis L))
@@ -53,8 +54,8 @@ reply_of m genesis L None = None
 reply_of m genesis L (Some r) = reply m genesis L r.client r.number
 
 -- the client's last request that takes effect, with its answer
-abbrev pub last_served : Meaning → Genesis → List Command → ℕ → Option Session
-last_served m genesis L client = fold (λ last s. if s.client == client then Some s else last) None (ledger m genesis L)
+abbrev pub last_session : Meaning → Genesis → List Command → ℕ → Option Session
+last_session m genesis L client = fold (λ last s. if s.client == client then Some s else last) None (ledger m genesis L)
 
 -- the last request of each client, by client
 abbrev pub sessions_of : Meaning → Genesis → List Command → List Session

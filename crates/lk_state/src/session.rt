@@ -1,7 +1,8 @@
 ghost use Rattle.std.specs.Prelude.{◌≡◌, ◌≤◌, ◌==◌, ◌↔◌, nat_lt, [], length, slice_get, IsTrue, IsSome, IfSome};
 ghost use Rattle.std.specs.List.{prefix_len, AllByRecursion};
 ghost use Rattle.lk_types.specs.Limits.{max_client};
-ghost use Rattle.lk_state.specs.Sessions.{session_of, own, is_at, with_session, are_sessions_above, AreSessions};
+ghost use Rattle.lk_state.specs.Sessions.{session_of, if_of_client, is_at, with_session, are_sessions_above};
+ghost use Rattle.lk_state.specs.Sessions.{AreSessions};
 ghost use Rattle.lk_state.specs.Sessions.{IsSession};
 
 use arrayvec::ArrayVec;
@@ -100,7 +101,7 @@ impl Sessions {
         ensures { result ≡ session_of client self.now }
     {
         let sessions = self.list.as_slice();
-        own_at(sessions, index_of(sessions, client), client)
+        session_at(sessions, index_of(sessions, client), client)
     }
 
     // Inserts the session, in place of the one of the same client if there is one.
@@ -109,7 +110,7 @@ impl Sessions {
     {
         session.facts();
         let at = index_of(self.list.as_slice(), session.client);
-        if stands_at(self.list.as_slice(), at, session.client) {
+        if is_session_at(self.list.as_slice(), at, session.client) {
             self.list[at] = *session;
         } else {
             self.list.insert(at, *session);
@@ -151,8 +152,8 @@ fn index_of(sessions: &[Session], client: ClientNo) -> usize
 }
 
 // Returns the session at this index if there is one and it is the client's.
-fn own_at(sessions: &[Session], index: usize, client: ClientNo) -> Option<Session>
-    ensures { result ≡ own client (slice_get sessions.now index) }
+fn session_at(sessions: &[Session], index: usize, client: ClientNo) -> Option<Session>
+    ensures { result ≡ if_of_client client (slice_get sessions.now index) }
 {
     match sessions.get(index) {
         Some(session) => (session.client == client).then_some(*session),
@@ -161,7 +162,7 @@ fn own_at(sessions: &[Session], index: usize, client: ClientNo) -> Option<Sessio
 }
 
 // Returns whether there is a session at this index and it is the client's.
-fn stands_at(sessions: &[Session], index: usize, client: ClientNo) -> bool
+fn is_session_at(sessions: &[Session], index: usize, client: ClientNo) -> bool
     ensures { result ≡ is_at client (slice_get sessions.now index) }
 {
     match sessions.get(index) {

@@ -78,8 +78,8 @@ impl<M: Machine> Whole<M> {
     ghost use Rattle.lk_members.specs.Rosters.{Genesis};
     ghost use Rattle.lk_members.specs.Windows.{newest_roster, changed_by};
     ghost use Rattle.lk_state.specs.Sessions.{session_of, is_new, with_session};
-    ghost use Rattle.lk_state.specs.States.{SumsUp, next_text, op_answer, reply_of, last_served};
-    ghost use Rattle.lk_state.specs.Runs.{in_effect_now, served_by, ran, run_answer, is_table, is_body, seen_as};
+    ghost use Rattle.lk_state.specs.States.{SumsUp, next_text, op_answer, reply_of, last_session};
+    ghost use Rattle.lk_state.specs.Runs.{in_effect_now, after_request, ran, run_answer, is_table, is_body, seen_as};
 
     /// The state before any command. Takes no memory.
     pub fn begin(alloc: Global, genesis: &Genesis) -> Whole<M>
@@ -116,7 +116,7 @@ impl<M: Machine> Whole<M> {
         self.sessions.as_slice()
     }
 
-    /// The machine.
+    /// The state machine: of `locks`, the lock table.
     pub fn machine(&self) -> &M
         ensures { M.text result.now ≡ self.now.text }
     {
@@ -127,7 +127,7 @@ impl<M: Machine> Whole<M> {
     pub fn seen(&self, client: ClientNo, number: RequestNumber) -> Seen
         ensures value { result ≡ seen_as (session_of client self.now.sessions) number }
         ensures last { (genesis : Genesis) (L : List Command) → SumsUp M.meaning genesis L self.now
-            → result ≡ seen_as (last_served M.meaning genesis L client) number }
+            → result ≡ seen_as (last_session M.meaning genesis L client) number }
     {
         Seen::of(self.sessions.get(client), number)
     }
@@ -182,7 +182,7 @@ impl<M: Machine> Whole<M> {
     {
         match command {
             Command::Noop => {
-                self.pass();
+                self.advance();
                 Ok(None)
             }
             Command::Request(request) => self.run_request(request),
@@ -234,7 +234,7 @@ impl<M: Machine> Whole<M> {
         ensures free { is_body (in_effect_now self.old.sessions (Command.Request request.now)) ≡ false → IsOk result }
     {
         if !self.is_new(request.client, request.number) {
-            self.pass();
+            self.advance();
             return Ok(None);
         }
         let answer = self.run_op(request.client, &request.op)?;
@@ -244,9 +244,9 @@ impl<M: Machine> Whole<M> {
     }
 
     // Advances by one position for a command that does not take effect.
-    fn pass(&mut self)
+    fn advance(&mut self)
         requires { self.old.roster.executed < max_count }
-        ensures { self.new ≡ served_by M.meaning self.old None }
+        ensures { self.new ≡ after_request M.meaning self.old None }
     {
         self.roster.pass();
         self.roster.facts();

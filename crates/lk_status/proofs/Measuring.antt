@@ -11,7 +11,7 @@ use Rattle.lk_types.specs.BallotValue.{BallotValue}
 use Rattle.lk_types.specs.Ballots.{is_below}
 use Rattle.lk_probe.specs.declared.probe.Report.{Report}
 use Rattle.lk_status.specs.Verdicts.{IsAmong}
-use Rattle.lk_status.specs.Measures.{has_genesis, those_of, count_naming, outweighs, more_named, IsMostTold}
+use Rattle.lk_status.specs.Measures.{has_genesis, those_of, count_naming, outweighs, more_named, IsMostNamed}
 use Rattle.lk_status.specs.Measures.{IsMostToldOf}
 use Rattle.lk_status.specs.Measures.{IsFurthest, IsFurthestOf, executed_of, further, IsMeasureOf}
 
@@ -203,11 +203,11 @@ has_some (x ∷ rs) r (inl same) none =
 has_some (x ∷ rs) r (inr there) none =
     more_of (has_genesis (genesis r) x) x (those_of (genesis r) rs) (has_some rs r there) none
 
-pub by_leader : (rs : List Report) (r : Report) → IsMostTold rs r → leads r ≡ true → IsMeasureOf rs (Some r)
+pub by_leader : (rs : List Report) (r : Report) → IsMostNamed rs r → leads r ≡ true → IsMeasureOf rs (Some r)
 by_leader rs r told led =
     record { told = r; most_told = told; leader = λ _. refl; furthest = λ it. absurd (false≢true (sym it ∙ led)) }
 
-pub by_furthest : (rs : List Report) (r : Report) (found : Option Report) → IsMostTold rs r → leads r ≡ false
+pub by_furthest : (rs : List Report) (r : Report) (found : Option Report) → IsMostNamed rs r → leads r ≡ false
     → IsFurthestOf (those_of (genesis r) rs) found → IsMeasureOf rs found
 by_furthest rs r None told unled none = absurd (has_some rs r told.is_there none)
 by_furthest rs r (Some found) told unled furthest =

@@ -50,14 +50,14 @@ outweighs rs r o = outweighs_by (count_naming r.status.identity.genesis rs)
 
 -- none outweighs it: its genesis is the one that most nodes name. Of geneses that as many nodes name, it is that of the
 -- leader with the greatest ballot, or of the smallest node if none leads
-pub record IsMostTold (rs : List Report) (r : Report) : Type 0 where
+pub record IsMostNamed (rs : List Report) (r : Report) : Type 0 where
   pub is_there : IsAmong r rs
   pub most : AllByRecursion (λ (o : Report). outweighs rs o r ≡ false) rs
 
 -- one of them, if there is any
 abbrev pub IsMostToldOf : List Report → Option Report → Type 0
 IsMostToldOf rs None = rs ≡ []
-IsMostToldOf rs (Some r) = IsMostTold rs r
+IsMostToldOf rs (Some r) = IsMostNamed rs r
 
 -- ---- the measure
 
@@ -75,7 +75,7 @@ IsFurthestOf rs (Some r) = IsFurthest rs r
 -- leads
 pub record IsMeasure (rs : List Report) (r : Report) : Type 0 where
   pub told : Report
-  pub most_told : IsMostTold rs told
+  pub most_told : IsMostNamed rs told
   pub leader : told.status.leadership.leads ≡ true → r ≡ told
   pub furthest : told.status.leadership.leads ≡ false → IsFurthest (those_of told.status.identity.genesis rs) r
 

@@ -14,7 +14,7 @@ abbrev pub SpellsTarget : List ℕ → Option ℕ → ℕ → Type 0
 SpellsTarget word (Some node) port = IsMemberWord (record { node = node; port = port }) word
 SpellsTarget word None port = IsPort port × (word ≡ decimal port)
 
--- each word spells the place of its target
+-- each word spells its target
 abbrev pub SpellTargets : List (List ℕ) → List Target → Type 0
 SpellTargets [] [] = ⊤
 SpellTargets [] (t ∷ ts) = ⊥

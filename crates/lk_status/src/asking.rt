@@ -8,7 +8,7 @@ ghost use Rattle.lk_status.specs.Rounds.{Probes};
 ghost use Rattle.lk_status.specs.Rounds.{ProbesUnless, ProbesEach, GoesOn, IsOver, Receives, HearsOne, HearsOut};
 ghost use Rattle.lk_status.specs.Rounds.{IsRound};
 
-use crate::target::{Inquiry, Target, is_answered};
+use crate::target::{Inquiry, Target, is_reported};
 use lk_probe::Report;
 use lk_transport::fault::ServiceFault;
 use lk_transport::receive_buffer::ReceiveBuffer;
@@ -49,7 +49,7 @@ fn probe_target<S: DatagramSocket>(
         → ProbesUnless S.sent S.incoming S.failures inquiry.now
         (has_token token reports.now) token target.now socket.old socket.new) }
 {
-    if is_answered(reports, token) {
+    if is_reported(reports, token) {
         return Ok(());
     }
     send_probe(socket, inquiry, target, token, frame)
@@ -92,7 +92,7 @@ fn is_of_round(inquiry: &Inquiry, first: u64, report: &Report) -> bool
 fn is_awaited(inquiry: &Inquiry, first: u64, reports: &[Report], report: &Report) -> bool
     ensures { IsTrue result ↔ IsAwaited inquiry.now first reports.now report.now }
 {
-    is_of_round(inquiry, first, report) && !is_answered(reports, report.token)
+    is_of_round(inquiry, first, report) && !is_reported(reports, report.token)
 }
 
 // Reads a datagram as a report, out of its frame if the inquiry has a key. `None` if it is no report.

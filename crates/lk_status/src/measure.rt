@@ -1,4 +1,4 @@
-//! Chooses the measure among the reports of a round: the report with which the others are compared.
+//! Chooses the reference report of a round, with which the others are compared.
 
 ghost use Rattle.std.specs.Prelude.{◌≡◌, ◌≤◌, length};
 ghost use Rattle.std.specs.Option.{option_copied};
@@ -110,7 +110,8 @@ fn most_named_in<'a>(reports: &'a [Report]) -> Option<&'a Report>
     best
 }
 
-// Returns `report` if it names that genesis and has executed as much as `furthest` or more, else `furthest`.
+// Returns `report` if its genesis is this one and its node has executed at least as much as that of `furthest`, or else
+// `furthest`.
 fn further<'a>(
     genesis: &[u8; DIGEST],
     furthest: Option<&'a Report>,
@@ -137,9 +138,9 @@ fn furthest_in<'a>(genesis: &[u8; DIGEST], reports: &'a [Report]) -> Option<&'a 
     furthest
 }
 
-/// Returns the measure, with which the others are compared. Of the nodes with the genesis that most nodes name, it is
-/// the report of the leader with the greatest ballot, or, if none leads, of one that has executed most. `None` without
-/// reports.
+/// Returns the reference report, with which the others are compared. Of the nodes with the genesis that most nodes
+/// name, it is the report of the leader with the greatest ballot, or, if none leads, of one that has executed most.
+/// `None` without reports.
 #[tactic(auto, using(crate::proofs::Measuring::by_leader))]
 pub fn reference_report<'a>(reports: &'a [Report]) -> Option<&'a Report>
     ensures { IsMeasureOf reports.now (option_copied result) }
@@ -153,7 +154,7 @@ pub fn reference_report<'a>(reports: &'a [Report]) -> Option<&'a Report>
     furthest_in(&told.status.identity.genesis, reports)
 }
 
-/// How many positions the node of a report has executed, 0 where there is none.
+/// How many positions the node of a report has executed; 0 without a report, so that every report is at least as far.
 pub fn executed_of(report: Option<&Report>) -> u64
     ensures { result ≡ executed_of (option_copied report.entry) }
 {

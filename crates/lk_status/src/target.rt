@@ -94,7 +94,7 @@ impl Inquiry {
 
     /// Returns the local address to bind: `::` or `0.0.0.0` by the family of the first target that is not IPv4
     /// loopback, or 127.0.0.1 if all are.
-    pub fn own_address(&self) -> IpAddr {
+    pub fn local_address(&self) -> IpAddr {
         for target in self.targets.as_slice() {
             let host = self.address_of(target).ip();
             if !host.is_ipv4() {
@@ -139,7 +139,7 @@ pub fn report_with<'a>(reports: &'a [Report], token: u64) -> Option<&'a Report>
 }
 
 /// Whether one of the reports has that token.
-pub fn is_answered(reports: &[Report], token: u64) -> bool
+pub fn is_reported(reports: &[Report], token: u64) -> bool
     ensures { result ≡ has_token token reports.now }
 {
     report_with(reports, token).is_some()

@@ -85,7 +85,7 @@ pub fn has_one_genesis(reports: &[Report]) -> bool
 }
 
 // The test of `is_served`.
-fn passes(reports: &[Report]) -> bool
+fn has_one_leader(reports: &[Report]) -> bool
     ensures { result ≡ is_served reports.now }
 {
     some_leads(reports, reports) && has_one_genesis(reports)
@@ -96,7 +96,7 @@ pub fn is_served(reports: &[Report]) -> bool
     ensures value { result ≡ is_served reports.now }
     ensures served { IsTrue result ↔ IsServed reports.now }
 {
-    passes(reports)
+    has_one_leader(reports)
 }
 
 // Whether each has executed at least this many positions.

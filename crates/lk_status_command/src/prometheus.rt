@@ -10,7 +10,7 @@ ghost use Rattle.lk_status_command.specs.Metrics.{field_text, metrics_text};
 
 use crate::field::{FIELDS, Field};
 use lk_probe::Report;
-use lk_status::target::{Inquiry, Target, is_answered};
+use lk_status::target::{Inquiry, Target, is_reported};
 use lk_status::verdict::{count_reporting, has_one_genesis, is_served};
 use std::io;
 use std::io::Write;
@@ -148,7 +148,7 @@ fn write_up_lines<W: Write>(
 {
     let mut token = first;
     'targets: for target in targets {
-        write_up_line(cluster, target.port.get(), is_answered(reports, token), out)?;
+        write_up_line(cluster, target.port.get(), is_reported(reports, token), out)?;
         token = token.wrapping_add(1);
     }
     Ok(())

@@ -35,7 +35,7 @@ use Rattle.lk_store_format.specs.Entries.{IsPair, are_pairs_above, IsStanding, I
 use Rattle.lk_store_format.specs.Parsing.{read_alpha, read_format, read_header, read_snapshot, read_few, read_votes}
 use Rattle.lk_store_format.specs.Parsing.{read_pairs, is_in_order, read_standing, read_base, read_fields, read_body}
 use Rattle.lk_store_format.specs.Parsing.{read_size, within, read_entry, Gives}
-use Rattle.lk_store_format.specs.Files.{NoneBegins}
+use Rattle.lk_store_format.specs.Files.{NoEntryNext}
 use Rattle.lk_store_format.specs.declared.entry_fault.EntryFault.{EntryFault}
 use Rattle.lk_store_format.specs.declared.entry_fault.EntryFault.TheVariants.{NoEntry, NoMemory}
 use Rattle.lk_store_format.specs.declared.stored.Stored.{Stored}
@@ -280,12 +280,12 @@ pub is_found : {Y : Type 0} (view : Y → Stored × List ℕ) (bytes : List ℕ)
 is_found view bytes (Ok y) h given = let t = entry_reads.takes bytes (view y).0 (view y).1 h given in (t.fits, t.parts)
 is_found view bytes (Err e) h given = tt
 
-pub none_at : (bytes : List ℕ) → read_entry bytes ≡ None → NoneBegins bytes
+pub none_at : (bytes : List ℕ) → read_entry bytes ≡ None → NoEntryNext bytes
 none_at bytes none e more fits is =
     let some : read_entry bytes ≡ Some (e, more) = ap read_entry is ∙ entry_reads.again e more fits in absurd cc
 
 pub is_none : {Y : Type 0} (view : Y → Stored × List ℕ) (bytes : List ℕ) (result : Result Y EntryFault)
-    → Gives view result (read_entry bytes) → result ≡ Err NoEntry → NoneBegins bytes
+    → Gives view result (read_entry bytes) → result ≡ Err NoEntry → NoEntryNext bytes
 is_none view bytes (Ok y) given bad = absurd cc
 is_none view bytes (Err NoEntry) given bad = none_at bytes given
 is_none view bytes (Err NoMemory) given bad = absurd cc

@@ -6,7 +6,7 @@ use Rattle.std.proofs.lemmas.List.{append-nil, length-take}
 use Rattle.lk_codec.specs.Fields.{four}
 use Rattle.lk_codec.proofs.Spellings.{one_front}
 use Rattle.lk_store_format.specs.Entries.{body, spelling, spelling_of_all, IsStored, SpellsEntry}
-use Rattle.lk_store_format.specs.Files.{NoneBegins}
+use Rattle.lk_store_format.specs.Files.{NoEntryNext}
 use Rattle.lk_store_format.specs.Parsing.{read_entry}
 use Rattle.lk_store_format.specs.declared.stored.Stored.{Stored}
 use Rattle.lk_store_format.proofs.EntryLaws.{entry_reads}
@@ -25,7 +25,7 @@ unfolding spelling
 spelled_long e = omega (arith, length-append (four (length (body e))) (body e))
 
 -- no entry begins the front of another
-pub front_begins_none : (e : Stored) (n : ℕ) → IsStored e → n < length (spelling e) → NoneBegins (take n (spelling e))
+pub front_begins_none : (e : Stored) (n : ℕ) → IsStored e → n < length (spelling e) → NoEntryNext (take n (spelling e))
 front_begins_none e n fits short f more fits' is =
     let whole : spelling e ++ [] ≡ spelling f ++ (more ++ drop n (spelling e)) =
     append-nil (spelling e) ∙ sym (take-append-drop n (spelling e)) ∙ ap (λ (l : List ℕ). l ++ drop n (spelling e)) is
@@ -35,7 +35,7 @@ front_begins_none e n fits short f more fits' is =
     ∙ length-append (spelling f) more ∙ ap (λ (g : Stored). length (spelling g) + length more) (sym same) in
     omega (arith, len, length-take n (spelling e))
 
-pub none_begins_nil : NoneBegins []
+pub none_begins_nil : NoEntryNext []
 none_begins_nil e more fits is = omega (arith, ap length is ∙ length-append (spelling e) more, spelled_long e)
 
 pub spelled-append : (xs ys : List Stored) → spelling_of_all (xs ++ ys) ≡ spelling_of_all xs ++ spelling_of_all ys

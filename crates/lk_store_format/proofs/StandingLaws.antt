@@ -202,21 +202,21 @@ has_base-front (Plain x ∷ es) e h = has_base-front es e h
 pub so_far_base : (es : List Stored) (b : BaseValue) (s : StandingValue) → s ≡ of_base b
     → StandsSoFar (es ++ Base b ∷ []) s
 so_far_base [] b s is =
-    record { stands = λ fit placed some. subst (StandsFor (Base b ∷ [])) (sym is) (base_stands b fit.0.0) }
+    record { stands = λ fit base_first some. subst (StandsFor (Base b ∷ [])) (sym is) (base_stands b fit.0.0) }
 so_far_base (Base a ∷ es) b s is =
-    record { stands = λ fit placed some. absurd (let no_more = (has_base-front es (Base b) placed).1 in cc) }
-so_far_base (Plain e ∷ es) b s is = record { stands = λ fit placed some. absurd cc }
+    record { stands = λ fit base_first some. absurd (let no_more = (has_base-front es (Base b) base_first).1 in cc) }
+so_far_base (Plain e ∷ es) b s is = record { stands = λ fit base_first some. absurd cc }
 
 pub so_far_plain : (es : List Stored) (e : Entry) (s t : StandingValue) → t ≡ with_plain e s → StandsSoFar es s
     → StandsSoFar (es ++ Plain e ∷ []) t
-so_far_plain [] e s t is h = record { stands = λ fit placed some. absurd cc }
+so_far_plain [] e s t is h = record { stands = λ fit base_first some. absurd cc }
 so_far_plain (Base b ∷ es) e s t is h = record {
-  stands = λ fit placed some.
+  stands = λ fit base_first some.
       let front = all-front (Base b ∷ es) (Plain e) fit in
       subst (StandsFor (Base b ∷ es ++ Plain e ∷ [])) (sym is)
-      (plain_stands (Base b ∷ es) s e (h.stands front.0 (has_base-front es (Plain e) placed).0 some));
+      (plain_stands (Base b ∷ es) s e (h.stands front.0 (has_base-front es (Plain e) base_first).0 some));
 }
-so_far_plain (Plain x ∷ es) e s t is h = record { stands = λ fit placed some. absurd cc }
+so_far_plain (Plain x ∷ es) e s t is h = record { stands = λ fit base_first some. absurd cc }
 
 -- that of a Base alone rises
 pub rises_alone : (b : BaseValue) (s : StandingValue) → s ≡ of_base b → IsStored (Base b) → Rises s

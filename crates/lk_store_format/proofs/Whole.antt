@@ -8,7 +8,7 @@ use Rattle.std.proofs.lemmas.Bool.{cases_lt}
 use Rattle.std.proofs.lemmas.List.{append_cancel_left, append-nil, take-append-le, take_all, nil_from_length}
 use Rattle.lk_codec.proofs.Spellings.{IsBytes}
 use Rattle.lk_store_format.specs.Entries.{spelling, spelling_of_all, IsStored}
-use Rattle.lk_store_format.specs.Files.{NoneBegins, AreWholeEntries, is_torn, IsFile}
+use Rattle.lk_store_format.specs.Files.{NoEntryNext, AreWholeEntries, is_torn, IsFile}
 use Rattle.lk_store_format.specs.Formats.{is_mixed}
 use Rattle.lk_store_format.specs.Parsing.{read_entry}
 use Rattle.lk_store_format.specs.declared.stored.Stored.{Stored}
@@ -24,7 +24,7 @@ pub record Front (n : ℕ) (es : List Stored) : Type 0 where
   pub count : ℕ
   pub rest : List ℕ
   pub is : take n (spelling_of_all es) ≡ spelling_of_all (take count es) ++ rest
-  pub ends : NoneBegins rest
+  pub ends : NoEntryNext rest
   pub torn : is_torn rest ≡ true
 
 pub front : (n : ℕ) (es : List Stored) → AllByRecursion IsStored es → Front n es
@@ -79,7 +79,7 @@ rest_unique es fs c a b =
     append_cancel_left (spelling_of_all es) a.rest b.rest
     (sym a.is ∙ b.is ∙ ap (λ (l : List Stored). spelling_of_all l ++ b.rest) (sym same))
 
-none_front : (k : ℕ) (rest : List ℕ) → NoneBegins rest → NoneBegins (take k rest)
+none_front : (k : ℕ) (rest : List ℕ) → NoEntryNext rest → NoEntryNext (take k rest)
 none_front k rest none e more fits is =
     none e (more ++ drop k rest) fits
     (sym (take-append-drop k rest) ∙ ap (λ (l : List ℕ). l ++ drop k rest) is

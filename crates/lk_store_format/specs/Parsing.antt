@@ -20,10 +20,10 @@ abbrev pub Fails : {Y : Type 0} → EntryFault → Option Y → Type 0
 Fails NoEntry read = read ≡ None
 Fails NoMemory read = Unit {0}
 
--- what a function returned, seen by view, is what reading gives, unless memory ran out
+-- what a function returned, in the form that `shown` gives it, is what reading gives, unless memory ran out
 abbrev pub Gives : {X Y : Type 0} → (X → Y) → Result X EntryFault → Option Y → Type 0
-Gives view (Ok x) read = read ≡ Some (view x)
-Gives view (Err e) read = Fails e read
+Gives shown (Ok x) read = read ≡ Some (shown x)
+Gives shown (Err e) read = Fails e read
 
 unfoldable pub read_alpha : List ℕ → Option (ℕ × List ℕ)
 read_alpha = tested (is_from_1_to 16) read_byte

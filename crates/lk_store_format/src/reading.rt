@@ -6,7 +6,7 @@ ghost use Rattle.lk_codec.specs.FieldReading.{read_vote, read_pair};
 ghost use Rattle.lk_codec.specs.Parser.{Finds, many, whole};
 ghost use Rattle.lk_types.specs.Votes.{are_votes_above};
 ghost use Rattle.lk_store_format.specs.Entries.{are_pairs_above, spelling, IsStored};
-ghost use Rattle.lk_store_format.specs.Files.{NoneBegins};
+ghost use Rattle.lk_store_format.specs.Files.{NoEntryNext};
 ghost use Rattle.lk_store_format.specs.Parsing.{Gives, read_alpha, read_format, read_header, read_snapshot, read_few};
 ghost use Rattle.lk_store_format.specs.Parsing.{read_votes, read_pairs, is_in_order, read_standing, read_base};
 ghost use Rattle.lk_store_format.specs.Parsing.{read_fields};
@@ -319,7 +319,7 @@ fn read_entry(alloc: Global, bytes: &[u8]) -> Result<(Stored, &[u8]), EntryFault
 #[tactic(auto, using(crate::proofs::EntryLaws::is_found, crate::proofs::EntryLaws::is_none))]
 pub fn first_entry(alloc: Global, bytes: &[u8]) -> Result<(Stored, &[u8]), EntryFault>
     ensures found { IfOk result (λ x. IsStored x.0 × (bytes.now ≡ spelling x.0 ++ x.1.now)) }
-    ensures none { result ≡ Err EntryFault.NoEntry → NoneBegins bytes.now }
+    ensures none { result ≡ Err EntryFault.NoEntry → NoEntryNext bytes.now }
 {
     read_entry(alloc, bytes)
 }

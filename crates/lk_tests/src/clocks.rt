@@ -43,21 +43,21 @@ fn a_tick_timer_passes_each_100_ms(rt: HostRuntime) -> Result<(), Fail> {
     };
     let mut tick_timer = TickTimer::new(&clock);
     assert_eq!(rt;
-        (tick_timer.has_passed(), tick_timer.left()),
+        (tick_timer.has_elapsed(), tick_timer.left()),
         (false, Duration::from_millis(100))
     );
     clock.shown.set(77);
     assert_eq!(rt;
-        (tick_timer.has_passed(), tick_timer.left()),
+        (tick_timer.has_elapsed(), tick_timer.left()),
         (false, Duration::from_millis(30))
     );
     clock.shown.set(377);
     assert_eq!(rt;
-        (tick_timer.left(), tick_timer.has_passed()),
+        (tick_timer.left(), tick_timer.has_elapsed()),
         (Duration::ZERO, true)
     );
     assert_eq!(rt;
-        (tick_timer.has_passed(), tick_timer.left()),
+        (tick_timer.has_elapsed(), tick_timer.left()),
         (false, Duration::from_millis(100))
     );
     clock.shown.set(400);

@@ -33,16 +33,16 @@ fn cut<D: LogDisk>(disk: &mut D) -> Result<(bool, bool), DeviceFault> {
 #[derive(Drop)]
 struct Failing {
     bytes: MemoryFile,
-    passes: u8,
+    calls_left: u8,
 }
 
 impl Failing {
-    fn pass(&mut self) -> Result<(), FileFault> {
-        if self.passes == 0 {
-            self.passes = u8::MAX;
+    fn count_call(&mut self) -> Result<(), FileFault> {
+        if self.calls_left == 0 {
+            self.calls_left = u8::MAX;
             return Err(FileFault);
         }
-        self.passes -= 1;
+        self.calls_left -= 1;
         Ok(())
     }
 }
@@ -66,7 +66,7 @@ impl AppendFile for Failing {
     }
 
     fn append(&mut self, piece: &[u8]) -> Result<(), FileFault> {
-        self.pass()?;
+        self.count_call()?;
         self.bytes.append(piece)
     }
 
@@ -75,23 +75,23 @@ impl AppendFile for Failing {
     }
 
     fn sync(&mut self) -> Result<(), FileFault> {
-        self.pass()?;
+        self.count_call()?;
         self.bytes.sync()
     }
 
     fn shorten(&mut self, len: usize) -> Result<(), FileFault> {
-        self.pass()?;
+        self.count_call()?;
         self.bytes.shorten(len)
     }
 }
 
-fn failing_at(alloc: Global, passes: u8) -> FileDisk<Failing> {
+fn failing_at(alloc: Global, calls_left: u8) -> FileDisk<Failing> {
     let bytes = MemoryFile::new(alloc);
     let other = Failing {
         bytes: MemoryFile::new(alloc),
-        passes: u8::MAX,
+        calls_left: u8::MAX,
     };
-    FileDisk::of(Failing { bytes, passes }, other)
+    FileDisk::of(Failing { bytes, calls_left }, other)
 }
 
 // Which of an append, a sync, an append and a cut at A are made, and whether A and B still answer.
@@ -118,8 +118,8 @@ const FAILED: [(u8, [bool; 6]); 6] = [
 
 // The first of the rows in which other calls are made.
 fn first_other(alloc: Global, rows: &[(u8, [bool; 6])]) -> Option<usize> {
-    for (at, (passes, wanted)) in rows.iter().enumerate() {
-        if made(&mut failing_at(alloc, *passes)) != *wanted {
+    for (at, (calls_left, wanted)) in rows.iter().enumerate() {
+        if made(&mut failing_at(alloc, *calls_left)) != *wanted {
             return Some(at);
         }
     }

@@ -46,7 +46,7 @@ keys_to s (Some to) = keys_for s to
 
 -- a frame is sent there, once, if the socket reveals that, and no letter is kept
 pub record SendsTo (tells : Type 0) (address : SocketAddr) (frame : List ℕ) (old new : SendState) : Type 0 where
-  pub own : new.own ≡ old.own
+  pub own_letters : new.own_letters ≡ old.own_letters
   pub sent : tells → new.sent ≡ old.sent ++ (address, frame) ∷ []
   pub failures : tells → new.failures ≡ old.failures
 

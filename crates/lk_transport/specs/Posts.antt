@@ -26,7 +26,7 @@ use Rattle.lk_transport.specs.Hosts.{host_of}
 pub record PostValue : Type 0 where
   pub node : ℕ
   pub addresses : AddressBook
-  pub own : List LetterValue
+  pub own_letters : List LetterValue
   pub sent : List (SocketAddr × List ℕ)
   pub socket_failures : ℕ
   pub failures : ℕ
@@ -35,12 +35,12 @@ pub record PostValue : Type 0 where
 -- what a letter may change: the kept letters of the node to itself, what the socket has sent, and how many of its
 -- sends have failed
 pub record SendState : Type 0 where
-  pub own : List LetterValue
+  pub own_letters : List LetterValue
   pub sent : List (SocketAddr × List ℕ)
   pub failures : ℕ
 
 abbrev pub send_state_of : PostValue → SendState
-send_state_of p = record { own = p.own; sent = p.sent; failures = p.socket_failures }
+send_state_of p = record { own_letters = p.own_letters; sent = p.sent; failures = p.socket_failures }
 
 -- for a node: its port at its address, or, if that is not known, where it last wrote from
 abbrev pub IsAddressOf : AddressBook → ℕ → ℕ → Option SocketAddr → Type 0
@@ -99,13 +99,13 @@ IsBoundFor node (Node n port) = n ≡ node
 -- a letter of the node to itself is kept after the others, and nothing is sent
 pub record KeepsOwnLetter (node : ℕ) (l : LetterValue) (old new : SendState) : Type 0 where
   pub bound : IsBoundFor node l.to
-  pub own : new.own ≡ old.own ++ l ∷ []
+  pub own_letters : new.own_letters ≡ old.own_letters ++ l ∷ []
   pub sent : new.sent ≡ old.sent
   pub failures : new.failures ≡ old.failures
 
 -- its frame is sent to its destination, whole and once, if the socket reveals that, and no letter is kept
 pub record Sends (tells : Type 0) (book : AddressBook) (l : LetterValue) (old new : SendState) : Type 0 where
-  pub own : new.own ≡ old.own
+  pub own_letters : new.own_letters ≡ old.own_letters
   pub sent : tells → (address : Option SocketAddr) × IsRoute book l.to address
       × (new.sent ≡ old.sent ++ carried address (frame_of book.seals l.to l.bytes))
   pub failures : tells → new.failures ≡ old.failures
@@ -113,7 +113,7 @@ pub record Sends (tells : Type 0) (book : AddressBook) (l : LetterValue) (old ne
 -- it is lost: either one more send has failed, if the socket reveals that, or its frame ran out of memory, if there is
 -- a key; nothing is sent and no letter is kept
 pub record Loses (tells : Type 0) (keys : List (List ℕ)) (old new : SendState) : Type 0 where
-  pub own : new.own ≡ old.own
+  pub own_letters : new.own_letters ≡ old.own_letters
   pub sent : tells → new.sent ≡ old.sent
   pub failures : tells → (new.failures ≡ one_more old.failures) ⊎ ((keys ≢ []) × (new.failures ≡ old.failures))
 
@@ -147,7 +147,7 @@ is_binding (message.Lead ballot executed) = true
 
 -- that client's address replaces its last one, and no other address changes
 pub record RecordsClient (client : ℕ) (from : SocketAddr) (old new : AddressBook) : Type 0 where
-  pub own : client_at new client ≡ Some from
+  pub entry : client_at new client ≡ Some from
   pub others : (c : ℕ) → IsClient c → c ≢ client → client_at new c ≡ client_at old c
   pub nodes : new.nodes ≡ old.nodes
   pub neighbours : new.neighbours ≡ old.neighbours
@@ -156,7 +156,7 @@ pub record RecordsClient (client : ℕ) (from : SocketAddr) (old new : AddressBo
 -- that node's address replaces its last one, no other node's changes, except for the one that is dropped if all
 -- entries are taken, and no client's does; a node has written from that address, and binds this one or not
 pub record RecordsNode (node : ℕ) (from : SocketAddr) (binds : Bool) (old new : AddressBook) : Type 0 where
-  pub own : node_at new node ≡ Some from
+  pub entry : node_at new node ≡ Some from
   pub moves : new.nodes ≡ moved_up old.nodes node from
   pub clients : new.clients ≡ old.clients
   pub meets : Meets from binds old.neighbours new.neighbours

@@ -102,7 +102,7 @@ impl Addresses {
 
     /// Records the address from which a client wrote, in place of its last one.
     pub fn record_client(&mut self, client: ClientNo, from: SocketAddr)
-        ensures own { client_at self.new client ≡ Some from }
+        ensures entry { client_at self.new client ≡ Some from }
         ensures others { (c : ℕ) → IsClient c → c ≢ client → client_at self.new c ≡ client_at self.old c }
         ensures nodes { self.new.nodes ≡ self.old.nodes }
         ensures neighbours { self.new.neighbours ≡ self.old.neighbours }
@@ -135,7 +135,7 @@ impl Addresses {
     /// Records that a node wrote: its entry moves to the front. If all entries are taken, the least recent one is
     /// dropped. `binds` is whether this node, by accepting the message, follows the sender.
     pub fn record_node(&mut self, node: NodeNo, from: SocketAddr, binds: bool)
-        ensures own { node_at self.new node ≡ Some from }
+        ensures entry { node_at self.new node ≡ Some from }
         ensures moves { self.new.nodes ≡ moved_up self.old.nodes node from }
         ensures clients { self.new.clients ≡ self.old.clients }
         ensures meets { Meets from binds self.old.neighbours self.new.neighbours }

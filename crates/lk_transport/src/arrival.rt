@@ -44,7 +44,7 @@ pub fn name_of(message: &NodeMessageRef<'_>) -> &'static str {
 
 impl Arrival {
     /// Classifies a letter of the node to itself; `Bad` if it is no message of a node.
-    pub fn own(datagram: &Datagram<'_>) -> Arrival {
+    pub fn of_letter(datagram: &Datagram<'_>) -> Arrival {
         match datagram.message() {
             Ok(
                 MessageRef {

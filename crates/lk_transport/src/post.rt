@@ -47,7 +47,7 @@ pub struct SocketPost<S: DatagramSocket + Drop> {
     // the last frame sent, if there are keys
     frame: Vec<u8>,
     // the queue of letters of the node to itself
-    own: VecDeque<Letter>,
+    own_letters: VecDeque<Letter>,
     // letters of this group that could not be sent
     failures: u64,
     // the last node that was sent a Want in this group
@@ -84,7 +84,7 @@ impl<S: DatagramSocket + Drop> Model for SocketPost<S> {
     ghost view = { λ p. record {
       node = p.node;
       addresses = p.addresses;
-      own = p.own.items;
+      own_letters = p.own_letters.items;
       sent = S.sent p.socket;
       socket_failures = S.failures p.socket;
       failures = p.failures;
@@ -145,7 +145,7 @@ impl<S: DatagramSocket + Drop> SocketPost<S> {
         ensures node { result.node ≡ node }
         ensures clients { (c : ℕ) → IsClient c → client_at result.addresses c ≡ None }
         ensures nodes { (n : ℕ) → node_at result.addresses n ≡ None }
-        ensures own { result.own ≡ [] }
+        ensures own_letters { result.own_letters ≡ [] }
         ensures sent { result.sent ≡ S.sent socket }
         ensures socket_failures { result.socket_failures ≡ S.failures socket }
         ensures failures { result.failures ≡ 0 }
@@ -159,7 +159,7 @@ impl<S: DatagramSocket + Drop> SocketPost<S> {
             socket,
             addresses: Addresses::new(network),
             frame: Vec::new(alloc),
-            own: VecDeque::new(alloc),
+            own_letters: VecDeque::new(alloc),
             failures: 0,
             wanted: None,
             unsent: None,
@@ -181,13 +181,13 @@ impl<S: DatagramSocket + Drop> SocketPost<S> {
     }
 
     /// Removes and returns the first queued letter of the node to itself.
-    pub fn next_own(&mut self) -> Option<Letter>
-        ensures some { IfSome result (λ l. self.old.own ≡ l ∷ self.new.own) }
-        ensures none { IsNone result → self.old.own ≡ [] }
+    pub fn next_own_letter(&mut self) -> Option<Letter>
+        ensures some { IfSome result (λ l. self.old.own_letters ≡ l ∷ self.new.own_letters) }
+        ensures none { IsNone result → self.old.own_letters ≡ [] }
         ensures unchanged { IsNone result → self.new ≡ self.old }
-        ensures others { self.new ≡ record self.old { own = self.new.own } }
+        ensures others { self.new ≡ record self.old { own_letters = self.new.own_letters } }
     {
-        self.own.pop_front()
+        self.own_letters.pop_front()
     }
 
     /// Sets how long a receive waits at most for the next datagram; it may wait up to 10 ms longer.
@@ -306,7 +306,7 @@ impl<S: DatagramSocket + Drop> SocketPost<S> {
     }
 
     // Whether it is addressed to this node.
-    fn is_own(&self, to: &To) -> bool
+    fn is_own_letter(&self, to: &To) -> bool
         ensures { result ≡ true ↔ IsBoundFor self.now.node to.now }
     {
         match to {
@@ -316,13 +316,15 @@ impl<S: DatagramSocket + Drop> SocketPost<S> {
     }
 
     // Queues a letter of the node to itself. Out of memory it changes nothing.
-    fn keep_own(&mut self, to: To, bytes: &[u8]) -> Result<(), NoMemory>
+    fn keep_own_letter(&mut self, to: To, bytes: &[u8]) -> Result<(), NoMemory>
         ensures ok { OnOk result
-            (self.new ≡ record self.old { own = self.old.own ++ record { to = to; bytes = bytes.now } ∷ [] }) }
+            (self.new ≡ record self.old {
+              own_letters = self.old.own_letters ++ record { to = to; bytes = bytes.now } ∷ [];
+            }) }
         ensures err { OnErr result (self.new ≡ self.old) }
     {
         let kept = bytes.to_vec(self.alloc)?;
-        self.own.push_back(Letter { to, bytes: kept })?;
+        self.own_letters.push_back(Letter { to, bytes: kept })?;
         self.note_sent(&to, bytes);
         Ok(())
     }
@@ -332,7 +334,7 @@ impl<S: DatagramSocket + Drop> SocketPost<S> {
     fn transmit(&mut self, to: To, bytes: &[u8]) -> Result<(), SendFault>
         ensures becomes { Becomes S.is_observable self.old.node self.old.addresses (send_state_of self.old)
             (record { to = to; bytes = bytes.now }) (is_ok result) (send_state_of self.new) }
-        ensures own { self.new.own ≡ self.old.own }
+        ensures own_letters { self.new.own_letters ≡ self.old.own_letters }
         ensures node { self.new.node ≡ self.old.node }
         ensures addresses { self.new.addresses ≡ self.old.addresses }
         ensures still { S.is_observable → self.new.incoming ≡ self.old.incoming }
@@ -396,7 +398,7 @@ impl<S: DatagramSocket + Drop> Post for SocketPost<S> {
 
     // Out of memory for its queue, a letter to this node goes through the socket.
     fn send(&mut self, to: To, bytes: &[u8]) -> Result<(), SendFault> {
-        if self.is_own(&to) && self.keep_own(to, bytes).is_ok() {
+        if self.is_own_letter(&to) && self.keep_own_letter(to, bytes).is_ok() {
             return Ok(());
         }
         self.transmit(to, bytes)

@@ -104,7 +104,7 @@ impl ReceiveBuffer {
     /// Removes and returns the kept report.
     pub fn take_reported(&mut self) -> Option<Reported>
         ensures value { result ≡ self.old.reported }
-        ensures rest { self.new ≡ record self.old { reported = None } }
+        ensures others { self.new ≡ record self.old { reported = None } }
     {
         self.reported.take()
     }
@@ -112,7 +112,7 @@ impl ReceiveBuffer {
     /// Removes and returns the kept probe.
     pub fn take_probe(&mut self) -> Option<ReceivedProbe>
         ensures value { result ≡ self.old.asked }
-        ensures rest { self.new ≡ record self.old { asked = None } }
+        ensures others { self.new ≡ record self.old { asked = None } }
     {
         self.asked.take()
     }

@@ -10,7 +10,7 @@ pub const MAX_CLIENT: u16 = 256;
 pub const MAX_PORT: u16 = 65_535;
 /// The greatest alpha: how many positions ahead of the executed ones the members are known.
 pub const MAX_ALPHA: u8 = 16;
-/// Members of a position, of which any four are a majority.
+/// Members of a position.
 pub const MAX_MEMBERS: usize = 7;
 /// Bytes of a payload.
 pub const MAX_PAYLOAD: usize = 64;
@@ -20,7 +20,7 @@ pub const MAX_NAMES: usize = 512;
 pub const MAX_SHARERS: u8 = 8;
 /// Bytes of a name: with its length, a fence and the op it fits a payload.
 pub const MAX_NAME: usize = 32;
-/// Votes, or decided commands, above a snapshot: an acceptor takes a vote at most twice alpha ahead.
+/// Votes, or decided commands, of a Base, and votes of a Promise: none is more than twice alpha above what is executed.
 pub const MAX_VOTES: usize = 2 * MAX_ALPHA as usize;
 /// Commands of one Decided: as many as alpha permits to be open at once.
 pub const MAX_COMMANDS: usize = MAX_ALPHA as usize;

@@ -22,4 +22,4 @@ pub record SpellsGenesis (text : List ℕ) (cluster alpha : ℕ) (members : List
   pub alpha_fits : alpha ≤ 16
   pub text_is : text ≡ decimal cluster ++ 44 ∷ (decimal alpha ++ 44 ∷ words)
   pub members_are : SpellsMembers 44 words members
-  pub begins : genesis_fault alpha members ≡ None
+  pub has_no_fault : genesis_fault alpha members ≡ None

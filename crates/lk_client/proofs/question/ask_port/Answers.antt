@@ -7,18 +7,19 @@ receives-init g c = (c.requires, λ tells. record { states = []; are = refl; cha
 
 pub receives-preserved : goal.receives-preserved
 receives-preserved g c = (
-  c.take_next-reply.ensures.most c.receives.invariant.0,
+  c.receive_next-reply.ensures.most c.receives.invariant.0,
   λ tells.
-      receives_more c.take_next-reply.result (sym c.is_some.ensures ∙ c.if-is_some.false) refl
-      (c.receives.invariant.1 tells) (c.take_next-reply.ensures.heard tells),
+      receives_more c.receive_next-reply.result (sym c.is_some.ensures ∙ c.if-is_some.false) refl
+      (c.receives.invariant.1 tells) (c.receive_next-reply.ensures.heard tells),
 )
 
 pub returns-then-is_some-clause-tries : goal.returns-then-is_some-clause-tries
 returns-then-is_some-clause-tries g c tells = record {
   begun = c.send.new.socket;
   asks = c.send.ensures tells;
-  waits = receives_told c.take_next-reply.result (sym c.is_some.ensures ∙ c.if-is_some.true) refl c.receives-test.true
-      (c.receives.invariant.1 tells) (c.take_next-reply.ensures.heard tells);
+  waits = receives_told c.receive_next-reply.result (sym c.is_some.ensures
+      ∙ c.if-is_some.true) refl c.receives-test.true
+      (c.receives.invariant.1 tells) (c.receive_next-reply.ensures.heard tells);
 }
 
 pub returns-clause-tries : goal.returns-clause-tries

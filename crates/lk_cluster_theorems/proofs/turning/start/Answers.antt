@@ -19,6 +19,6 @@ returns g c honest genesis whose =
         short =
             λ short. never_longer old (disks s.replica.store) (refused_room old (disks s.replica.store) up.room) short;
       };
-      own = begun.own;
+      own_letters = begun.own_letters;
       alive = sym c.replica.ensures.failed ∙ begun.alive;
     }

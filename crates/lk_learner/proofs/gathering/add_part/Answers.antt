@@ -2,11 +2,11 @@
 use Rattle.std.proofs.Common.{rules}
 use Rattle.lk_learner.proofs.gathering.add_part.Goals as goal
 
-pub returns-in_err-begun_by-clause-memory : goal.returns-in_err-begun_by-clause-memory
-returns-in_err-begun_by-clause-memory c = search rules
+pub returns-in_err-first_gathered-clause-memory : goal.returns-in_err-first_gathered-clause-memory
+returns-in_err-first_gathered-clause-memory c = search rules
 
-pub returns-then-begins-clause-ok : goal.returns-then-begins-clause-ok
-returns-then-begins-clause-ok c = search rules
+pub returns-then-starts_text-clause-ok : goal.returns-then-starts_text-clause-ok
+returns-then-starts_text-clause-ok c = search rules
 
 pub returns-in_err-append_part-clause-memory : goal.returns-in_err-append_part-clause-memory
 returns-in_err-append_part-clause-memory c = search rules

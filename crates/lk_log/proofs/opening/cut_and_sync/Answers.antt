@@ -42,7 +42,7 @@ returns-clause-narrows g c honest es found =
 pub returns-clause-holds : goal.returns-clause-holds
 returns-clause-holds g c honest es found =
     settled (g.D.LogDisk.disk c.cut_torn_end.new.device c.args.live)
-    _ (g.D.LogDisk.disk c.args.device.now (other c.args.live)) _ es found.file.whole.fit found.placed
+    _ (g.D.LogDisk.disk c.args.device.now (other c.args.live)) _ es found.file.whole.fit found.base_first
     (file_sound _ es found.file)
     (c.in_ok-cut_torn_end.ensures.contents honest es found) (c.in_ok-sync.ensures.ok honest)
     (c.sync.ensures.beside honest ∙ c.cut_torn_end.ensures.beside honest) found.older

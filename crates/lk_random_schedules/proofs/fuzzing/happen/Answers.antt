@@ -6,14 +6,14 @@ use Rattle.lk_random_schedules.proofs.fuzzing.happen.Goals as goal
 
 pub returns-in-Err-clause-happens : goal.returns-in-Err-clause-happens
 returns-in-Err-clause-happens g c =
-    let by = c.in-Err.ensures.passed_by c.in-Err.refused (search rules) (search rules) in
-    on_ok_weaker c.pass_by.result
-    (λ passes. happens_instead g.R.MemoryReplica.behaves c.args.world.now c.apply.new.world c.pass_by.new.world
-    c.args.event c.in-Err.refused (search rules) by.0 by.1.0 passes) c.pass_by.ensures.passes
+    let by = c.in-Err.ensures.skipped c.in-Err.refused (search rules) (search rules) in
+    on_ok_weaker c.replace_event.result
+    (λ passes. happens_instead g.R.MemoryReplica.behaves c.args.world.now c.apply.new.world c.replace_event.new.world
+    c.args.event c.in-Err.refused (search rules) by.0 by.1.0 passes) c.replace_event.ensures.replaces
 
 pub returns-in-Err-clause-adds : goal.returns-in-Err-clause-adds
 returns-in-Err-clause-adds g c =
-    let by = c.in-Err.ensures.passed_by c.in-Err.refused (search rules) (search rules) in
-    on_ok_weaker c.pass_by.result
-    (λ adds. adds_on g.R.MemoryReplica.behaves c.args.world.now c.apply.new.world c.pass_by.new.world
-    c.args.transcript.now c.apply.new.self c.pass_by.new.transcript ([], by.1) adds) c.pass_by.ensures.adds
+    let by = c.in-Err.ensures.skipped c.in-Err.refused (search rules) (search rules) in
+    on_ok_weaker c.replace_event.result
+    (λ adds. adds_on g.R.MemoryReplica.behaves c.args.world.now c.apply.new.world c.replace_event.new.world
+    c.args.transcript.now c.apply.new.self c.replace_event.new.transcript ([], by.1) adds) c.replace_event.ensures.adds

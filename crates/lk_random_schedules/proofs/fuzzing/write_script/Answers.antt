@@ -14,7 +14,7 @@ returns-in-Ok-run_schedule g c =
         ended = c.run_schedule.new.world;
         run = record { new_world = c.world_of_three-world.ensures; fuzzes = c.in-Ok-run_schedule.ensures.fuzzes };
         events = added.0;
-        passes = added.1.0;
+        are_executed = added.1.0;
         lines = script_lines world_line c.in-Ok.transcript c.run_schedule.new.transcript added.0 c.in-Ok.ensures.kept
             c.in-Ok.ensures.text added.1.2;
       },

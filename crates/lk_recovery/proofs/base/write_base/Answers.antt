@@ -2,7 +2,7 @@ use Rattle.std.proofs.Common.{◌≡◌, rules, arith, [], ◌∷◌, refl, sym,
 use Rattle.lk_store_format.specs.Values.{StandingValue}
 use Rattle.lk_store_format.specs.declared.stored.Stored.TheVariants.{Base}
 use Rattle.lk_log.specs.StoreValue.{disks}
-use Rattle.lk_log.specs.Stores.{HoldsEntries, MayBegin, next_base, KeepsOrIs}
+use Rattle.lk_log.specs.Stores.{HoldsEntries, FitsBase, next_base, KeepsOrIs}
 use Rattle.lk_state.specs.Meanings.{Meaning}
 use Rattle.lk_learner.specs.Learners.{Command, IsNext}
 use Rattle.lk_node.specs.NodeValue.{NodeValue}
@@ -24,8 +24,8 @@ pub returns-clause-done : goal.returns-clause-done
 returns-clause-done g c honest =
     let m : Meaning = g.M.Machine.meaning in
     let is : c.in_ok-standing.standing ≡ standing_of c.args.node.now = search rules in
-    let fits : MayBegin c.in_ok-standing.standing = search rules in
-    let may = subst MayBegin is fits in
+    let fits : FitsBase c.in_ok-standing.standing = search rules in
+    let may = subst FitsBase is fits in
     subst (λ (k : NodeValue). HasSwitchedFiles m g.D.LogDisk.is_metered c.args.node.now c.args.store.now k
     c.rebase.new.self) (sym c.set_snapshot.ensures)
     (files_switched m c.args.node.now c.args.store.now c.rebase.new.self may c.standing-packed.ensures.near
@@ -39,10 +39,10 @@ returns-clause-done g c honest =
 pub returns-clause-becomes : goal.returns-clause-becomes
 returns-clause-becomes g c =
     let is : c.in_ok-standing.standing ≡ standing_of c.args.node.now = search rules in
-    let fits : MayBegin c.in_ok-standing.standing = search rules in
+    let fits : FitsBase c.in_ok-standing.standing = search rules in
     record {
       becomes = c.set_snapshot.ensures;
-      begins = subst MayBegin is fits;
+      begins = subst FitsBase is fits;
       runs =
           λ none. subst (λ (k : NodeValue). (v : Command) → IsNext k.learner v → ⊥) (sym c.set_snapshot.ensures) none;
       generation = c.in_ok-rebase.ensures.file.0;
@@ -73,8 +73,8 @@ pub returns-in_err-rebase-clause-disks : goal.returns-in_err-rebase-clause-disks
 returns-in_err-rebase-clause-disks g c honest =
     let m : Meaning = g.M.Machine.meaning in
     let is : c.in_ok-standing.standing ≡ standing_of c.args.node.now = search rules in
-    let fits : MayBegin c.in_ok-standing.standing = search rules in
-    let may = subst MayBegin is fits in
+    let fits : FitsBase c.in_ok-standing.standing = search rules in
+    let may = subst FitsBase is fits in
     stays_safe m c.args.node.now c.args.store.now c.rebase.new.self may c.standing-packed.ensures.near
     (λ ks ls holds. subst (λ (s : StandingValue). KeepsOrIs (disks c.rebase.new.self) ks ls
     (next_base c.args.store.now s)) is (c.rebase.ensures.every_image honest ks ls holds)) (c.rebase.ensures.room honest)
@@ -83,8 +83,8 @@ pub returns-clause-disks : goal.returns-clause-disks
 returns-clause-disks g c honest =
     let m : Meaning = g.M.Machine.meaning in
     let is : c.in_ok-standing.standing ≡ standing_of c.args.node.now = search rules in
-    let fits : MayBegin c.in_ok-standing.standing = search rules in
-    let may = subst MayBegin is fits in
+    let fits : FitsBase c.in_ok-standing.standing = search rules in
+    let may = subst FitsBase is fits in
     stays_safe m c.args.node.now c.args.store.now c.rebase.new.self may c.standing-packed.ensures.near
     (λ ks ls holds. subst (λ (s : StandingValue). KeepsOrIs (disks c.rebase.new.self) ks ls
     (next_base c.args.store.now s)) is (c.rebase.ensures.every_image honest ks ls holds)) (c.rebase.ensures.room honest)

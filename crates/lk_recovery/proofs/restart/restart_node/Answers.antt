@@ -12,7 +12,7 @@ use Rattle.lk_node.specs.Histories.{Genesis}
 use Rattle.lk_node.specs.Leavings.{DisksFit, AllCover}
 use Rattle.lk_node.specs.NodeValue.{NodeValue}
 use Rattle.lk_recovery.specs.Revivals.{Restores}
-use Rattle.lk_node.specs.Served.{text}
+use Rattle.lk_node.specs.BorneOut.{text}
 use Rattle.lk_recovery.proofs.Revivals.{revived_goes, revived_remembers, began, own_header, opened, opening_fits_as}
 use Rattle.lk_recovery.proofs.Revivals.{opening_covers_as, given_fit, given_cover, given_room, restored_number}
 use Rattle.lk_recovery.proofs.Revivals.{open_number, never_damaged, never_wrong, wrong_only, damaged_only}

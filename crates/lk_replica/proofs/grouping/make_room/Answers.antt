@@ -11,193 +11,173 @@ use Rattle.lk_recovery.specs.Compacting.{IsDue}
 use Rattle.lk_replica.proofs.Refusals.{store_told, store_only, store_awake}
 use Rattle.lk_replica.proofs.grouping.make_room.Goals as goal
 
--- ---- none is due
+-- ---- what it keeps
 
-pub returns-then-not-due-clause-fits : goal.returns-then-not-due-clause-fits
-returns-then-not-due-clause-fits g c honest h n f =
-    same_group_fits g.M.Machine.meaning c.args.store.now c.is_rebase_due.new.store
-    (c.is_rebase_due.ensures.same honest) h n c.args.node.now c.args.needs_sync f
+pub returns-then-not-due-clause-keeps : goal.returns-then-not-due-clause-keeps
+returns-then-not-due-clause-keeps g c honest = record {
+  fits = λ h n f.
+      same_group_fits g.M.Machine.meaning c.args.store.now c.is_rebase_due.new.store
+      (c.is_rebase_due.ensures.same honest) h n c.args.node.now c.args.needs_sync f;
+  stays = λ h n s.
+      same_group_stays g.M.Machine.meaning c.args.store.now c.is_rebase_due.new.store
+      (c.is_rebase_due.ensures.same honest) h n c.args.node.now c.args.needs_sync s;
+  recalls = λ genesis n r.
+      same_recalls g.M.Machine.meaning c.args.store.now c.is_rebase_due.new.store
+      (c.is_rebase_due.ensures.same honest) c.args.node.now c.args.needs_sync genesis n r;
+  still = λ genesis n x r every.
+      same_group_covers g.M.Machine.meaning c.args.store.now c.is_rebase_due.new.store
+      (c.is_rebase_due.ensures.same honest) genesis n x c.args.needs_sync every;
+}
 
-pub returns-then-not-due-clause-stays : goal.returns-then-not-due-clause-stays
-returns-then-not-due-clause-stays g c honest h n s =
-    same_group_stays g.M.Machine.meaning c.args.store.now c.is_rebase_due.new.store
-    (c.is_rebase_due.ensures.same honest) h n c.args.node.now c.args.needs_sync s
+pub returns-clause-keeps : goal.returns-clause-keeps
+returns-clause-keeps g c honest = record {
+  fits = λ h n f.
+      let m : Meaning = g.M.Machine.meaning in
+      let mine = same_group_fits m c.args.store.now c.is_rebase_due.new.store
+      (c.is_rebase_due.ensures.same honest) h n c.args.node.now c.args.needs_sync f in
+      let mid = settled_fits m h n c.args.node.now c.is_rebase_due.new.store c.sync_or_flush.new.store
+      c.args.needs_sync (c.in_ok-sync_or_flush.ensures.syncs_all honest) mine in
+      (begin_fits m h n c.write_base.new.node c.write_base.new.store
+      (goes_fits m h n c.write_base.new.node c.write_base.new.store f.lawful
+      ((c.write_base.ensures.disks honest).fits h n (before_fits m h n c.args.node.now c.sync_or_flush.new.store mid))
+      ((c.in_ok-write_base.ensures.done honest).goes h n mid))).fits;
+  stays = λ h n s.
+      let m : Meaning = g.M.Machine.meaning in
+      let mine = same_group_fits m c.args.store.now c.is_rebase_due.new.store
+      (c.is_rebase_due.ensures.same honest) h n c.args.node.now c.args.needs_sync s.fits in
+      let mid = settled_fits m h n c.args.node.now c.is_rebase_due.new.store c.sync_or_flush.new.store
+      c.args.needs_sync (c.in_ok-sync_or_flush.ensures.syncs_all honest) mine in
+      begin_fits m h n c.write_base.new.node c.write_base.new.store
+      (goes_fits m h n c.write_base.new.node c.write_base.new.store s.fits.lawful
+      ((c.write_base.ensures.disks honest).fits h n (before_fits m h n c.args.node.now c.sync_or_flush.new.store mid))
+      ((c.in_ok-write_base.ensures.done honest).goes h n mid));
+  recalls = λ genesis n r.
+      let mine = same_recalls g.M.Machine.meaning c.args.store.now c.is_rebase_due.new.store
+      (c.is_rebase_due.ensures.same honest) c.args.node.now c.args.needs_sync genesis n r in
+      let mid = settled_keeps _ c.is_rebase_due.new.store c.sync_or_flush.new.store c.args.needs_sync
+      _ (c.in_ok-sync_or_flush.ensures.syncs_all honest) mine.keeps in
+      begun _ c.write_base.new.store genesis n
+      ((c.in_ok-write_base.ensures.done honest).remembers genesis n (record { whose = r.whose; keeps = mid }));
+  still = λ genesis n x r every.
+      let m : Meaning = g.M.Machine.meaning in
+      let mine = same_recalls m c.args.store.now c.is_rebase_due.new.store
+      (c.is_rebase_due.ensures.same honest) c.args.node.now c.args.needs_sync genesis n r in
+      let mid = settled_keeps _ c.is_rebase_due.new.store c.sync_or_flush.new.store c.args.needs_sync
+      _ (c.in_ok-sync_or_flush.ensures.syncs_all honest) mine.keeps in
+      (c.write_base.ensures.disks honest).covers genesis n x mid
+      (settled_covers m genesis n c.args.node.now c.is_rebase_due.new.store c.sync_or_flush.new.store c.args.needs_sync
+      (c.in_ok-sync_or_flush.ensures.syncs_all honest) mine x
+      (same_group_covers m c.args.store.now c.is_rebase_due.new.store
+      (c.is_rebase_due.ensures.same honest) genesis n x c.args.needs_sync every));
+}
 
-pub returns-then-not-due-clause-ends : goal.returns-then-not-due-clause-ends
-returns-then-not-due-clause-ends g c honest h n s =
-    (same_group_stays g.M.Machine.meaning c.args.store.now c.is_rebase_due.new.store
-    (c.is_rebase_due.ensures.same honest) h n c.args.node.now c.args.needs_sync s).left
+-- ---- what is on the disks
 
-pub returns-in_err-due-clause-ends : goal.returns-in_err-due-clause-ends
-returns-in_err-due-clause-ends g c honest h n s =
-    (same_group_stays g.M.Machine.meaning c.args.store.now c.is_rebase_due.new.store
-    (c.is_rebase_due.ensures.same honest) h n c.args.node.now c.args.needs_sync s).left
+pub returns-then-not-due-clause-disks : goal.returns-then-not-due-clause-disks
+returns-then-not-due-clause-disks g c honest = record {
+  ends = λ h n s heard.
+      (same_group_stays g.M.Machine.meaning c.args.store.now c.is_rebase_due.new.store
+      (c.is_rebase_due.ensures.same honest) h n c.args.node.now c.args.needs_sync s).left;
+  covers = λ genesis n x r every.
+      same_group_covers g.M.Machine.meaning c.args.store.now c.is_rebase_due.new.store
+      (c.is_rebase_due.ensures.same honest) genesis n x false every;
+  room =
+      same_room g.M.Machine.meaning c.args.store.now c.is_rebase_due.new.store (c.is_rebase_due.ensures.same honest);
+}
 
-pub returns-then-not-due-clause-recalls : goal.returns-then-not-due-clause-recalls
-returns-then-not-due-clause-recalls g c honest genesis n r =
-    same_recalls g.M.Machine.meaning c.args.store.now c.is_rebase_due.new.store
-    (c.is_rebase_due.ensures.same honest) c.args.node.now c.args.needs_sync genesis n r
+pub returns-in_err-due-clause-disks : goal.returns-in_err-due-clause-disks
+returns-in_err-due-clause-disks g c honest = record {
+  ends = λ h n s heard.
+      (same_group_stays g.M.Machine.meaning c.args.store.now c.is_rebase_due.new.store
+      (c.is_rebase_due.ensures.same honest) h n c.args.node.now c.args.needs_sync s).left;
+  covers = λ genesis n x r every.
+      same_group_covers g.M.Machine.meaning c.args.store.now c.is_rebase_due.new.store
+      (c.is_rebase_due.ensures.same honest) genesis n x false every;
+  room =
+      same_room g.M.Machine.meaning c.args.store.now c.is_rebase_due.new.store (c.is_rebase_due.ensures.same honest);
+}
 
-pub returns-then-not-due-clause-still : goal.returns-then-not-due-clause-still
-returns-then-not-due-clause-still g c honest genesis n x r every =
-    same_group_covers g.M.Machine.meaning c.args.store.now c.is_rebase_due.new.store
-    (c.is_rebase_due.ensures.same honest) genesis n x c.args.needs_sync every
+pub returns-in_err-sync_or_flush-clause-disks : goal.returns-in_err-sync_or_flush-clause-disks
+returns-in_err-sync_or_flush-clause-disks g c honest = record {
+  ends = λ h n s heard.
+      let m : Meaning = g.M.Machine.meaning in
+      let mine = same_group_stays m c.args.store.now c.is_rebase_due.new.store
+      (c.is_rebase_due.ensures.same honest) h n c.args.node.now c.args.needs_sync s in
+      let k = mine.fits.shown.keeps in
+      settle_leaves m h n c.args.node.now c.is_rebase_due.new.store c.sync_or_flush.new.store c.args.needs_sync mine
+      (c.sync_or_flush.ensures.every_image honest k.entries (plain k.loose) k.holds);
+  covers = λ genesis n x r every.
+      let m : Meaning = g.M.Machine.meaning in
+      let mine = same_recalls m c.args.store.now c.is_rebase_due.new.store
+      (c.is_rebase_due.ensures.same honest) c.args.node.now c.args.needs_sync genesis n r in
+      settle_covers m genesis n c.args.node.now c.is_rebase_due.new.store c.sync_or_flush.new.store c.args.needs_sync
+      mine (c.sync_or_flush.ensures.every_image honest mine.keeps.entries (plain mine.keeps.loose) mine.keeps.holds) x
+      (same_group_covers m c.args.store.now c.is_rebase_due.new.store
+      (c.is_rebase_due.ensures.same honest) genesis n x false every);
+  room =
+      within_first 49152 (disks c.args.store.now) (disks c.is_rebase_due.new.store) (disks c.sync_or_flush.new.store)
+      (same_room g.M.Machine.meaning c.args.store.now c.is_rebase_due.new.store (c.is_rebase_due.ensures.same honest))
+      (within_more 49152 (disks c.is_rebase_due.new.store) (disks c.sync_or_flush.new.store)
+      (c.sync_or_flush.ensures.room honest));
+}
 
-pub returns-then-not-due-clause-covers : goal.returns-then-not-due-clause-covers
-returns-then-not-due-clause-covers g c honest genesis n x r every =
-    same_group_covers g.M.Machine.meaning c.args.store.now c.is_rebase_due.new.store
-    (c.is_rebase_due.ensures.same honest) genesis n x false every
+pub returns-in_err-write_base-clause-disks : goal.returns-in_err-write_base-clause-disks
+returns-in_err-write_base-clause-disks g c honest = record {
+  ends = λ h n s heard.
+      let m : Meaning = g.M.Machine.meaning in
+      let mine = same_group_fits m c.args.store.now c.is_rebase_due.new.store
+      (c.is_rebase_due.ensures.same honest) h n c.args.node.now c.args.needs_sync s.fits in
+      let mid = settled_fits m h n c.args.node.now c.is_rebase_due.new.store c.sync_or_flush.new.store
+      c.args.needs_sync (c.in_ok-sync_or_flush.ensures.syncs_all honest) mine in
+      (c.write_base.ensures.disks honest).fits h n (before_fits m h n c.args.node.now c.sync_or_flush.new.store mid);
+  covers = λ genesis n x r every.
+      let m : Meaning = g.M.Machine.meaning in
+      let mine = same_recalls m c.args.store.now c.is_rebase_due.new.store
+      (c.is_rebase_due.ensures.same honest) c.args.node.now c.args.needs_sync genesis n r in
+      let mid = settled_keeps _ c.is_rebase_due.new.store c.sync_or_flush.new.store c.args.needs_sync
+      _ (c.in_ok-sync_or_flush.ensures.syncs_all honest) mine.keeps in
+      (c.write_base.ensures.disks honest).covers genesis n x mid
+      (settle_covers m genesis n c.args.node.now c.is_rebase_due.new.store c.sync_or_flush.new.store c.args.needs_sync
+      mine (c.sync_or_flush.ensures.every_image honest mine.keeps.entries (plain mine.keeps.loose) mine.keeps.holds) x
+      (same_group_covers m c.args.store.now c.is_rebase_due.new.store
+      (c.is_rebase_due.ensures.same honest) genesis n x false every));
+  room =
+      within_first 49152 (disks c.args.store.now) (disks c.sync_or_flush.new.store) (disks c.write_base.new.store)
+      (within_first 49152 (disks c.args.store.now) (disks c.is_rebase_due.new.store) (disks c.sync_or_flush.new.store)
+      (same_room g.M.Machine.meaning c.args.store.now c.is_rebase_due.new.store (c.is_rebase_due.ensures.same honest))
+      (within_more 49152 (disks c.is_rebase_due.new.store) (disks c.sync_or_flush.new.store)
+      (c.sync_or_flush.ensures.room honest)))
+      (c.write_base.ensures.disks honest).room;
+}
 
-pub returns-in_err-due-clause-covers : goal.returns-in_err-due-clause-covers
-returns-in_err-due-clause-covers g c honest genesis n x r every =
-    same_group_covers g.M.Machine.meaning c.args.store.now c.is_rebase_due.new.store
-    (c.is_rebase_due.ensures.same honest) genesis n x false every
-
--- ---- one is due
-
-pub returns-clause-fits : goal.returns-clause-fits
-returns-clause-fits g c honest h n f =
-    let m : Meaning = g.M.Machine.meaning in
-    let mine = same_group_fits m c.args.store.now c.is_rebase_due.new.store
-    (c.is_rebase_due.ensures.same honest) h n c.args.node.now c.args.needs_sync f in
-    let mid = settled_fits m h n c.args.node.now c.is_rebase_due.new.store c.sync_or_flush.new.store
-    c.args.needs_sync (c.in_ok-sync_or_flush.ensures.syncs_all honest) mine in
-    (begin_fits m h n c.write_base.new.node c.write_base.new.store
-    (goes_fits m h n c.write_base.new.node c.write_base.new.store f.lawful
-    ((c.write_base.ensures.disks honest).fits h n (before_fits m h n c.args.node.now c.sync_or_flush.new.store mid))
-    ((c.in_ok-write_base.ensures.done honest).goes h n mid))).fits
-
-pub returns-clause-stays : goal.returns-clause-stays
-returns-clause-stays g c honest h n s =
-    let m : Meaning = g.M.Machine.meaning in
-    let mine = same_group_fits m c.args.store.now c.is_rebase_due.new.store
-    (c.is_rebase_due.ensures.same honest) h n c.args.node.now c.args.needs_sync s.fits in
-    let mid = settled_fits m h n c.args.node.now c.is_rebase_due.new.store c.sync_or_flush.new.store
-    c.args.needs_sync (c.in_ok-sync_or_flush.ensures.syncs_all honest) mine in
-    begin_fits m h n c.write_base.new.node c.write_base.new.store
-    (goes_fits m h n c.write_base.new.node c.write_base.new.store s.fits.lawful
-    ((c.write_base.ensures.disks honest).fits h n (before_fits m h n c.args.node.now c.sync_or_flush.new.store mid))
-    ((c.in_ok-write_base.ensures.done honest).goes h n mid))
-
-pub returns-clause-ends : goal.returns-clause-ends
-returns-clause-ends g c honest h n s =
-    let m : Meaning = g.M.Machine.meaning in
-    let mine = same_group_fits m c.args.store.now c.is_rebase_due.new.store
-    (c.is_rebase_due.ensures.same honest) h n c.args.node.now c.args.needs_sync s.fits in
-    let mid = settled_fits m h n c.args.node.now c.is_rebase_due.new.store c.sync_or_flush.new.store
-    c.args.needs_sync (c.in_ok-sync_or_flush.ensures.syncs_all honest) mine in
-    (c.write_base.ensures.disks honest).fits h n (before_fits m h n c.args.node.now c.sync_or_flush.new.store mid)
-
-pub returns-in_err-write_base-clause-ends : goal.returns-in_err-write_base-clause-ends
-returns-in_err-write_base-clause-ends g c honest h n s =
-    let m : Meaning = g.M.Machine.meaning in
-    let mine = same_group_fits m c.args.store.now c.is_rebase_due.new.store
-    (c.is_rebase_due.ensures.same honest) h n c.args.node.now c.args.needs_sync s.fits in
-    let mid = settled_fits m h n c.args.node.now c.is_rebase_due.new.store c.sync_or_flush.new.store
-    c.args.needs_sync (c.in_ok-sync_or_flush.ensures.syncs_all honest) mine in
-    (c.write_base.ensures.disks honest).fits h n (before_fits m h n c.args.node.now c.sync_or_flush.new.store mid)
-
-pub returns-in_err-sync_or_flush-clause-ends : goal.returns-in_err-sync_or_flush-clause-ends
-returns-in_err-sync_or_flush-clause-ends g c honest h n s =
-    let m : Meaning = g.M.Machine.meaning in
-    let mine = same_group_stays m c.args.store.now c.is_rebase_due.new.store
-    (c.is_rebase_due.ensures.same honest) h n c.args.node.now c.args.needs_sync s in
-    let k = mine.fits.shown.keeps in
-    settle_leaves m h n c.args.node.now c.is_rebase_due.new.store c.sync_or_flush.new.store c.args.needs_sync mine
-    (c.sync_or_flush.ensures.every_image honest k.entries (plain k.loose) k.holds)
-
-pub returns-clause-recalls : goal.returns-clause-recalls
-returns-clause-recalls g c honest genesis n r =
-    let mine = same_recalls g.M.Machine.meaning c.args.store.now c.is_rebase_due.new.store
-    (c.is_rebase_due.ensures.same honest) c.args.node.now c.args.needs_sync genesis n r in
-    let mid = settled_keeps _ c.is_rebase_due.new.store c.sync_or_flush.new.store c.args.needs_sync
-    _ (c.in_ok-sync_or_flush.ensures.syncs_all honest) mine.keeps in
-    begun _ c.write_base.new.store genesis n
-    ((c.in_ok-write_base.ensures.done honest).remembers genesis n (record { whose = r.whose; keeps = mid }))
-
-pub returns-clause-still : goal.returns-clause-still
-returns-clause-still g c honest genesis n x r every =
-    let m : Meaning = g.M.Machine.meaning in
-    let mine = same_recalls m c.args.store.now c.is_rebase_due.new.store
-    (c.is_rebase_due.ensures.same honest) c.args.node.now c.args.needs_sync genesis n r in
-    let mid = settled_keeps _ c.is_rebase_due.new.store c.sync_or_flush.new.store c.args.needs_sync
-    _ (c.in_ok-sync_or_flush.ensures.syncs_all honest) mine.keeps in
-    (c.write_base.ensures.disks honest).covers genesis n x mid
-    (settled_covers m genesis n c.args.node.now c.is_rebase_due.new.store c.sync_or_flush.new.store c.args.needs_sync
-    (c.in_ok-sync_or_flush.ensures.syncs_all honest) mine x
-    (same_group_covers m c.args.store.now c.is_rebase_due.new.store
-    (c.is_rebase_due.ensures.same honest) genesis n x c.args.needs_sync every))
-
-pub returns-clause-covers : goal.returns-clause-covers
-returns-clause-covers g c honest genesis n x r every =
-    let m : Meaning = g.M.Machine.meaning in
-    let mine = same_recalls m c.args.store.now c.is_rebase_due.new.store
-    (c.is_rebase_due.ensures.same honest) c.args.node.now c.args.needs_sync genesis n r in
-    let mid = settled_keeps _ c.is_rebase_due.new.store c.sync_or_flush.new.store c.args.needs_sync
-    _ (c.in_ok-sync_or_flush.ensures.syncs_all honest) mine.keeps in
-    (c.write_base.ensures.disks honest).covers genesis n x mid
-    (settle_covers m genesis n c.args.node.now c.is_rebase_due.new.store c.sync_or_flush.new.store c.args.needs_sync
-    mine (c.sync_or_flush.ensures.every_image honest mine.keeps.entries (plain mine.keeps.loose) mine.keeps.holds) x
-    (same_group_covers m c.args.store.now c.is_rebase_due.new.store
-    (c.is_rebase_due.ensures.same honest) genesis n x false every))
-
-pub returns-in_err-write_base-clause-covers : goal.returns-in_err-write_base-clause-covers
-returns-in_err-write_base-clause-covers g c honest genesis n x r every =
-    let m : Meaning = g.M.Machine.meaning in
-    let mine = same_recalls m c.args.store.now c.is_rebase_due.new.store
-    (c.is_rebase_due.ensures.same honest) c.args.node.now c.args.needs_sync genesis n r in
-    let mid = settled_keeps _ c.is_rebase_due.new.store c.sync_or_flush.new.store c.args.needs_sync
-    _ (c.in_ok-sync_or_flush.ensures.syncs_all honest) mine.keeps in
-    (c.write_base.ensures.disks honest).covers genesis n x mid
-    (settle_covers m genesis n c.args.node.now c.is_rebase_due.new.store c.sync_or_flush.new.store c.args.needs_sync
-    mine (c.sync_or_flush.ensures.every_image honest mine.keeps.entries (plain mine.keeps.loose) mine.keeps.holds) x
-    (same_group_covers m c.args.store.now c.is_rebase_due.new.store
-    (c.is_rebase_due.ensures.same honest) genesis n x false every))
-
-pub returns-in_err-sync_or_flush-clause-covers : goal.returns-in_err-sync_or_flush-clause-covers
-returns-in_err-sync_or_flush-clause-covers g c honest genesis n x r every =
-    let m : Meaning = g.M.Machine.meaning in
-    let mine = same_recalls m c.args.store.now c.is_rebase_due.new.store
-    (c.is_rebase_due.ensures.same honest) c.args.node.now c.args.needs_sync genesis n r in
-    settle_covers m genesis n c.args.node.now c.is_rebase_due.new.store c.sync_or_flush.new.store c.args.needs_sync
-    mine (c.sync_or_flush.ensures.every_image honest mine.keeps.entries (plain mine.keeps.loose) mine.keeps.holds) x
-    (same_group_covers m c.args.store.now c.is_rebase_due.new.store
-    (c.is_rebase_due.ensures.same honest) genesis n x false every)
-
--- ---- room
-
-pub returns-in_err-due-clause-room : goal.returns-in_err-due-clause-room
-returns-in_err-due-clause-room g c honest =
-    same_room g.M.Machine.meaning c.args.store.now c.is_rebase_due.new.store (c.is_rebase_due.ensures.same honest)
-
-pub returns-then-not-due-clause-room : goal.returns-then-not-due-clause-room
-returns-then-not-due-clause-room g c honest =
-    same_room g.M.Machine.meaning c.args.store.now c.is_rebase_due.new.store (c.is_rebase_due.ensures.same honest)
-
-pub returns-in_err-sync_or_flush-clause-room : goal.returns-in_err-sync_or_flush-clause-room
-returns-in_err-sync_or_flush-clause-room g c honest =
-    within_first 49152 (disks c.args.store.now) (disks c.is_rebase_due.new.store) (disks c.sync_or_flush.new.store)
-    (same_room g.M.Machine.meaning c.args.store.now c.is_rebase_due.new.store (c.is_rebase_due.ensures.same honest))
-    (within_more 49152 (disks c.is_rebase_due.new.store) (disks c.sync_or_flush.new.store)
-    (c.sync_or_flush.ensures.room honest))
-
-pub returns-in_err-write_base-clause-room : goal.returns-in_err-write_base-clause-room
-returns-in_err-write_base-clause-room g c honest =
-    within_first 49152 (disks c.args.store.now) (disks c.sync_or_flush.new.store) (disks c.write_base.new.store)
-    (within_first 49152 (disks c.args.store.now) (disks c.is_rebase_due.new.store) (disks c.sync_or_flush.new.store)
-    (same_room g.M.Machine.meaning c.args.store.now c.is_rebase_due.new.store (c.is_rebase_due.ensures.same honest))
-    (within_more 49152 (disks c.is_rebase_due.new.store) (disks c.sync_or_flush.new.store)
-    (c.sync_or_flush.ensures.room honest)))
-    (c.write_base.ensures.disks honest).room
-
-pub returns-clause-room : goal.returns-clause-room
-returns-clause-room g c honest =
-    within_first 49152 (disks c.args.store.now) (disks c.sync_or_flush.new.store) (disks c.write_base.new.store)
-    (within_first 49152 (disks c.args.store.now) (disks c.is_rebase_due.new.store) (disks c.sync_or_flush.new.store)
-    (same_room g.M.Machine.meaning c.args.store.now c.is_rebase_due.new.store (c.is_rebase_due.ensures.same honest))
-    (within_more 49152 (disks c.is_rebase_due.new.store) (disks c.sync_or_flush.new.store)
-    (c.sync_or_flush.ensures.room honest)))
-    (c.write_base.ensures.disks honest).room
+pub returns-clause-disks : goal.returns-clause-disks
+returns-clause-disks g c honest = record {
+  ends = λ h n s heard.
+      let m : Meaning = g.M.Machine.meaning in
+      let mine = same_group_fits m c.args.store.now c.is_rebase_due.new.store
+      (c.is_rebase_due.ensures.same honest) h n c.args.node.now c.args.needs_sync s.fits in
+      let mid = settled_fits m h n c.args.node.now c.is_rebase_due.new.store c.sync_or_flush.new.store
+      c.args.needs_sync (c.in_ok-sync_or_flush.ensures.syncs_all honest) mine in
+      (c.write_base.ensures.disks honest).fits h n (before_fits m h n c.args.node.now c.sync_or_flush.new.store mid);
+  covers = λ genesis n x r every.
+      let m : Meaning = g.M.Machine.meaning in
+      let mine = same_recalls m c.args.store.now c.is_rebase_due.new.store
+      (c.is_rebase_due.ensures.same honest) c.args.node.now c.args.needs_sync genesis n r in
+      let mid = settled_keeps _ c.is_rebase_due.new.store c.sync_or_flush.new.store c.args.needs_sync
+      _ (c.in_ok-sync_or_flush.ensures.syncs_all honest) mine.keeps in
+      (c.write_base.ensures.disks honest).covers genesis n x mid
+      (settle_covers m genesis n c.args.node.now c.is_rebase_due.new.store c.sync_or_flush.new.store c.args.needs_sync
+      mine (c.sync_or_flush.ensures.every_image honest mine.keeps.entries (plain mine.keeps.loose) mine.keeps.holds) x
+      (same_group_covers m c.args.store.now c.is_rebase_due.new.store
+      (c.is_rebase_due.ensures.same honest) genesis n x false every));
+  room =
+      within_first 49152 (disks c.args.store.now) (disks c.sync_or_flush.new.store) (disks c.write_base.new.store)
+      (within_first 49152 (disks c.args.store.now) (disks c.is_rebase_due.new.store) (disks c.sync_or_flush.new.store)
+      (same_room g.M.Machine.meaning c.args.store.now c.is_rebase_due.new.store (c.is_rebase_due.ensures.same honest))
+      (within_more 49152 (disks c.is_rebase_due.new.store) (disks c.sync_or_flush.new.store)
+      (c.sync_or_flush.ensures.room honest)))
+      (c.write_base.ensures.disks honest).room;
+}
 
 -- ---- what it has done
 

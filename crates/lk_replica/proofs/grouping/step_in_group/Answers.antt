@@ -27,7 +27,7 @@ returns-clause-goes g c honest =
           o.notes
           (batch_of n sent)) (sym is)
           ((c.in_ok-outbox.ensures.keeps honest).goes h n
-          (c.in_ok-needs_sync.ensures.fits honest h n
+          ((c.in_ok-needs_sync.ensures.keeps honest).fits h n
           (subst (λ (w : Bool). GroupFits g.M.Machine.meaning h n c.args.node.now c.args.store.now w)
           (sym (ap (λ (y : GroupValue). y.needs_sync) c.group.view_is)) f)) heard sent among);
     }
@@ -38,7 +38,7 @@ returns-clause-keeps g c honest =
     let o = c.in_ok-outbox.outbox in
     let is = c.in_ok-add.ensures in
     let before = c.args.group.now in
-    let room = c.in_ok-needs_sync.ensures in
+    let room = c.in_ok-needs_sync.ensures.keeps honest in
     let step = c.in_ok-outbox.ensures.keeps honest in
     let w = sym (ap (λ (y : GroupValue). y.needs_sync) c.group.view_is) in
     let mine : (genesis : Genesis) (n : ℕ) → RemembersInGroup c.args.node.now c.args.store.now before.needs_sync
@@ -49,19 +49,19 @@ returns-clause-keeps g c honest =
       stays = λ h n s heard.
           subst (λ (x : GroupValue). GroupStays m h n c.step_to_file.new.node c.step_to_file.new.store x.needs_sync)
           (sym is)
-          (step.stays h n (room.stays honest h n
+          (step.stays h n (room.stays h n
           (subst (λ (w : Bool). GroupStays m h n c.args.node.now c.args.store.now w) w s)) heard);
       recalls = λ genesis n r.
           subst (λ (x : GroupValue). RemembersInGroup c.step_to_file.new.node c.step_to_file.new.store x.needs_sync
           genesis n)
           (sym is)
-          (step.recalls genesis n (room.recalls honest genesis n (mine genesis n r)));
+          (step.recalls genesis n (room.recalls genesis n (mine genesis n r)));
       said = λ genesis n r was.
           says_more m genesis n before c.add.new.self c.args.store.now c.step_to_file.new.store
           (λ x every. subst (λ (y : GroupValue). AllCover m genesis n
           (disks (as_released y.needs_sync c.step_to_file.new.store)) x) (sym is)
-          (step.still genesis n x (room.recalls honest genesis n (mine genesis n r))
-          (room.still honest genesis n x (mine genesis n r)
+          (step.still genesis n x (room.recalls genesis n (mine genesis n r))
+          (room.still genesis n x (mine genesis n r)
           (subst (λ (w : Bool). AllCover m genesis n (disks (as_released w c.args.store.now)) x) w every))))
           (λ x. record {
             notes = o.notes;
@@ -71,7 +71,7 @@ returns-clause-keeps g c honest =
             are = λ d listed spelled. subst
                 (λ (y : GroupValue). AllCover m genesis n (disks (as_released y.needs_sync c.step_to_file.new.store)) x)
                 (sym is)
-                (step.syncs genesis n x (room.recalls honest genesis n (mine genesis n r)) d listed spelled);
+                (step.syncs genesis n x (room.recalls genesis n (mine genesis n r)) d listed spelled);
           })
           was;
     }
@@ -86,16 +86,17 @@ returns-in_err-needs_sync-clause-disks g c honest =
     let m = g.M.Machine.meaning in
     let w = sym (ap (λ (y : GroupValue). y.needs_sync) c.group.view_is) in
     record {
-      ends = λ h n s heard. c.make_room.ensures.ends honest h n
-          (subst (λ (w : Bool). GroupStays m h n c.args.node.now c.args.store.now w) w s);
-      covers = λ genesis n x r every. c.make_room.ensures.covers honest genesis n x
+      ends = λ h n s heard. (c.make_room.ensures.disks honest).ends h n
+          (subst (λ (w : Bool). GroupStays m h n c.args.node.now c.args.store.now w) w s) tt;
+      covers = λ genesis n x r every. (c.make_room.ensures.disks honest).covers genesis n x
           (subst (λ (w : Bool). RemembersInGroup c.args.node.now c.args.store.now w genesis n) w r) every;
-      room = refused_room (disks c.args.store.now) (disks c.make_room.new.store) (c.make_room.ensures.room honest);
+      room = refused_room (disks c.args.store.now) (disks c.make_room.new.store)
+          (c.make_room.ensures.disks honest).room;
     }
 
 pub returns-in_err-needs_sync-clause-grows : goal.returns-in_err-needs_sync-clause-grows
 returns-in_err-needs_sync-clause-grows g c honest =
-    grown_base (disks c.args.store.now) (disks c.make_room.new.store) (c.make_room.ensures.room honest)
+    grown_base (disks c.args.store.now) (disks c.make_room.new.store) (c.make_room.ensures.disks honest).room
 
 pub returns-in_err-outbox-clause-disks : goal.returns-in_err-outbox-clause-disks
 returns-in_err-outbox-clause-disks g c honest =
@@ -103,23 +104,23 @@ returns-in_err-outbox-clause-disks g c honest =
     let w = sym (ap (λ (y : GroupValue). y.needs_sync) c.group.view_is) in
     record {
       ends = λ h n s heard. (c.step_to_file.ensures.disks honest).ends h n
-          (c.in_ok-needs_sync.ensures.stays honest h n
+          ((c.in_ok-needs_sync.ensures.keeps honest).stays h n
           (subst (λ (w : Bool). GroupStays m h n c.args.node.now c.args.store.now w) w s)) heard;
       covers = λ genesis n x r every.
           let mine = subst (λ (w : Bool). RemembersInGroup c.args.node.now c.args.store.now w genesis n) w r in
           (c.step_to_file.ensures.disks honest).covers genesis n x
-          (c.in_ok-needs_sync.ensures.recalls honest genesis n mine)
-          (c.make_room.ensures.covers honest genesis n x mine every);
+          ((c.in_ok-needs_sync.ensures.keeps honest).recalls genesis n mine)
+          ((c.make_room.ensures.disks honest).covers genesis n x mine every);
       room = within_first 132704 (disks c.args.store.now) (disks c.make_room.new.store)
           (disks c.step_to_file.new.store)
-          (refused_room (disks c.args.store.now) (disks c.make_room.new.store) (c.make_room.ensures.room honest))
+          (refused_room (disks c.args.store.now) (disks c.make_room.new.store) (c.make_room.ensures.disks honest).room)
           ((c.step_to_file.ensures.disks honest).room (c.in_ok-needs_sync.ensures.small honest));
     }
 
 pub returns-in_err-outbox-clause-grows : goal.returns-in_err-outbox-clause-grows
 returns-in_err-outbox-clause-grows g c honest =
     grown_then (disks c.args.store.now) (disks c.make_room.new.store) (disks c.step_to_file.new.store)
-    (c.make_room.ensures.room honest) ((c.step_to_file.ensures.disks honest).grows)
+    (c.make_room.ensures.disks honest).room ((c.step_to_file.ensures.disks honest).grows)
 
 pub returns-in_err-add-clause-disks : goal.returns-in_err-add-clause-disks
 returns-in_err-add-clause-disks g c honest =
@@ -127,23 +128,23 @@ returns-in_err-add-clause-disks g c honest =
     let w = sym (ap (λ (y : GroupValue). y.needs_sync) c.group.view_is) in
     record {
       ends = λ h n s heard. (c.step_to_file.ensures.disks honest).ends h n
-          (c.in_ok-needs_sync.ensures.stays honest h n
+          ((c.in_ok-needs_sync.ensures.keeps honest).stays h n
           (subst (λ (w : Bool). GroupStays m h n c.args.node.now c.args.store.now w) w s)) heard;
       covers = λ genesis n x r every.
           let mine = subst (λ (w : Bool). RemembersInGroup c.args.node.now c.args.store.now w genesis n) w r in
           (c.step_to_file.ensures.disks honest).covers genesis n x
-          (c.in_ok-needs_sync.ensures.recalls honest genesis n mine)
-          (c.make_room.ensures.covers honest genesis n x mine every);
+          ((c.in_ok-needs_sync.ensures.keeps honest).recalls genesis n mine)
+          ((c.make_room.ensures.disks honest).covers genesis n x mine every);
       room = within_first 132704 (disks c.args.store.now) (disks c.make_room.new.store)
           (disks c.step_to_file.new.store)
-          (refused_room (disks c.args.store.now) (disks c.make_room.new.store) (c.make_room.ensures.room honest))
+          (refused_room (disks c.args.store.now) (disks c.make_room.new.store) (c.make_room.ensures.disks honest).room)
           ((c.step_to_file.ensures.disks honest).room (c.in_ok-needs_sync.ensures.small honest));
     }
 
 pub returns-in_err-add-clause-grows : goal.returns-in_err-add-clause-grows
 returns-in_err-add-clause-grows g c honest =
     grown_then (disks c.args.store.now) (disks c.make_room.new.store) (disks c.step_to_file.new.store)
-    (c.make_room.ensures.room honest) ((c.step_to_file.ensures.disks honest).grows)
+    (c.make_room.ensures.disks honest).room ((c.step_to_file.ensures.disks honest).grows)
 
 pub returns-clause-disks : goal.returns-clause-disks
 returns-clause-disks g c honest =
@@ -151,23 +152,23 @@ returns-clause-disks g c honest =
     let w = sym (ap (λ (y : GroupValue). y.needs_sync) c.group.view_is) in
     record {
       ends = λ h n s heard. (c.step_to_file.ensures.disks honest).ends h n
-          (c.in_ok-needs_sync.ensures.stays honest h n
+          ((c.in_ok-needs_sync.ensures.keeps honest).stays h n
           (subst (λ (w : Bool). GroupStays m h n c.args.node.now c.args.store.now w) w s)) heard;
       covers = λ genesis n x r every.
           let mine = subst (λ (w : Bool). RemembersInGroup c.args.node.now c.args.store.now w genesis n) w r in
           (c.step_to_file.ensures.disks honest).covers genesis n x
-          (c.in_ok-needs_sync.ensures.recalls honest genesis n mine)
-          (c.make_room.ensures.covers honest genesis n x mine every);
+          ((c.in_ok-needs_sync.ensures.keeps honest).recalls genesis n mine)
+          ((c.make_room.ensures.disks honest).covers genesis n x mine every);
       room = within_first 132704 (disks c.args.store.now) (disks c.make_room.new.store)
           (disks c.step_to_file.new.store)
-          (refused_room (disks c.args.store.now) (disks c.make_room.new.store) (c.make_room.ensures.room honest))
+          (refused_room (disks c.args.store.now) (disks c.make_room.new.store) (c.make_room.ensures.disks honest).room)
           ((c.step_to_file.ensures.disks honest).room (c.in_ok-needs_sync.ensures.small honest));
     }
 
 pub returns-clause-grows : goal.returns-clause-grows
 returns-clause-grows g c honest =
     grown_then (disks c.args.store.now) (disks c.make_room.new.store) (disks c.step_to_file.new.store)
-    (c.make_room.ensures.room honest) ((c.step_to_file.ensures.disks honest).grows)
+    (c.make_room.ensures.disks honest).room ((c.step_to_file.ensures.disks honest).grows)
 
 -- ---- what it has done
 

@@ -7,14 +7,14 @@ use Rattle.lk_recovery.proofs.Recoveries.{err_as, refused_on, grown_then, spared
 use Rattle.lk_recovery.proofs.Recoveries.{second_after}
 use Rattle.lk_replica.proofs.Refusals.{store_told, store_only, store_awake}
 
-pub returns-clause-goes : goal.returns-clause-goes
-returns-clause-goes g c honest h n f heard =
-    c.in_ok-outbox.ensures.goes honest h n ((c.in_ok-rebase_if_due.ensures.done honest).fits h n f) heard
-
-pub returns-clause-syncs : goal.returns-clause-syncs
-returns-clause-syncs g c honest genesis n x shown =
-    c.in_ok-outbox.ensures.syncs honest genesis n x
-    ((c.in_ok-rebase_if_due.ensures.done honest).remembers genesis n shown)
+pub returns-clause-keeps : goal.returns-clause-keeps
+returns-clause-keeps g c honest =
+    let on = c.in_ok-outbox.ensures.keeps honest in
+    let before = c.in_ok-rebase_if_due.ensures.done honest in
+    record {
+      goes = λ h n f heard. on.goes h n (before.fits h n f) heard;
+      syncs = λ genesis n x shown. on.syncs genesis n x (before.remembers genesis n shown);
+    }
 
 pub returns-clause-exact : goal.returns-clause-exact
 returns-clause-exact g c honest =

@@ -18,49 +18,49 @@ use Rattle.lk_node_interface.specs.declared.fault.ReplicaFault.TheVariants as fa
 use Rattle.lk_recovery.proofs.Recoveries.{err_as, grown_none, grown_base, grown_put, grown_less}
 use Rattle.lk_replica.proofs.Refusals.{store_told, store_only, store_awake}
 
-pub returns-clause-goes : goal.returns-clause-goes
-returns-clause-goes g c honest h n f heard sent among =
-    let m : Meaning = g.M.Machine.meaning in
-    let out = c.in_ok-outbox.outbox in
-    let after = c.write_to_disk.new.store in
-    let done = c.in_ok-write_to_disk.ensures.done honest in
-    let on = c.in_ok-write_to_disk.ensures.goes in
-    by_kind out.rebase
-    (λ is. subst (λ (k : NodeValue). LeavesFit m h n (ReplicaHolds m k after h.genesis n) (disks after) out.notes
-    (batch_of n sent)) (sym (on.stands is).0.becomes)
-    (installed_goes m h n c.args.node.now c.step.new.self c.args.store.now c.args.input out f heard
-    c.in_ok-outbox.ensures.safe is after (on.stands is).0.begins (on.stands is).1
-    ((done.switches is).rebases.writes f.shown.keeps.entries _ f.shown.keeps.holds) sent among))
-    (λ not_so. subst (λ (k : NodeValue). LeavesFit m h n (ReplicaHolds m k after h.genesis n) (disks after) out.notes
-    (batch_of n sent)) (sym (on.rests not_so))
-    (put_goes m h n c.args.node.now c.step.new.self c.args.store.now after c.args.input out f
-    heard c.in_ok-outbox.ensures.safe
-    (step_told _ _ c.args.node.now _ c.step.new.self out c.in_ok-outbox.ensures.steps not_so)
-    (step_keeps m h.genesis n c.args.node.now c.step.new.self c.args.store.now after _ out
-    (remembered m h.genesis n f.holding c.args.node.now c.args.store.now f.shown) c.in_ok-outbox.ensures.safe
-    (done.puts not_so _ _ f.shown.keeps.holds).0 (done.puts not_so _ _ f.shown.keeps.holds).1)
-    (put_leaves m h n c.args.node.now c.step.new.self c.args.store.now after c.args.input
-    out f heard c.in_ok-outbox.ensures.safe
-    (step_told _ _ c.args.node.now _ c.step.new.self out c.in_ok-outbox.ensures.steps not_so)
-    (((c.write_to_disk.ensures.disks honest).put not_so).every_image _ _ f.shown.keeps.holds)) sent among))
-
-pub returns-clause-syncs : goal.returns-clause-syncs
-returns-clause-syncs g c honest genesis n x shown d listed said =
-    let m : Meaning = g.M.Machine.meaning in
-    let out = c.in_ok-outbox.outbox in
-    let done = c.in_ok-write_to_disk.ensures.done honest in
-    by_kind out.rebase
-    (λ is. (done.switches is).syncs genesis n x
-    (still_keeps m _ genesis n c.args.node.now c.step.new.self c.args.store.now shown.whose shown.keeps out
-    c.in_ok-outbox.ensures.safe is)
-    (sent_is_covered m _ genesis n c.args.node.now c.step.new.self c.args.store.now shown.whose shown.keeps out
-    c.in_ok-outbox.ensures.safe is x d listed said))
-    (λ not_so. step_syncs m genesis n c.args.node.now c.step.new.self c.args.store.now c.write_to_disk.new.store _ out
-    shown c.in_ok-outbox.ensures.safe
-    (step_keeps m genesis n c.args.node.now c.step.new.self c.args.store.now c.write_to_disk.new.store _ out
-    shown c.in_ok-outbox.ensures.safe
-    (done.puts not_so _ _ shown.keeps.holds).0 (done.puts not_so _ _ shown.keeps.holds).1).keeps
-    x d listed said)
+pub returns-clause-keeps : goal.returns-clause-keeps
+returns-clause-keeps g c honest = record {
+  goes = λ h n f heard sent among.
+      let m : Meaning = g.M.Machine.meaning in
+      let out = c.in_ok-outbox.outbox in
+      let after = c.write_to_disk.new.store in
+      let done = c.in_ok-write_to_disk.ensures.done honest in
+      let on = c.in_ok-write_to_disk.ensures.goes in
+      by_kind out.rebase
+      (λ is. subst (λ (k : NodeValue). LeavesFit m h n (ReplicaHolds m k after h.genesis n) (disks after) out.notes
+      (batch_of n sent)) (sym (on.stands is).0.becomes)
+      (installed_goes m h n c.args.node.now c.step.new.self c.args.store.now c.args.input out f heard
+      c.in_ok-outbox.ensures.safe is after (on.stands is).0.begins (on.stands is).1
+      ((done.switches is).rebases.writes f.shown.keeps.entries _ f.shown.keeps.holds) sent among))
+      (λ not_so. subst (λ (k : NodeValue). LeavesFit m h n (ReplicaHolds m k after h.genesis n) (disks after) out.notes
+      (batch_of n sent)) (sym (on.rests not_so))
+      (put_goes m h n c.args.node.now c.step.new.self c.args.store.now after c.args.input out f
+      heard c.in_ok-outbox.ensures.safe
+      (step_told _ _ c.args.node.now _ c.step.new.self out c.in_ok-outbox.ensures.steps not_so)
+      (step_keeps m h.genesis n c.args.node.now c.step.new.self c.args.store.now after _ out
+      (remembered m h.genesis n f.holding c.args.node.now c.args.store.now f.shown) c.in_ok-outbox.ensures.safe
+      (done.puts not_so _ _ f.shown.keeps.holds).0 (done.puts not_so _ _ f.shown.keeps.holds).1)
+      (put_leaves m h n c.args.node.now c.step.new.self c.args.store.now after c.args.input
+      out f heard c.in_ok-outbox.ensures.safe
+      (step_told _ _ c.args.node.now _ c.step.new.self out c.in_ok-outbox.ensures.steps not_so)
+      (((c.write_to_disk.ensures.disks honest).put not_so).every_image _ _ f.shown.keeps.holds)) sent among));
+  syncs = λ genesis n x shown d listed said.
+      let m : Meaning = g.M.Machine.meaning in
+      let out = c.in_ok-outbox.outbox in
+      let done = c.in_ok-write_to_disk.ensures.done honest in
+      by_kind out.rebase
+      (λ is. (done.switches is).syncs genesis n x
+      (still_keeps m _ genesis n c.args.node.now c.step.new.self c.args.store.now shown.whose shown.keeps out
+      c.in_ok-outbox.ensures.safe is)
+      (sent_is_covered m _ genesis n c.args.node.now c.step.new.self c.args.store.now shown.whose shown.keeps out
+      c.in_ok-outbox.ensures.safe is x d listed said))
+      (λ not_so. step_syncs m genesis n c.args.node.now c.step.new.self c.args.store.now c.write_to_disk.new.store _ out
+      shown c.in_ok-outbox.ensures.safe
+      (step_keeps m genesis n c.args.node.now c.step.new.self c.args.store.now c.write_to_disk.new.store _ out
+      shown c.in_ok-outbox.ensures.safe
+      (done.puts not_so _ _ shown.keeps.holds).0 (done.puts not_so _ _ shown.keeps.holds).1).keeps
+      x d listed said);
+}
 
 pub returns-clause-exact : goal.returns-clause-exact
 returns-clause-exact g c honest =

@@ -5,15 +5,15 @@ use Rattle.lk_script.proofs.ScriptLaws.{no_instruction}
 use Rattle.lk_script.proofs.PrintLaws.{done_is}
 use Rattle.lk_script.proofs.script.take_line.Goals as goal
 
-pub returns-in_ok-mode-in-Begun-clause-ok : goal.returns-in_ok-mode-in-Begun-clause-ok
-returns-in_ok-mode-in-Begun-clause-ok g c = λ _ s fits.
-    none_line g.M.MemoryReplica.behaves s _ c.args.line.now _ (subst (Fits s) c.in-Begun.is fits)
-    c.in_ok-mode-in-Begun.ensures.ok c.clear.ensures.items
+pub returns-in_ok-mode-in-Unset-clause-ok : goal.returns-in_ok-mode-in-Unset-clause-ok
+returns-in_ok-mode-in-Unset-clause-ok g c = λ _ s fits.
+    none_line g.M.MemoryReplica.behaves s _ c.args.line.now _ (subst (Fits s) c.in-Unset.is fits)
+    c.in_ok-mode-in-Unset.ensures.ok c.clear.ensures.items
 
-pub returns-in_err-mode-in-Begun-clause-not_understood : goal.returns-in_err-mode-in-Begun-clause-not_understood
-returns-in_err-mode-in-Begun-clause-not_understood g c = λ bad s fits.
-    no_begin s c.args.line.now (subst (Fits s) c.in-Begun.is fits)
-    (c.in_err-mode-in-Begun.ensures.not_understood (search rules))
+pub returns-in_err-mode-in-Unset-clause-not_understood : goal.returns-in_err-mode-in-Unset-clause-not_understood
+returns-in_err-mode-in-Unset-clause-not_understood g c = λ bad s fits.
+    no_begin s c.args.line.now (subst (Fits s) c.in-Unset.is fits)
+    (c.in_err-mode-in-Unset.ensures.not_understood (search rules))
 
 pub returns-in_ok-print_line-in-Table-clause-ok : goal.returns-in_ok-print_line-in-Table-clause-ok
 returns-in_ok-print_line-in-Table-clause-ok g c = λ _ s fits.

@@ -17,4 +17,4 @@ returns-in-None-clause-not_understood c = λ bad cluster alpha ms line.
     let parts = one_way c.args.line.now c.in-Some.word.now c.in-Some.words.now
     (codes "genesis") line.words first.0 first.1 refl line.line_is in
     c.in-None.ensures.none refl cluster alpha ms
-    (subst (λ (t : List ℕ). SpellsGenesis t cluster alpha ms) (sym parts.1) line.spelled) line.begins
+    (subst (λ (t : List ℕ). SpellsGenesis t cluster alpha ms) (sym parts.1) line.spelled) line.has_no_fault

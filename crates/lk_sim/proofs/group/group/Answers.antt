@@ -20,29 +20,31 @@ pub give_all-requires-clause-heard : goal.give_all-requires-clause-heard
 give_all-requires-clause-heard g c =
     let p = c.args.parts.now in
     let n = c.args.number in
-    let turns = c.args.turns.now in
-    let for_it = subst (λ (l : List Datagram). AreFor l n turns) c.deref-2.ensures.value
+    let group_inputs = c.args.group_inputs.now in
+    let for_it = subst (λ (l : List Datagram). AreFor l n group_inputs) c.deref-2.ensures.value
     (c.are_for.ensures.0 (cc c.if-not-are_for.false)) in
-    let same : map heard_by c.in_ok-inputs.inputs.items ≡ map (given_by p.sent.items) turns = c.in_ok-inputs.ensures.ok
+    let same : map heard_by c.in_ok-inputs.inputs.items ≡ map
+    (given_by p.sent.items) group_inputs = c.in_ok-inputs.ensures.ok
     ∙ ap (map copied) c.deref-4.ensures.value ∙ c.in_ok-bytes.ensures.ok in
-    were_brought p.sent.items n turns c.in_ok-inputs.inputs.items for_it same
+    were_brought p.sent.items n group_inputs c.in_ok-inputs.inputs.items for_it same
 
 pub returns-in_err-give_all-clause-err : goal.returns-in_err-give_all-clause-err
 returns-in_err-give_all-clause-err g c =
     let p = c.args.parts.now in
     let n = c.args.number in
-    let turns = c.args.turns.now in
+    let group_inputs = c.args.group_inputs.now in
     let b = g.R.MemoryReplica.behaves in
     let u : IsUpAt p.seats.items c.in_ok-i.i n = search rules in
-    let for_it = subst (λ (l : List Datagram). AreFor l n turns) c.deref-2.ensures.value
+    let for_it = subst (λ (l : List Datagram). AreFor l n group_inputs) c.deref-2.ensures.value
     (c.are_for.ensures.0 (cc c.if-not-are_for.false)) in
     let room = subst (λ (l : List Datagram). HasRoom l) c.deref-3.ensures.value
     (c.has_room.ensures.0 (cc c.if-not-has_room.false)) in
-    let same : map heard_by c.in_ok-inputs.inputs.items ≡ map (given_by p.sent.items) turns = c.in_ok-inputs.ensures.ok
+    let same : map heard_by c.in_ok-inputs.inputs.items ≡ map
+    (given_by p.sent.items) group_inputs = c.in_ok-inputs.ensures.ok
     ∙ ap (map copied) c.deref-4.ensures.value ∙ c.in_ok-bytes.ensures.ok in
     let halted = subst (λ (l : List (Option (List _))). IsHalted (LeftByGroup b l) (scene_of p)
     (scene_of c.give_all.new.parts) n) same (c.in_err-give_all.ensures.halted n u) in
-    err_as _ WorldMemory (λ e. IsNotGrouped b (scene_of p) n turns e (scene_of c.give_all.new.parts))
+    err_as _ WorldMemory (λ e. IsNotGrouped b (scene_of p) n group_inputs e (scene_of c.give_all.new.parts))
     c.from_residual-in_err-give_all.ensures.1
     (inr (refl, (((u.1, (c.in_ok-i.i, u.0, u.2, u.3, u.4)), room), for_it), inr halted))
 
@@ -50,14 +52,15 @@ pub returns-clause-ok : goal.returns-clause-ok
 returns-clause-ok g c =
     let p = c.args.parts.now in
     let n = c.args.number in
-    let turns = c.args.turns.now in
+    let group_inputs = c.args.group_inputs.now in
     let b = g.R.MemoryReplica.behaves in
     let u : IsUpAt p.seats.items c.in_ok-i.i n = search rules in
-    let for_it = subst (λ (l : List Datagram). AreFor l n turns) c.deref-2.ensures.value
+    let for_it = subst (λ (l : List Datagram). AreFor l n group_inputs) c.deref-2.ensures.value
     (c.are_for.ensures.0 (cc c.if-not-are_for.false)) in
     let room = subst (λ (l : List Datagram). HasRoom l) c.deref-3.ensures.value
     (c.has_room.ensures.0 (cc c.if-not-has_room.false)) in
-    let same : map heard_by c.in_ok-inputs.inputs.items ≡ map (given_by p.sent.items) turns = c.in_ok-inputs.ensures.ok
+    let same : map heard_by c.in_ok-inputs.inputs.items ≡ map
+    (given_by p.sent.items) group_inputs = c.in_ok-inputs.ensures.ok
     ∙ ap (map copied) c.deref-4.ensures.value ∙ c.in_ok-bytes.ensures.ok in (
       (((u.1, (c.in_ok-i.i, u.0, u.2, u.3, u.4)), room), for_it),
       subst (λ (l : List (Option (List _))). IsGivenTogether b (scene_of p) (scene_of c.give_all.new.parts) n l) same

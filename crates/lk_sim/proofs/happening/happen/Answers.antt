@@ -29,7 +29,7 @@ returns-in-Group-clause-ok g c =
     let p = c.args.parts.now in
     let n = c.in-Group.number in
     let b = g.R.MemoryReplica.behaves in
-    let same : c.deref.result.now ≡ c.in-Group.turns.items = c.deref.ensures.value in
+    let same : c.deref.result.now ≡ c.in-Group.group_inputs.items = c.deref.ensures.value in
     rw c.in-Group.is
     (subst (λ (l : List GroupInput). OnOk c.group.result
     (MayGroup (scene_of p) n l
@@ -40,10 +40,11 @@ pub returns-in-Group-clause-err : goal.returns-in-Group-clause-err
 returns-in-Group-clause-err g c =
     let p = c.args.parts.now in
     let n = c.in-Group.number in
-    let same : c.deref.result.now ≡ c.in-Group.turns.items = c.deref.ensures.value in
+    let same : c.deref.result.now ≡ c.in-Group.group_inputs.items = c.deref.ensures.value in
     rw c.in-Group.is
     (if_err _ _ c.group.result
-    (λ e k. group_refused g.R.MemoryReplica.behaves (scene_of p) (scene_of c.group.new.parts) n c.in-Group.turns e k)
+    (λ e k. group_refused g.R.MemoryReplica.behaves (scene_of p)
+    (scene_of c.group.new.parts) n c.in-Group.group_inputs e k)
     (subst (λ (l : List GroupInput). IfErr c.group.result
     (λ e. IsNotGrouped g.R.MemoryReplica.behaves (scene_of p) n l e (scene_of c.group.new.parts)))
     same c.group.ensures.err))

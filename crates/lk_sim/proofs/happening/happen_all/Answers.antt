@@ -13,7 +13,7 @@ returns-in-Err-clause-runs g c =
     (search rules) (search rules) in
     record {
       last = scene_of c.events.parts;
-      passes = c.events.invariant.1;
+      are_executed = c.events.invariant.1;
       stops = (c.index-events-i.result, at, c.in-Err.ensures.err);
     }
 
@@ -36,7 +36,8 @@ returns-clause-runs g c =
     let all : c.events.i ≡ length c.args.events.now = search rules in
     record {
       last = scene_of c.events.parts;
-      passes = subst (λ k. AreExecuted g.R.MemoryReplica.behaves (take k c.args.events.now) (scene_of c.args.parts.now)
+      are_executed = subst (λ k. AreExecuted g.R.MemoryReplica.behaves (take k c.args.events.now)
+          (scene_of c.args.parts.now)
           (scene_of c.events.parts)) all c.events.invariant.1;
       stops = (refl, refl);
     }

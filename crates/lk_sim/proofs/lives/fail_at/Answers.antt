@@ -25,7 +25,7 @@ returns-clause-ok g c =
         seat = u.0;
         number = u.2;
         next = c.set_trap.new.seat;
-        turns = record { index = c.in_ok-i.i; at = u.1; number = rw same c.set_trap.ensures.number; seats = refl };
+        replaces = record { index = c.in_ok-i.i; at = u.1; number = rw same c.set_trap.ensures.number; seats = refl };
         trapped = rw same c.set_trap.ensures.trapped;
         adds = record { genesis = refl; sent = sym (append-nil _); trace = sym (append-nil _) };
         ended = refl;

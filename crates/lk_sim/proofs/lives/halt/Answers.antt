@@ -31,7 +31,7 @@ returns-clause-ok g c =
         replica = u.1;
         up = u.4;
         next = c.stop.new.seat;
-        turns = record { index = c.in_ok-i.i; at = u.2; number = rw same c.stop.ensures.number; seats = refl };
+        replaces = record { index = c.in_ok-i.i; at = u.2; number = rw same c.stop.ensures.number; seats = refl };
         down = c.stop.ensures.stopped
             ∙ ap (λ (z : Life g.row.R.Denot). Down
             (stopped_on c.args.x c.args.y (device_in g.R.MemoryReplica.behaves z))) up;

@@ -24,7 +24,7 @@ returns-in-Ok-clause-goes g c h w lawful f q same =
 pub returns-in-Err-clause-falls : goal.returns-in-Err-clause-falls
 returns-in-Err-clause-falls g c h w lawful f d down =
     let is : c.args.seat.now.life ≡ Up c.in-Up.replica = search rules in
-    c.take_down.ensures.fits h w
+    c.stop_node.ensures.fits h w
     (subst (λ k. DisksFit g.R.MemoryReplica.meaning h k (disk_of c.take_device-device.result))
     (sym c.take_device-device.ensures.number)
     (subst (λ (m : Memory). DisksFit g.R.MemoryReplica.meaning h c.args.seat.now.number (disk_of m))
@@ -35,4 +35,4 @@ returns-in-Err-clause-falls g c h w lawful f d down =
     (disks_by g.R.MemoryReplica.behaves c.compact.new.self) c.compact.ensures.room (f.up c.in-Up.replica is).room))
 
 pub returns-in-Err-clause-told : goal.returns-in-Err-clause-told
-returns-in-Err-clause-told g c = c.take_down.ensures.told (sound_packed _ c.in-Err.ensures.told)
+returns-in-Err-clause-told g c = c.stop_node.ensures.told (sound_packed _ c.in-Err.ensures.told)

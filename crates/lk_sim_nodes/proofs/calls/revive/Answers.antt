@@ -34,7 +34,7 @@ returns-in-Err-clause-falls g c h w same lawful f d down =
     let left : DisksFit g.R.MemoryReplica.meaning h n (disk_of c.take_device-device.result) =
     subst (λ k. DisksFit g.R.MemoryReplica.meaning h k (disk_of c.take_device-device.result))
     (sym c.take_device-device.ensures.number) (c.take_device-device.ensures.fits h w f) in
-    c.take_down.ensures.fits h w (c.in-Err.ensures.down h n whose lawful left).1
+    c.stop_node.ensures.fits h w (c.in-Err.ensures.down h n whose lawful left).1
     (based_short (disk_of c.take_device-device.result) (disk_of c.in-Err.refused.device) c.in-Err.ensures.room_err
     (c.take_device-device.ensures.room h w f))
 
@@ -47,4 +47,4 @@ returns-in-Err-clause-told g c h w same lawful f =
     let left : DisksFit g.R.MemoryReplica.meaning h n (disk_of c.take_device-device.result) =
     subst (λ k. DisksFit g.R.MemoryReplica.meaning h k (disk_of c.take_device-device.result))
     (sym c.take_device-device.ensures.number) (c.take_device-device.ensures.fits h w f) in
-    c.take_down.ensures.told (sound_back _ (c.in-Err.ensures.down h n whose lawful left).0)
+    c.stop_node.ensures.told (sound_back _ (c.in-Err.ensures.down h n whose lawful left).0)

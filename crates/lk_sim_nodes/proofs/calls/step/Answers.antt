@@ -31,7 +31,7 @@ returns-in-Ok-clause-goes g c h w lawful f input q same =
 pub returns-in-Err-clause-falls : goal.returns-in-Err-clause-falls
 returns-in-Err-clause-falls g c h w lawful f input d down =
     let is : c.args.seat.now.life ≡ Up c.in-Up.replica = search rules in
-    c.take_down.ensures.fits h w
+    c.stop_node.ensures.fits h w
     (subst (λ k. DisksFit g.R.MemoryReplica.meaning h k (disk_of c.take_device-device.result))
     (sym c.take_device-device.ensures.number)
     (subst (λ (m : Memory). DisksFit g.R.MemoryReplica.meaning h c.args.seat.now.number (disk_of m))
@@ -47,4 +47,4 @@ pub returns-in-Ok-clause-told : goal.returns-in-Ok-clause-told
 returns-in-Ok-clause-told g c = told_as _ _ c.ended_at.ensures (told_at c.count_sends-stop.result _)
 
 pub returns-in-Err-clause-told : goal.returns-in-Err-clause-told
-returns-in-Err-clause-told g c = c.take_down.ensures.told (sound_up _ c.in-Err.ensures.told)
+returns-in-Err-clause-told g c = c.stop_node.ensures.told (sound_up _ c.in-Err.ensures.told)

@@ -14,7 +14,7 @@ targets-preserved g c =
     let t = c.target-item.result in
     let text = λ (token : ℕ) (t : Target). up_line c.args.cluster t.port (has_token token c.args.reports.now) in
     let is_up = subst (λ (is : Bool). Appends (g.W.Write.contents c.targets.out)
-    (g.W.Write.contents c.write_up_line.new.out) (up_line c.args.cluster c.get.result is)) c.is_answered.ensures
+    (g.W.Write.contents c.write_up_line.new.out) (up_line c.args.cluster c.get.result is)) c.is_reported.ensures
     c.in_ok-write_up_line.ensures in
     let written = subst (λ (port : ℕ). Appends (g.W.Write.contents c.targets.out)
     (g.W.Write.contents c.write_up_line.new.out)

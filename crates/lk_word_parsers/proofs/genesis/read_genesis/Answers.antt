@@ -41,7 +41,7 @@ returns-in_err-members-clause-none c = λ _ cluster alpha ms spelled.
     c.in_ok-alpha.alpha.now c.in_ok-alpha.words.now cluster alpha ms spelled first.0 first.1 second.0 second.1 in
     c.in_err-members.ensures.none refl ms
     (subst (λ (t : List ℕ). SpellsMembers 44 t ms) (sym parts.1) spelled.members_are)
-    (at_most_seven alpha ms spelled.begins)
+    (at_most_seven alpha ms spelled.has_no_fault)
 
 pub returns-in-Err-clause-none : goal.returns-in-Err-clause-none
 returns-in-Err-clause-none c = λ _ cluster alpha ms spelled.
@@ -61,6 +61,6 @@ returns-in-Err-clause-none c = λ _ cluster alpha ms spelled.
     ≡ Some c.in-Err.field-0 = search rules in
     let none : genesis_fault c.in_ok-alpha-2.alpha c.in_ok-members.members.items ≡ None =
     ap (λ (k : ℕ). genesis_fault k c.in_ok-members.members.items) alphas
-    ∙ ap (λ (xs : List Member). genesis_fault alpha xs) members ∙ spelled.begins in
+    ∙ ap (λ (xs : List Member). genesis_fault alpha xs) members ∙ spelled.has_no_fault in
     let bad : None ≡ Some c.in-Err.field-0 = sym none ∙ fault in
     absurd cc

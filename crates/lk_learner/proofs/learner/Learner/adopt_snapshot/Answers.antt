@@ -11,7 +11,7 @@ invariant_of-self g c =
       whole = c.self.inside.whole;
       snapshot_position = c.self.inside.snapshot_position;
       snapshot = c.self.inside.snapshot.items;
-      served = c.self.inside.served.items;
+      retained = c.self.inside.retained.items;
       pairs = c.self.inside.pairs.items;
       gathered = c.self.inside.gathered;
     } in
@@ -25,7 +25,7 @@ invariant_of-self g c =
       whole = c.args.whole;
       snapshot_position = c.executed-self-inside.ensures i;
       snapshot = c.requires.text i;
-      served = c.new.ensures.items i;
+      retained = c.new.ensures.items i;
       pairs = left i;
       gathered = None;
     }))

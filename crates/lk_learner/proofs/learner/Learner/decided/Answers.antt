@@ -34,7 +34,7 @@ returns-clause-kept g c = λ t.
       whole = c.self.inside.whole;
       snapshot_position = c.self.inside.snapshot_position;
       snapshot = c.self.inside.snapshot.items;
-      served = c.self.inside.served.items;
+      retained = c.self.inside.retained.items;
       pairs = qs;
       gathered = c.self.inside.gathered;
     }) items
@@ -54,7 +54,7 @@ invariant_of-self g c =
       whole = c.self.inside.whole;
       snapshot_position = c.self.inside.snapshot_position;
       snapshot = c.self.inside.snapshot.items;
-      served = c.self.inside.served.items;
+      retained = c.self.inside.retained.items;
       pairs = qs;
       gathered = c.self.inside.gathered;
     }) items

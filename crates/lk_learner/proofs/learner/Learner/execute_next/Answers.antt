@@ -60,15 +60,15 @@ returns-clause-next g c = λ v h.
     let grown : c.push.new.self.items ≡ c.reserve.new.self.items ++ c.pair.inside.command ∷ [] =
     rw c.unwrap.ensures at c.push.ensures.items in
     let command : c.pair.inside.command ≡ v = ap (λ (p : Pair). p.1) (c.pair.view_is ∙ out) in
-    let pushed : c.push.new.self.items ≡ c.self.inside.served.items ++ v ∷ [] = grown
+    let pushed : c.push.new.self.items ≡ c.self.inside.retained.items ++ v ∷ [] = grown
     ∙ ap (λ (l : List Command). l ++ c.pair.inside.command ∷ []) c.reserve.ensures.items
-    ∙ ap (λ (u : Command). c.self.inside.served.items ++ u ∷ []) command in
+    ∙ ap (λ (u : Command). c.self.inside.retained.items ++ u ∷ []) command in
     let old : LearnerValue =
     record {
       whole = c.self.inside.whole;
       snapshot_position = c.self.inside.snapshot_position;
       snapshot = c.self.inside.snapshot.items;
-      served = c.self.inside.served.items;
+      retained = c.self.inside.retained.items;
       pairs = ps;
       gathered = c.self.inside.gathered;
     } in
@@ -98,15 +98,15 @@ invariant_of-self-2 g c =
     let grown : c.push.new.self.items ≡ c.reserve.new.self.items ++ c.pair.inside.command ∷ [] =
     rw c.unwrap.ensures at c.push.ensures.items in
     let command : c.pair.inside.command ≡ v = ap (λ (p : Pair). p.1) (c.pair.view_is ∙ out) in
-    let pushed : c.push.new.self.items ≡ c.self.inside.served.items ++ v ∷ [] = grown
+    let pushed : c.push.new.self.items ≡ c.self.inside.retained.items ++ v ∷ [] = grown
     ∙ ap (λ (l : List Command). l ++ c.pair.inside.command ∷ []) c.reserve.ensures.items
-    ∙ ap (λ (u : Command). c.self.inside.served.items ++ u ∷ []) command in
+    ∙ ap (λ (u : Command). c.self.inside.retained.items ++ u ∷ []) command in
     let old : LearnerValue =
     record {
       whole = c.self.inside.whole;
       snapshot_position = c.self.inside.snapshot_position;
       snapshot = c.self.inside.snapshot.items;
-      served = c.self.inside.served.items;
+      retained = c.self.inside.retained.items;
       pairs = ps;
       gathered = c.self.inside.gathered;
     } in

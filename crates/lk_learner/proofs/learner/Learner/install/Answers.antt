@@ -14,7 +14,7 @@ returns-in_default-state-clause-exact g c =
       whole = c.self.inside.whole;
       snapshot_position = c.self.inside.snapshot_position;
       snapshot = c.self.inside.snapshot.items;
-      served = c.self.inside.served.items;
+      retained = c.self.inside.retained.items;
       pairs = c.self.inside.pairs.items;
       gathered = c.self.inside.gathered;
     } in

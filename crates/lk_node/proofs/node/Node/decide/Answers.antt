@@ -4,7 +4,7 @@ use Rattle.lk_agreement_laws.specs.Chosen.{Command, ChosenAt}
 use Rattle.lk_node_interface.specs.Outboxes.{OutboxValue, with_note}
 use Rattle.lk_node_interface.specs.declared.note.Note.TheVariants as note
 use Rattle.lk_node.specs.Learning.{Learns}
-use Rattle.lk_node.specs.Serving.{ActsSafely}
+use Rattle.lk_node.specs.SafeSteps.{ActsSafely}
 use Rattle.lk_node.proofs.DecidingLaws.{decides_goes_on}
 use Rattle.lk_node.proofs.node.Node.decide.Goals as goal
 

@@ -1,6 +1,6 @@
 use Rattle.lk_node.specs.Executing.{stays}
 use Rattle.lk_node.proofs.ExecutionLaws.{went_on, went_all, went_fewer}
-use Rattle.lk_node.proofs.Serving.{rests_here, then_goes_on}
+use Rattle.lk_node.proofs.SafeSteps.{rests_here, then_goes_on}
 use Rattle.lk_node.proofs.node.Node.execute.Goals as goal
 
 pub positions-init : goal.positions-init

@@ -1,6 +1,6 @@
 use Rattle.std.proofs.Common.{length}
 use Rattle.lk_node.specs.Executing.{Runs}
-use Rattle.lk_node.specs.Serving.{ActsSafely}
+use Rattle.lk_node.specs.SafeSteps.{ActsSafely}
 use Rattle.lk_node.proofs.node.Node.execute.Given as goal
 
 abbrev pub invariant-positions : goal.invariant-positions

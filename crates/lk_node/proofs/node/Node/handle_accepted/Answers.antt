@@ -5,7 +5,7 @@ use Rattle.lk_agreement_laws.specs.Chosen.{ChosenAt}
 use Rattle.lk_agreement_laws.specs.Datagrams.{HasSent}
 use Rattle.lk_node_interface.specs.Outboxes.{OutboxValue, nothing}
 use Rattle.lk_node.specs.Deciding.{Decides}
-use Rattle.lk_node.specs.Serving.{ActsSafely}
+use Rattle.lk_node.specs.SafeSteps.{ActsSafely}
 use Rattle.lk_node.proofs.DecidingLaws.{only_heard_goes_on, are_members, accepted_goes_on, hears_accepted}
 use Rattle.lk_node.proofs.node.Node.handle_accepted.Goals as goal
 

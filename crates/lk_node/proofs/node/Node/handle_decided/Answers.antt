@@ -4,16 +4,16 @@ use Rattle.lk_messages.specs.declared.message.NodeMessage.TheVariants as kinds
 use Rattle.lk_state.specs.Meanings.{Meaning}
 use Rattle.lk_agreement_laws.specs.Datagrams.{HasSent}
 use Rattle.lk_node_interface.specs.Outboxes.{OutboxValue, nothing}
-use Rattle.lk_node.specs.DecidedPairs.{TakesFirst, TakesPairs, none_yet}
-use Rattle.lk_node.specs.Serving.{ActsSafely}
+use Rattle.lk_node.specs.DecidedPairs.{LearnsFirst, LearnsPairs, none_yet}
+use Rattle.lk_node.specs.SafeSteps.{ActsSafely}
 use Rattle.lk_node.proofs.LearnerLaws.{told_goes_on, takes_more, walked, not_walked}
-use Rattle.lk_node.proofs.Serving.{rests_here}
+use Rattle.lk_node.proofs.SafeSteps.{rests_here}
 use Rattle.lk_node.proofs.node.Node.handle_decided.Goals as goal
 
 pub pairs-init : goal.pairs-init
 pairs-init g c =
     let m : Meaning = g.M.Machine.meaning in (
-      subst (λ (o : OutboxValue). TakesPairs m c.args.decided.now.first c.args.decided.now.commands c.args.self.now
+      subst (λ (o : OutboxValue). LearnsPairs m c.args.decided.now.first c.args.decided.now.commands c.args.self.now
           nothing 0 c.args.self.now o) (sym c.new-out.ensures) none_yet,
       λ from. subst (λ (o : OutboxValue). ActsSafely m
           (λ h. HasSent h.genesis h.sent from (kinds.Decided c.args.decided.now)) c.args.self.now c.args.self.now
@@ -27,8 +27,8 @@ pairs-preserved g c =
     c.position_behind-position.ensures ∙ ap (λ (i : ℕ). i + c.pairs.index) c.first.ensures in
     let many : c.len-index-end.result ≡ length c.args.decided.now.commands = c.len-index-end.ensures
     ∙ ap (λ (l : List Command). length l) c.commands-2.ensures in
-    let taken : TakesFirst g.M.Machine.meaning c.position_behind-position.result c.pairs.rest c.in-Some.others
-    c.pairs.self c.pairs.out c.take_first.new.self c.take_first.new.out =
+    let taken : LearnsFirst g.M.Machine.meaning c.position_behind-position.result c.pairs.rest c.in-Some.others
+    c.pairs.self c.pairs.out c.learn_first.new.self c.learn_first.new.out =
     rw c.in-Some.is at c.in_ok-others.ensures.some in
     let went = walked c.args.decided.now.commands c.pairs.rest c.in-Some.others c.pairs.index taken.command
     c.pairs.invariant.2 (omega (arith, many, c.pairs-test.true)) taken.stands in (

@@ -7,7 +7,7 @@ use Rattle.lk_state.specs.Meanings.{Meaning}
 use Rattle.lk_types.specs.declared.vote.Vote.{Vote}
 use Rattle.lk_node_interface.specs.Outboxes.{nothing}
 use Rattle.lk_node.specs.Deciding.{HandlesAccepted}
-use Rattle.lk_node.specs.Serving.{ActsSafely}
+use Rattle.lk_node.specs.SafeSteps.{ActsSafely}
 use Rattle.lk_node.specs.Steps.{HandlesNode}
 use Rattle.lk_node.proofs.node.Node.handle_node_message.Goals as goal
 

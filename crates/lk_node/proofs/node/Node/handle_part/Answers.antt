@@ -5,10 +5,10 @@ use Rattle.lk_state.specs.Meanings.{Meaning, KeepsTexts}
 use Rattle.lk_node_interface.specs.Outboxes.{OutboxValue, nothing}
 use Rattle.lk_node.specs.Histories.{History}
 use Rattle.lk_node.specs.NodeValue.{NodeValue}
-use Rattle.lk_node.specs.Serving.{ActsSafely}
+use Rattle.lk_node.specs.SafeSteps.{ActsSafely}
 use Rattle.lk_node.proofs.InstallLaws.{BeganWell, began_well, gathers_goes_on}
 use Rattle.lk_node.proofs.LearnerLaws.{unheard}
-use Rattle.lk_node.proofs.Serving.{then_goes_on}
+use Rattle.lk_node.proofs.SafeSteps.{then_goes_on}
 use Rattle.lk_node.proofs.node.Node.handle_part.Goals as goal
 
 pub returns-then-not-branch-clause-safe : goal.returns-then-not-branch-clause-safe

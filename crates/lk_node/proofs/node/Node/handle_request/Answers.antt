@@ -10,8 +10,8 @@ returns-in_default-clause-exact g c = search rules
 
 pub returns-in_default-clause-safe : goal.returns-in_default-clause-safe
 returns-in_default-clause-safe g c =
-    IfOk-weaker c.take_new.result _ _
-    (λ o heard. request_goes_on _ c.args.self.now c.take_new.new.self c.args.request.now o heard)
+    IfOk-weaker c.queue_or_redirect.result _ _
+    (λ o heard. request_goes_on _ c.args.self.now c.queue_or_redirect.new.self c.args.request.now o heard)
     (returns-in_default-clause-exact g c)
 
 pub returns-clause-safe : goal.returns-clause-safe

@@ -5,7 +5,7 @@ use Rattle.lk_state.specs.States.{WholeValue}
 use Rattle.lk_node_interface.specs.Outboxes.{OutboxValue, with_rebase}
 use Rattle.lk_node.specs.Installing.{EndsWaits}
 use Rattle.lk_node.specs.NodeValue.{NodeValue}
-use Rattle.lk_node.specs.Serving.{ActsSafely}
+use Rattle.lk_node.specs.SafeSteps.{ActsSafely}
 use Rattle.lk_node.proofs.TakingUp.{takes_up_goes_on}
 use Rattle.lk_node.proofs.node.Node.install_gathered.Goals as goal
 

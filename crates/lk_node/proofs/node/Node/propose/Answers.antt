@@ -1,6 +1,6 @@
 -- One proposal more, and the last.
 use Rattle.lk_node.proofs.Proposals.{next_fewer, next_continues, next_done}
-use Rattle.lk_node.proofs.Serving.{then_goes_on}
+use Rattle.lk_node.proofs.SafeSteps.{then_goes_on}
 use Rattle.lk_node.proofs.node.Node.propose.Goals as goal
 
 pub votes-smaller : goal.votes-smaller

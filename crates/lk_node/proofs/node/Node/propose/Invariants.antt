@@ -1,5 +1,5 @@
 -- What was proposed so far, and so many positions are left.
-use Rattle.lk_node.specs.Serving.{ActsSafely}
+use Rattle.lk_node.specs.SafeSteps.{ActsSafely}
 use Rattle.lk_node.proofs.Proposals.{Continues, left_open}
 use Rattle.lk_node.proofs.node.Node.propose.Given as goal
 

@@ -2,8 +2,8 @@ use Rattle.std.proofs.Common.{subst}
 use Rattle.lk_state.specs.Meanings.{Meaning}
 use Rattle.lk_node_interface.specs.Outboxes.{OutboxValue, nothing}
 use Rattle.lk_node.specs.Histories.{History}
-use Rattle.lk_node.specs.Serving.{ActsSafely}
-use Rattle.lk_node.proofs.Serving.{then_goes_on}
+use Rattle.lk_node.specs.SafeSteps.{ActsSafely}
+use Rattle.lk_node.proofs.SafeSteps.{then_goes_on}
 use Rattle.lk_node.proofs.node.Node.remind.Goals as goal
 
 pub returns-clause-safe : goal.returns-clause-safe

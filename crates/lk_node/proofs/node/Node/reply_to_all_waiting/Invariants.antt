@@ -1,4 +1,4 @@
--- The sessions so far are settled.
+-- The waits of the clients of the sessions so far have ended.
 use Rattle.std.proofs.Common.{◌≡◌}
 use Rattle.lk_node.specs.Installing.{EndsFirstWaits}
 use Rattle.lk_node.proofs.node.Node.reply_to_all_waiting.Given as goal

@@ -6,8 +6,8 @@ use Rattle.lk_learner.specs.Learners.{executed}
 use Rattle.lk_node_interface.specs.Outboxes.{OutboxValue}
 use Rattle.lk_node.specs.NodeValue.{NodeValue}
 use Rattle.lk_node.specs.Reminding.{OffersAgain, OffersFirst, none_offered, one_offered}
-use Rattle.lk_node.specs.Serving.{ActsSafely}
-use Rattle.lk_node.proofs.Serving.{rests_here, then_goes_on}
+use Rattle.lk_node.specs.SafeSteps.{ActsSafely}
+use Rattle.lk_node.proofs.SafeSteps.{rests_here, then_goes_on}
 use Rattle.lk_node.proofs.node.Node.resend_accepts.Goals as goal
 use Rattle.lk_node.proofs.node.Node.resend_accepts.Goals.{in-Some+in_ok-resend_accept, in_default}
 

@@ -1,6 +1,6 @@
 -- What was told again so far.
 use Rattle.lk_node.specs.Reminding.{OffersFirst}
-use Rattle.lk_node.specs.Serving.{ActsSafely}
+use Rattle.lk_node.specs.SafeSteps.{ActsSafely}
 use Rattle.lk_node.proofs.node.Node.resend_accepts.Given as goal
 
 abbrev pub invariant-ahead : goal.invariant-ahead

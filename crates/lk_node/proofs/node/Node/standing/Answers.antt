@@ -1,6 +1,6 @@
 use Rattle.std.proofs.Common.{rules, ◌≡◌, ap, sym, subst, arith, List, ℕ, length}
 use Rattle.lk_store_format.specs.Values.{StandingValue}
-use Rattle.lk_log.specs.Stores.{MayBegin}
+use Rattle.lk_log.specs.Stores.{FitsBase}
 use Rattle.lk_node.specs.NodeValue.{NodeValue}
 use Rattle.lk_node.specs.Packing.{standing_of}
 use Rattle.lk_node.proofs.NearLaws.{may_begin}
@@ -28,5 +28,5 @@ returns-clause-may g c =
     } in
     let is : held ≡ standing_of was = search rules in
     let same = ap (λ (t : List ℕ). length t) c.in_ok-pack_now.ensures.text in
-    subst MayBegin (sym is) (may_begin was c.facts.ensures c.facts-2.ensures c.self.invariant.1
+    subst FitsBase (sym is) (may_begin was c.facts.ensures c.facts-2.ensures c.self.invariant.1
     (omega (arith, same, c.in_ok-pack_now.ensures.some)) (omega (arith, same, c.in_ok-pack_now.ensures.room)))

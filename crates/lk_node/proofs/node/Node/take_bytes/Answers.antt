@@ -1,6 +1,6 @@
 use Rattle.std.proofs.Common.{rules, ◌≡◌, inl}
 use Rattle.lk_wire.specs.Shown.{shown}
-use Rattle.lk_node.proofs.Serving.{bytes_go_on}
+use Rattle.lk_node.proofs.SafeSteps.{bytes_go_on}
 use Rattle.lk_node.proofs.node.Node.take_bytes.Goals as goal
 
 pub returns-clause-safe : goal.returns-clause-safe

@@ -1,7 +1,7 @@
 use Rattle.lk_state.specs.Meanings.{Meaning}
 use Rattle.lk_node_interface.specs.Outboxes.{nothing}
 use Rattle.lk_node.specs.Histories.{History, IsHeard}
-use Rattle.lk_node.proofs.Serving.{then_goes_on, heard_goes_on}
+use Rattle.lk_node.proofs.SafeSteps.{then_goes_on, heard_goes_on}
 use Rattle.lk_node.proofs.node.Node.take_datagram.Goals as goal
 
 pub returns-clause-safe : goal.returns-clause-safe

@@ -4,4 +4,4 @@ use Rattle.lk_random_schedules.specs.Drawn.{IsPart}
 use Rattle.lk_random_schedules.proofs.schedule.Schedule.parts.Given as goal
 
 abbrev pub invariant-parts : goal.invariant-parts
-invariant-parts l = AllByRecursion (IsPart (length l.sent)) l.turns.items
+invariant-parts l = AllByRecursion (IsPart (length l.sent)) l.group_inputs.items

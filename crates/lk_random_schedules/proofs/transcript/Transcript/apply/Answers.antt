@@ -5,8 +5,8 @@ use Rattle.lk_random_schedules.proofs.Adding.{cut_back}
 use Rattle.lk_random_schedules.proofs.Happening.{refused_by}
 use Rattle.lk_random_schedules.proofs.transcript.Transcript.apply.Goals as goal
 
-pub returns-in-Err-clause-passed_by : goal.returns-in-Err-clause-passed_by
-returns-in-Err-clause-passed_by g c = λ r is by.
+pub returns-in-Err-clause-skipped : goal.returns-in-Err-clause-skipped
+returns-in-Err-clause-skipped g c = λ r is by.
     let same : c.in-Err.refused ≡ r = search (rules, is) in
     let refused = subst (λ q. IsRefused g.R.MemoryReplica.behaves c.args.world.now c.args.event q c.apply.new.self)
     same c.in-Err.ensures.refused in

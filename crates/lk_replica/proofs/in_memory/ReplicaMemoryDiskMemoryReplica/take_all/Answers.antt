@@ -51,15 +51,15 @@ inputs-preserved g c =
     let was = subst (λ (l : List Input). TakenSoFar m t own all c.inputs.self c.inputs.group c.inputs.steps.items l)
     c.in-Some.ensures.steps.0 c.inputs.invariant in
     let one = one_taken m t own all c.inputs.self c.gather.new.self c.inputs.group c.gather.new.group
-    c.inputs.steps.items c.in-Some.input rest c.take_step-step.result was (e.goes tt) (e.exact tt)
-    c.take_step-step.ensures.notes
-    (c.take_step-step.ensures.sends
+    c.inputs.steps.items c.in-Some.input rest c.drain_step-step.result was (e.goes tt) (e.exact tt)
+    c.drain_step-step.ensures.notes
+    (c.drain_step-step.ensures.sends
     ∙ ap (λ (l : List LetterValue). length c.gather.new.group.letters - length l) c.letters-before.ensures)
     (e.keeps tt) (c.gather.ensures.disks tt) e.alive.0 in
-    subst (λ (r : ReplicaValue). TakenSoFar m t own all r c.take_step-step.new.self c.keep.new.steps.items rest)
+    subst (λ (r : ReplicaValue). TakenSoFar m t own all r c.drain_step-step.new.self c.keep.new.steps.items rest)
     (sym c.in_ok-keep.ensures.same)
     (subst (λ (x : GroupValue). TakenSoFar m t own all c.gather.new.self x c.keep.new.steps.items rest)
-    (sym c.take_step-step.ensures.rest)
+    (sym c.drain_step-step.ensures.others)
     (subst (λ (l : List Step). TakenSoFar m t own all c.gather.new.self
     (record c.gather.new.group { notes = [] }) l rest) (sym c.in_ok-keep.ensures.kept) one))
 
@@ -176,9 +176,9 @@ returns-in_err-keep-clause-refused g c =
     let was = subst (λ (l : List Input). TakenSoFar m t own all c.inputs.self c.inputs.group c.inputs.steps.items l)
     c.in-Some.ensures.steps.0 c.inputs.invariant in
     let one = one_taken m t own all c.inputs.self c.gather.new.self c.inputs.group c.gather.new.group
-    c.inputs.steps.items c.in-Some.input rest c.take_step-step.result was (e.goes tt) (e.exact tt)
-    c.take_step-step.ensures.notes
-    (c.take_step-step.ensures.sends
+    c.inputs.steps.items c.in-Some.input rest c.drain_step-step.result was (e.goes tt) (e.exact tt)
+    c.drain_step-step.ensures.notes
+    (c.drain_step-step.ensures.sends
     ∙ ap (λ (l : List LetterValue). length c.gather.new.group.letters - length l) c.letters-before.ensures)
     (e.keeps tt) (c.gather.ensures.disks tt) e.alive.0 in
     err_as (λ e. IsNumberOfCalls (fault_number e)

@@ -6,7 +6,7 @@ use Rattle.lk_log.proofs.Room.{within_same}
 use Rattle.lk_disk.specs.Meters.{start}
 use Rattle.lk_replica.specs.Compacted.{IsNotCompacted}
 use Rattle.lk_node_interface.specs.Faults.{fault_number}
-use Rattle.lk_recovery.specs.Rebased.{StandsOnBase, HasSwitchedFiles, LeavesDisks}
+use Rattle.lk_recovery.specs.Rebased.{MatchesBase, HasSwitchedFiles, LeavesDisks}
 use Rattle.lk_replica.specs.ReplicaValue.{ReplicaValue}
 use Rattle.lk_recovery.proofs.Recoveries.{grown_none, leaves_safe}
 use Rattle.lk_replica.proofs.Refusals.{not_compacted_by_parts}
@@ -22,7 +22,7 @@ returns-clause-done g c honest =
 
 pub returns-clause-becomes : goal.returns-clause-becomes
 returns-clause-becomes g c =
-    subst (λ (r : ReplicaValue). StandsOnBase r.node r.store c.write_base.new.node c.write_base.new.store)
+    subst (λ (r : ReplicaValue). MatchesBase r.node r.store c.write_base.new.node c.write_base.new.store)
     c.self.view_is c.in_ok-write_base.ensures.becomes
 
 pub invariant_of-self-2 : goal.invariant_of-self-2

@@ -9,7 +9,7 @@ use Rattle.lk_log.specs.StoreValue.{disks}
 use Rattle.lk_state.specs.Meanings.{Meaning}
 use Rattle.lk_node.specs.Keeping.{ReplicaHolds}
 use Rattle.lk_node.specs.Packing.{standing_of}
-use Rattle.lk_node.specs.Served.{text}
+use Rattle.lk_node.specs.BorneOut.{text}
 use Rattle.lk_node_interface.specs.Faults.{fault_number, RefusedAfter}
 use Rattle.lk_recovery.proofs.Recoveries.{before_fits, refused_on, goes_fit, then_goes, taken_keeps, revival_calls}
 use Rattle.lk_recovery.proofs.Recoveries.{renew_left, given_renew, last_old, of_last_old, not_of_store, given_fit}

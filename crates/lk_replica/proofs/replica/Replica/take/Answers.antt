@@ -82,9 +82,10 @@ returns-in-Ok-clause-gives g c =
             (ReplicaHolds m c.rebase_and_step.new.node c.rebase_and_step.new.store h.genesis n)
             (disks c.rebase_and_step.new.store) notes (batch_of n c.in_ok-outbox.outbox.letters))
             (sym (ap (λ (o : OutboxValue). o.notes) c.outbox.view_is))
-            (c.in_ok-outbox.ensures.goes honest h n fits heard c.in_ok-outbox.outbox.letters (λ l listed. listed));
+            ((c.in_ok-outbox.ensures.keeps honest).goes h n fits heard c.in_ok-outbox.outbox.letters
+            (λ l listed. listed));
         syncs = λ genesis n x shown d listed said.
-            c.in_ok-outbox.ensures.syncs honest genesis n x
+            (c.in_ok-outbox.ensures.keeps honest).syncs genesis n x
             (subst (λ (r : ReplicaValue). ReplicaRemembers r.node r.store genesis n)
             (sym c.self.view_is) shown) d listed said;
       };
@@ -133,9 +134,10 @@ returns-clause-gives g c =
             (ReplicaHolds m c.rebase_and_step.new.node c.rebase_and_step.new.store h.genesis n)
             (disks c.rebase_and_step.new.store) notes (batch_of n c.in_ok-outbox.outbox.letters))
             (sym (ap (λ (o : OutboxValue). o.notes) c.outbox.view_is))
-            (c.in_ok-outbox.ensures.goes honest h n fits heard c.in_ok-outbox.outbox.letters (λ l listed. listed));
+            ((c.in_ok-outbox.ensures.keeps honest).goes h n fits heard c.in_ok-outbox.outbox.letters
+            (λ l listed. listed));
         syncs = λ genesis n x shown d listed said.
-            c.in_ok-outbox.ensures.syncs honest genesis n x
+            (c.in_ok-outbox.ensures.keeps honest).syncs genesis n x
             (subst (λ (r : ReplicaValue). ReplicaRemembers r.node r.store genesis n)
             (sym c.self.view_is) shown) d listed said;
       };

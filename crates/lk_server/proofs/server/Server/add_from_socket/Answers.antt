@@ -27,7 +27,7 @@ returns-clause-takes g c = λ yes.
       first.0 ∷ more.0,
       socket_group r.Says r.Gathers tells first.0 more.0 c.args.group.now c.add_further_datagrams.new.group
           c.args.self.now c.add_further_datagrams.new.self c.requires
-          (ap (λ (s : ServerValue _). s.own) two ∙ ap (λ (s : ServerValue _). s.own) one) more.1 first.1
+          (ap (λ (s : ServerValue _). s.own_letters) two ∙ ap (λ (s : ServerValue _). s.own_letters) one) more.1 first.1
           (socket_more r.Gathers tells
           (first.0 ∷ []) more.0 c.args.group.now c.add_first_datagram.new.group c.add_further_datagrams.new.group
           c.args.self.now c.add_first_datagram.new.self c.add_further_datagrams.new.self
@@ -47,7 +47,7 @@ returns-in_err-found-clause-ends g c =
       e.0 ∷ [],
       socket_ends r.Says r.Gathers g.S.DatagramSocket.is_observable e.0 [] c.args.group.now c.args.self.now
           c.add_first_datagram.new.self c.requires
-          (ap (λ (s : ServerValue _). s.own) c.add_first_datagram.ensures.others) (omega arith) e.1 e.2,
+          (ap (λ (s : ServerValue _). s.own_letters) c.add_first_datagram.ensures.others) (omega arith) e.1 e.2,
     )
 
 pub returns-in_err-add_further_datagrams-clause-ends : goal.returns-in_err-add_further_datagrams-clause-ends
@@ -62,7 +62,7 @@ returns-in_err-add_further_datagrams-clause-ends g c =
       first.0 ∷ e.0,
       socket_ends r.Says r.Gathers tells first.0 e.0 c.args.group.now c.args.self.now
           c.add_further_datagrams.new.self c.requires
-          (ap (λ (s : ServerValue _). s.own) two ∙ ap (λ (s : ServerValue _). s.own) one) e.1 first.1
+          (ap (λ (s : ServerValue _). s.own_letters) two ∙ ap (λ (s : ServerValue _). s.own_letters) one) e.1 first.1
           (ends_further r.Says r.Gathers tells
           (first.0 ∷ []) e.0 c.args.group.now c.add_first_datagram.new.group c.args.self.now
           c.add_first_datagram.new.self c.add_further_datagrams.new.self

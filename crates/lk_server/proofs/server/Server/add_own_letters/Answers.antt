@@ -10,7 +10,7 @@ letters-preserved g c =
     let t = c.in_ok-add_own_letter.ensures.takes (cc c.if-not-branch.false) in
     let new = c.add_own_letter.new.self in (
       i.0 ++ t.0 ∷ [],
-      i.1 ∙ ap (λ l. i.0 ++ l) t.1 ∙ sym (append_assoc i.0 (t.0 ∷ []) new.own),
+      i.1 ∙ ap (λ l. i.0 ++ l) t.1 ∙ sym (append_assoc i.0 (t.0 ∷ []) new.own_letters),
       omega (arith, i.2, length-append i.0 (t.0 ∷ [])),
       own_goes g.R.ServedReplica.Gathers i.0 t.0 c.args.group.now c.letters.group c.add_own_letter.new.group
           c.args.self.now c.letters.self new i.3 t.2,
@@ -20,7 +20,7 @@ letters-preserved g c =
             failed = new.failed;
             received = new.received;
             ticks = new.ticks;
-            own = new.own;
+            own_letters = new.own_letters;
           }) i.4,
     )
 

@@ -1,18 +1,18 @@
 -- So many letters of the node to itself were taken, in order.
 use Rattle.std.proofs.Common.{◌≡◌, List, [], ◌++◌, length}
 use Rattle.lk_node_interface.specs.Letters.{LetterValue}
-use Rattle.lk_server.specs.Gatherings.{TakesAll}
+use Rattle.lk_server.specs.Gatherings.{AddsAll}
 use Rattle.lk_server.specs.Servers.{datagrams_in}
 use Rattle.lk_server.proofs.server.Server.add_own_letters.Given as goal
 
 abbrev pub invariant-letters : goal.invariant-letters
 invariant-letters g l =
-    (taken : List LetterValue) × (l.fn.self.own ≡ taken ++ l.self.own) × (length taken ≡ l.counter)
-    × TakesAll g.R.ServedReplica.Gathers (datagrams_in taken []) l.fn.group l.group l.fn.self l.self
+    (taken : List LetterValue) × (l.fn.self.own_letters ≡ taken ++ l.self.own_letters) × (length taken ≡ l.counter)
+    × AddsAll g.R.ServedReplica.Gathers (datagrams_in taken []) l.fn.group l.group l.fn.self l.self
     × (l.self ≡ record l.fn.self {
       replica = l.self.replica;
       failed = l.self.failed;
       received = l.self.received;
       ticks = l.self.ticks;
-      own = l.self.own;
+      own_letters = l.self.own_letters;
     })

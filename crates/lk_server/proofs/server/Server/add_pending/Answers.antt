@@ -2,7 +2,7 @@ use Rattle.std.proofs.Common.{◌≡◌, ◌∙◌, ℕ, List, [], refl, ap, sub
 use Rattle.std.specs.Prelude.{IfOk, OnErr}
 use Rattle.std.specs.declared.net.socket_addr.SocketAddr.{SocketAddr}
 use Rattle.lk_replica.specs.Groups.{GroupValue}
-use Rattle.lk_server.specs.Gatherings.{Finds, TakesWaiting, EndsGroup}
+use Rattle.lk_server.specs.Gatherings.{Finds, AddsWaiting, EndsGroup}
 use Rattle.lk_pacing.specs.declared.turn_input.TurnInput.TheVariants.{Something}
 use Rattle.lk_server.specs.Servers.{ServerValue}
 use Rattle.lk_server.proofs.Asking.{keeps_still}
@@ -17,7 +17,7 @@ returns-then-not-branch-clause-takes g c =
     subst₂ (λ (x : GroupValue) (s : ServerValue _). IfOk c.add_from_socket.result
     (λ found. found ≡ Something
     → (frames : List (SocketAddr × List ℕ))
-    × TakesWaiting g.R.ServedReplica.Gathers g.S.DatagramSocket.is_observable frames x c.add_from_socket.new.group s
+    × AddsWaiting g.R.ServedReplica.Gathers g.S.DatagramSocket.is_observable frames x c.add_from_socket.new.group s
     c.add_from_socket.new.self
     × KeepsOf s.node s.addresses.seals frames c.args.buffer.now c.add_from_socket.new.buffer))
     n.2 n.1 c.add_from_socket.ensures.takes
@@ -27,7 +27,7 @@ returns-then-not-branch-clause-none g c =
     let n = c.in_ok-add_own_letter.ensures.none (cc c.if-not-branch.true) in
     subst₂ (λ (x : GroupValue) (s : ServerValue _). IfOk c.add_from_socket.result
     (λ found. (found ≡ Something → ⊥)
-    → (s.own ≡ []) × (frames : List (SocketAddr × List ℕ))
+    → (s.own_letters ≡ []) × (frames : List (SocketAddr × List ℕ))
     × Finds g.S.DatagramSocket.is_observable found frames s c.add_from_socket.new.self
     × (c.add_from_socket.new.group ≡ x)
     × KeepsOf s.node s.addresses.seals frames c.args.buffer.now c.add_from_socket.new.buffer))

@@ -1,6 +1,6 @@
 use Rattle.std.proofs.Common.{rules, ◌≡◌, ◌∙◌, ℕ, List, ap, subst}
 use Rattle.std.specs.declared.net.socket_addr.SocketAddr.{SocketAddr}
-use Rattle.lk_server.specs.Gatherings.{TakesGroup, EndsGroup}
+use Rattle.lk_server.specs.Gatherings.{AddsGroup, EndsGroup}
 use Rattle.lk_server.specs.Servers.{ServerValue, HasReceived, IsIdle}
 use Rattle.lk_server.proofs.Carrying.{on_err, apart_by}
 use Rattle.lk_server.proofs.Turning.{untimely_takes, untimely_rests, tick_turn, tick_turn_ends}
@@ -12,7 +12,7 @@ returns-then-not-is_due-clause-takes g c = λ is.
     let r = g.R.ServedReplica in
     let tells = g.S.DatagramSocket.is_observable in
     subst (λ (s : ServerValue _). (frames : List (SocketAddr × List ℕ))
-    × TakesGroup r.Gathers tells frames c.args.group.now c.add_pending.new.group s c.add_pending.new.self
+    × AddsGroup r.Gathers tells frames c.args.group.now c.add_pending.new.group s c.add_pending.new.self
     × KeepsOf s.node s.addresses.seals frames c.args.buffer.now c.add_pending.new.buffer) c.set_timeout.ensures
     (untimely_takes r.Says r.Gathers tells
     (λ frames. KeepsOf c.set_timeout.new.self.node c.set_timeout.new.self.addresses.seals frames c.args.buffer.now
@@ -42,7 +42,7 @@ returns-clause-takes g c = λ is.
     let a = c.in_ok-found.ensures in
     let pace : c.self.inside.pace ≡ c.add_pending.new.self.pace = search rules in
     subst (λ (s : ServerValue _). (frames : List (SocketAddr × List ℕ))
-    × TakesGroup r.Gathers tells frames c.args.group.now c.add_tick.new.group s c.add_tick.new.self
+    × AddsGroup r.Gathers tells frames c.args.group.now c.add_tick.new.group s c.add_tick.new.self
     × KeepsOf s.node s.addresses.seals frames c.args.buffer.now c.add_pending.new.buffer) c.set_timeout.ensures
     (tick_turn r.Says r.Gathers tells
     (λ frames. KeepsOf c.set_timeout.new.self.node c.set_timeout.new.self.addresses.seals frames c.args.buffer.now

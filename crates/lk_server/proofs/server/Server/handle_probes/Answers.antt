@@ -21,7 +21,7 @@ returns-clause-acts g c =
     let readmits = subst (λ (o : Option ReceivedProbe). ReadmitsKept o c.report_to.new.self.addresses
     c.readmit.new.self.addresses) t.value r.readmits in
     let learns = subst (λ (o : Option Reported). LearnsKept o c.readmit.new.self.addresses c.learn.new.self.addresses)
-    (ap (λ (b : BufferValue). b.reported) t.rest) l.learns in
+    (ap (λ (b : BufferValue). b.reported) t.others) l.learns in
     acted shows tells c.args.buffer.now.asked c.args.buffer.now.reported _ c.args.self.now c.report_to.new.self
     c.readmit.new.self c.learn.new.self c.probe_next.new.self
     replies a.others readmits r.network r.others learns l.network l.others c.now-now.ensures q.asks

@@ -37,7 +37,7 @@ returns-clause-gives g c =
     let same = same_post tells c.release-released.result _ c.begin_group.new.self
     c.release-released.new.post e.hands e.unsent in
     let mine : c.self.inside.replica ≡ c.args.self.now.replica = search rules in
-    let begun : send_state_of c.begin_group.new.self ≡ send_state_at c.args.self.now.own c.args.self.now =
+    let begun : send_state_of c.begin_group.new.self ≡ send_state_at c.args.self.now.own_letters c.args.self.now =
     search rules in
     hands_on_all r.Says r.Gathers tells c.args.self.now _ c.begin_group.new.self c.release-released.new.post
     c.args.group.now c.self.inside.replica mine c.release-released.result e.hands same.0 same.1 begun refl

@@ -11,7 +11,7 @@ returns-clause-hands_on g c =
     tick_of r.Says r.Gathers g.S.DatagramSocket.is_observable c.end_group.result c.begin_group-group.result
     c.add_tick.new.group c.args.self.now c.add_tick.new.self c.end_group.new.self c.begin_group-group.ensures
     c.in_ok-add_tick.ensures.gathers
-    (ap (λ (s : ServerValue _). s.own) o) (ap (λ (s : ServerValue _). s.sent) o)
+    (ap (λ (s : ServerValue _). s.own_letters) o) (ap (λ (s : ServerValue _). s.sent) o)
     (ap (λ (s : ServerValue _). s.socket_failures) o) c.end_group.ensures.gives
 
 pub returns-clause-ends : goal.returns-clause-ends
@@ -21,7 +21,7 @@ returns-clause-ends g c =
     tick_ends r.Says r.Gathers g.S.DatagramSocket.is_observable c.end_group.result c.begin_group-group.result
     c.add_tick.new.group c.args.self.now c.add_tick.new.self c.end_group.new.self c.begin_group-group.ensures
     c.in_ok-add_tick.ensures.gathers
-    (ap (λ (s : ServerValue _). s.own) o) (ap (λ (s : ServerValue _). s.sent) o)
+    (ap (λ (s : ServerValue _). s.own_letters) o) (ap (λ (s : ServerValue _). s.sent) o)
     (ap (λ (s : ServerValue _). s.socket_failures) o) c.end_group.ensures.silent
 
 pub returns-in_err-add_tick-clause-ends : goal.returns-in_err-add_tick-clause-ends
@@ -31,5 +31,5 @@ returns-in_err-add_tick-clause-ends g c =
     on_err c.from_residual.result
     (tick_silent r.Says r.Gathers g.S.DatagramSocket.is_observable c.begin_group-group.result c.args.self.now
     c.add_tick.new.self c.begin_group-group.ensures c.in_err-add_tick.ensures.silent
-    (ap (λ (s : ServerValue _). s.own) o) (ap (λ (s : ServerValue _). s.sent) o)
+    (ap (λ (s : ServerValue _). s.own_letters) o) (ap (λ (s : ServerValue _). s.sent) o)
     (ap (λ (s : ServerValue _). s.socket_failures) o))

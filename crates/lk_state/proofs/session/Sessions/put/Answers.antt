@@ -36,41 +36,41 @@ insert-requires c =
     let l : List Session = c.self.inside.list.items in
     let place = place_is s.client c.index_of-at.result l c.as_slice.result.now c.as_slice.ensures.value
     c.index_of-at.ensures.index in
-    let absent = standing s.client c.index_of-at.result l c.as_slice-2.result.now c.stands_at.result false
-    c.as_slice-2.ensures.value place c.stands_at.ensures c.if-stands_at.false in
+    let absent = standing s.client c.index_of-at.result l c.as_slice-2.result.now c.is_session_at.result false
+    c.as_slice-2.ensures.value place c.is_session_at.ensures c.if-is_session_at.false in
     let within = c.index_of-at.ensures.within in
     (lit< tt, (omega (arith, ap length c.as_slice.ensures.value), room_for s l c.facts.ensures c.self.invariant absent))
 
-pub returns-else-stands_at : goal.returns-else-stands_at
-returns-else-stands_at c =
+pub returns-else-is_session_at : goal.returns-else-is_session_at
+returns-else-is_session_at c =
     let s : Session = c.args.session.now in
     let l : List Session = c.self.inside.list.items in
     let place = place_is s.client c.index_of-at.result l c.as_slice.result.now c.as_slice.ensures.value
     c.index_of-at.ensures.index in
-    let absent = standing s.client c.index_of-at.result l c.as_slice-2.result.now c.stands_at.result false
-    c.as_slice-2.ensures.value place c.stands_at.ensures c.if-stands_at.false in
+    let absent = standing s.client c.index_of-at.result l c.as_slice-2.result.now c.is_session_at.result false
+    c.as_slice-2.ensures.value place c.is_session_at.ensures c.if-is_session_at.false in
     added s c.index_of-at.result l c.insert.new.self.items c.insert.ensures.items place absent
     ∙ ap (with_session s) c.self.view_is
 
-pub invariant_of-self-else-stands_at : goal.invariant_of-self-else-stands_at
-invariant_of-self-else-stands_at c =
+pub invariant_of-self-else-is_session_at : goal.invariant_of-self-else-is_session_at
+invariant_of-self-else-is_session_at c =
     let s : Session = c.args.session.now in
     let l : List Session = c.self.inside.list.items in
     let place = place_is s.client c.index_of-at.result l c.as_slice.result.now c.as_slice.ensures.value
     c.index_of-at.ensures.index in
-    let absent = standing s.client c.index_of-at.result l c.as_slice-2.result.now c.stands_at.result false
-    c.as_slice-2.ensures.value place c.stands_at.ensures c.if-stands_at.false in
+    let absent = standing s.client c.index_of-at.result l c.as_slice-2.result.now c.is_session_at.result false
+    c.as_slice-2.ensures.value place c.is_session_at.ensures c.if-is_session_at.false in
     rw (added s c.index_of-at.result l c.insert.new.self.items c.insert.ensures.items place absent)
     (with_session-fits s l c.facts.ensures c.self.invariant)
 
-pub returns-then-stands_at : goal.returns-then-stands_at
-returns-then-stands_at c =
+pub returns-then-is_session_at : goal.returns-then-is_session_at
+returns-then-is_session_at c =
     let s : Session = c.args.session.now in
     let l : List Session = c.self.inside.list.items in
     let place = place_is s.client c.index_of-at.result l c.as_slice.result.now c.as_slice.ensures.value
     c.index_of-at.ensures.index in
-    let here = standing s.client c.index_of-at.result l c.as_slice-2.result.now c.stands_at.result true
-    c.as_slice-2.ensures.value place c.stands_at.ensures c.if-stands_at.true in
+    let here = standing s.client c.index_of-at.result l c.as_slice-2.result.now c.is_session_at.result true
+    c.as_slice-2.ensures.value place c.is_session_at.ensures c.if-is_session_at.true in
     written s c.index_of-at.result l c.deref_mut.result.now c.deref_mut.ensures.value place here
     ∙ ap (with_session s) c.self.view_is
 
@@ -80,7 +80,7 @@ invariant_of-self c =
     let l : List Session = c.self.inside.list.items in
     let place = place_is s.client c.index_of-at.result l c.as_slice.result.now c.as_slice.ensures.value
     c.index_of-at.ensures.index in
-    let here = standing s.client c.index_of-at.result l c.as_slice-2.result.now c.stands_at.result true
-    c.as_slice-2.ensures.value place c.stands_at.ensures c.if-stands_at.true in
+    let here = standing s.client c.index_of-at.result l c.as_slice-2.result.now c.is_session_at.result true
+    c.as_slice-2.ensures.value place c.is_session_at.ensures c.if-is_session_at.true in
     subst AreSessions (sym (written s c.index_of-at.result l c.deref_mut.result.now c.deref_mut.ensures.value place
     here)) (with_session-fits s l c.facts.ensures c.self.invariant)

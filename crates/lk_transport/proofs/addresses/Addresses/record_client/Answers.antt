@@ -2,5 +2,5 @@
 use Rattle.std.proofs.Common.{rules}
 use Rattle.lk_transport.proofs.addresses.Addresses.record_client.Goals as goal
 
-pub returns-clause-own : goal.returns-clause-own
-returns-clause-own c = search rules
+pub returns-clause-entry : goal.returns-clause-entry
+returns-clause-entry c = search rules

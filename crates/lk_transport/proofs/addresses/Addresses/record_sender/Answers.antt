@@ -11,7 +11,7 @@ returns-in-Request-clause-heard c =
     let same : c.in-Ok.message.now.cluster ≡ c.args.cluster = search rules in
     let met : RecordsClient c.request-client.result.client c.args.from c.args.self.now c.record_client.new.self =
     record {
-      own = c.record_client.ensures.own;
+      entry = c.record_client.ensures.entry;
       others = c.record_client.ensures.others;
       nodes = c.record_client.ensures.nodes;
       neighbours = c.record_client.ensures.neighbours;
@@ -37,7 +37,7 @@ returns-in-Node-clause-heard c =
     let same : c.in-Ok.message.now.cluster ≡ c.args.cluster = search rules in
     let bound : RecordsNode c.in-Node.node c.args.from c.is_binding.result c.args.self.now c.record_node.new.self =
     record {
-      own = c.record_node.ensures.own;
+      entry = c.record_node.ensures.entry;
       moves = c.record_node.ensures.moves;
       clients = c.record_node.ensures.clients;
       meets = c.record_node.ensures.meets;

@@ -1,5 +1,0 @@
-use Rattle.lk_state.proofs.LastLaws as law
-use Rattle.lk_state.proofs.laws.replies_stand.Goals as goal
-
-pub returns : goal.returns
-returns c = law.replies_stand
