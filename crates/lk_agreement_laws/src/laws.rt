@@ -172,8 +172,8 @@ pub fn slices_concatenate()
         → IsSlice genesis sent text position (length (text (take position L))) offset bytes }
 {}
 
-/// What `Reaches` permits in any order: nodes send what they may, clients ask, and nodes change. A node may stop at any
-/// time and restart from any image that covers what it has sent and stems from what was sent, and its term may end.
+/// What `IsReachable` permits in any order: nodes send what they may, clients ask, and nodes change. A node may stop at
+/// any time and restart from any image that covers what it has sent and stems from what was sent, and its term may end.
 pub fn worlds_come_about()
     ensures begins { (genesis : Genesis) → IsReachable genesis start }
     ensures sends { (genesis : Genesis) (w : PaxosWorld) (n : ℕ) (batch : List Datagram) → IsReachable genesis w

@@ -37,11 +37,11 @@ pub record IsUnder (genesis : Genesis) (L : List Command) (name : List ℕ) (w :
   pub acquires : body_of body ≡ Some (Acquire name)
   pub granted : (execute request.client request.op (after genesis (take (i - 1) L))).0 ≡ Granted w.fence
 
--- the fences of a name's grants rise along the list, and none is given twice
+-- the fences of a name's exclusive grants rise along the list, and none is given twice
 pub record FencesRise (genesis : Genesis) (L : List Command) (name : List ℕ) : Type 0 where
   pub later : (v w : Write) (i j : ℕ) → IsUnder genesis L name v i → IsUnder genesis L name w j → i < j
       → v.fence < w.fence
-  -- what is granted at one fence is granted at one position, to one client, for one request
+  -- what is granted exclusively at one fence is granted at one position, to one client, for one request
   pub once : (v w : Write) (i j : ℕ) → IsUnder genesis L name v i → IsUnder genesis L name w j → v.fence ≡ w.fence
       → (i ≡ j) × (v ≡ w)
 

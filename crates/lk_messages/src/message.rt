@@ -65,7 +65,7 @@ impl Want {
     {}
 }
 
-/// The reply to a request whose number is below its client's last one: it will never be answered.
+/// The reply to a request whose number is below its client's last one.
 #[derive(Clone, Copy, Debug)]
 pub struct Passed {
     client: ClientNo,

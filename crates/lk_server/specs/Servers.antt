@@ -131,10 +131,10 @@ abbrev pub send_state_at : {R : Type 0} → List LetterValue → ServerValue R �
 send_state_at own_letters s = record { own_letters = own_letters; sent = s.sent; failures = s.socket_failures }
 
 -- the replica took exactly this input as one group and produced these letters; each was kept, sent to its destination,
--- or lost by a failed send, in order, and nothing else was sent or kept. `own` are the earlier letters of the node to
+-- or lost by a failed send, in order, and nothing else was sent or kept. `own_letters` are the earlier ones to the node
 -- itself, without those that were taken
-pub record DeliversLetters {R : Type 0} (Says : R → List (Option (List ℕ)) → List LetterValue → R
-    → Type 0) (tells : Type 0)
+pub record DeliversLetters {R : Type 0}
+    (Says : R → List (Option (List ℕ)) → List LetterValue → R → Type 0) (tells : Type 0)
     (given : List (Option (List ℕ))) (own_letters : List LetterValue) (old new : ServerValue R) : Type 0 where
   pub letters : List LetterValue
   pub says : Says old.replica given letters new.replica

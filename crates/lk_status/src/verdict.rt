@@ -84,7 +84,7 @@ pub fn has_one_genesis(reports: &[Report]) -> bool
     }
 }
 
-// The test of `is_served`.
+// Whether one leads with a majority, and all name one genesis: the test of `is_served`.
 fn has_one_leader(reports: &[Report]) -> bool
     ensures { result ≡ is_served reports.now }
 {
